@@ -1,5 +1,5 @@
 -- The safety code, and which bytes are intact.
-use Rattle.std.specs.Prelude.{◌≡◌, ℕ, ◌-◌, ◌≤◌, Bool, ◌&&◌, ◌==◌, nat_le, List, length, take, drop}
+use Rattle.std.specs.Prelude.{◌≡◌, ℕ, ◌-◌, ◌≤◌, Bool, not, ◌&&◌, ◌==◌, nat_lt, List, length, take, drop}
 use Rattle.std.specs.Int.{w16, from_le_bytes}
 use Rattle.std.specs.Str.{bytes_eq}
 use Rattle.md4.specs.Md4.{digest}
@@ -29,4 +29,4 @@ pub record IsIntact (key : Key) (bytes : List ℕ) : Type 0 where
 
 -- the same as a test
 unfoldable pub intact : Key → List ℕ → Bool
-intact key bytes = nat_le 36 (length bytes) && (length_field bytes == length bytes) && bytes_eq (last_8 bytes) (code key (before_code bytes))
+intact key bytes = not (nat_lt (length bytes) 36) && (length_field bytes == length bytes) && bytes_eq (last_8 bytes) (code key (before_code bytes))

@@ -87,11 +87,14 @@ fn item(bytes: &[u8]) -> Result<(Item, &[u8]), PduFault>
 fn items(payload: &[u8]) -> Result<Items, PduFault>
     ensures { result ≡ items_of payload.now }
 {
-    let mut held = ArrayVec::new();
+    let mut held: ArrayVec<Item, MOST> = ArrayVec::new();
     let mut rest = payload;
     while !rest.is_empty() {
+        if held.is_full() {
+            return Err(PduFault::Items);
+        }
         let (item, after) = item(rest)?;
-        held.try_push(item).map_err(|_| PduFault::Items)?;
+        held.push(item);
         rest = after;
     }
     Items::held(held).ok_or(PduFault::Items)
