@@ -1,6 +1,7 @@
 //! The datagrams that steps hand out.
 
 ghost use Rattle.std.specs.Prelude.{◌≡◌, ◌+◌, ◌*◌, ◌≤◌, ◌↔◌, [], ◌∷◌, length, drop, IsTrue, IfOk, slice_get};
+ghost use Rattle.std.specs.Option.{option_map};
 
 use circular_buffer::HeapCircularBuffer;
 use rasta_pdu::{Datagram, Key, Pdu};
