@@ -25,7 +25,7 @@ pub data HasItems : ℕ → Type 0 where
 
 -- the type, and the payload, of intact bytes
 abbrev pub type_field : List ℕ → ℕ
-type_field bytes = u16_at 2 bytes
+type_field bytes = u16_at 2 (before_code bytes)
 
 abbrev pub payload_field : List ℕ → List ℕ
 payload_field bytes = drop 28 (before_code bytes)
