@@ -1,24 +1,19 @@
 -- The payload of each type: what is read is spelled so, what is spelled so is read, and the faults.
-use Rattle.std.proofs.Common.{◌≡◌, ◌≢◌, ◌⊎◌, ℕ, suc, zero, ◌-◌, ◌+◌, ◌^◌, ◌≤◌, ◌<◌, Bool, true, false, not, cond, eqb, List, [], ◌∷◌, ◌++◌, length, take, drop, Result, Ok, Err, refl, sym, ap, subst, ◌∙◌, append_assoc, arith, inl, inr}
-use Rattle.std.specs.List.{flat_map}
+use Rattle.std.proofs.Common.{◌≡◌, ℕ, ◌^◌, ◌<◌, false, not, eqb, List, [], ◌++◌, length, take, drop, Ok, refl, sym, ap, subst, ◌∙◌, append_assoc, arith}
 use Rattle.std.specs.Int.{w16, from_le_bytes, to_le_bytes}
-use Rattle.std.proofs.lemmas.Bool.{eqb-true, eqb-false, eq-eqb, ne_eqb, cases_eq, not-false, false≢true}
+use Rattle.std.proofs.lemmas.Bool.{eqb-true, eq-eqb, not-false}
 use Rattle.std.proofs.lemmas.List.{take_at, drop_at, take-append-drop, drop-drop, length-take, length-drop, length-append, nil_from_length, drop_all}
 use Rattle.std.proofs.lemmas.Nat.{from_le_bytes-to_le_bytes_2}
 use Rattle.rasta_pdu.specs.declared.body.Opening.{Opening}
 use Rattle.rasta_pdu.specs.declared.body.Body.{Body}
-use Rattle.rasta_pdu.specs.declared.body.Body.TheVariants.{ConnectionRequest, ConnectionResponse, RetransmissionRequest, RetransmissionResponse, DisconnectionRequest, Heartbeat, Data, RetransmittedData}
-use Rattle.rasta_pdu.specs.declared.fault.PduFault.{PduFault}
+use Rattle.rasta_pdu.specs.declared.body.Body.TheVariants.{DisconnectionRequest}
 use Rattle.rasta_pdu.specs.declared.fault.PduFault.TheVariants as faults
-use Rattle.rasta_pdu.specs.Items.{AreItems}
 use Rattle.rasta_pdu.specs.Values.{IsBody, IsOpening}
-use Rattle.rasta_pdu.specs.Spelling.{item_bytes, opening_bytes, payload, type_of}
-use Rattle.rasta_pdu.specs.Reading.{◌>>=◌, body_of, disconnection_of, items_of, nothing_of, opening_of, u16_at}
-use Rattle.rasta_pdu.specs.Faults.{HasFixedPayload, HasItems, connection_request, connection_response, retransmission_request, retransmission_response, disconnection_request, heartbeat, data_type, retransmitted_data}
-use Rattle.rasta_pdu.proofs.Steps.{bind_ok, bind_err, guard_ok, guard_err, ok_is, err_is}
+use Rattle.rasta_pdu.specs.Spelling.{opening_bytes, payload, type_of}
+use Rattle.rasta_pdu.specs.Reading.{disconnection_of, nothing_of, opening_of, u16_at}
+use Rattle.rasta_pdu.proofs.Steps.{guard_ok, ok_is}
 use Rattle.rasta_pdu.specs.Values.{IsBytes}
 use Rattle.rasta_pdu.proofs.Bytes.{IsBytes-drop, front_16, below_16}
-use Rattle.rasta_pdu.proofs.ItemsLaws.{items_found, items_again, items_fault, length-payload}
 
 -- ---- payloads of one length
 
@@ -34,11 +29,14 @@ opening_found bytes opening fits e =
     let same : made ≡ opening = ok_is made opening g.1 in
     let middle : drop 4 bytes ≡ to_le_bytes w16 (u16_at 4 bytes) ++ drop 6 bytes = front_16 (drop 4 bytes) (IsBytes-drop 4 bytes fits) (omega (arith, length-drop 4 bytes)) ∙ ap (λ (x : List ℕ). to_le_bytes w16 (u16_at 4 bytes) ++ x) (drop-drop 2 4 bytes) in
     let whole : bytes ≡ opening_bytes made = sym (take-append-drop 4 bytes) ∙ ap (λ (x : List ℕ). take 4 bytes ++ x) middle ∙ sym (append_assoc (take 4 bytes) (to_le_bytes w16 (u16_at 4 bytes)) (drop 6 bytes)) in
-    subst (λ (o : Opening). (bytes ≡ opening_bytes o) × IsOpening o) same (whole, record {
-      version = omega (arith, length-take 4 bytes);
-      window = below_16 (drop 4 bytes) (IsBytes-drop 4 bytes fits);
-      reserved = omega (arith, length-drop 6 bytes);
-    })
+    subst (λ (o : Opening). (bytes ≡ opening_bytes o) × IsOpening o) same (
+      whole,
+      record {
+        version = omega (arith, length-take 4 bytes);
+        window = below_16 (drop 4 bytes) (IsBytes-drop 4 bytes fits);
+        reserved = omega (arith, length-drop 6 bytes);
+      },
+    )
 
 made_again : (bytes : List ℕ) (opening : Opening) → length bytes ≡ 14 → take 4 bytes ≡ opening.version → u16_at 4 bytes ≡ opening.window → drop 6 bytes ≡ opening.reserved → opening_of bytes ≡ Ok opening
 unfolding opening_of

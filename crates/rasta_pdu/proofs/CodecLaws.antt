@@ -1,27 +1,20 @@
 -- Reading and writing under a key: each undoes the other, and each fault is the first.
-use Rattle.std.proofs.Common.{◌≡◌, ◌≢◌, ◌⊎◌, ℕ, suc, zero, ◌-◌, ◌+◌, ◌^◌, ◌≤◌, ◌<◌, Bool, true, false, not, cond, ltb, eqb, List, [], ◌∷◌, ◌++◌, length, get_or, take, drop, Result, Ok, Err, refl, sym, ap, subst, ◌∙◌, arith, inl, inr}
-use Rattle.std.specs.Prelude.{is_ok, IfOk, IfErr}
+use Rattle.std.proofs.Common.{◌≡◌, ℕ, ◌-◌, ◌+◌, ◌≤◌, List, ◌++◌, length, get_or, Result, Ok, refl, sym, ap, ◌∙◌, arith}
+use Rattle.std.specs.Prelude.{is_ok}
 use Rattle.std.specs.Int.{w16, from_le_bytes}
-use Rattle.std.specs.Str.{bytes_eq}
-use Rattle.std.proofs.lemmas.Bool.{cases_Bool, lt-ltb, ltb-true, ltb-false, le-ltb, eq-eqb, eqb-true, eqb-false, ne_eqb, false_from_ne_true, false≢true, not-true}
 use Rattle.std.proofs.lemmas.List.{take_at, drop_at, take-append-drop, get_or-take, length-take, length-append}
-use Rattle.std.proofs.lemmas.Slice.Eq.{bytes_eq-Decides}
 use Rattle.md4.specs.Md4.{digest}
-use Rattle.rasta_pdu.specs.declared.body.Body.{Body}
 use Rattle.rasta_pdu.specs.declared.fault.PduFault.{PduFault}
-use Rattle.rasta_pdu.specs.declared.fault.PduFault.TheVariants as faults
 use Rattle.rasta_pdu.specs.declared.key.Key.{Key}
 use Rattle.rasta_pdu.specs.declared.pdu.Pdu.{Pdu}
 use Rattle.rasta_pdu.specs.Values.{IsPdu}
-use Rattle.rasta_pdu.specs.SafetyCode.{IsIntact, intact, code, before_code, last_8, length_field}
+use Rattle.rasta_pdu.specs.SafetyCode.{IsIntact, code, before_code, last_8, length_field}
 use Rattle.rasta_pdu.specs.Spelling.{payload, text, writing, Spells}
-use Rattle.rasta_pdu.specs.Reading.{◌>>=◌, body_of, pdu_of, reading, text_of, u16_at, u32_at}
-use Rattle.rasta_pdu.specs.Faults.{IsFault, type_field, payload_field}
-use Rattle.rasta_pdu.proofs.Steps.{bind_ok, bind_err, ok_is, err_is}
+use Rattle.rasta_pdu.specs.Reading.{◌>>=◌, pdu_of, reading, text_of}
+use Rattle.rasta_pdu.proofs.Steps.{bind_ok, ok_is}
 use Rattle.rasta_pdu.specs.Values.{IsBytes}
-use Rattle.rasta_pdu.proofs.Bytes.{IsBytes-drop, IsBytes-take}
+use Rattle.rasta_pdu.proofs.Bytes.{IsBytes-take}
 use Rattle.rasta_pdu.proofs.Intact.{intact_reads, IsIntact-from_test, text_of-intact}
-use Rattle.rasta_pdu.proofs.TypeLaws.{IsBodyFault, body_fault, body_fault_told}
 use Rattle.rasta_pdu.proofs.PduLaws.{payload_most, length-text, length_again, pdu_found, pdu_again}
 
 -- ---- a text and its code

@@ -1,15 +1,12 @@
 -- The fault that reading tells is the one whose test is the first to fail, and there is one wherever a test
 -- fails.
-use Rattle.std.proofs.Common.{◌≡◌, ◌≢◌, ◌⊎◌, ℕ, suc, zero, ◌-◌, ◌+◌, ◌^◌, ◌≤◌, ◌<◌, Bool, true, false, not, cond, ltb, eqb, List, [], ◌∷◌, ◌++◌, length, get_or, take, drop, Result, Ok, Err, refl, sym, ap, subst, ◌∙◌, arith, inl, inr}
-use Rattle.std.specs.Prelude.{IfErr}
+use Rattle.std.proofs.Common.{◌≡◌, ◌≢◌, ℕ, ◌-◌, ◌≤◌, ◌<◌, true, false, ltb, eqb, List, length, drop, Result, Ok, Err, refl, sym, ap, subst, ◌∙◌, inl, inr}
 use Rattle.std.specs.Str.{bytes_eq}
 use Rattle.std.proofs.lemmas.Bool.{cases_Bool, lt-ltb, ltb-true, ltb-false, le-ltb, eq-eqb, eqb-true, eqb-false, ne_eqb, false_from_ne_true, false≢true}
 use Rattle.std.proofs.lemmas.Slice.Eq.{bytes_eq-Decides}
-use Rattle.rasta_pdu.specs.declared.body.Body.{Body}
 use Rattle.rasta_pdu.specs.declared.fault.PduFault.{PduFault}
 use Rattle.rasta_pdu.specs.declared.fault.PduFault.TheVariants as faults
 use Rattle.rasta_pdu.specs.declared.key.Key.{Key}
-use Rattle.rasta_pdu.specs.declared.pdu.Pdu.{Pdu}
 use Rattle.rasta_pdu.specs.SafetyCode.{IsIntact, code, before_code, last_8, length_field}
 use Rattle.rasta_pdu.specs.Reading.{◌>>=◌, body_of, pdu_of, reading, text_of, u16_at, u32_at}
 use Rattle.rasta_pdu.specs.Faults.{IsFault, type_field, payload_field}

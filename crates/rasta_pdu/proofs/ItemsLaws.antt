@@ -1,5 +1,5 @@
 -- The items of a payload: what is read is spelled so, what is spelled so is read, and the only fault.
-use Rattle.std.proofs.Common.{◌≡◌, ℕ, suc, zero, ◌-◌, ◌+◌, ◌*◌, ◌≤◌, ◌<◌, Bool, true, false, cond, eqb, List, [], ◌∷◌, ◌++◌, length, All, Result, Ok, Err, refl, sym, ap, subst, ◌∙◌, append_assoc, arith, inl, inr}
+use Rattle.std.proofs.Common.{◌≡◌, ℕ, suc, zero, ◌*◌, ◌≤◌, eqb, List, [], ◌∷◌, ◌++◌, length, All, Ok, Err, refl, sym, ap, subst, ◌∙◌, arith, inl, inr}
 use Rattle.std.specs.List.{flat_map}
 use Rattle.std.proofs.lemmas.Bool.{eqb-false, ne_eqb}
 use Rattle.std.proofs.lemmas.List.{length-append}
@@ -48,9 +48,9 @@ to_end_again room [] count each = refl
 to_end_again zero (item ∷ items) count each = absurd (omega arith)
 to_end_again (suc room) (item ∷ items) count each =
     to_end_step room (flat_map item_bytes (item ∷ items)) (flat_map item_bytes items) item items
-        (ap item_of (flat_map-cons item_bytes item items) ∙ item_again item (flat_map item_bytes items) (All-head IsItem item items each))
-        (omega arith)
-        (to_end_again room items (omega arith) (All-tail IsItem item items each))
+    (ap item_of (flat_map-cons item_bytes item items) ∙ item_again item (flat_map item_bytes items) (All-head IsItem item items each))
+    (omega arith)
+    (to_end_again room items (omega arith) (All-tail IsItem item items each))
 
 to_end_fault : (room : ℕ) (bytes : List ℕ) (fault : PduFault) → items_to_end room bytes ≡ Err fault → fault ≡ faults.Items
 unfolding items_to_end

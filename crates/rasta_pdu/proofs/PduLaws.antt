@@ -1,6 +1,5 @@
 -- A whole text: what is read is spelled so, and what is spelled so is read.
-use Rattle.std.proofs.Common.{◌≡◌, ℕ, suc, zero, ◌-◌, ◌+◌, ◌^◌, ◌≤◌, ◌<◌, List, [], ◌∷◌, ◌++◌, length, take, drop, Result, Ok, Err, refl, sym, ap, subst, ◌∙◌, append_assoc, arith}
-use Rattle.std.specs.List.{flat_map}
+use Rattle.std.proofs.Common.{◌≡◌, ℕ, ◌+◌, ◌^◌, ◌≤◌, ◌<◌, List, ◌++◌, length, drop, Result, Ok, refl, sym, ap, subst, ◌∙◌, arith}
 use Rattle.std.specs.Int.{w16, w32, from_le_bytes, to_le_bytes}
 use Rattle.std.proofs.lemmas.List.{drop-drop, length-drop, length-append}
 use Rattle.std.proofs.lemmas.Nat.{from_le_bytes-to_le_bytes_2, from_le_bytes-to_le_bytes_4}
@@ -9,15 +8,14 @@ use Rattle.rasta_pdu.specs.declared.body.Body.{Body}
 use Rattle.rasta_pdu.specs.declared.body.Body.TheVariants.{ConnectionRequest, ConnectionResponse, RetransmissionRequest, RetransmissionResponse, DisconnectionRequest, Heartbeat, Data, RetransmittedData}
 use Rattle.rasta_pdu.specs.declared.fault.PduFault.{PduFault}
 use Rattle.rasta_pdu.specs.declared.pdu.Pdu.{Pdu}
-use Rattle.rasta_pdu.specs.Items.{AreItems}
 use Rattle.rasta_pdu.specs.Values.{IsBody, IsOpening, IsPdu}
-use Rattle.rasta_pdu.specs.Spelling.{fields, item_bytes, opening_bytes, payload, text, type_of}
+use Rattle.rasta_pdu.specs.Spelling.{fields, opening_bytes, payload, text, type_of}
 use Rattle.rasta_pdu.specs.Reading.{◌>>=◌, body_of, pdu_of, u16_at, u32_at}
 use Rattle.rasta_pdu.proofs.Steps.{bind_ok, ok_is}
 use Rattle.rasta_pdu.specs.Values.{IsBytes}
 use Rattle.rasta_pdu.proofs.Bytes.{IsBytes-drop, front_16, front_32, below_32}
 use Rattle.rasta_pdu.proofs.ItemsLaws.{length-payload}
-use Rattle.rasta_pdu.proofs.TypeLaws.{SpellsBody, body_found, body_again}
+use Rattle.rasta_pdu.proofs.TypeLaws.{body_found, body_again}
 
 -- ---- lengths
 

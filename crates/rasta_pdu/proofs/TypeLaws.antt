@@ -1,8 +1,7 @@
 -- A type number and its payload: what is read is spelled so, what is spelled so is read, and the faults.
-use Rattle.std.proofs.Common.{◌≡◌, ◌≢◌, ◌⊎◌, ℕ, suc, zero, ◌-◌, ◌+◌, ◌^◌, ◌≤◌, ◌<◌, Bool, true, false, not, cond, eqb, List, [], ◌∷◌, ◌++◌, length, take, drop, Result, Ok, Err, refl, sym, ap, subst, ◌∙◌, append_assoc, arith, inl, inr}
+use Rattle.std.proofs.Common.{◌≡◌, ◌≢◌, ℕ, false, not, cond, eqb, List, length, take, drop, Result, Ok, Err, refl, sym, ap, subst, ◌∙◌, inl, inr}
 use Rattle.std.specs.List.{flat_map}
-use Rattle.std.proofs.lemmas.Bool.{eqb-true, eqb-false, eq-eqb, ne_eqb, cases_eq, false≢true}
-use Rattle.std.proofs.lemmas.List.{length-append}
+use Rattle.std.proofs.lemmas.Bool.{eqb-false, ne_eqb, cases_eq, false≢true}
 use Rattle.rasta_pdu.specs.declared.body.Opening.{Opening}
 use Rattle.rasta_pdu.specs.declared.body.Body.{Body}
 use Rattle.rasta_pdu.specs.declared.body.Body.TheVariants.{ConnectionRequest, ConnectionResponse, RetransmissionRequest, RetransmissionResponse, DisconnectionRequest, Heartbeat, Data, RetransmittedData}
@@ -16,7 +15,7 @@ use Rattle.rasta_pdu.specs.Faults.{HasFixedPayload, HasItems}
 use Rattle.rasta_pdu.specs.Faults as table
 use Rattle.rasta_pdu.proofs.Steps.{bind_ok, bind_err, sized_err, ok_is, err_is}
 use Rattle.rasta_pdu.specs.Values.{IsBytes}
-use Rattle.rasta_pdu.proofs.ItemsLaws.{items_found, items_again, items_fault, length-payload}
+use Rattle.rasta_pdu.proofs.ItemsLaws.{items_found, items_again, items_fault}
 use Rattle.rasta_pdu.proofs.BodyLaws.{opening_found, opening_again, disconnection_found, disconnection_again, nothing_found}
 
 -- no type has this number
@@ -44,24 +43,48 @@ data KindOf : ℕ → Type 0 where
 
 kind_of : (number : ℕ) → KindOf number
 kind_of number =
-    elim (cases_eq number 6200) [ inl e ↦ subst KindOf (sym e) connection_request | inr n0 ↦
-    elim (cases_eq number 6201) [ inl e ↦ subst KindOf (sym e) connection_response | inr n1 ↦
-    elim (cases_eq number 6212) [ inl e ↦ subst KindOf (sym e) retransmission_request | inr n2 ↦
-    elim (cases_eq number 6213) [ inl e ↦ subst KindOf (sym e) retransmission_response | inr n3 ↦
-    elim (cases_eq number 6216) [ inl e ↦ subst KindOf (sym e) disconnection_request | inr n4 ↦
-    elim (cases_eq number 6220) [ inl e ↦ subst KindOf (sym e) heartbeat | inr n5 ↦
-    elim (cases_eq number 6240) [ inl e ↦ subst KindOf (sym e) items_first | inr n6 ↦
-    elim (cases_eq number 6241) [ inl e ↦ subst KindOf (sym e) items_again_sent | inr n7 ↦
-    other (record {
-      not_6200 = ne_eqb number 6200 n0;
-      not_6201 = ne_eqb number 6201 n1;
-      not_6212 = ne_eqb number 6212 n2;
-      not_6213 = ne_eqb number 6213 n3;
-      not_6216 = ne_eqb number 6216 n4;
-      not_6220 = ne_eqb number 6220 n5;
-      not_6240 = ne_eqb number 6240 n6;
-      not_6241 = ne_eqb number 6241 n7;
-    }) ] ] ] ] ] ] ] ]
+    elim (cases_eq number 6200) [
+      | inl e ↦ subst KindOf (sym e) connection_request
+      | inr n0 ↦
+          elim (cases_eq number 6201) [
+            | inl e ↦ subst KindOf (sym e) connection_response
+            | inr n1 ↦
+                elim (cases_eq number 6212) [
+                  | inl e ↦ subst KindOf (sym e) retransmission_request
+                  | inr n2 ↦
+                      elim (cases_eq number 6213) [
+                        | inl e ↦ subst KindOf (sym e) retransmission_response
+                        | inr n3 ↦
+                            elim (cases_eq number 6216) [
+                              | inl e ↦ subst KindOf (sym e) disconnection_request
+                              | inr n4 ↦
+                                  elim (cases_eq number 6220) [
+                                    | inl e ↦ subst KindOf (sym e) heartbeat
+                                    | inr n5 ↦
+                                        elim (cases_eq number 6240) [
+                                          | inl e ↦ subst KindOf (sym e) items_first
+                                          | inr n6 ↦
+                                              elim (cases_eq number 6241) [
+                                                | inl e ↦ subst KindOf (sym e) items_again_sent
+                                                | inr n7 ↦
+                                                    other (record {
+                                                      not_6200 = ne_eqb number 6200 n0;
+                                                      not_6201 = ne_eqb number 6201 n1;
+                                                      not_6212 = ne_eqb number 6212 n2;
+                                                      not_6213 = ne_eqb number 6213 n3;
+                                                      not_6216 = ne_eqb number 6216 n4;
+                                                      not_6220 = ne_eqb number 6220 n5;
+                                                      not_6240 = ne_eqb number 6240 n6;
+                                                      not_6241 = ne_eqb number 6241 n7;
+                                                    })
+                                              ]
+                                        ]
+                                  ]
+                            ]
+                      ]
+                ]
+          ]
+    ]
 
 other_bad : (number : ℕ) (bytes : List ℕ) → NoType number → body_of number bytes ≡ Err faults.BadType
 unfolding body_of

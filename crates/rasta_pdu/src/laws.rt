@@ -12,8 +12,7 @@ ghost use Rattle.rasta_pdu.specs.declared.pdu.Pdu.{Pdu};
 pub fn one_spelling_each()
     ensures values { (p q : Pdu) (bytes : List ℕ) → Spells p bytes → Spells q bytes → p ≡ q }
     ensures spellings { (p : Pdu) (bytes others : List ℕ) → Spells p bytes → Spells p others → bytes ≡ others }
-{
-}
+{}
 
 /// What is written under a key has 36 to 225 bytes, is intact, and is read as the same PDU again.
 pub fn written_is_read()
@@ -21,13 +20,11 @@ pub fn written_is_read()
     ensures most { (key : Key) (pdu : Pdu) → IsPdu pdu → length (writing key pdu) ≤ 225 }
     ensures intact { (key : Key) (pdu : Pdu) → IsPdu pdu → IsIntact key (writing key pdu) }
     ensures read { (key : Key) (pdu : Pdu) → IsPdu pdu → reading key (writing key pdu) ≡ Ok pdu }
-{
-}
+{}
 
 /// What is read under a key is intact, and was written so.
 pub fn read_was_written()
     ensures intact { (key : Key) (bytes : List ℕ) (pdu : Pdu) → reading key bytes ≡ Ok pdu → IsIntact key bytes }
     ensures written { (key : Key) (bytes : List ℕ) (pdu : Pdu) → IsBytes bytes → reading key bytes ≡ Ok pdu
         → IsPdu pdu × (bytes ≡ writing key pdu) }
-{
-}
+{}

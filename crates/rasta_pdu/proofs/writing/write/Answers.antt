@@ -1,4 +1,4 @@
-use Rattle.std.proofs.Common.{◌≤◌, length, sym, ap, subst, ◌∙◌, ℕ, List}
+use Rattle.std.proofs.Common.{sym, ap, subst, ◌∙◌, ℕ, List}
 use Rattle.rasta_pdu.specs.SafetyCode.{IsIntact}
 use Rattle.rasta_pdu.specs.Reading.{reading}
 use Rattle.rasta_pdu.proofs.CodecLaws.{writing_long, writing_short, writing_intact, reading_writing}
