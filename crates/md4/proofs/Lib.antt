@@ -1,0 +1,5 @@
+pub mod Blocks
+pub mod Laws
+pub mod Padding
+pub mod StandardFacts
+pub mod Steps

@@ -1,0 +1,6 @@
+use Rattle.std.proofs.Common.{◌≡◌, length, take, All}
+use Rattle.rasta_pdu.specs.Items.{IsItem}
+use Rattle.rasta_pdu.proofs.items.Items.of.Given as goal
+
+abbrev pub invariant-loop-item : goal.invariant-loop-item
+invariant-loop-item l = (l.held.items ≡ take l.item-index l.items) × All IsItem l.held.items

@@ -1,0 +1,6 @@
+pub mod Items
+pub mod Values
+pub mod SafetyCode
+pub mod Spelling
+pub mod Reading
+pub mod Faults

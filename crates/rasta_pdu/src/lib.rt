@@ -1,0 +1,25 @@
+//! The PDUs of a link after RaSTA (DIN VDE V 0831-200): each has one spelling in bytes, which ends with
+//! a safety code under the key of the network. Nothing here takes memory.
+#![tactic(auto)]
+
+mod body;
+mod fault;
+mod item;
+mod items;
+mod key;
+mod numbers;
+mod pdu;
+mod reading;
+mod safety_code;
+mod types;
+mod writing;
+
+pub use body::{Body, Opening};
+pub use fault::PduFault;
+pub use item::Item;
+pub use items::Items;
+pub use key::Key;
+pub use pdu::Pdu;
+pub use reading::read;
+pub use safety_code::is_intact;
+pub use writing::{Datagram, write};
