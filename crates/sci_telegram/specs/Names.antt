@@ -1,5 +1,5 @@
 -- Which bytes are a name, and the field of a telegram that a name stands in (this profile).
-use Rattle.std.specs.Prelude.{◌≡◌, ℕ, ◌-◌, ◌≤◌, Bool, ◌||◌, ◌==◌, IsTrue, List, ◌++◌, length, replicate}
+use Rattle.std.specs.Prelude.{◌≡◌, ℕ, ◌-◌, ◌≤◌, Bool, ◌||◌, ◌&&◌, ◌==◌, nat_le, IsTrue, List, ◌++◌, length, replicate}
 use Rattle.std.specs.Char.{is_ascii_alphanumeric}
 use Rattle.std.specs.List.{list_all, before_first}
 
@@ -8,6 +8,9 @@ abbrev pub is_name_byte : ℕ → Bool
 is_name_byte byte = is_ascii_alphanumeric byte || byte == 45
 
 -- a name has 1 to 20 such bytes
+abbrev pub is_name : List ℕ → Bool
+is_name bytes = nat_le 1 (length bytes) && nat_le (length bytes) 20 && list_all is_name_byte bytes
+
 pub record IsName (bytes : List ℕ) : Type 0 where
   pub some : 1 ≤ length bytes
   pub most : length bytes ≤ 20

@@ -2,7 +2,8 @@
 
 ghost use Rattle.std.specs.Prelude.{◌≡◌, ◌↔◌, IsTrue, IsSome, IfSome};
 ghost use Rattle.std.specs.List.{list_all, position, before_first};
-ghost use Rattle.sci_telegram.specs.Names.{IsName, is_name_byte, is_padding};
+ghost use Rattle.sci_telegram.specs.Names.{IsName, is_name_byte, is_padding, name_field};
+ghost use Rattle.sci_telegram.specs.Reading.{name_spelled};
 
 use std::marker::Model;
 
@@ -80,6 +81,23 @@ impl Name {
         let mut field = [PADDING; FIELD_LENGTH];
         field[..bytes.len()].copy_from_slice(bytes);
         Some(Name { field })
+    }
+
+    /// The name that a field spells: what stands before the first padding, if only padding follows.
+    #[tactic(auto, unfolding(crate::specs::Reading::name_spelled))]
+    pub(crate) fn spelled(field: &[u8]) -> Option<Name>
+        ensures { result ≡ name_spelled field.now }
+    {
+        let name = Name::of(name_in(field))?;
+        (name.field.as_slice() == field).then_some(name)
+    }
+
+    /// The field of a telegram in which the name stands.
+    pub(crate) fn field(&self) -> [u8; FIELD_LENGTH]
+        ensures value { result ≡ name_field self.now }
+        ensures fits { IsName self.now }
+    {
+        self.field
     }
 
     /// The bytes of the name, of which there are 1 to 20.
