@@ -71,6 +71,7 @@ impl Outbox {
     }
 
     /// Puts the bytes of a PDU at the end.
+    #[tactic(auto, unfolding(crate::specs::Outbox::posted))]
     pub(crate) fn post(&mut self, key: &Key, pdu: Pdu)
         requires { HasRoomFor 1 self.old }
         ensures { self.new ≡ posted key.now (pdu ∷ []) self.old }

@@ -27,6 +27,16 @@ fn distance(from: u32, to: u32) -> u32
     to.wrapping_sub(from)
 }
 
+/// Puts items into an empty inbox.
+fn put_items(items: &Items, inbox: &mut Inbox)
+    requires { inbox.old.items ≡ [] }
+    ensures { inbox.new.items ≡ items.now }
+{
+    for item in items.as_slice() {
+        let _ = inbox.try_push(item.copy());
+    }
+}
+
 impl Link {
     ghost use Rattle.rasta_core_link.specs.State.{is_open};
     ghost use Rattle.rasta_core_link.specs.Sending.{closed};
@@ -67,7 +77,7 @@ impl Link {
     }
 
     /// A PDU is taken: what it returns and confirms is kept.
-    #[tactic(auto, unfolding(crate::specs::Receiving::taking))]
+    #[tactic(auto, using(crate::proofs::Waiting::dropping), unfolding(crate::specs::Receiving::taking))]
     fn take(&mut self, pdu: &Pdu)
         requires in_range { ahead pdu.now self.old ≤ sequence_range }
         requires confirmed { behind pdu.now self.old < self.old.sent }
@@ -82,7 +92,7 @@ impl Link {
     }
 
     /// A retransmission request is answered: the response, the items again, a heartbeat.
-    #[tactic(auto, unfolding(crate::specs::Receiving::answering, crate::specs::Receiving::repeating, crate::specs::Sending::sending))]
+    #[tactic(auto, using(crate::proofs::Waiting::repeating), unfolding(crate::specs::Receiving::answering, crate::specs::Receiving::repeating, crate::specs::Sending::sending))]
     fn answer(&mut self, outbox: &mut Outbox)
         requires below { self.old.sent < connection_limit }
         requires room { HasRoomFor 22 outbox.old }
@@ -101,6 +111,7 @@ impl Link {
         requires room { HasRoomFor 1 outbox.old }
         ensures link { self.new ≡ (missing self.old).link }
         ensures posted { outbox.new ≡ posted self.old.identity.key (missing self.old).pdus outbox.old }
+        ensures items { (missing self.old).items ≡ [] }
         ensures verdict { result ≡ (missing self.old).verdict }
     {
         self.dispatch(Body::RetransmissionRequest, outbox);
@@ -116,15 +127,13 @@ impl Link {
         ensures items { inbox.new.items ≡ (handing items.now self.old).items }
         ensures verdict { result ≡ (handing items.now self.old).verdict }
     {
-        for item in items.as_slice() {
-            let _ = inbox.try_push(item.copy());
-        }
+        put_items(items, inbox);
         self.taken = self.taken.saturating_add(items.as_slice().len() as u64);
         Verdict::Taken
     }
 
     /// What the expected PDU brings, once it is taken.
-    #[tactic(auto, unfolding(crate::specs::Receiving::bringing, crate::specs::Receiving::handing))]
+    #[tactic(auto, using(crate::proofs::Posting::posting), unfolding(crate::specs::Receiving::bringing, crate::specs::Receiving::handing))]
     fn bring(&mut self, body: &Body, outbox: &mut Outbox, inbox: &mut Inbox) -> Verdict
         requires below { self.old.sent < connection_limit }
         requires room { HasRoomFor 22 outbox.old }
@@ -152,7 +161,7 @@ impl Link {
     }
 
     /// The PDU at the expected number is taken, and a later one shows that one is missing.
-    #[tactic(auto, unfolding(crate::specs::Receiving::in_turn, crate::specs::Receiving::taking))]
+    #[tactic(auto, using(crate::proofs::Posting::posting), unfolding(crate::specs::Receiving::in_turn, crate::specs::Receiving::taking))]
     fn follow(&mut self, pdu: &Pdu, outbox: &mut Outbox, inbox: &mut Inbox) -> Verdict
         requires below { self.old.sent < connection_limit }
         requires in_range { ahead pdu.now self.old ≤ sequence_range }
@@ -184,7 +193,7 @@ impl Link {
     }
 
     /// What becomes of a PDU by its type and the phase, once its numbers and stamps were tested.
-    #[tactic(auto, unfolding(crate::specs::Receiving::admitting))]
+    #[tactic(auto, using(crate::proofs::Posting::posting), unfolding(crate::specs::Receiving::admitting, crate::specs::Receiving::taking))]
     fn admit(&mut self, pdu: &Pdu, outbox: &mut Outbox, inbox: &mut Inbox) -> Verdict
         requires open { IsTrue (is_open self.old.phase) }
         requires below { self.old.sent < connection_limit }
@@ -215,7 +224,7 @@ impl Link {
     }
 
     /// The tests of numbers and stamps in a connection, in their order.
-    #[tactic(auto, unfolding(crate::specs::Receiving::testing))]
+    #[tactic(auto, using(crate::proofs::Posting::posting), unfolding(crate::specs::Receiving::testing))]
     fn test(&mut self, pdu: &Pdu, outbox: &mut Outbox, inbox: &mut Inbox) -> Verdict
         requires open { IsTrue (is_open self.old.phase) }
         requires below { self.old.sent < connection_limit }
@@ -248,7 +257,7 @@ impl Link {
     }
 
     /// In a connection.
-    #[tactic(auto, unfolding(crate::specs::Receiving::connected))]
+    #[tactic(auto, using(crate::proofs::Posting::posting), unfolding(crate::specs::Receiving::connected))]
     fn receive_connected(&mut self, pdu: &Pdu, outbox: &mut Outbox, inbox: &mut Inbox) -> Verdict
         requires open { IsTrue (is_open self.old.phase) }
         requires below { self.old.sent < connection_limit }
@@ -275,7 +284,7 @@ impl Link {
     }
 
     /// At a client that asked for a connection.
-    #[tactic(auto, unfolding(crate::specs::Receiving::asking))]
+    #[tactic(auto, using(crate::proofs::Posting::posting), unfolding(crate::specs::Receiving::asking))]
     fn receive_asking(&mut self, pdu: &Pdu, outbox: &mut Outbox) -> Verdict
         requires open { IsTrue (is_open self.old.phase) }
         requires below { self.old.sent < connection_limit }
@@ -302,7 +311,7 @@ impl Link {
     }
 
     /// At an end that is down: only a server takes something, a request.
-    #[tactic(auto, unfolding(crate::specs::Receiving::resting))]
+    #[tactic(auto, using(crate::proofs::Posting::posting), unfolding(crate::specs::Receiving::resting))]
     fn receive_resting(&mut self, pdu: &Pdu, outbox: &mut Outbox) -> Verdict
         requires room { HasRoomFor 1 outbox.old }
         ensures link { self.new ≡ (resting pdu.now.body pdu.now self.old).link }
@@ -320,7 +329,7 @@ impl Link {
     }
 
     /// What the state makes of it.
-    #[tactic(auto, unfolding(crate::specs::Receiving::by_state, crate::specs::Clock::state_at))]
+    #[tactic(auto, using(crate::proofs::Posting::posting), unfolding(crate::specs::Receiving::by_state, crate::specs::Clock::state_at))]
     fn receive_by_state(&mut self, pdu: &Pdu, outbox: &mut Outbox, inbox: &mut Inbox) -> Verdict
         requires below { IsTrue (is_open self.old.phase) → self.old.sent < connection_limit }
         requires room { HasRoomFor 22 outbox.old }
@@ -340,7 +349,7 @@ impl Link {
     }
 
     /// Who it is for and from, and then the state.
-    #[tactic(auto, unfolding(crate::specs::Receiving::hearing))]
+    #[tactic(auto, using(crate::proofs::Posting::posting), unfolding(crate::specs::Receiving::hearing))]
     pub(crate) fn hear(&mut self, pdu: &Pdu, outbox: &mut Outbox, inbox: &mut Inbox) -> Verdict
         requires below { IsTrue (is_open self.old.phase) → self.old.sent < connection_limit }
         requires room { HasRoomFor 22 outbox.old }

@@ -97,7 +97,7 @@ impl Link {
     }
 
     /// Closes, and tells the partner where the reason is one that is told.
-    #[tactic(auto, unfolding(crate::specs::Sending::closing))]
+    #[tactic(auto, using(crate::proofs::Posting::posting), unfolding(crate::specs::Sending::closing))]
     pub(crate) fn shut(&mut self, why: Reason, outbox: &mut Outbox)
         requires open { IsTrue (is_open self.old.phase) }
         requires room { HasRoomFor 1 outbox.old }
@@ -111,22 +111,34 @@ impl Link {
         }
     }
 
-    /// How each call begins: the clock rules, and then the limit of PDUs in a connection.
-    #[tactic(auto, unfolding(crate::specs::Sending::entered, crate::specs::Sending::limited))]
-    pub(crate) fn enter(&mut self, now: Millis, outbox: &mut Outbox)
+    /// An end that has sent so many PDUs in its connection closes it.
+    #[tactic(auto, using(crate::proofs::Posting::posting), unfolding(crate::specs::Sending::limited))]
+    fn limit(&mut self, outbox: &mut Outbox)
         requires room { HasRoomFor 1 outbox.old }
-        ensures link { self.new ≡ (entered now self.old).link }
-        ensures posted { outbox.new ≡ posted self.old.identity.key (entered now self.old).pdus outbox.old }
-        ensures below { IsTrue (is_open self.new.phase) → self.new.sent < connection_limit }
+        ensures link { self.new ≡ (limited self.old).link }
+        ensures posted { outbox.new ≡ posted self.old.identity.key (limited self.old).pdus outbox.old }
     {
-        self.settle(now);
         if self.phase.is_open() && self.sent >= CONNECTION_LIMIT {
             self.tell(Reason::Sequence, outbox);
         }
     }
 
+    /// How each call begins: the clock rules, and then the limit of PDUs in a connection.
+    #[tactic(auto, using(crate::proofs::Steps::entering), unfolding(crate::specs::Sending::entered))]
+    pub(crate) fn enter(&mut self, now: Millis, outbox: &mut Outbox)
+        requires room { HasRoomFor 24 outbox.old }
+        ensures link { self.new ≡ (entered now self.old).link }
+        ensures posted { outbox.new ≡ posted self.old.identity.key (entered now self.old).pdus outbox.old }
+        ensures identity { self.new.identity ≡ self.old.identity }
+        ensures below { IsTrue (is_open self.new.phase) → self.new.sent < connection_limit }
+        ensures room { HasRoomFor 23 outbox.new }
+    {
+        self.settle(now);
+        self.limit(outbox);
+    }
+
     /// A heartbeat, where it is up and was silent for 300 ms.
-    #[tactic(auto, unfolding(crate::specs::Sending::beating))]
+    #[tactic(auto, using(crate::proofs::Posting::posting), unfolding(crate::specs::Sending::beating))]
     pub(crate) fn beat(&mut self, outbox: &mut Outbox)
         requires below { IsTrue (is_open self.old.phase) → self.old.sent < connection_limit }
         requires room { HasRoomFor 1 outbox.old }
@@ -139,7 +151,7 @@ impl Link {
     }
 
     /// A new item goes out, and waits under the count of its PDU.
-    #[tactic(auto, unfolding(crate::specs::Sending::giving))]
+    #[tactic(auto, using(crate::proofs::Posting::posting), unfolding(crate::specs::Sending::sending, crate::specs::Sending::giving))]
     pub(crate) fn give(&mut self, item: &Item, outbox: &mut Outbox)
         requires below { self.old.sent < connection_limit }
         requires window { length self.old.waiting < window_size }
@@ -154,7 +166,7 @@ impl Link {
     }
 
     /// The unconfirmed items go out again.
-    #[tactic(auto, unfolding(crate::specs::Receiving::repeating))]
+    #[tactic(auto, using(crate::proofs::Waiting::repeating), unfolding(crate::specs::Receiving::repeating))]
     pub(crate) fn repeat(&mut self, outbox: &mut Outbox)
         requires below { self.old.sent ≤ connection_limit }
         requires room { HasRoomFor 20 outbox.old }
