@@ -40,6 +40,11 @@ created identity first_sequence_number now = record {
 abbrev pub MayStep : ℕ → LinkState → Type 0
 MayStep now link = link.clock ≤ now
 
+-- after a call at a clock reading the link has that clock, and the identity that it had
+pub record IsAt (now : ℕ) (old new : LinkState) : Type 0 where
+  pub clock : new.clock ≡ now
+  pub identity : new.identity ≡ old.identity
+
 -- the answer of `open`, and what it does
 unfoldable pub opens : ℕ → LinkState → Bool
 opens now link = may_open (entered now link).link

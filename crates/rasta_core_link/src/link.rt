@@ -157,6 +157,13 @@ impl Link {
         self.clock <= now
     }
 
+    /// Who the link and its partner are, and the key of their network.
+    pub fn identity(&self) -> Identity
+        ensures { result ≡ self.now.identity }
+    {
+        self.identity
+    }
+
     /// How many items `send` accepted in the last connection.
     pub fn given(&self) -> u64
         ensures { result ≡ self.now.given }

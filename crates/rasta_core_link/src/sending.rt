@@ -133,7 +133,7 @@ impl Link {
         ensures below { IsTrue (is_open self.new.phase) → self.new.sent < connection_limit }
         ensures room { HasRoomFor 23 outbox.new }
     {
-        self.settle(now);
+        self.apply_clock(now);
         self.limit(outbox);
     }
 

@@ -1,8 +1,9 @@
 -- What contracts see of the parts of a pair, and what is always true of them.
-use Rattle.std.specs.Prelude.{◌≡◌, ℕ, ◌+◌, ◌*◌, ◌≤◌, List, [], ◌∷◌, length, All}
+use Rattle.std.specs.Prelude.{◌≡◌, ℕ, ◌+◌, ◌*◌, ◌≤◌, ◌&&◌, ◌||◌, not, Bool, List, [], ◌∷◌, length, All, Option, is_some, if◌then◌else◌}
+use Rattle.rasta_core_link.specs.State.{is_open}
 use Rattle.std.specs.Vec.{vec_len, vec_capacity}
 use Rattle.rasta_core_link.specs.Outbox.{OutboxState}
-use Rattle.rasta_core_ends.specs.Ends.{EndState, Sent, reading_of}
+use Rattle.rasta_core_ends.specs.Ends.{EndState, Sent, newer, kept, reading_of}
 use Rattle.rasta_core_ends.specs.Run.{Ends}
 use Rattle.simulator_pair.specs.Pair.{PairState}
 use Rattle.simulator_pair.specs.Events.{clock_limit}
@@ -30,6 +31,15 @@ seen_ends parts = record {
 
 unfoldable pub seen : Parts → PairState
 seen parts = record { ends = seen_ends parts; lamp = parts.lamp }
+
+-- an end whose link was open or not before a step, and that enters a connection in it or not
+unfoldable pub noted : Bool → Option ℕ → ℕ → EndState → EndState
+noted was_open enters moment end = record end {
+  connection = newer enters end.connection;
+  left = if (was_open || is_some enters) && not (is_open end.link.phase) then moment else end.left;
+  given = kept enters end.given;
+  taken = kept enters end.taken
+}
 
 -- the link was last called at the end's clock
 abbrev pub IsAtClock : Node → Type 0

@@ -1,10 +1,10 @@
 //! One end of a pair, with what its link doesn't know.
 
-ghost use Rattle.std.specs.Prelude.{◌≡◌, ◌+◌, ◌≤◌, ◌<◌, ◌^◌, ◌||◌, ◌&&◌, ℕ, Some, None, [], ◌++◌, length, not, is_some, if◌then◌else◌};
+ghost use Rattle.std.specs.Prelude.{◌≡◌, ◌+◌, ◌≤◌, ◌<◌, ◌^◌, ◌++◌, ℕ, [], length};
+ghost use Rattle.std.specs.Vec.{vec_len, vec_capacity};
 ghost use Rattle.rasta_core_link.specs.Outbox.{HasRoomFor, posted};
-ghost use Rattle.rasta_core_link.specs.State.{is_open};
 ghost use Rattle.rasta_core_link.specs.Calls.{answer_to_send};
-ghost use Rattle.rasta_core_ends.specs.Ends.{outcome, end_after, end_later, newer, kept, Ticks, Opens, Closes, Sends, Receives, reading_of};
+ghost use Rattle.rasta_core_ends.specs.Ends.{outcome, end_after, end_later, Ticks, Opens, Closes, Sends, Receives, reading_of};
 
 use rasta_core_link::{Inbox, Link, Millis, Outbox, Reason, SendFault, Verdict};
 use rasta_pdu::Item;
@@ -27,7 +27,7 @@ pub(crate) struct Node {
 }
 
 impl Node {
-    ghost use Rattle.simulator_pair.specs.Seen.{seen_end, IsAtClock, HasLists};
+    ghost use Rattle.simulator_pair.specs.Seen.{seen_end, IsAtClock, HasLists, noted};
 
     /// What the end reads of its clock.
     pub(crate) fn now(&self) -> Millis
@@ -36,9 +36,14 @@ impl Node {
         self.clock / MICROS
     }
 
-    /// The connection that it has entered in a step, if any, is its last; and the moment is that at which it
-    /// left its connection, if it did.
-    fn note(&mut self, was_open: bool, enters: Option<usize>, moment: usize) {
+    /// Notes the connection that it has entered in a step, if any, and the moment if it has left one.
+    #[tactic(auto, unfolding(crate::specs::Seen::seen_end, crate::specs::Seen::noted))]
+    fn note(&mut self, was_open: bool, enters: Option<usize>, moment: usize)
+        ensures end { seen_end self.new ≡ noted was_open enters moment (seen_end self.old) }
+        ensures link { self.new.link ≡ self.old.link }
+        ensures clock { self.new.clock ≡ self.old.clock }
+        ensures lists { (items : ℕ) → HasLists items self.old → HasLists items self.new }
+    {
         let was_in = was_open || enters.is_some();
         if let Some(connection) = enters {
             self.connection = Some(connection);
@@ -51,14 +56,34 @@ impl Node {
     }
 
     /// The heartbeat, where it is due.
-    pub(crate) fn tick(&mut self, moment: usize, outbox: &mut Outbox) {
+    #[tactic(auto, using(crate::proofs::Steps::stepping), unfolding(crate::specs::Seen::seen_end, crate::specs::Seen::noted, rasta_core_ends::specs::Ends::outcome, rasta_core_ends::specs::Ends::end_after))]
+    pub(crate) fn tick(&mut self, moment: usize, outbox: &mut Outbox)
+        requires clock { IsAtClock self.old }
+        requires empty { outbox.old.datagrams ≡ [] }
+        requires room { HasRoomFor 24 outbox.old }
+        requires fits { moment < 2 ^ 63 }
+        ensures end { seen_end self.new ≡ end_after (outcome Ticks moment (seen_end self.old)) moment (seen_end self.old) }
+        ensures posted { outbox.new ≡ posted self.old.link.identity.key (outcome Ticks moment (seen_end self.old)).pdus outbox.old }
+        ensures clock { IsAtClock self.new }
+        ensures lists { (items : ℕ) → HasLists items self.old → HasLists items self.new }
+    {
         let was_open = self.link.is_open();
         self.link.tick(self.now(), outbox);
         self.note(was_open, None, moment + outbox.len());
     }
 
     /// A client that is down asks for a connection.
-    pub(crate) fn open(&mut self, moment: usize, outbox: &mut Outbox) {
+    #[tactic(auto, using(crate::proofs::Steps::stepping), unfolding(crate::specs::Seen::seen_end, crate::specs::Seen::noted, rasta_core_ends::specs::Ends::outcome, rasta_core_ends::specs::Ends::end_after))]
+    pub(crate) fn open(&mut self, moment: usize, outbox: &mut Outbox)
+        requires clock { IsAtClock self.old }
+        requires empty { outbox.old.datagrams ≡ [] }
+        requires room { HasRoomFor 24 outbox.old }
+        requires fits { moment < 2 ^ 63 }
+        ensures end { seen_end self.new ≡ end_after (outcome Opens moment (seen_end self.old)) moment (seen_end self.old) }
+        ensures posted { outbox.new ≡ posted self.old.link.identity.key (outcome Opens moment (seen_end self.old)).pdus outbox.old }
+        ensures clock { IsAtClock self.new }
+        ensures lists { (items : ℕ) → HasLists items self.old → HasLists items self.new }
+    {
         let was_open = self.link.is_open();
         let opens = self.link.open(self.now(), outbox);
         let enters = if opens { Some(moment) } else { None };
@@ -66,14 +91,41 @@ impl Node {
     }
 
     /// The user closes the link.
-    pub(crate) fn close(&mut self, why: Reason, moment: usize, outbox: &mut Outbox) {
+    #[tactic(auto, using(crate::proofs::Steps::stepping), unfolding(crate::specs::Seen::seen_end, crate::specs::Seen::noted, rasta_core_ends::specs::Ends::outcome, rasta_core_ends::specs::Ends::end_after))]
+    pub(crate) fn close(&mut self, why: Reason, moment: usize, outbox: &mut Outbox)
+        requires clock { IsAtClock self.old }
+        requires empty { outbox.old.datagrams ≡ [] }
+        requires room { HasRoomFor 24 outbox.old }
+        requires fits { moment < 2 ^ 63 }
+        ensures end { seen_end self.new ≡ end_after (outcome (Closes why) moment (seen_end self.old)) moment (seen_end self.old) }
+        ensures posted { outbox.new ≡ posted self.old.link.identity.key (outcome (Closes why) moment (seen_end self.old)).pdus outbox.old }
+        ensures clock { IsAtClock self.new }
+        ensures lists { (items : ℕ) → HasLists items self.old → HasLists items self.new }
+    {
         let was_open = self.link.is_open();
         self.link.close(self.now(), why, outbox);
         self.note(was_open, None, moment + outbox.len());
     }
 
     /// The user gives an item.
-    pub(crate) fn send(&mut self, item: &Item, moment: usize, outbox: &mut Outbox) -> Result<(), SendFault> {
+    #[tactic(auto, using(crate::proofs::Steps::stepping), unfolding(crate::specs::Seen::seen_end, crate::specs::Seen::noted, rasta_core_ends::specs::Ends::outcome, rasta_core_ends::specs::Ends::end_after))]
+    pub(crate) fn send(
+        &mut self,
+        item: &Item,
+        moment: usize,
+        outbox: &mut Outbox,
+    ) -> Result<(), SendFault>
+        requires clock { IsAtClock self.old }
+        requires empty { outbox.old.datagrams ≡ [] }
+        requires room { HasRoomFor 24 outbox.old }
+        requires fits { moment < 2 ^ 63 }
+        requires lists { HasLists 1 self.old }
+        ensures end { seen_end self.new ≡ end_after (outcome (Sends item.now) moment (seen_end self.old)) moment (seen_end self.old) }
+        ensures posted { outbox.new ≡ posted self.old.link.identity.key (outcome (Sends item.now) moment (seen_end self.old)).pdus outbox.old }
+        ensures answer { result ≡ answer_to_send (reading_of self.old.clock) self.old.link }
+        ensures clock { IsAtClock self.new }
+        ensures lists { (items : ℕ) → HasLists (items + 1) self.old → HasLists items self.new }
+    {
         let was_open = self.link.is_open();
         let answer = self.link.send(self.now(), item, outbox);
         self.note(was_open, None, moment + outbox.len());
@@ -84,6 +136,7 @@ impl Node {
     }
 
     /// A datagram comes that was sent in this connection.
+    #[tactic(auto, using(crate::proofs::Steps::stepping), unfolding(crate::specs::Seen::seen_end, crate::specs::Seen::noted, rasta_core_ends::specs::Ends::outcome, rasta_core_ends::specs::Ends::end_after))]
     pub(crate) fn receive(
         &mut self,
         bytes: &[u8],
@@ -91,21 +144,50 @@ impl Node {
         moment: usize,
         outbox: &mut Outbox,
         inbox: &mut Inbox,
-    ) {
+    )
+        requires clock { IsAtClock self.old }
+        requires empty { outbox.old.datagrams ≡ [] }
+        requires room { HasRoomFor 24 outbox.old }
+        requires fits { moment < 2 ^ 63 }
+        requires lists { HasLists 3 self.old }
+        ensures end { seen_end self.new ≡ end_after (outcome (Receives bytes.now connection) moment (seen_end self.old)) moment (seen_end self.old) }
+        ensures posted { outbox.new ≡ posted self.old.link.identity.key (outcome (Receives bytes.now connection) moment (seen_end self.old)).pdus outbox.old }
+        ensures items { inbox.new.items ≡ (outcome (Receives bytes.now connection) moment (seen_end self.old)).taken }
+        ensures clock { IsAtClock self.new }
+        ensures lists { (items : ℕ) → HasLists (items + 3) self.old → HasLists items self.new }
+    {
         let was_open = self.link.is_open();
         let verdict = self.link.receive(self.now(), bytes, outbox, inbox);
-        let enters = if !was_open && verdict == Verdict::Taken { Some(connection) } else { None };
+        let entered = !was_open && verdict == Verdict::Taken;
+        let enters = if entered { Some(connection) } else { None };
         self.note(was_open, enters, moment + outbox.len());
-        for item in inbox.as_slice() {
-            self.taken.push_reserved(item.copy());
-        }
+        append(&mut self.taken, inbox.as_slice());
     }
 
-    /// The clock goes on.
-    pub(crate) fn pass(&mut self, elapsed: u64, moment: usize) {
+    /// The clock goes on by so many microseconds.
+    #[tactic(auto, using(crate::proofs::Steps::stepping), unfolding(crate::specs::Seen::seen_end, crate::specs::Seen::noted, rasta_core_ends::specs::Ends::end_later))]
+    pub(crate) fn pass(&mut self, elapsed: u64, moment: usize)
+        requires clock { IsAtClock self.old }
+        requires fits { self.old.clock + elapsed < 2 ^ 64 }
+        ensures end { seen_end self.new ≡ end_later elapsed moment (seen_end self.old) }
+        ensures clock { IsAtClock self.new }
+        ensures lists { (items : ℕ) → HasLists items self.old → HasLists items self.new }
+    {
         let was_open = self.link.is_open();
         self.clock += elapsed;
         self.link.settle(self.now());
         self.note(was_open, None, moment);
+    }
+}
+
+/// Appends items for which there is room.
+fn append(list: &mut Vec<Item>, items: &[Item])
+    requires { vec_len list.old + length items.now ≤ vec_capacity list.old }
+    ensures items { list.new.items ≡ list.old.items ++ items.now }
+    ensures len { vec_len list.new ≡ vec_len list.old + length items.now }
+    ensures capacity { vec_capacity list.new ≡ vec_capacity list.old }
+{
+    for item in items {
+        list.push_reserved(item.copy());
     }
 }
