@@ -1,14 +1,14 @@
--- What contracts see of the parts of a pair, and what is always true of them.
-use Rattle.std.specs.Prelude.{◌≡◌, ℕ, ◌+◌, ◌*◌, ◌≤◌, ◌&&◌, ◌||◌, not, Bool, List, [], ◌∷◌, length, All, Option, is_some, if◌then◌else◌}
+-- What contracts see of the ends of a pair.
+use Rattle.std.specs.Prelude.{◌≡◌, ℕ, ◌+◌, ◌≤◌, ◌&&◌, ◌||◌, not, Bool, Option, is_some, Result, Ok, if◌then◌else◌}
 use Rattle.rasta_core_link.specs.State.{is_open}
 use Rattle.std.specs.Vec.{vec_len, vec_capacity}
-use Rattle.rasta_core_link.specs.Outbox.{OutboxState}
-use Rattle.rasta_core_ends.specs.Ends.{EndState, Sent, newer, kept, reading_of}
-use Rattle.rasta_core_ends.specs.Run.{Ends}
-use Rattle.simulator_pair.specs.Pair.{PairState}
-use Rattle.simulator_pair.specs.Events.{clock_limit}
+use Rattle.rasta_core_ends.specs.Ends.{EndState, newer, kept, reading_of}
+use Rattle.rasta_core_ends.specs.Ends as spec
+use Rattle.rasta_core_link.specs.Calls.{answer_to_send}
+use Rattle.rasta_core_link.specs.declared.fault.SendFault.{SendFault}
+use Rattle.simulator_pair.specs.declared.node.Call.{Call}
+use Rattle.simulator_pair.specs.declared.node.Call.TheVariants as calls
 use Rattle.simulator_pair.specs.declared.node.Node.{Node}
-use Rattle.simulator_pair.specs.declared.parts.Parts.{Parts}
 
 unfoldable pub seen_end : Node → EndState
 seen_end node = record {
@@ -20,17 +20,18 @@ seen_end node = record {
   taken = node.taken.items
 }
 
-unfoldable pub seen_ends : Parts → Ends
-seen_ends parts = record {
-  time = parts.time;
-  client = seen_end parts.client;
-  server = seen_end parts.server;
-  sent = parts.sent.items;
-  moment = length parts.sent.items
-}
+-- a call as the definitions have it
+abbrev pub meant : Call → spec.Call
+meant calls.Ticks = spec.Ticks
+meant calls.Opens = spec.Opens
+meant (calls.Closes why) = spec.Closes why
+meant (calls.Sends item) = spec.Sends item
+meant (calls.Receives bytes connection) = spec.Receives bytes.items connection
 
-unfoldable pub seen : Parts → PairState
-seen parts = record { ends = seen_ends parts; lamp = parts.lamp }
+-- the answer of a call: that of `send`, and otherwise none
+abbrev pub answer_of : spec.Call → EndState → Result Unit SendFault
+answer_of (spec.Sends item) end = answer_to_send (reading_of end.clock) end.link
+answer_of _ end = Ok tt
 
 -- an end whose link was open or not before a step, and that enters a connection in it or not
 unfoldable pub noted : Bool → Option ℕ → ℕ → EndState → EndState
@@ -50,22 +51,3 @@ pub record HasLists (items : ℕ) (node : Node) : Type 0 where
   pub given : vec_len node.given + items ≤ vec_capacity node.given
   pub taken : vec_len node.taken + items ≤ vec_capacity node.taken
 
--- datagrams in the order of their sending, none after this time
-abbrev pub AreInOrder : ℕ → List Sent → Type 0
-AreInOrder time [] = Unit {0}
-AreInOrder time (first ∷ later) = (first.at ≤ time) × All (λ sent. first.at ≤ sent.at) later × AreInOrder time later
-
--- what is true of the parts between steps, with memory for so many datagrams and items beside that of the
--- steps in `room`: each may send 24 datagrams and add 3 items to a list
-pub record AreWhole (datagrams items : ℕ) (parts : Parts) : Type 0 where
-  pub client_clock : IsAtClock parts.client
-  pub server_clock : IsAtClock parts.server
-  pub nothing_left : parts.outbox.datagrams ≡ []
-  pub outbox_room : 24 ≤ parts.outbox.capacity
-  pub client_lists : HasLists (items + 3 * parts.room) parts.client
-  pub server_lists : HasLists (items + 3 * parts.room) parts.server
-  pub sent_room : vec_len parts.sent + (datagrams + 24 * parts.room) ≤ vec_capacity parts.sent
-  pub in_order : AreInOrder parts.time parts.sent.items
-  pub time_within : parts.time ≤ clock_limit
-  pub client_within : parts.client.clock ≤ clock_limit
-  pub server_within : parts.server.clock ≤ clock_limit

@@ -3,9 +3,9 @@
 ghost use Rattle.std.specs.Prelude.{◌≡◌, ◌+◌, ◌≤◌, ◌<◌, ◌^◌, ◌++◌, ℕ, [], length};
 ghost use Rattle.std.specs.Vec.{vec_len, vec_capacity};
 ghost use Rattle.rasta_core_link.specs.Outbox.{HasRoomFor, posted};
-ghost use Rattle.rasta_core_link.specs.Calls.{answer_to_send};
-ghost use Rattle.rasta_core_ends.specs.Ends.{outcome, end_after, end_later, Ticks, Opens, Closes, Sends, Receives, reading_of};
+ghost use Rattle.rasta_core_ends.specs.Ends.{outcome, end_after, end_later, reading_of};
 
+use crate::event::Bytes;
 use rasta_core_link::{Inbox, Link, Millis, Outbox, Reason, SendFault, Verdict};
 use rasta_pdu::Item;
 
@@ -26,8 +26,18 @@ pub(crate) struct Node {
     pub(crate) taken: Vec<Item>,
 }
 
+/// A call of a link: with a datagram comes the connection that it was sent in.
+#[derive(Debug, Drop)]
+pub(crate) enum Call {
+    Ticks,
+    Opens,
+    Closes(Reason),
+    Sends(Item),
+    Receives(Bytes, usize),
+}
+
 impl Node {
-    ghost use Rattle.simulator_pair.specs.Seen.{seen_end, IsAtClock, HasLists, noted};
+    ghost use Rattle.simulator_pair.specs.Seen.{seen_end, IsAtClock, HasLists, noted, meant, answer_of};
 
     /// What the end reads of its clock.
     pub(crate) fn now(&self) -> Millis
@@ -55,113 +65,76 @@ impl Node {
         }
     }
 
-    /// The heartbeat, where it is due.
-    #[tactic(auto, using(crate::proofs::Steps::stepping), unfolding(crate::specs::Seen::seen_end, crate::specs::Seen::noted, rasta_core_ends::specs::Ends::outcome, rasta_core_ends::specs::Ends::end_after))]
-    pub(crate) fn tick(&mut self, moment: usize, outbox: &mut Outbox)
-        requires clock { IsAtClock self.old }
-        requires empty { outbox.old.datagrams ≡ [] }
-        requires room { HasRoomFor 24 outbox.old }
-        requires fits { moment < 2 ^ 63 }
-        ensures end { seen_end self.new ≡ end_after (outcome Ticks moment (seen_end self.old)) moment (seen_end self.old) }
-        ensures posted { outbox.new ≡ posted self.old.link.identity.key (outcome Ticks moment (seen_end self.old)).pdus outbox.old }
-        ensures clock { IsAtClock self.new }
-        ensures lists { (items : ℕ) → HasLists items self.old → HasLists items self.new }
-    {
-        let was_open = self.link.is_open();
-        self.link.tick(self.now(), outbox);
-        self.note(was_open, None, moment + outbox.len());
-    }
-
-    /// A client that is down asks for a connection.
-    #[tactic(auto, using(crate::proofs::Steps::stepping), unfolding(crate::specs::Seen::seen_end, crate::specs::Seen::noted, rasta_core_ends::specs::Ends::outcome, rasta_core_ends::specs::Ends::end_after))]
-    pub(crate) fn open(&mut self, moment: usize, outbox: &mut Outbox)
-        requires clock { IsAtClock self.old }
-        requires empty { outbox.old.datagrams ≡ [] }
-        requires room { HasRoomFor 24 outbox.old }
-        requires fits { moment < 2 ^ 63 }
-        ensures end { seen_end self.new ≡ end_after (outcome Opens moment (seen_end self.old)) moment (seen_end self.old) }
-        ensures posted { outbox.new ≡ posted self.old.link.identity.key (outcome Opens moment (seen_end self.old)).pdus outbox.old }
-        ensures clock { IsAtClock self.new }
-        ensures lists { (items : ℕ) → HasLists items self.old → HasLists items self.new }
-    {
-        let was_open = self.link.is_open();
-        let opens = self.link.open(self.now(), outbox);
-        let enters = if opens { Some(moment) } else { None };
-        self.note(was_open, enters, moment + outbox.len());
-    }
-
-    /// The user closes the link.
-    #[tactic(auto, using(crate::proofs::Steps::stepping), unfolding(crate::specs::Seen::seen_end, crate::specs::Seen::noted, rasta_core_ends::specs::Ends::outcome, rasta_core_ends::specs::Ends::end_after))]
-    pub(crate) fn close(&mut self, why: Reason, moment: usize, outbox: &mut Outbox)
-        requires clock { IsAtClock self.old }
-        requires empty { outbox.old.datagrams ≡ [] }
-        requires room { HasRoomFor 24 outbox.old }
-        requires fits { moment < 2 ^ 63 }
-        ensures end { seen_end self.new ≡ end_after (outcome (Closes why) moment (seen_end self.old)) moment (seen_end self.old) }
-        ensures posted { outbox.new ≡ posted self.old.link.identity.key (outcome (Closes why) moment (seen_end self.old)).pdus outbox.old }
-        ensures clock { IsAtClock self.new }
-        ensures lists { (items : ℕ) → HasLists items self.old → HasLists items self.new }
-    {
-        let was_open = self.link.is_open();
-        self.link.close(self.now(), why, outbox);
-        self.note(was_open, None, moment + outbox.len());
-    }
-
-    /// The user gives an item.
-    #[tactic(auto, using(crate::proofs::Steps::stepping), unfolding(crate::specs::Seen::seen_end, crate::specs::Seen::noted, rasta_core_ends::specs::Ends::outcome, rasta_core_ends::specs::Ends::end_after))]
-    pub(crate) fn send(
+    /// The link's part of a call.
+    #[tactic(auto, unfolding(rasta_core_ends::specs::Ends::outcome))]
+    fn call_link(
         &mut self,
-        item: &Item,
-        moment: usize,
-        outbox: &mut Outbox,
-    ) -> Result<(), SendFault>
-        requires clock { IsAtClock self.old }
-        requires empty { outbox.old.datagrams ≡ [] }
-        requires room { HasRoomFor 24 outbox.old }
-        requires fits { moment < 2 ^ 63 }
-        requires lists { HasLists 1 self.old }
-        ensures end { seen_end self.new ≡ end_after (outcome (Sends item.now) moment (seen_end self.old)) moment (seen_end self.old) }
-        ensures posted { outbox.new ≡ posted self.old.link.identity.key (outcome (Sends item.now) moment (seen_end self.old)).pdus outbox.old }
-        ensures answer { result ≡ answer_to_send (reading_of self.old.clock) self.old.link }
-        ensures clock { IsAtClock self.new }
-        ensures lists { (items : ℕ) → HasLists (items + 1) self.old → HasLists items self.new }
-    {
-        let was_open = self.link.is_open();
-        let answer = self.link.send(self.now(), item, outbox);
-        self.note(was_open, None, moment + outbox.len());
-        if answer.is_ok() {
-            self.given.push_reserved(item.copy());
-        }
-        answer
-    }
-
-    /// A datagram comes that was sent in this connection.
-    #[tactic(auto, using(crate::proofs::Steps::stepping), unfolding(crate::specs::Seen::seen_end, crate::specs::Seen::noted, rasta_core_ends::specs::Ends::outcome, rasta_core_ends::specs::Ends::end_after))]
-    pub(crate) fn receive(
-        &mut self,
-        bytes: &[u8],
-        connection: usize,
+        call: &Call,
         moment: usize,
         outbox: &mut Outbox,
         inbox: &mut Inbox,
-    )
+    ) -> (Result<(), SendFault>, Option<usize>)
         requires clock { IsAtClock self.old }
-        requires empty { outbox.old.datagrams ≡ [] }
         requires room { HasRoomFor 24 outbox.old }
+        requires empty { inbox.old.items ≡ [] }
+        ensures link { self.new ≡ record self.old { link = (outcome (meant call.now) moment (seen_end self.old)).link } }
+        ensures posted { outbox.new ≡ posted self.old.link.identity.key (outcome (meant call.now) moment (seen_end self.old)).pdus outbox.old }
+        ensures taken { inbox.new.items ≡ (outcome (meant call.now) moment (seen_end self.old)).taken }
+        ensures answer { result.0 ≡ answer_of (meant call.now) (seen_end self.old) }
+        ensures enters { result.1 ≡ (outcome (meant call.now) moment (seen_end self.old)).enters }
+    {
+        let now = self.now();
+        match call {
+            Call::Ticks => self.link.tick(now, outbox),
+            Call::Opens => {
+                if self.link.open(now, outbox) {
+                    return (Ok(()), Some(moment));
+                }
+            }
+            Call::Closes(why) => self.link.close(now, *why, outbox),
+            Call::Sends(item) => return (self.link.send(now, item, outbox), None),
+            Call::Receives(bytes, connection) => {
+                let was_open = self.link.is_open();
+                let verdict = self.link.receive(now, bytes, outbox, inbox);
+                if !was_open && verdict == Verdict::Taken {
+                    return (Ok(()), Some(*connection));
+                }
+            }
+        }
+        (Ok(()), None)
+    }
+
+    /// A call of the link, and what it makes of the connection and its lists.
+    #[tactic(auto, using(crate::proofs::Steps::stepping), unfolding(crate::specs::Seen::seen_end, crate::specs::Seen::noted, rasta_core_ends::specs::Ends::end_after))]
+    pub(crate) fn call(
+        &mut self,
+        call: &Call,
+        moment: usize,
+        outbox: &mut Outbox,
+        inbox: &mut Inbox,
+    ) -> Result<(), SendFault>
+        requires clock { IsAtClock self.old }
+        requires nothing_out { outbox.old.datagrams ≡ [] }
+        requires room { HasRoomFor 24 outbox.old }
+        requires nothing_in { inbox.old.items ≡ [] }
         requires fits { moment < 2 ^ 63 }
         requires lists { HasLists 3 self.old }
-        ensures end { seen_end self.new ≡ end_after (outcome (Receives bytes.now connection) moment (seen_end self.old)) moment (seen_end self.old) }
-        ensures posted { outbox.new ≡ posted self.old.link.identity.key (outcome (Receives bytes.now connection) moment (seen_end self.old)).pdus outbox.old }
-        ensures items { inbox.new.items ≡ (outcome (Receives bytes.now connection) moment (seen_end self.old)).taken }
+        ensures end { seen_end self.new ≡ end_after (outcome (meant call.now) moment (seen_end self.old)) moment (seen_end self.old) }
+        ensures posted { outbox.new ≡ posted self.old.link.identity.key (outcome (meant call.now) moment (seen_end self.old)).pdus outbox.old }
+        ensures taken { inbox.new.items ≡ (outcome (meant call.now) moment (seen_end self.old)).taken }
+        ensures answer { result ≡ answer_of (meant call.now) (seen_end self.old) }
         ensures clock { IsAtClock self.new }
+        ensures same_clock { self.new.clock ≡ self.old.clock }
         ensures lists { (items : ℕ) → HasLists (items + 3) self.old → HasLists items self.new }
     {
         let was_open = self.link.is_open();
-        let verdict = self.link.receive(self.now(), bytes, outbox, inbox);
-        let entered = !was_open && verdict == Verdict::Taken;
-        let enters = if entered { Some(connection) } else { None };
+        let (answer, enters) = self.call_link(call, moment, outbox, inbox);
         self.note(was_open, enters, moment + outbox.len());
+        if let (Call::Sends(item), Ok(())) = (call, answer) {
+            self.given.push_reserved(item.copy());
+        }
         append(&mut self.taken, inbox.as_slice());
+        answer
     }
 
     /// The clock goes on by so many microseconds.
@@ -175,7 +148,8 @@ impl Node {
     {
         let was_open = self.link.is_open();
         self.clock += elapsed;
-        self.link.settle(self.now());
+        let now = self.now();
+        self.link.settle(now);
         self.note(was_open, None, moment);
     }
 }
