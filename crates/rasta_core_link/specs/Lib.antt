@@ -1,0 +1,9 @@
+pub mod Parameters
+pub mod Sequence
+pub mod State
+pub mod Clock
+pub mod Sending
+pub mod Opening
+pub mod Receiving
+pub mod Calls
+pub mod Outbox

@@ -1,0 +1,41 @@
+-- The parameters of a link. Times are in milliseconds of the end's own clock.
+use Rattle.std.specs.Prelude.{ℕ, ◌+◌, ◌-◌, ◌^◌, min, List, [], ◌∷◌}
+
+-- how long after the own stamp that the partner returned last a connection lives
+abbrev pub time_limit : ℕ
+time_limit = 1800
+
+-- after this silence an end sends a heartbeat
+abbrev pub heartbeat_interval : ℕ
+heartbeat_interval = 300
+
+-- how many items may be unconfirmed
+abbrev pub window_size : ℕ
+window_size = 20
+
+-- how far ahead of the expected sequence number a PDU may be
+abbrev pub sequence_range : ℕ
+sequence_range = 200
+
+-- how long an end stays quiet after its creation and after every close
+abbrev pub quiet_time : ℕ
+quiet_time = 6000
+
+-- from this clock reading on a link has expired for good
+abbrev pub expiry : ℕ
+expiry = 4294000000
+
+-- how many PDUs an end sends in a connection before it closes it
+abbrev pub connection_limit : ℕ
+connection_limit = 2147483000
+
+-- the version that each end writes: the characters 0303
+abbrev pub own_version : List ℕ
+own_version = 0x30 ∷ 0x33 ∷ 0x30 ∷ 0x33 ∷ []
+
+abbrev pub no_reserved : List ℕ
+no_reserved = 0 ∷ 0 ∷ 0 ∷ 0 ∷ 0 ∷ 0 ∷ 0 ∷ 0 ∷ []
+
+-- a sum with a clock, and a count, stop at the greatest 64-bit number
+abbrev pub stops_at_greatest : ℕ → ℕ
+stops_at_greatest n = min n (2 ^ 64 - 1)

@@ -1,0 +1,29 @@
+//! One end of a link after RaSTA (DIN VDE V 0831-200), without sockets or a clock of its own: each call is
+//! given a clock reading, and hands out datagrams. No call on a made link takes memory.
+#![tactic(auto)]
+
+mod admission;
+mod calls;
+mod clock;
+mod fault;
+mod header;
+mod identity;
+mod link;
+mod opening;
+mod outbox;
+mod parameters;
+mod phase;
+mod reason;
+mod receiving;
+mod sending;
+mod verdict;
+mod window;
+
+pub use fault::SendFault;
+pub use identity::{Identity, Role};
+pub use link::{Link, Millis};
+pub use outbox::Outbox;
+pub use phase::State;
+pub use reason::Reason;
+pub use receiving::Inbox;
+pub use verdict::Verdict;
