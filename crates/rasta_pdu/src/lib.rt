@@ -7,6 +7,7 @@ mod fault;
 mod item;
 mod items;
 mod key;
+mod laws;
 mod numbers;
 mod pdu;
 mod reading;
@@ -19,7 +20,11 @@ pub use fault::PduFault;
 pub use item::Item;
 pub use items::Items;
 pub use key::Key;
+pub use laws::{one_spelling_each, read_was_written, written_is_read};
 pub use pdu::Pdu;
 pub use reading::read;
 pub use safety_code::is_intact;
 pub use writing::{Datagram, write};
+
+#[cfg(test)]
+mod tests;

@@ -1,0 +1,116 @@
+//! How a text is cut into lines, and a line into words.
+
+ghost use Rattle.std.specs.Prelude.{◌≡◌, ◌+◌, ◌^◌, ◌<◌, ℕ, List, [], length, MatchResult, Ok, Err};
+ghost use Rattle.std.specs.List.{enumerate_from};
+ghost use Rattle.std.specs.Option.{option_map_or};
+ghost use Rattle.std.specs.Iterator.{YieldsFirstBy, item_count};
+ghost use Rattle.event_words.specs.Cut.{words, lines, is_passed_over, name_and_number};
+
+use crate::fault::Fault;
+use std::marker::Model;
+
+/// The words of a line, parted by single spaces. A second space, or one at an end, makes an empty
+/// word, and a carriage return belongs to its word.
+#[derive(Drop)]
+pub struct Words<'a> {
+    /// What no word was taken of, or nothing after the last word.
+    rest: Option<&'a str>,
+}
+
+impl<'a> Model for Words<'a> {
+    ghost Value = { List (List ℕ) };
+
+    ghost view = { λ w. option_map_or (λ t. words t.now) w.rest [] };
+}
+
+impl<'a> Words<'a> {
+    /// The words of `line`, which has no line feed.
+    pub fn of(line: &'a str) -> Self
+        ensures { result ≡ words line.now }
+    {
+        Words { rest: Some(line) }
+    }
+}
+
+impl<'a> Iterator for Words<'a> {
+    type Item = &'a str;
+
+    ghost next_gives = { YieldsFirstBy (λ word. word.now) (λ left. left) };
+
+    ghost remaining = { item_count (λ left. left) };
+
+    fn next(&mut self) -> Option<&'a str> {
+        let text = self.rest?;
+        match text.split_once(' ') {
+            Some((word, rest)) => {
+                self.rest = Some(rest);
+                Some(word)
+            }
+            None => {
+                self.rest = None;
+                Some(text)
+            }
+        }
+    }
+}
+
+/// The lines of a text, each with its number from 1. A line ends at a line feed, which the last may
+/// lack.
+#[derive(Drop)]
+pub struct Lines<'a> {
+    rest: &'a str,
+    /// How many lines were taken.
+    taken: u64,
+}
+
+impl<'a> Model for Lines<'a> {
+    ghost Value = { List (ℕ × List ℕ) };
+
+    ghost view = { λ l. enumerate_from (l.taken + 1) (lines l.rest.now) };
+
+    ghost invariant = { λ l. l.taken + length l.rest.now < 2 ^ 64 };
+}
+
+impl<'a> Lines<'a> {
+    /// The lines of `text`.
+    pub fn of(text: &'a str) -> Self
+        ensures { result ≡ enumerate_from 1 (lines text.now) }
+    {
+        Lines {
+            rest: text,
+            taken: 0,
+        }
+    }
+}
+
+impl<'a> Iterator for Lines<'a> {
+    type Item = (u64, &'a str);
+
+    ghost next_gives = { YieldsFirstBy (λ line. (line.0, line.1.now)) (λ left. left) };
+
+    ghost remaining = { item_count (λ left. left) };
+
+    fn next(&mut self) -> Option<(u64, &'a str)> {
+        if self.rest.is_empty() {
+            return None;
+        }
+        let (line, rest) = self.rest.split_once('\n').unwrap_or((self.rest, ""));
+        self.rest = rest;
+        self.taken += 1;
+        Some((self.taken, line))
+    }
+}
+
+/// Whether `line` holds no event: an empty line, or a comment behind a number sign.
+pub fn is_passed_over(line: &str) -> bool
+    ensures { result ≡ is_passed_over line.now }
+{
+    matches!(line.as_bytes(), [] | [b'#', ..])
+}
+
+/// The two sides of a word `NAME=NUMBER`, parted at its first equals sign; fault 1 where it has none.
+pub fn name_and_number<'a>(word: &'a str) -> Result<(&'a str, &'a str), Fault>
+    ensures { MatchResult result (λ sides. name_and_number word.now ≡ Ok (sides.0.now, sides.1.now)) (λ fault. name_and_number word.now ≡ Err fault) }
+{
+    word.split_once('=').ok_or(Fault::Words)
+}

@@ -1,0 +1,121 @@
+use super::*;
+use std::test::Fail;
+
+// The words of `line`, each behind a bar.
+fn barred(alloc: std::alloc::Global, line: &str) -> Result<String, Fail> {
+    let mut text = String::new(alloc);
+    for word in Words::of(line) {
+        text.push_str("|")?;
+        text.push_str(word)?;
+    }
+    Ok(text)
+}
+
+#[test]
+fn a_second_space_makes_an_empty_word(rt: HostRuntime) -> Result<(), Fail> {
+    for (line, words) in [
+        ("", "|"),
+        ("picture", "|picture"),
+        ("tick  C", "|tick||C"),
+        (" tick C ", "||tick|C|"),
+        ("tick C\r", "|tick|C\r"),
+        ("tick Zü", "|tick|Zü"),
+    ] {
+        assert_eq!(rt; barred(rt.alloc(), line)?.as_str(), words, "in {line:?}");
+    }
+    Ok(())
+}
+
+#[test]
+fn every_line_counts_and_the_last_may_lack_its_line_feed(rt: HostRuntime) -> Result<(), Fail> {
+    for (text, lines) in [
+        ("", ""),
+        ("\n", "1:;"),
+        ("a\n\n# b\nc", "1:a;2:;3:# b;4:c;"),
+        ("a\nc\n", "1:a;2:c;"),
+    ] {
+        let mut told = String::new(rt.alloc());
+        for (number, line) in Lines::of(text) {
+            write!(told, "{number}:{line};")?;
+        }
+        assert_eq!(rt; told.as_str(), lines, "in {text:?}");
+    }
+    assert!(rt; is_passed_over(""));
+    assert!(rt; is_passed_over("# tick C"));
+    assert!(rt; !is_passed_over(" # tick C"));
+    assert!(rt; !is_passed_over("\r"));
+    Ok(())
+}
+
+#[test]
+fn a_name_ends_at_the_first_equals_sign(rt: HostRuntime) {
+    assert!(rt; matches!(name_and_number("C=10"), Ok(("C", "10"))));
+    assert!(rt; matches!(name_and_number("=C=10"), Ok(("", "C=10"))));
+    assert!(rt; matches!(name_and_number("C10"), Err(Fault::Words)));
+}
+
+#[test]
+fn a_number_is_decimal_digits_below_two_to_the_64(rt: HostRuntime) {
+    for (word, number) in [
+        ("0", Ok(0)),
+        ("007", Ok(7)),
+        ("18446744073709551615", Ok(18446744073709551615)),
+        ("18446744073709551616", Err(Fault::Number)),
+        ("", Err(Fault::Number)),
+        ("+1", Err(Fault::Number)),
+        ("-1", Err(Fault::Number)),
+        ("1a", Err(Fault::Number)),
+        ("1\r", Err(Fault::Number)),
+    ] {
+        assert_eq!(rt; decimal(word), number, "at {word:?}");
+    }
+}
+
+#[test]
+fn bytes_are_pairs_of_digits_in_either_case(rt: HostRuntime) -> Result<(), Fail> {
+    assert_eq!(rt;
+        hexadecimal("00fFA9")?.as_slice(),
+        [0x00, 0xff, 0xa9].as_slice()
+    );
+    assert_eq!(rt; hexadecimal_or_none("-")?.len(), 0);
+    for word in ["", "-", "0", "0g", "000", "--"] {
+        assert!(rt;
+            matches!(hexadecimal(word), Err(Fault::Hexadecimal)),
+            "at {word:?}"
+        );
+    }
+    assert!(rt; matches!(hexadecimal_or_none(""), Err(Fault::Hexadecimal)));
+    assert_eq!(rt; hex_word(rt.alloc(), &[])?.as_str(), "-");
+    assert_eq!(rt; hex_word(rt.alloc(), &[0x0a, 0xbc])?.as_str(), "0abc");
+    Ok(())
+}
+
+#[test]
+fn bytes_are_at_most_512(rt: HostRuntime) -> Result<(), Fail> {
+    let mut word = String::new(rt.alloc());
+    for _ in 0..512 {
+        word.push_str("a5")?;
+    }
+    assert_eq!(rt; hexadecimal(word.as_str())?.len(), 512);
+    word.push_str("a5")?;
+    assert!(rt; matches!(hexadecimal(word.as_str()), Err(Fault::Hexadecimal)));
+    Ok(())
+}
+
+#[test]
+fn the_lower_of_two_faults_is_told(rt: HostRuntime) {
+    assert_eq!(rt; both::<u8, u8>(Ok(1), Ok(2)), Ok((1, 2)));
+    assert_eq!(rt;
+        both::<u8, u8>(Err(Fault::Number), Err(Fault::Name)),
+        Err(Fault::Name)
+    );
+    assert_eq!(rt;
+        both::<u8, u8>(Err(Fault::Name), Err(Fault::Number)),
+        Err(Fault::Name)
+    );
+    assert_eq!(rt;
+        both::<u8, u8>(Ok(1), Err(Fault::Hexadecimal)),
+        Err(Fault::Hexadecimal)
+    );
+    assert_eq!(rt; Fault::Memory.number(), 7);
+}
