@@ -1,3 +1,4 @@
 pub mod Posting
 pub mod Waiting
 pub mod Steps
+pub mod Few
