@@ -2,3 +2,4 @@ pub mod Posting
 pub mod Waiting
 pub mod Steps
 pub mod Keeping
+pub mod Few
