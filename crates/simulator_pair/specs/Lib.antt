@@ -1,3 +1,4 @@
 pub mod Pair
 pub mod Events
 pub mod Seen
+pub mod Calling

@@ -1,11 +1,16 @@
 //! One end of a pair, with what its link doesn't know.
 
-ghost use Rattle.std.specs.Prelude.{◌≡◌, ◌+◌, ◌≤◌, ◌<◌, ◌^◌, ◌++◌, ℕ, [], length};
+ghost use Rattle.std.specs.Prelude.{◌≡◌, ◌∷◌, Ok, is_ok, ◌+◌, ◌≤◌, ◌<◌, ◌^◌, ◌++◌, ℕ, Some, None, [], length, if◌then◌else◌};
 ghost use Rattle.std.specs.Vec.{vec_len, vec_capacity};
 ghost use Rattle.rasta_core_link.specs.Outbox.{HasRoomFor, posted};
-ghost use Rattle.rasta_core_ends.specs.Ends.{outcome, end_after, end_later, reading_of};
+ghost use Rattle.rasta_core_link.specs.Calls.{MayStep, IsAt, opening, opens, sending_item, answer_to_send, receiving};
+ghost use Rattle.rasta_core_ends.specs.Ends.{outcome, end_after, end_later, entered_by, reading_of};
+
+ghost use Rattle.arrayvec.specs.ArrayVec.{array_vec_len};
+ghost use Rattle.simulator_pair.specs.Calling.{meant};
 
 use crate::event::Bytes;
+use arrayvec::ArrayVec;
 use rasta_core_link::{Inbox, Link, Millis, Outbox, Reason, SendFault, Verdict};
 use rasta_pdu::Item;
 
@@ -37,7 +42,8 @@ pub(crate) enum Call {
 }
 
 impl Node {
-    ghost use Rattle.simulator_pair.specs.Seen.{seen_end, IsAtClock, HasLists, noted, meant, answer_of};
+    ghost use Rattle.simulator_pair.specs.Seen.{seen_end, IsAtClock, HasLists, KeepsLists, noted, concluded};
+    ghost use Rattle.simulator_pair.specs.Calling.{answer_of};
 
     /// What the end reads of its clock.
     pub(crate) fn now(&self) -> Millis
@@ -52,7 +58,7 @@ impl Node {
         ensures end { seen_end self.new ≡ noted was_open enters moment (seen_end self.old) }
         ensures link { self.new.link ≡ self.old.link }
         ensures clock { self.new.clock ≡ self.old.clock }
-        ensures lists { (items : ℕ) → HasLists items self.old → HasLists items self.new }
+        ensures lists { KeepsLists 0 self.old self.new }
     {
         let was_in = was_open || enters.is_some();
         if let Some(connection) = enters {
@@ -66,46 +72,62 @@ impl Node {
     }
 
     /// The link's part of a call.
-    #[tactic(auto, unfolding(rasta_core_ends::specs::Ends::outcome))]
+    #[tactic(auto, using(crate::proofs::Steps::stepping), unfolding(rasta_core_ends::specs::Ends::outcome, crate::specs::Seen::seen_end))]
     fn call_link(
         &mut self,
         call: &Call,
         moment: usize,
         outbox: &mut Outbox,
         inbox: &mut Inbox,
-    ) -> (Result<(), SendFault>, Option<usize>)
+    ) -> Made
         requires clock { IsAtClock self.old }
         requires room { HasRoomFor 24 outbox.old }
-        requires empty { inbox.old.items ≡ [] }
+        requires nothing_in { inbox.old.items ≡ [] }
         ensures link { self.new ≡ record self.old { link = (outcome (meant call.now) moment (seen_end self.old)).link } }
         ensures posted { outbox.new ≡ posted self.old.link.identity.key (outcome (meant call.now) moment (seen_end self.old)).pdus outbox.old }
         ensures taken { inbox.new.items ≡ (outcome (meant call.now) moment (seen_end self.old)).taken }
-        ensures answer { result.0 ≡ answer_of (meant call.now) (seen_end self.old) }
-        ensures enters { result.1 ≡ (outcome (meant call.now) moment (seen_end self.old)).enters }
+        ensures enters { result.enters ≡ (outcome (meant call.now) moment (seen_end self.old)).enters }
+        ensures given { result.given.items ≡ (outcome (meant call.now) moment (seen_end self.old)).given }
+        ensures few { array_vec_len result.given ≤ 1 }
+        ensures answer { result.answer ≡ answer_of (meant call.now) (seen_end self.old) }
+        ensures clock { self.new.link.clock ≡ reading_of self.old.clock }
     {
         let now = self.now();
         match call {
-            Call::Ticks => self.link.tick(now, outbox),
-            Call::Opens => {
-                if self.link.open(now, outbox) {
-                    return (Ok(()), Some(moment));
-                }
+            Call::Ticks => {
+                self.link.tick(now, outbox);
+                nothing_given(None)
             }
-            Call::Closes(why) => self.link.close(now, *why, outbox),
-            Call::Sends(item) => return (self.link.send(now, item, outbox), None),
+            Call::Opens => nothing_given(open(&mut self.link, now, moment, outbox)),
+            Call::Closes(why) => {
+                self.link.close(now, *why, outbox);
+                nothing_given(None)
+            }
+            Call::Sends(item) => send(&mut self.link, now, item, outbox),
             Call::Receives(bytes, connection) => {
-                let was_open = self.link.is_open();
-                let verdict = self.link.receive(now, bytes, outbox, inbox);
-                if !was_open && verdict == Verdict::Taken {
-                    return (Ok(()), Some(*connection));
-                }
+                nothing_given(receive(&mut self.link, now, bytes, *connection, outbox, inbox))
             }
         }
-        (Ok(()), None)
+    }
+
+    /// What a step makes of the connection and its lists, once the link has done its part.
+    #[tactic(auto, unfolding(crate::specs::Seen::concluded, crate::specs::Seen::noted, crate::specs::Seen::seen_end))]
+    fn conclude(&mut self, was_open: bool, made: &Made, taken: &[Item], moment: usize)
+        requires lists { HasLists 3 self.old }
+        requires given { array_vec_len made.now.given ≤ 1 }
+        requires taken { length taken.now ≤ 3 }
+        ensures end { seen_end self.new ≡ concluded was_open made.now.enters made.now.given.items taken.now moment (seen_end self.old) }
+        ensures link { self.new.link ≡ self.old.link }
+        ensures clock { self.new.clock ≡ self.old.clock }
+        ensures lists { KeepsLists 3 self.old self.new }
+    {
+        self.note(was_open, made.enters, moment);
+        append(&mut self.given, made.given.as_slice());
+        append(&mut self.taken, taken);
     }
 
     /// A call of the link, and what it makes of the connection and its lists.
-    #[tactic(auto, using(crate::proofs::Steps::stepping), unfolding(crate::specs::Seen::seen_end, crate::specs::Seen::noted, rasta_core_ends::specs::Ends::end_after))]
+    #[tactic(auto, using(crate::proofs::Steps::stepping), unfolding(crate::specs::Seen::seen_end, crate::specs::Seen::noted, crate::specs::Seen::concluded, rasta_core_ends::specs::Ends::end_after))]
     pub(crate) fn call(
         &mut self,
         call: &Call,
@@ -125,16 +147,12 @@ impl Node {
         ensures answer { result ≡ answer_of (meant call.now) (seen_end self.old) }
         ensures clock { IsAtClock self.new }
         ensures same_clock { self.new.clock ≡ self.old.clock }
-        ensures lists { (items : ℕ) → HasLists (items + 3) self.old → HasLists items self.new }
+        ensures lists { KeepsLists 3 self.old self.new }
     {
         let was_open = self.link.is_open();
-        let (answer, enters) = self.call_link(call, moment, outbox, inbox);
-        self.note(was_open, enters, moment + outbox.len());
-        if let (Call::Sends(item), Ok(())) = (call, answer) {
-            self.given.push_reserved(item.copy());
-        }
-        append(&mut self.taken, inbox.as_slice());
-        answer
+        let made = self.call_link(call, moment, outbox, inbox);
+        self.conclude(was_open, &made, inbox.as_slice(), moment + outbox.len());
+        made.answer
     }
 
     /// The clock goes on by so many microseconds.
@@ -144,13 +162,99 @@ impl Node {
         requires fits { self.old.clock + elapsed < 2 ^ 64 }
         ensures end { seen_end self.new ≡ end_later elapsed moment (seen_end self.old) }
         ensures clock { IsAtClock self.new }
-        ensures lists { (items : ℕ) → HasLists items self.old → HasLists items self.new }
+        ensures lists { KeepsLists 0 self.old self.new }
     {
         let was_open = self.link.is_open();
         self.clock += elapsed;
         let now = self.now();
         self.link.settle(now);
         self.note(was_open, None, moment);
+    }
+}
+
+/// What a call made beside datagrams and items taken: the answer, the connection entered and the item accepted.
+#[derive(Debug, Drop)]
+struct Made {
+    answer: Result<(), SendFault>,
+    enters: Option<usize>,
+    given: ArrayVec<Item, 1>,
+}
+
+/// What a call made that gives nothing.
+fn nothing_given(enters: Option<usize>) -> Made
+    ensures answer { result.answer ≡ Ok tt }
+    ensures enters { result.enters ≡ enters }
+    ensures given { result.given.items ≡ [] }
+    ensures few { array_vec_len result.given ≤ 1 }
+{
+    Made {
+        answer: Ok(()),
+        enters,
+        given: ArrayVec::new(),
+    }
+}
+
+/// Gives an item to a link.
+fn send(link: &mut Link, now: Millis, item: &Item, outbox: &mut Outbox) -> Made
+    requires clock { MayStep now link.old }
+    requires room { HasRoomFor 24 outbox.old }
+    ensures link { link.new ≡ (sending_item now item.now link.old).link }
+    ensures posted { outbox.new ≡ posted link.old.identity.key (sending_item now item.now link.old).pdus outbox.old }
+    ensures answer { result.answer ≡ answer_to_send now link.old }
+    ensures enters { result.enters ≡ None }
+    ensures given { result.given.items ≡ (if is_ok (answer_to_send now link.old) then item.now ∷ [] else []) }
+    ensures few { array_vec_len result.given ≤ 1 }
+    ensures kept { IsAt now link.old link.new }
+{
+    let answer = link.send(now, item, outbox);
+    let mut given = ArrayVec::new();
+    if answer.is_ok() {
+        given.push(item.copy());
+    }
+    Made {
+        answer,
+        enters: None,
+        given,
+    }
+}
+
+/// Opens a link, and answers the connection that it begins.
+fn open(link: &mut Link, now: Millis, moment: usize, outbox: &mut Outbox) -> Option<usize>
+    requires clock { MayStep now link.old }
+    requires room { HasRoomFor 24 outbox.old }
+    ensures link { link.new ≡ (opening now link.old).link }
+    ensures posted { outbox.new ≡ posted link.old.identity.key (opening now link.old).pdus outbox.old }
+    ensures enters { result ≡ (if opens now link.old then Some moment else None) }
+    ensures kept { IsAt now link.old link.new }
+{
+    if link.open(now, outbox) {
+        Some(moment)
+    } else {
+        None
+    }
+}
+
+/// Delivers bytes to a link, and answers the connection that it enters by them.
+fn receive(
+    link: &mut Link,
+    now: Millis,
+    bytes: &[u8],
+    connection: usize,
+    outbox: &mut Outbox,
+    inbox: &mut Inbox,
+) -> Option<usize>
+    requires clock { MayStep now link.old }
+    requires room { HasRoomFor 24 outbox.old }
+    ensures link { link.new ≡ (receiving now bytes.now link.old).link }
+    ensures posted { outbox.new ≡ posted link.old.identity.key (receiving now bytes.now link.old).pdus outbox.old }
+    ensures items { inbox.new.items ≡ (receiving now bytes.now link.old).items }
+    ensures enters { result ≡ entered_by link.old (receiving now bytes.now link.old).verdict connection }
+    ensures kept { IsAt now link.old link.new }
+{
+    let was_open = link.is_open();
+    match link.receive(now, bytes, outbox, inbox) {
+        Verdict::Taken if !was_open => Some(connection),
+        _ => None,
     }
 }
 
