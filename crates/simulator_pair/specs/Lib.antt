@@ -2,3 +2,4 @@ pub mod Pair
 pub mod Events
 pub mod Seen
 pub mod Calling
+pub mod Order

@@ -1,7 +1,9 @@
 //! A simulator of one link: two ends, the network between them, their clocks, and a lamp that the server keeps.
 #![tactic(auto)]
 
+mod bag;
 mod event;
+mod lamp;
 mod node;
 
 pub use event::{Bytes, PairEvent, PairReply, Refused};
