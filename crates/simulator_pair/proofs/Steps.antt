@@ -2,7 +2,7 @@
 use Rattle.std.proofs.Common.{◌≡◌, refl, sym, ap, ◌∙◌, ℕ, ◌+◌, Bool, List, [], ◌++◌, length, arith, Option}
 use Rattle.std.proofs.lemmas.List.{append-nil, length-map}
 use Rattle.std.proofs.lemmas.Grind.{common_steps}
-use Rattle.rasta_core_link.proofs.Posting.{length-posted}
+use Rattle.rasta_core_link.proofs.Posting.{length-posted, capacity-posted}
 use Rattle.rasta_core_link.specs.Outbox.{OutboxState, posted}
 use Rattle.rasta_core_link.specs.State.{is_open}
 use Rattle.rasta_core_ends.specs.Ends.{EndState, Outcome, end_after}
@@ -31,3 +31,6 @@ concluded-end end made moment count was_open enters given taken open-is enters-i
 pub length-posted_alone : (key : Key) (pdus : List Pdu) (box after : OutboxState) → box.datagrams ≡ [] → after ≡ posted key pdus box → length after.datagrams ≡ length pdus
 length-posted_alone key pdus box after empty posted-is =
     ap (λ b. length b.datagrams) posted-is ∙ length-posted key pdus box ∙ ap (λ xs. length xs + length pdus) empty ∙ grind arith
+
+pub capacity-posted_after : (key : Key) (pdus : List Pdu) (box after : OutboxState) → after ≡ posted key pdus box → after.capacity ≡ box.capacity
+capacity-posted_after key pdus box after posted-is = ap (λ b. b.capacity) posted-is ∙ capacity-posted key pdus box

@@ -3,3 +3,4 @@ pub mod Events
 pub mod Seen
 pub mod Calling
 pub mod Order
+pub mod Parts

@@ -5,6 +5,7 @@ mod bag;
 mod event;
 mod lamp;
 mod node;
+mod parts;
 
 pub use event::{Bytes, PairEvent, PairReply, Refused};
 pub use rasta_core_ends::Sent;

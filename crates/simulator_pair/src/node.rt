@@ -88,7 +88,8 @@ impl Node {
         ensures taken { inbox.new.items ≡ (outcome (meant call.now) moment (seen_end self.old)).taken }
         ensures enters { result.enters ≡ (outcome (meant call.now) moment (seen_end self.old)).enters }
         ensures given { result.given.items ≡ (outcome (meant call.now) moment (seen_end self.old)).given }
-        ensures few { array_vec_len result.given ≤ 1 }
+        ensures few { length (outcome (meant call.now) moment (seen_end self.old)).pdus ≤ 24 }
+        ensures one { array_vec_len result.given ≤ 1 }
         ensures answer { result.answer ≡ answer_of (meant call.now) (seen_end self.old) }
         ensures clock { self.new.link.clock ≡ reading_of self.old.clock }
     {
@@ -144,6 +145,7 @@ impl Node {
         ensures end { seen_end self.new ≡ end_after (outcome (meant call.now) moment (seen_end self.old)) moment (seen_end self.old) }
         ensures posted { outbox.new ≡ posted self.old.link.identity.key (outcome (meant call.now) moment (seen_end self.old)).pdus outbox.old }
         ensures taken { inbox.new.items ≡ (outcome (meant call.now) moment (seen_end self.old)).taken }
+        ensures few { length (outcome (meant call.now) moment (seen_end self.old)).pdus ≤ 24 }
         ensures answer { result ≡ answer_of (meant call.now) (seen_end self.old) }
         ensures clock { IsAtClock self.new }
         ensures same_clock { self.new.clock ≡ self.old.clock }
@@ -185,7 +187,7 @@ fn nothing_given(enters: Option<usize>) -> Made
     ensures answer { result.answer ≡ Ok tt }
     ensures enters { result.enters ≡ enters }
     ensures given { result.given.items ≡ [] }
-    ensures few { array_vec_len result.given ≤ 1 }
+    ensures one { array_vec_len result.given ≤ 1 }
 {
     Made {
         answer: Ok(()),
@@ -200,10 +202,11 @@ fn send(link: &mut Link, now: Millis, item: &Item, outbox: &mut Outbox) -> Made
     requires room { HasRoomFor 24 outbox.old }
     ensures link { link.new ≡ (sending_item now item.now link.old).link }
     ensures posted { outbox.new ≡ posted link.old.identity.key (sending_item now item.now link.old).pdus outbox.old }
+    ensures few { length (sending_item now item.now link.old).pdus ≤ 24 }
     ensures answer { result.answer ≡ answer_to_send now link.old }
     ensures enters { result.enters ≡ None }
     ensures given { result.given.items ≡ (if is_ok (answer_to_send now link.old) then item.now ∷ [] else []) }
-    ensures few { array_vec_len result.given ≤ 1 }
+    ensures one { array_vec_len result.given ≤ 1 }
     ensures kept { IsAt now link.old link.new }
 {
     let answer = link.send(now, item, outbox);
@@ -225,6 +228,7 @@ fn open(link: &mut Link, now: Millis, moment: usize, outbox: &mut Outbox) -> Opt
     ensures link { link.new ≡ (opening now link.old).link }
     ensures posted { outbox.new ≡ posted link.old.identity.key (opening now link.old).pdus outbox.old }
     ensures enters { result ≡ (if opens now link.old then Some moment else None) }
+    ensures few { length (opening now link.old).pdus ≤ 24 }
     ensures kept { IsAt now link.old link.new }
 {
     if link.open(now, outbox) {
@@ -248,6 +252,7 @@ fn receive(
     ensures link { link.new ≡ (receiving now bytes.now link.old).link }
     ensures posted { outbox.new ≡ posted link.old.identity.key (receiving now bytes.now link.old).pdus outbox.old }
     ensures items { inbox.new.items ≡ (receiving now bytes.now link.old).items }
+    ensures few { length (receiving now bytes.now link.old).pdus ≤ 24 }
     ensures enters { result ≡ entered_by link.old (receiving now bytes.now link.old).verdict connection }
     ensures kept { IsAt now link.old link.new }
 {
