@@ -9,7 +9,7 @@ use crate::phase::{Phase, State};
 impl Link {
     ghost use Rattle.rasta_core_link.specs.Clock.{alive_until, quiet_until, settled, state_at, is_up_at};
     ghost use Rattle.rasta_core_link.specs.Calls.{MayStep, IsAt};
-    ghost use Rattle.rasta_core_link.specs.State.{is_open};
+    ghost use Rattle.rasta_core_link.specs.State.{is_open, is_up};
 
     /// The moment at which this link closes by time, or at which it closed, or was created.
     #[tactic(auto, unfolding(crate::specs::Clock::alive_until))]
@@ -60,6 +60,13 @@ impl Link {
         ensures { result ≡ is_open self.now.phase }
     {
         self.phase.is_open()
+    }
+
+    /// Whether it is up as of the last call.
+    pub fn is_up_now(&self) -> bool
+        ensures { result ≡ is_up self.now.phase }
+    {
+        self.phase.is_up()
     }
 
     /// Applies the clock rules alone: a link whose time has come has closed at that moment, however late the

@@ -121,6 +121,18 @@ impl Link {
         Link::new(alloc, Identity { role, own, partner, key }, first_sequence_number, now)
     }
 
+    /// The same end made anew, as after a restart: nothing but the identity is kept.
+    pub fn anew(
+        &self,
+        alloc: Global,
+        first_sequence_number: u32,
+        now: Millis,
+    ) -> Result<Link, AllocError>
+        ensures { IfOk result (λ link. link ≡ created self.now.identity first_sequence_number now) }
+    {
+        Link::new(alloc, self.identity, first_sequence_number, now)
+    }
+
     #[tactic(auto, unfolding(crate::specs::Calls::created))]
     fn new(
         alloc: Global,

@@ -55,3 +55,8 @@ shown pair = aspect_shown pair.lamp (reading_of pair.ends.server.clock)
 
 abbrev pub new_lamp : Lamp
 new_lamp = record { indicated = Stop; until = 0 }
+
+-- a pair as its contracts see it: its state, and how many events have their memory already
+pub record PairView : Type 0 where
+  pub run : PairState
+  pub room : ℕ

@@ -38,10 +38,15 @@ pub record HaveRoom (calls : ℕ) (parts : Parts) : Type 0 where
   pub server_lists : HasLists (3 * calls) parts.server
   pub sent : vec_len parts.sent + 24 * calls ≤ vec_capacity parts.sent
 
--- and it stays, but for what one call may use
-pub record KeepRoom (old new : Parts) : Type 0 where
-  pub client_lists : KeepsLists 3 old.client new.client
-  pub server_lists : KeepsLists 3 old.server new.server
+-- and it stays, but for what so many calls may use
+pub record KeepRoom (calls : ℕ) (old new : Parts) : Type 0 where
+  pub client_lists : KeepsLists (3 * calls) old.client new.client
+  pub server_lists : KeepsLists (3 * calls) old.server new.server
   pub sent_memory : vec_capacity old.sent ≤ vec_capacity new.sent
-  pub sent_more : vec_len new.sent ≤ vec_len old.sent + 24
+  pub sent_more : vec_len new.sent ≤ vec_len old.sent + 24 * calls
   pub room : new.room ≡ old.room
+
+-- what is always true of a pair: an event makes at most two calls
+pub record IsPair (parts : Parts) : Type 0 where
+  pub sound : AreSound parts
+  pub room : HaveRoom (2 * parts.room) parts

@@ -1,6 +1,6 @@
 //! One end of a pair, with what its link doesn't know.
 
-ghost use Rattle.std.specs.Prelude.{◌≡◌, ◌∷◌, Ok, is_ok, ◌+◌, ◌≤◌, ◌<◌, ◌^◌, ◌++◌, ℕ, Some, None, [], length, if◌then◌else◌};
+ghost use Rattle.std.specs.Prelude.{◌≡◌, OnOk, ◌∷◌, Ok, is_ok, ◌+◌, ◌*◌, ◌≤◌, ◌<◌, ◌^◌, ◌++◌, ℕ, Some, None, [], length, if◌then◌else◌};
 ghost use Rattle.std.specs.Vec.{vec_len, vec_capacity};
 ghost use Rattle.rasta_core_link.specs.Outbox.{HasRoomFor, posted};
 ghost use Rattle.rasta_core_link.specs.Calls.{MayStep, IsAt, opening, opens, sending_item, answer_to_send, receiving};
@@ -13,6 +13,7 @@ use crate::event::Bytes;
 use arrayvec::ArrayVec;
 use rasta_core_link::{Inbox, Link, Millis, Outbox, Reason, SendFault, Verdict};
 use rasta_pdu::Item;
+use std::alloc::AllocError;
 
 /// How many microseconds a millisecond has.
 const MICROS: u64 = 1000;
@@ -155,6 +156,32 @@ impl Node {
         let made = self.call_link(call, moment, outbox, inbox);
         self.conclude(was_open, &made, inbox.as_slice(), moment + outbox.len());
         made.answer
+    }
+
+    /// The end is made anew, with this link and this clock in milliseconds.
+    #[tactic(auto, unfolding(crate::specs::Seen::seen_end, rasta_core_ends::specs::Ends::end_restarted))]
+    pub(crate) fn restart(&mut self, link: Link, clock: Millis, moment: usize)
+        requires fits { clock * 1000 < 2 ^ 64 }
+        ensures end { seen_end self.new ≡ record (seen_end self.old) { link = link; clock = clock * 1000; left = moment } }
+        ensures link { self.new.link ≡ link }
+        ensures clock { self.new.clock ≡ clock * 1000 }
+        ensures lists { KeepsLists 0 self.old self.new }
+    {
+        self.link = link;
+        self.clock = clock * MICROS;
+        self.left = moment;
+    }
+
+    /// Makes room for so many more items in each list.
+    pub(crate) fn reserve(&mut self, items: usize) -> Result<(), AllocError>
+        ensures room { OnOk result (HasLists items self.new) }
+        ensures same { seen_end self.new ≡ seen_end self.old }
+        ensures link { self.new.link ≡ self.old.link }
+        ensures clock { self.new.clock ≡ self.old.clock }
+        ensures lists { KeepsLists 0 self.old self.new }
+    {
+        self.given.reserve(items)?;
+        self.taken.reserve(items)
     }
 
     /// The clock goes on by so many microseconds.

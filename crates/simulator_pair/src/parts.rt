@@ -44,7 +44,7 @@ impl Parts {
         ensures step { seen self.new ≡ stepped Client (meant call.now) (seen self.old) }
         ensures answer { result ≡ answer_of (meant call.now) (seen_end self.old.client) }
         ensures sound { AreSound self.new }
-        ensures room { KeepRoom self.old self.new }
+        ensures room { KeepRoom 1 self.old self.new }
     {
         let moment = self.sent.len();
         let answer = self.client.call(call, moment, &mut self.outbox, &mut self.inbox);
@@ -62,7 +62,7 @@ impl Parts {
         ensures step { seen self.new ≡ stepped Server (meant call.now) (seen self.old) }
         ensures answer { result ≡ answer_of (meant call.now) (seen_end self.old.server) }
         ensures sound { AreSound self.new }
-        ensures room { KeepRoom self.old self.new }
+        ensures room { KeepRoom 1 self.old self.new }
     {
         let moment = self.sent.len();
         lamp::lose_if_closed(&mut self.lamp, &self.server.link);
@@ -84,7 +84,7 @@ impl Parts {
         ensures step { seen self.new ≡ stepped who (meant call.now) (seen self.old) }
         ensures answer { result ≡ answer_of (meant call.now) (end_of who (seen self.old).ends) }
         ensures sound { AreSound self.new }
-        ensures room { KeepRoom self.old self.new }
+        ensures room { KeepRoom 1 self.old self.new }
     {
         match who {
             Role::Client => self.call_client(call),
