@@ -87,7 +87,7 @@ is_restart _ = false
 -- a list of events is applied one after the other: those that can't happen change nothing, and neither do those
 -- for which memory is lacking. So many of them were accepted.
 pub data Runs : List PairEvent → PairState → ℕ → PairState → Type 0 where
-  ends : {pair : PairState} → Runs [] pair 0 pair
+  stops : {pair : PairState} → Runs [] pair 0 pair
   refuses : {event : PairEvent} {later : List PairEvent} {pair last : PairState} {count : ℕ} {why : Refused} → refusal event pair.ends ≡ Some why → Runs later pair count last → Runs (event ∷ later) pair count last
   lacks_memory : {event : PairEvent} {later : List PairEvent} {pair last : PairState} {count : ℕ} → refusal event pair.ends ≡ None → Runs later pair count last → Runs (event ∷ later) pair count last
   accepts : {event : PairEvent} {later : List PairEvent} {pair last : PairState} {count : ℕ} → refusal event pair.ends ≡ None → Runs later (happens event pair) count last → Runs (event ∷ later) pair (count + 1) last

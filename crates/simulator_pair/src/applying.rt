@@ -1,6 +1,6 @@
 //! What each event does to the parts of a pair.
 
-ghost use Rattle.std.specs.Prelude.{◌≡◌, ◌≤◌, ◌<◌, ◌+◌, ◌*◌, ◌⊎◌, nat_le, None, Some, Ok, Err, IfOk, IfErr, OnOk, OnErr, IsTrue};
+ghost use Rattle.std.specs.Prelude.{◌≡◌, ◌≢◌, ◌≤◌, ◌<◌, ◌+◌, ◌*◌, ◌⊎◌, nat_le, None, Some, Ok, Err, IfOk, IfErr, OnOk, OnErr, IsTrue};
 ghost use Rattle.rasta_core_ends.specs.Run.{end_of, later, lost, restarted};
 ghost use Rattle.rasta_core_ends.specs.Ends.{reading_of};
 ghost use Rattle.rasta_core_ends.specs.Ends as ends;
@@ -76,7 +76,8 @@ impl Parts {
     #[tactic(auto, unfolding(crate::specs::Events::refusal_of_time, crate::specs::Parts::seen_ends, crate::specs::Seen::seen_end))]
     fn refusal_of_time(&self, elapsed: u64, of_client: u64, of_server: u64) -> Option<Refused>
         requires { AreSound self.now }
-        ensures { result ≡ refusal_of_time elapsed of_client of_server (seen_ends self.now) }
+        ensures value { result ≡ refusal_of_time elapsed of_client of_server (seen_ends self.now) }
+        ensures not_memory { result ≢ Some OutOfMemory }
     {
         if !keeps_time(elapsed, of_client) || !keeps_time(elapsed, of_server) {
             return Some(Refused::Drift);
@@ -95,7 +96,8 @@ impl Parts {
     #[tactic(auto, unfolding(crate::specs::Events::refusal_of_delivery, crate::specs::Parts::seen_ends, crate::specs::Seen::seen_end))]
     fn refusal_of_delivery(&self, who: Role, bytes: &Bytes) -> Option<Refused>
         requires { AreSound self.now }
-        ensures { result ≡ refusal_of_delivery who bytes.now.items (seen_ends self.now) }
+        ensures value { result ≡ refusal_of_delivery who bytes.now.items (seen_ends self.now) }
+        ensures not_memory { result ≢ Some OutOfMemory }
     {
         let key = self.end(who).link.identity().key;
         let copy = bag::newest_copy(self.sent.as_slice(), self.time, bytes.as_slice());
@@ -109,7 +111,8 @@ impl Parts {
     #[tactic(auto, unfolding(crate::specs::Events::refusal, crate::specs::Parts::seen_ends))]
     pub(crate) fn refusal(&self, event: &PairEvent) -> Option<Refused>
         requires { AreSound self.now }
-        ensures { result ≡ refusal event.now (seen_ends self.now) }
+        ensures value { result ≡ refusal event.now (seen_ends self.now) }
+        ensures not_memory { result ≢ Some OutOfMemory }
     {
         match event {
             PairEvent::Time { elapsed, of_client, of_server } => self.refusal_of_time(*elapsed, *of_client, *of_server),

@@ -173,6 +173,7 @@ impl Node {
     }
 
     /// Makes room for so many more items in each list.
+    #[tactic(auto, unfolding(crate::specs::Seen::seen_end))]
     pub(crate) fn reserve(&mut self, items: usize) -> Result<(), AllocError>
         ensures room { OnOk result (HasLists items self.new) }
         ensures same { seen_end self.new ≡ seen_end self.old }

@@ -41,6 +41,7 @@ impl Model for Pair {
 }
 
 /// An end as it is made: with its clock at 0, in no connection.
+#[tactic(auto, unfolding(crate::specs::Seen::seen_end))]
 fn new_node(alloc: Global, link: Link) -> Node
     ensures end { seen_end result ≡ record { link = link; clock = 0; connection = None; left = 0; given = []; taken = [] } }
     ensures link { result.link ≡ link }
@@ -65,6 +66,7 @@ impl Pair {
 
     /// A new pair: the client has identity 1, the server 2; their key is the standard start of MD4, their clocks
     /// and first sequence numbers are 0.
+    #[tactic(auto, unfolding(crate::specs::Parts::seen, crate::specs::Parts::seen_ends, crate::specs::Seen::seen_end, rasta_core_link::specs::Calls::created))]
     pub fn new(alloc: Global) -> Result<Pair, AllocError>
         ensures { IfOk result (λ pair. pair.run ≡ new_pair (record { 0 = STANDARD })) }
     {
@@ -89,6 +91,7 @@ impl Pair {
 
     /// Applies an event and gives its answer, or says why it can't happen; then nothing has changed but that the
     /// room may have grown. Where there is room for an event, only a restart can lack memory.
+    #[tactic(auto, unfolding(crate::specs::Parts::seen, crate::specs::Parts::seen_ends, crate::specs::Seen::seen_end))]
     pub fn apply(&mut self, event: &PairEvent) -> Result<PairReply, Refused>
         ensures step { OnOk result (self.new.run ≡ happens event.now self.old.run) }
         ensures reply { IfOk result (λ answer. answer ≡ reply_to event.now self.old.run.ends) }
@@ -132,6 +135,7 @@ impl Pair {
     }
 
     /// True time, in microseconds.
+    #[tactic(auto, unfolding(crate::specs::Parts::seen, crate::specs::Parts::seen_ends, crate::specs::Seen::seen_end))]
     pub fn time(&self) -> u64
         ensures { result ≡ self.now.run.ends.time }
     {
@@ -139,6 +143,7 @@ impl Pair {
     }
 
     /// What the lamp shows at the server's clock.
+    #[tactic(auto, unfolding(crate::specs::Parts::seen, crate::specs::Parts::seen_ends, crate::specs::Seen::seen_end))]
     pub fn shown(&self) -> Aspect
         ensures { result ≡ shown self.now.run }
     {
@@ -146,6 +151,7 @@ impl Pair {
     }
 
     /// Whether an end is up at its clock.
+    #[tactic(auto, unfolding(crate::specs::Parts::seen, crate::specs::Parts::seen_ends, crate::specs::Seen::seen_end))]
     pub fn is_up(&self, end: Role) -> bool
         ensures { result ≡ is_up (end_of end self.now.run.ends).link.phase }
     {
@@ -153,6 +159,7 @@ impl Pair {
     }
 
     /// The items that an end accepted in its last connection, oldest first.
+    #[tactic(auto, unfolding(crate::specs::Parts::seen, crate::specs::Parts::seen_ends, crate::specs::Seen::seen_end))]
     pub fn given(&self, end: Role) -> &[Item]
         ensures { result.now ≡ (end_of end self.now.run.ends).given }
     {
@@ -160,6 +167,7 @@ impl Pair {
     }
 
     /// The items that an end handed out in its last connection, oldest first.
+    #[tactic(auto, unfolding(crate::specs::Parts::seen, crate::specs::Parts::seen_ends, crate::specs::Seen::seen_end))]
     pub fn taken(&self, end: Role) -> &[Item]
         ensures { result.now ≡ (end_of end self.now.run.ends).taken }
     {
@@ -167,6 +175,7 @@ impl Pair {
     }
 
     /// How many items an end accepted in its last connection are known to be taken by its partner.
+    #[tactic(auto, unfolding(crate::specs::Parts::seen, crate::specs::Parts::seen_ends, crate::specs::Seen::seen_end))]
     pub fn confirmed(&self, end: Role) -> u64
         ensures { result ≡ confirmed_items (end_of end self.now.run.ends).link }
     {
@@ -174,6 +183,7 @@ impl Pair {
     }
 
     /// Every datagram that was sent, oldest first; those that aren't lost are the bag.
+    #[tactic(auto, unfolding(crate::specs::Parts::seen, crate::specs::Parts::seen_ends, crate::specs::Seen::seen_end))]
     pub fn sent(&self) -> &[Sent]
         ensures { result.now ≡ self.now.run.ends.sent }
     {
