@@ -4,6 +4,7 @@ use Rattle.std.specs.Int.{w16, to_le_bytes, from_le_bytes}
 use Rattle.std.proofs.lemmas.Bool.{ltb-false, le-ltb, eqb-true, eq-eqb, not-false, cond-false}
 use Rattle.std.proofs.lemmas.List.{get_or-drop, append_assoc, take_at, drop_at, drop-drop, take-append-drop, length-append}
 use Rattle.std.proofs.lemmas.Nat.{le_bytes_2, from_le_bytes-to_le_bytes_2}
+use Rattle.rasta_pdu.specs.Items.{IsItem}
 use Rattle.rasta_pdu.specs.Values.{IsBytes}
 use Rattle.sci_telegram.specs.declared.fault.SciFault.TheVariants as faults
 use Rattle.sci_telegram.specs.declared.message.Message.{Message}
@@ -58,9 +59,9 @@ read_again t h =
     let s_20 = length-name_field t.sender h.sender in
     let r_20 = length-name_field t.receiver h.receiver in
     reading_of (writing t) t.sender t.receiver t.message
-        (omega (arith, length-append (s ++ r) p, length-append s r))
-        (record { protocol = refl; type_number = from_le_bytes-to_le_bytes_2 (type_number t.message) (number_fits t.message) })
-        h.sender h.receiver (sender_at s r p s_20) (receiver_at s r p s_20 r_20) (payload_at s r p s_20 r_20)
+    (omega (arith, length-append (s ++ r) p, length-append s r))
+    (record { protocol = refl; type_number = from_le_bytes-to_le_bytes_2 (type_number t.message) (number_fits t.message) })
+    h.sender h.receiver (sender_at s r p s_20) (receiver_at s r p s_20 r_20) (payload_at s r p s_20 r_20)
 
 -- ---- what is read is spelled so
 
@@ -120,9 +121,10 @@ read_takes bytes t fits e =
     let receiver_is = spelled_takes (receiver_field bytes) receiver.0 receiver.1 in
     let has : HasType bytes message.0 = record { protocol = protocol_takes _ protocol.0 protocol.1 ∙ ap protocol_byte (sym (carries.protocol ∙ row.1)); type_number = row.0 ∙ sym carries.number } in
     let is_message : IsMessage message.0 = message_fits message.0 (subst IsBytes carries.bytes_are (rest_are_bytes 43 bytes fits)) in
-    subst (λ (u : Telegram). IsTelegram u × (bytes ≡ writing u)) {x = made} same
-        (record { sender = sender_is.0; receiver = receiver_is.0; message = is_message },
-         written_by_fields bytes made fits (ltb-false (length bytes) 43 long.0) has sender_is.1 receiver_is.1 carries.bytes_are)
+    subst (λ (u : Telegram). IsTelegram u × (bytes ≡ writing u)) {x = made} same (
+      record { sender = sender_is.0; receiver = receiver_is.0; message = is_message },
+      written_by_fields bytes made fits (ltb-false (length bytes) 43 long.0) has sender_is.1 receiver_is.1 carries.bytes_are,
+    )
 
 -- ---- what a spelling is
 
@@ -133,11 +135,14 @@ length-writing t h =
     let r = name_field t.receiver in
     omega (arith, length-append (s ++ r) (payload t.message), length-append s r, length-name_field t.sender h.sender, length-name_field t.receiver h.receiver)
 
+pub writing_is_long : (t : Telegram) → IsTelegram t → 43 ≤ length (writing t)
+writing_is_long t h = omega (arith, length-writing t h)
+
 -- it fits an item
-pub writing_fits : (t : Telegram) → IsTelegram t → (43 ≤ length (writing t)) × (length (writing t) ≤ 61)
-writing_fits t h =
+pub writing_is_item : (t : Telegram) → IsTelegram t → IsItem (writing t)
+writing_is_item t h =
     let short : length (payload t.message) ≤ 18 = rw (length_again t.message) (row_length_fits (kind_of t.message)) in
-    (omega (arith, length-writing t h), omega (arith, length-writing t h))
+    record { some = omega (arith, length-writing t h); most = omega (arith, length-writing t h) }
 
 -- no bytes spell two telegrams
 pub one_telegram : (t u : Telegram) (bytes : List ℕ) → Spells t bytes → Spells u bytes → t ≡ u

@@ -56,9 +56,12 @@ at_value : (bytes : List ℕ) (p : Protocol) (k : Kind) (s r : List ℕ) → 43 
 at_value bytes p k s r long at sized sender receiver none =
     let s_is = spelled_takes (sender_field bytes) s sender in
     let r_is = spelled_takes (receiver_field bytes) r receiver in
-    let names : HasNames bytes s r = record { sender_is_name = s_is.0; receiver_is_name = r_is.0; sender_spelled = s_is.1; receiver_spelled = r_is.1 } in
-    (long, (some_message p k, row_has_length bytes p k at sized), (s, r, names),
-     λ m has same. some_or_none _ m (ap (λ (q : Protocol). message_in q k (payload_field bytes)) (same_protocol bytes p m at.protocol has) ∙ ap (λ (j : Kind). message_in (protocol_of m) j (payload_field bytes)) (same_kind bytes p k m at has) ∙ ap (message_in (protocol_of m) (kind_of m)) same ∙ message_again m) none)
+    let names : HasNames bytes s r = record { sender_is_name = s_is.0; receiver_is_name = r_is.0; sender_spelled = s_is.1; receiver_spelled = r_is.1 } in (
+      long,
+      (some_message p k, row_has_length bytes p k at sized),
+      (s, r, names),
+      λ m has same. some_or_none _ m (ap (λ (q : Protocol). message_in q k (payload_field bytes)) (same_protocol bytes p m at.protocol has) ∙ ap (λ (j : Kind). message_in (protocol_of m) j (payload_field bytes)) (same_kind bytes p k m at has) ∙ ap (message_in (protocol_of m) (kind_of m)) same ∙ message_again m) none,
+    )
 
 -- the faults of names and payload
 in_fields : (bytes : List ℕ) (p : Protocol) (k : Kind) (fault : SciFault) → 43 ≤ length bytes → AtRow bytes p k → length (payload_field bytes) ≡ payload_length k → telegram_in p k (sender_field bytes) (receiver_field bytes) (payload_field bytes) ≡ Err fault → IsFault bytes fault
@@ -130,8 +133,8 @@ told_in_names bytes p k none =
     let sender_is = spelled_takes (sender_field bytes) sender.0 sender.1 in
     bind_some (name_spelled (sender_field bytes)) faults.Name _ sender.0 sender.1
     ∙ bind_none (name_spelled (receiver_field bytes)) faults.Name _ (is_none _ (λ r e.
-        let receiver_is = spelled_takes (receiver_field bytes) r e in
-        none sender.0 r (record { sender_is_name = sender_is.0; receiver_is_name = receiver_is.0; sender_spelled = sender_is.1; receiver_spelled = receiver_is.1 }))))
+    let receiver_is = spelled_takes (receiver_field bytes) r e in
+    none sender.0 r (record { sender_is_name = sender_is.0; receiver_is_name = receiver_is.0; sender_spelled = sender_is.1; receiver_spelled = receiver_is.1 }))))
     (cases_option (name_spelled (sender_field bytes)))
 
 told_in_value : (bytes : List ℕ) (p : Protocol) (k : Kind) (s r : List ℕ) → HasNames bytes s r → ((m : Message) → message_in p k (payload_field bytes) ≡ Some m → ⊥) → telegram_in p k (sender_field bytes) (receiver_field bytes) (payload_field bytes) ≡ Err faults.Value

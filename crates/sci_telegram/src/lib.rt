@@ -10,6 +10,7 @@ mod name;
 mod reading;
 mod telegram;
 mod types;
+mod writing;
 
 pub use fault::SciFault;
 pub use message::{
@@ -19,3 +20,4 @@ pub use message::{
 pub use name::Name;
 pub use reading::read;
 pub use telegram::Telegram;
+pub use writing::write;
