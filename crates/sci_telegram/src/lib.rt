@@ -5,6 +5,7 @@
 mod codes;
 mod fault;
 mod kind;
+mod laws;
 mod message;
 mod name;
 mod reading;
@@ -13,6 +14,7 @@ mod types;
 mod writing;
 
 pub use fault::SciFault;
+pub use laws::{first_fault_is_read, one_spelling_each, read_was_written, written_is_read};
 pub use message::{
     Agreement, Aspect, DetectionMessage, Initialisation, Message, Occupancy, PointMessage,
     Position, Protocol, Side, SignalMessage,
@@ -21,3 +23,6 @@ pub use name::Name;
 pub use reading::read;
 pub use telegram::Telegram;
 pub use writing::write;
+
+#[cfg(test)]
+mod tests;
