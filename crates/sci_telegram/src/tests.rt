@@ -37,40 +37,33 @@ fn example_both_ways(rt: HostRuntime) -> Result<(), Fail> {
 }
 
 #[test]
-fn faults_in_their_order(rt: HostRuntime) {
-    assert_eq!(rt; read(&[]), Err(SciFault::Short));
-    assert_eq!(rt; read(&PROCEED[..42]), Err(SciFault::Short));
-    assert_eq!(rt; changed(0, 0x31), Err(SciFault::Protocol));
-    assert_eq!(rt;
-        changed(0, 0x40),
-        Err(SciFault::Length),
-        "0x0001 of a point"
-    );
-    assert_eq!(rt;
-        changed(0, 0x20),
-        Err(SciFault::BadType),
-        "0x0001 of a detector"
-    );
-    assert_eq!(rt; changed(2, 0x01), Err(SciFault::BadType), "0x0101");
-    assert_eq!(rt; read(&PROCEED[..60]), Err(SciFault::Length));
-    assert_eq!(rt; changed(3, 0x5F), Err(SciFault::Name), "no name");
-    assert_eq!(rt;
-        changed(22, 0x20),
-        Err(SciFault::Name),
-        "a blank behind the name"
-    );
-    assert_eq!(rt;
-        changed(9, 0x41),
-        Err(SciFault::Name),
-        "a letter behind the padding"
-    );
-    assert_eq!(rt;
-        changed(42, 0x00),
-        Err(SciFault::Name),
-        "a zero behind the receiver"
-    );
-    assert_eq!(rt; changed(43, 0x05), Err(SciFault::Value));
-    assert_eq!(rt; changed(60, 0xFE), Err(SciFault::Value));
+fn faults_of_changed_bytes(rt: HostRuntime) {
+    for (place, byte, fault) in [
+        (0, 0x31, SciFault::Protocol),
+        (0, 0x40, SciFault::Length),
+        (0, 0x20, SciFault::BadType),
+        (2, 0x01, SciFault::BadType),
+        (3, 0x5F, SciFault::Name),
+        (9, 0x41, SciFault::Name),
+        (22, 0x20, SciFault::Name),
+        (42, 0x00, SciFault::Name),
+        (43, 0x05, SciFault::Value),
+        (60, 0xFE, SciFault::Value),
+    ] {
+        assert_eq!(rt; changed(place, byte), Err(fault), "{byte} at {place}");
+    }
+}
+
+#[test]
+fn faults_of_shorter_bytes(rt: HostRuntime) {
+    for (length, fault) in [
+        (0, SciFault::Short),
+        (42, SciFault::Short),
+        (43, SciFault::Length),
+        (60, SciFault::Length),
+    ] {
+        assert_eq!(rt; read(&PROCEED[..length]), Err(fault), "{length} bytes");
+    }
 }
 
 #[test]
@@ -120,73 +113,98 @@ fn check_row(
 }
 
 #[test]
-fn rows_of_initialisation(rt: HostRuntime) -> Result<(), Fail> {
+fn rows_of_every_protocol(rt: HostRuntime) -> Result<(), Fail> {
+    let check = Initialisation::VersionCheck { version: 255 };
+    let answer = Initialisation::VersionAnswer {
+        agreement: Agreement::Match,
+        version: 1,
+    };
+    let rows: [(Initialisation, u8, &[u8]); 5] = [
+        (Initialisation::InitialisationRequest, 0x21, &[]),
+        (Initialisation::StartInitialisation, 0x22, &[]),
+        (Initialisation::InitialisationCompleted, 0x23, &[]),
+        (check, 0x24, &[255]),
+        (answer, 0x25, &[2, 1]),
+    ];
     for (protocol, first) in [
         (Protocol::TrainDetection, 0x20),
         (Protocol::LightSignal, 0x30),
         (Protocol::Point, 0x40),
     ] {
-        let of = |message| Message::Initialisation(protocol, message);
-        check_row(
-            &rt,
-            of(Initialisation::InitialisationRequest),
-            [first, 0x21, 0],
-            &[],
-        )?;
-        check_row(
-            &rt,
-            of(Initialisation::StartInitialisation),
-            [first, 0x22, 0],
-            &[],
-        )?;
-        check_row(
-            &rt,
-            of(Initialisation::InitialisationCompleted),
-            [first, 0x23, 0],
-            &[],
-        )?;
-        let check = Initialisation::VersionCheck { version: 255 };
-        check_row(&rt, of(check), [first, 0x24, 0], &[255])?;
-        let answer = Initialisation::VersionAnswer {
-            agreement: Agreement::Match,
-            version: 1,
-        };
-        check_row(&rt, of(answer), [first, 0x25, 0], &[2, 1])?;
+        for (message, number, payload) in rows {
+            let message = Message::Initialisation(protocol, message);
+            check_row(&rt, message, [first, number, 0], payload)?;
+        }
     }
     Ok(())
 }
 
 #[test]
-fn rows_of_the_objects(rt: HostRuntime) -> Result<(), Fail> {
-    for (side, byte) in [(Side::Right, 1), (Side::Left, 2)] {
-        let message = Message::Point(PointMessage::MovePoint(side));
-        check_row(&rt, message, [0x40, 0x01, 0], &[byte])?;
-    }
-    for (position, byte) in [
-        (Position::Right, 1),
-        (Position::Left, 2),
-        (Position::NoEndPosition, 3),
-    ] {
-        let message = Message::Point(PointMessage::PointPosition(position));
-        check_row(&rt, message, [0x40, 0x0B, 0], &[byte])?;
-    }
-    check_row(
-        &rt,
-        Message::Point(PointMessage::Timeout),
-        [0x40, 0x0C, 0],
-        &[],
-    )?;
-    for (aspect, byte) in [(Aspect::Stop, 0x01), (Aspect::Proceed, 0x04)] {
-        let mut payload = [0xFF; 18];
-        payload[0] = byte;
-        let message = Message::Signal(SignalMessage::IndicateAspect(aspect));
-        check_row(&rt, message, [0x30, 0x01, 0], &payload)?;
-        let message = Message::Signal(SignalMessage::IndicatedAspect(aspect));
-        check_row(&rt, message, [0x30, 0x03, 0], &payload)?;
-    }
-    for (occupancy, byte) in [(Occupancy::Clear, 1), (Occupancy::Occupied, 2)] {
-        let message = Message::Detection(DetectionMessage::OccupancyStatus(occupancy));
-        check_row(&rt, message, [0x20, 0x07, 0], &[byte])?;
+fn rows_of_one_protocol(rt: HostRuntime) -> Result<(), Fail> {
+    let mut stop = [0xFF; 18];
+    stop[0] = 0x01;
+    let mut proceed = [0xFF; 18];
+    proceed[0] = 0x04;
+    let rows: [(Message, [u8; 3], &[u8]); 12] = [
+        (
+            Message::Point(PointMessage::MovePoint(Side::Right)),
+            [0x40, 0x01, 0],
+            &[1],
+        ),
+        (
+            Message::Point(PointMessage::MovePoint(Side::Left)),
+            [0x40, 0x01, 0],
+            &[2],
+        ),
+        (
+            Message::Point(PointMessage::PointPosition(Position::Right)),
+            [0x40, 0x0B, 0],
+            &[1],
+        ),
+        (
+            Message::Point(PointMessage::PointPosition(Position::Left)),
+            [0x40, 0x0B, 0],
+            &[2],
+        ),
+        (
+            Message::Point(PointMessage::PointPosition(Position::NoEndPosition)),
+            [0x40, 0x0B, 0],
+            &[3],
+        ),
+        (Message::Point(PointMessage::Timeout), [0x40, 0x0C, 0], &[]),
+        (
+            Message::Signal(SignalMessage::IndicateAspect(Aspect::Stop)),
+            [0x30, 0x01, 0],
+            &stop,
+        ),
+        (
+            Message::Signal(SignalMessage::IndicateAspect(Aspect::Proceed)),
+            [0x30, 0x01, 0],
+            &proceed,
+        ),
+        (
+            Message::Signal(SignalMessage::IndicatedAspect(Aspect::Stop)),
+            [0x30, 0x03, 0],
+            &stop,
+        ),
+        (
+            Message::Signal(SignalMessage::IndicatedAspect(Aspect::Proceed)),
+            [0x30, 0x03, 0],
+            &proceed,
+        ),
+        (
+            Message::Detection(DetectionMessage::OccupancyStatus(Occupancy::Clear)),
+            [0x20, 0x07, 0],
+            &[1],
+        ),
+        (
+            Message::Detection(DetectionMessage::OccupancyStatus(Occupancy::Occupied)),
+            [0x20, 0x07, 0],
+            &[2],
+        ),
+    ];
+    for (message, front, payload) in rows {
+        check_row(&rt, message, front, payload)?;
     }
     Ok(())
 }
