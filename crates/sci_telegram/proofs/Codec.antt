@@ -1,6 +1,6 @@
 -- What is read is spelled so, and what is spelled so is read.
-use Rattle.std.proofs.Common.{◌≡◌, ℕ, zero, suc, ◌+◌, ◌<◌, ◌≤◌, ◌^◌, Bool, true, false, not, cond, eqb, ltb, List, [], ◌∷◌, ◌++◌, length, take, drop, slice_index, Option, Some, None, Result, Ok, Err, refl, sym, ap, ◌∙◌, subst, arith, lit<}
-use Rattle.std.specs.Int.{w16, to_le_bytes, from_le_bytes}
+use Rattle.std.proofs.Common.{◌≡◌, ℕ, zero, suc, ◌+◌, ◌<◌, ◌≤◌, ◌^◌, not, eqb, ltb, List, [], ◌∷◌, ◌++◌, length, take, drop, slice_index, Ok, refl, sym, ap, ◌∙◌, subst, arith, lit<}
+use Rattle.std.specs.Int.{w16, to_le_bytes}
 use Rattle.std.proofs.lemmas.Bool.{ltb-false, le-ltb, eqb-true, eq-eqb, not-false, cond-false}
 use Rattle.std.proofs.lemmas.List.{get_or-drop, append_assoc, take_at, drop_at, drop-drop, take-append-drop, length-append}
 use Rattle.std.proofs.lemmas.Nat.{le_bytes_2, from_le_bytes-to_le_bytes_2}
@@ -12,7 +12,7 @@ use Rattle.sci_telegram.specs.declared.telegram.Telegram.{Telegram}
 use Rattle.sci_telegram.specs.Names.{IsName, name_field}
 use Rattle.sci_telegram.specs.Messages.{protocol_of, protocol_byte, type_number, payload}
 use Rattle.sci_telegram.specs.Telegrams.{IsMessage, IsTelegram, Spells, writing}
-use Rattle.sci_telegram.specs.Reading.{◌>>=◌, protocol_field, type_field, sender_field, receiver_field, payload_field, protocol_at, kind_at, payload_length, name_spelled, message_in, telegram_in, reading}
+use Rattle.sci_telegram.specs.Reading.{protocol_field, type_field, sender_field, receiver_field, payload_field, protocol_at, kind_at, payload_length, name_spelled, message_in, telegram_in, reading}
 use Rattle.sci_telegram.specs.Faults.{HasType}
 use Rattle.sci_telegram.proofs.Steps.{ok_is, bind_ok, bind_some, guard_ok}
 use Rattle.sci_telegram.proofs.NameFields.{spelled_takes, spelled_again, length-name_field}

@@ -1,13 +1,13 @@
 -- Each fault is the first test that fails.
-use Rattle.std.proofs.Common.{◌≡◌, ℕ, ◌≤◌, Bool, true, false, not, eqb, ltb, List, length, Option, Some, None, Result, Ok, Err, refl, sym, ap, ◌∙◌, subst, ⊎_elim}
+use Rattle.std.proofs.Common.{◌≡◌, ℕ, ◌≤◌, not, eqb, ltb, List, length, Some, None, Err, sym, ap, ◌∙◌, subst, ⊎_elim}
 use Rattle.std.proofs.lemmas.Bool.{cond-true, cond-false, lt-ltb, le-ltb, eq-eqb, ne_eqb, ltb-true, ltb-false, eqb-true, eqb-false, not-true, not-false}
 use Rattle.sci_telegram.specs.declared.fault.SciFault.{SciFault}
 use Rattle.sci_telegram.specs.declared.fault.SciFault.TheVariants as faults
 use Rattle.sci_telegram.specs.declared.kind.Kind.{Kind}
 use Rattle.sci_telegram.specs.declared.message.Message.{Message}
 use Rattle.sci_telegram.specs.declared.message.Protocol.{Protocol}
-use Rattle.sci_telegram.specs.Messages.{protocol_of, protocol_byte, type_number, payload}
-use Rattle.sci_telegram.specs.Reading.{◌>>=◌, protocol_field, type_field, sender_field, receiver_field, payload_field, protocol_at, kind_at, payload_length, name_spelled, message_in, telegram_in, reading}
+use Rattle.sci_telegram.specs.Messages.{protocol_of, protocol_byte, payload}
+use Rattle.sci_telegram.specs.Reading.{protocol_field, type_field, sender_field, receiver_field, payload_field, protocol_at, kind_at, payload_length, name_spelled, message_in, telegram_in, reading}
 use Rattle.sci_telegram.specs.Faults.{HasProtocol, HasType, HasLength, HasNames, IsFault}
 use Rattle.sci_telegram.proofs.Steps.{bind_some, bind_none, is_none, cases_option, bind_err, guard_err, some_or_none, same_some}
 use Rattle.sci_telegram.proofs.NameFields.{spelled_takes, spelled_again, spells_none}

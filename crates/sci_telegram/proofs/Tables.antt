@@ -1,5 +1,5 @@
 -- The tables, read from both sides: what a byte or a type number stands for is what is written so.
-use Rattle.std.proofs.Common.{◌≡◌, ℕ, ◌<◌, ◌≤◌, ◌^◌, Bool, true, false, cond, List, [], ◌∷◌, ◌++◌, length, drop, replicate, slice_index, Option, Some, None, refl, sym, ap, ◌∙◌, subst, arith, lit<, lit≤}
+use Rattle.std.proofs.Common.{◌≡◌, ℕ, ◌<◌, ◌≤◌, ◌^◌, List, [], ◌∷◌, length, replicate, slice_index, Some, None, refl, ap, ◌∙◌, subst, arith, lit<, lit≤}
 use Rattle.std.specs.Option.{option_map}
 use Rattle.std.specs.Str.{bytes_eq}
 use Rattle.std.proofs.lemmas.Bool.Decides.{nat_tests}
