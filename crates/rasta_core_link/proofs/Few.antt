@@ -1,11 +1,9 @@
 -- How many datagrams a call hands out: few, and none beside items.
-use Rattle.std.proofs.Common.{◌≡◌, ℕ, ◌+◌, ◌-◌, ◌≤◌, ◌<◌, Bool, true, false, List, [], ◌∷◌, ◌++◌, length, ◌⊎◌, inl, inr, min, refl, sym, ap, ◌∙◌, arith, rules, nat_le, nat_lt, nat_eq, ◌&&◌, ◌==◌, not, if◌then◌else◌, IsTrue, Result, Ok, Err, is_ok}
+use Rattle.std.proofs.Common.{◌≡◌, ℕ, ◌+◌, ◌≤◌, Bool, true, false, List, [], length, ◌⊎◌, inl, inr, refl, ap, arith, nat_le, nat_lt, ◌&&◌, ◌==◌, not, if◌then◌else◌, Result, Ok, Err, is_ok}
 use Rattle.std.proofs.lemmas.List.{length-append, append-nil, nil_from_length}
-use Rattle.std.proofs.lemmas.Grind.{common_steps}
-use Rattle.std.proofs.lemmas.Bool.Decides.{nat_tests}
 use Rattle.std.proofs.lemmas.Bool.{cases_lt, lt-ltb, lt-leb, le-leb}
 use Rattle.rasta_core_link.specs.Parameters.{expiry, quiet_time, sequence_range, stops_at_greatest}
-use Rattle.rasta_core_link.specs.State.{LinkState, is_open, is_up, is_client}
+use Rattle.rasta_core_link.specs.State.{LinkState, is_open, is_client}
 use Rattle.rasta_core_link.specs.Clock.{alive_until, quiet_until, state_at}
 use Rattle.rasta_core_link.specs.Sending.{Step, silent, then_do, closed, sending, telling, closing, limited, entered, beating, giving}
 use Rattle.rasta_core_link.specs.Opening.{is_down, may_open, requesting, judging, granting, joining}
@@ -13,7 +11,6 @@ use Rattle.rasta_core_link.specs.Receiving.{Receipt, refusing, violating, accept
 use Rattle.rasta_core_link.specs.Calls.{opening, ticking, closing_by, acceptance, sending_item, hearing_bytes, receiving}
 use Rattle.rasta_core_link.specs.declared.admission.Admission.{Admission}
 use Rattle.rasta_core_link.specs.declared.admission.Admission.TheVariants as admits
-use Rattle.rasta_core_link.specs.declared.phase.Phase.{Phase}
 use Rattle.rasta_core_link.specs.declared.phase.Phase.TheVariants as phase
 use Rattle.rasta_core_link.specs.declared.phase.State.{State}
 use Rattle.rasta_core_link.specs.declared.phase.State.TheVariants as state
@@ -22,7 +19,7 @@ use Rattle.rasta_core_link.specs.declared.reason.Reason.TheVariants as reason
 use Rattle.rasta_core_link.specs.declared.verdict.Verdict.{Verdict}
 use Rattle.rasta_core_link.specs.declared.verdict.Verdict.TheVariants as verdict
 use Rattle.rasta_core_link.proofs.Posting.{posting}
-use Rattle.rasta_core_link.proofs.Steps.{one-telling, phase-telling, few-entered}
+use Rattle.rasta_core_link.proofs.Steps.{one-telling, few-entered}
 use Rattle.rasta_core_link.proofs.Waiting.{length-repeated, length-still_waiting}
 use Rattle.rasta_pdu.specs.Reading.{reading}
 use Rattle.rasta_pdu.specs.declared.fault.PduFault.{PduFault}
@@ -128,9 +125,9 @@ few-testing : (pdu : Pdu) (link : LinkState) → length link.waiting ≤ 20 → 
 unfolding testing
 few-testing pdu link h =
     if_few (nat_lt sequence_range (ahead pdu link)) _ _ (refused verdict.OutOfRange link)
-        (if_few (is_stale pdu link) _ _ (refused verdict.Stale link)
-            (if_few (not (confirms pdu link)) _ _ (refused verdict.BadConfirm link)
-                (few-admitting (admission pdu.body link.phase) pdu link h)))
+    (if_few (is_stale pdu link) _ _ (refused verdict.Stale link)
+    (if_few (not (confirms pdu link)) _ _ (refused verdict.BadConfirm link)
+    (few-admitting (admission pdu.body link.phase) pdu link h)))
 
 few-connected : (body : Body) (pdu : Pdu) (link : LinkState) → length link.waiting ≤ 20 → Few (connected body pdu link)
 unfolding connected
@@ -182,8 +179,8 @@ few-hearing : (pdu : Pdu) (link : LinkState) → length link.waiting ≤ 20 → 
 unfolding hearing
 few-hearing pdu link h =
     if_few (not (pdu.receiver == link.identity.own)) _ _ (refused verdict.NotForMe link)
-        (if_few (not (pdu.sender == link.identity.partner)) _ _ (refused verdict.WrongSender link)
-            (few-by_state (state_at link.clock link) pdu link h))
+    (if_few (not (pdu.sender == link.identity.partner)) _ _ (refused verdict.WrongSender link)
+    (few-by_state (state_at link.clock link) pdu link h))
 
 few-hearing_bytes : (read : Result Pdu PduFault) (link : LinkState) → length link.waiting ≤ 20 → Few (hearing_bytes read link)
 unfolding hearing_bytes
@@ -212,21 +209,21 @@ rests : (link : LinkState) → JustClosed link → (state_at link.clock link ≡
 unfolding state_at quiet_until alive_until
 rests link just =
     elim (cases_lt link.clock expiry) [
-      inl before ↦
-        let quiet : nat_lt link.clock (stops_at_greatest (link.closed_at + quiet_time)) ≡ true = lt-ltb _ _ (rw just.closed_at (omega arith)) in
-        let alive : nat_le expiry link.clock ≡ false = lt-leb _ _ before in
-        inr (rw (alive, just.phase, quiet) refl)
-    | inr expired ↦
-        let over : nat_le expiry link.clock ≡ true = le-leb _ _ expired in
-        inl (rw over refl)
+      | inl before ↦
+          let quiet : nat_lt link.clock (stops_at_greatest (link.closed_at + quiet_time)) ≡ true = lt-ltb _ _ (rw just.closed_at (omega arith)) in
+          let alive : nat_le expiry link.clock ≡ false = lt-leb _ _ before in
+          inr (rw (alive, just.phase, quiet) refl)
+      | inr expired ↦
+          let over : nat_le expiry link.clock ≡ true = le-leb _ _ expired in
+          inl (rw over refl)
     ]
 
 once : (first : Step) (next : LinkState → Step) → length first.pdus ≤ 1 → (1 ≤ length first.pdus → (next first.link).pdus ≡ []) → length (next first.link).pdus ≤ 1 → length (then_do first next).pdus ≤ 1
 once first next few silent_after more =
     let joined = length-append first.pdus (next first.link).pdus in
     elim (cases_lt (length first.pdus) 1) [
-      inl none ↦ omega arith
-    | inr one ↦ let rest = ap (λ (ps : List Pdu). length ps) (silent_after one) in omega arith
+      | inl none ↦ omega arith
+      | inr one ↦ let rest = ap (λ (ps : List Pdu). length ps) (silent_after one) in omega arith
     ]
 
 silent_closed-beating : (link : LinkState) → JustClosed link → (beating link).pdus ≡ []
@@ -245,8 +242,8 @@ client_and_down false at h = refl
 not_down : (link : LinkState) → JustClosed link → is_down (state_at link.clock link) ≡ false
 not_down link just =
     elim (rests link just) [
-      inl expired ↦ rw expired refl
-    | inr quiet ↦ rw quiet refl
+      | inl expired ↦ rw expired refl
+      | inr quiet ↦ rw quiet refl
     ]
 
 few-asking_for : (test : Bool) (link : LinkState) → length (if test then requesting link else silent link).pdus ≤ 1
@@ -257,8 +254,8 @@ pub few-opening : (now : ℕ) (link : LinkState) → length (opening now link).p
 unfolding opening
 few-opening now link =
     once (entered now link) (λ l. if may_open l then requesting l else silent l) (few-entered now link)
-        (λ h. rw (client_and_down _ _ (not_down _ (just-entered now link h))) refl)
-        (few-asking_for _ _)
+    (λ h. rw (client_and_down _ _ (not_down _ (just-entered now link h))) refl)
+    (few-asking_for _ _)
 
 few_if_open : (test : Bool) (why : Reason) (link : LinkState) → length (if test then closing why link else silent link).pdus ≤ 1
 few_if_open true why link = few-closing why link
@@ -268,8 +265,8 @@ pub few-closing_by : (now : ℕ) (why : Reason) (link : LinkState) → length (c
 unfolding closing_by
 few-closing_by now why link =
     once (entered now link) (λ l. if is_open l.phase then closing why l else silent l) (few-entered now link)
-        (λ h. let just = just-entered now link h in rw just.phase refl)
-        (few_if_open _ why _)
+    (λ h. let just = just-entered now link h in rw just.phase refl)
+    (few_if_open _ why _)
 
 few_if_accepted : (test : Bool) (item : List ℕ) (link : LinkState) → length (if test then giving item link else silent link).pdus ≤ 1
 few_if_accepted true item link = rw few-giving (omega arith)
@@ -283,8 +280,8 @@ pub few-sending_item : (now : ℕ) (item : List ℕ) (link : LinkState) → leng
 unfolding sending_item
 few-sending_item now item link =
     once (entered now link) (λ l. if is_ok (acceptance l) then giving item l else silent l) (few-entered now link)
-        (λ h. rw (refuses_closed _ (just-entered now link h)) refl)
-        (few_if_accepted _ item _)
+    (λ h. rw (refuses_closed _ (just-entered now link h)) refl)
+    (few_if_accepted _ item _)
 
 record Nothing (receipt : Receipt) : Type 0 where
   pdus : receipt.pdus ≡ []
@@ -298,8 +295,8 @@ nothing-by_state : (pdu : Pdu) (link : LinkState) → JustClosed link → Nothin
 unfolding by_state
 nothing-by_state pdu link just =
     elim (rests link just) [
-      inl expired ↦ rw expired (record { pdus = refl; items = refl })
-    | inr quiet ↦ rw quiet (record { pdus = refl; items = refl })
+      | inl expired ↦ rw expired (record { pdus = refl; items = refl })
+      | inr quiet ↦ rw quiet (record { pdus = refl; items = refl })
     ]
 
 nothing-hearing_bytes : (read : Result Pdu PduFault) (link : LinkState) → JustClosed link → Nothing (hearing_bytes read link)
@@ -307,7 +304,7 @@ unfolding hearing_bytes hearing
 nothing-hearing_bytes (Err fault) link just = record { pdus = refl; items = refl }
 nothing-hearing_bytes (Ok pdu) link just =
     if_nothing (not (pdu.receiver == link.identity.own)) verdict.NotForMe link _
-        (if_nothing (not (pdu.sender == link.identity.partner)) verdict.WrongSender link _ (nothing-by_state pdu link just))
+    (if_nothing (not (pdu.sender == link.identity.partner)) verdict.WrongSender link _ (nothing-by_state pdu link just))
 
 -- at most 22, and none beside items
 pub few-receiving : (now : ℕ) (bytes : List ℕ) (link : LinkState) → length (entered now link).link.waiting ≤ 20 → Few (receiving now bytes link)
@@ -316,14 +313,14 @@ few-receiving now bytes link h =
     let begun = entered now link in
     let heard = hearing_bytes (reading link.identity.key bytes) begun.link in
     elim (cases_lt (length begun.pdus) 1) [
-      inl none ↦
-        let silent_before = nil_from_length begun.pdus (omega arith) in
-        let after = few-hearing_bytes (reading link.identity.key bytes) begun.link h in
-        record { few = rw silent_before after.few; items_alone = λ items. rw silent_before (after.items_alone items) }
-    | inr one ↦
-        let after = nothing-hearing_bytes (reading link.identity.key bytes) begun.link (just-entered now link one) in
-        let before = few-entered now link in
-        no_items _ after.items (rw (after.pdus, append-nil) (omega arith))
+      | inl none ↦
+          let silent_before = nil_from_length begun.pdus (omega arith) in
+          let after = few-hearing_bytes (reading link.identity.key bytes) begun.link h in
+          record { few = rw silent_before after.few; items_alone = λ items. rw silent_before (after.items_alone items) }
+      | inr one ↦
+          let after = nothing-hearing_bytes (reading link.identity.key bytes) begun.link (just-entered now link one) in
+          let before = few-entered now link in
+          no_items _ after.items (rw (after.pdus, append-nil) (omega arith))
     ]
 
 pub few-pdus-receiving : (now : ℕ) (bytes : List ℕ) (link : LinkState) → length (entered now link).link.waiting ≤ 20 → length (receiving now bytes link).pdus ≤ 22
