@@ -12,7 +12,7 @@ use Rattle.rasta_core_ends.specs.Run.{Ends, called}
 use Rattle.rasta_pdu.specs.declared.key.Key.{Key}
 use Rattle.rasta_pdu.specs.declared.pdu.Pdu.{Pdu}
 use Rattle.signal_ctl.specs.Lamp.{Lamp}
-use Rattle.signal_ctl.specs.declared.lamp.Aspect.{Aspect}
+use Rattle.sci_telegram.specs.declared.message.Aspect.{Aspect}
 use Rattle.simulator_pair.specs.Pair.{PairState, stepped, lamp_after, indicated_after, unless_closed}
 
 -- what stands in an outbox that was empty

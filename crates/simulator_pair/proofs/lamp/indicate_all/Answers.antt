@@ -1,7 +1,7 @@
 use Rattle.std.proofs.Common.{◌≡◌, ◌+◌, ◌<◌, ◌≤◌, ◌∙◌, ap, sym, ℕ, List, [], ◌∷◌, drop, length, get_or, arith, refl}
 use Rattle.std.proofs.lemmas.List.{at_drop_more, at_drop_all}
 use Rattle.signal_ctl.specs.Lamp.{Lamp}
-use Rattle.signal_ctl.specs.declared.lamp.Aspect.{Aspect}
+use Rattle.sci_telegram.specs.declared.message.Aspect.{Aspect}
 use Rattle.simulator_pair.specs.Pair.{indicated_by, indicated_after}
 use Rattle.simulator_pair.proofs.lamp.indicate_all.Goals as goal
 
