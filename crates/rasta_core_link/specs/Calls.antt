@@ -1,5 +1,5 @@
 -- What each call of a link does, from its creation on.
-use Rattle.std.specs.Prelude.{ℕ, ◌≤◌, nat_lt, min, Bool, List, [], ◌++◌, length, Result, Ok, Err, is_ok, if◌then◌else◌}
+use Rattle.std.specs.Prelude.{◌≡◌, ℕ, ◌≤◌, nat_lt, min, Bool, List, [], ◌++◌, length, Result, Ok, Err, is_ok, if◌then◌else◌}
 use Rattle.rasta_core_link.specs.Parameters.{window_size, expiry}
 use Rattle.rasta_core_link.specs.State.{LinkState, is_open, is_up}
 use Rattle.rasta_core_link.specs.Sending.{Step, silent, then_do, entered, beating, giving, closing}
