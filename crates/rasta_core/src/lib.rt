@@ -3,4 +3,6 @@
 #![tactic(auto)]
 
 pub use rasta_core_ends::Sent;
-pub use rasta_core_link::{Identity, Inbox, Link, Millis, Outbox, Reason, Role, SendFault, State, Verdict};
+pub use rasta_core_link::{
+    Identity, Inbox, Link, Millis, Outbox, Reason, Role, SendFault, State, Verdict,
+};
