@@ -4,3 +4,4 @@ pub mod Seen
 pub mod Calling
 pub mod Order
 pub mod Parts
+pub mod Theorem

@@ -6,6 +6,7 @@ use Rattle.simulator_pair.specs.Pair.{PairState}
 use Rattle.simulator_pair.specs.Events.{clock_limit}
 use Rattle.simulator_pair.specs.Order.{AreInOrder}
 use Rattle.simulator_pair.specs.Seen.{seen_end, IsAtClock, HasLists, KeepsLists}
+use Rattle.simulator_pair.specs.Theorem.{IsLinked}
 use Rattle.simulator_pair.specs.declared.parts.Parts.{Parts}
 
 unfoldable pub seen_ends : Parts → Ends
@@ -50,3 +51,8 @@ pub record KeepRoom (calls : ℕ) (old new : Parts) : Type 0 where
 pub record IsPair (parts : Parts) : Type 0 where
   pub sound : AreSound parts
   pub room : HaveRoom (2 * parts.room) parts
+
+-- and the link theorem's invariant holds of its two ends
+pub record IsLinkedPair (parts : Parts) : Type 0 where
+  pub whole : IsPair parts
+  pub linked : IsLinked (seen_ends parts)

@@ -3,6 +3,9 @@
 ghost use Rattle.std.specs.Prelude.{◌≡◌, ◌≤◌, ◌<◌, ◌+◌, ◌⊎◌, [], None, Some, Err, IfOk, IfErr, OnOk, OnErr, IsTrue};
 ghost use Rattle.rasta_core_ends.specs.Run.{end_of};
 ghost use Rattle.simulator_pair.specs.Seen.{seen_end, HasLists};
+ghost use Rattle.simulator_pair.specs.Theorem.{GivesItem};
+ghost use Rattle.simulator_pair.specs.Events.{new_pair};
+ghost use Rattle.simulator_pair.specs.Parts.{seen, IsPair};
 ghost use Rattle.md4.specs.declared.message.TheConstants.{STANDARD};
 
 use crate::event::{PairEvent, PairReply, Refused};
@@ -10,7 +13,11 @@ use crate::node::Node;
 use crate::parts::Parts;
 use rasta_core_ends::Sent;
 use rasta_core_link::{Inbox, Link, Outbox, Role};
-use rasta_pdu::{Item, Key};
+use rasta_core_theorem::{every_event_keeps_order, order_is_safe};
+use rasta_core_time::{
+    every_event_keeps_time, items_are_fresh, opening_is_new, own_connection, starts_in_time,
+};
+use rasta_pdu::{Item, Key, intact_is_tested};
 use signal_ctl::{Aspect, Signal};
 use std::alloc::{AllocError, Global};
 use std::marker::Model;
@@ -33,11 +40,11 @@ impl Model for Pair {
 
     ghost Value = { PairView };
 
-    ghost use Rattle.simulator_pair.specs.Parts.{seen, IsPair};
+    ghost use Rattle.simulator_pair.specs.Parts.{seen, IsLinkedPair};
 
     ghost view = { λ p. record { run = seen p.parts; room = p.parts.room } };
 
-    ghost invariant = { λ p. IsPair p.parts };
+    ghost invariant = { λ p. IsLinkedPair p.parts };
 }
 
 /// An end as it is made: with its clock at 0, in no connection.
@@ -58,35 +65,55 @@ fn new_node(alloc: Global, link: Link) -> Node
     }
 }
 
+/// The parts of a new pair.
+#[tactic(auto, unfolding(crate::specs::Parts::seen, crate::specs::Parts::seen_ends, crate::specs::Seen::seen_end, rasta_core_link::specs::Calls::created))]
+fn new_parts(alloc: Global) -> Result<Parts, AllocError>
+    ensures state { IfOk result (λ parts. seen parts ≡ new_pair (record { 0 = STANDARD })) }
+    ensures whole { IfOk result IsPair }
+{
+    let key = Key(md4::STANDARD);
+    let client = Link::client(alloc, CLIENT, SERVER, key, 0, 0)?;
+    let server = Link::server(alloc, SERVER, CLIENT, key, 0, 0)?;
+    let outbox = Outbox::for_links(alloc, 1)?;
+    Ok(Parts {
+        time: 0,
+        client: new_node(alloc, client),
+        server: new_node(alloc, server),
+        sent: Vec::new(alloc),
+        lamp: Signal::new(),
+        outbox,
+        inbox: Inbox::new(),
+        room: 0,
+        alloc,
+    })
+}
+
+/// An item that is given has 1 to 61 bytes.
+fn gives_item(event: &PairEvent)
+    ensures { GivesItem event.now }
+{
+    if let PairEvent::Give(_, item) = event {
+        let _ = item.bytes();
+    }
+}
+
 impl Pair {
+    ghost use Rattle.rasta_core_theorem.specs.Safe.{AreSafe};
+    ghost use Rattle.simulator_pair.specs.Theorem.{HappensRightly};
     ghost use Rattle.rasta_core_link.specs.State.{is_up, confirmed_items};
     ghost use Rattle.simulator_pair.specs.Pair.{shown};
-    ghost use Rattle.simulator_pair.specs.Events.{refusal, happens, reply_to, is_restart, new_pair, Runs};
+    ghost use Rattle.simulator_pair.specs.Events.{refusal, happens, reply_to, is_restart, Runs};
     ghost use Rattle.simulator_pair.specs.declared.event.Refused.TheVariants.{OutOfMemory};
 
     /// A new pair: the client has identity 1, the server 2; their key is the standard start of MD4, their clocks
     /// and first sequence numbers are 0.
-    #[tactic(auto, unfolding(crate::specs::Parts::seen, crate::specs::Parts::seen_ends, crate::specs::Seen::seen_end, rasta_core_link::specs::Calls::created))]
     pub fn new(alloc: Global) -> Result<Pair, AllocError>
         ensures { IfOk result (λ pair. pair.run ≡ new_pair (record { 0 = STANDARD })) }
     {
-        let key = Key(md4::STANDARD);
-        let client = Link::client(alloc, CLIENT, SERVER, key, 0, 0)?;
-        let server = Link::server(alloc, SERVER, CLIENT, key, 0, 0)?;
-        let outbox = Outbox::for_links(alloc, 1)?;
-        Ok(Pair {
-            parts: Parts {
-                time: 0,
-                client: new_node(alloc, client),
-                server: new_node(alloc, server),
-                sent: Vec::new(alloc),
-                lamp: Signal::new(),
-                outbox,
-                inbox: Inbox::new(),
-                room: 0,
-                alloc,
-            },
-        })
+        starts_in_time();
+        every_event_keeps_order();
+        let parts = new_parts(alloc)?;
+        Ok(Pair { parts })
     }
 
     /// Applies an event and gives its answer, or says why it can't happen; then nothing has changed but that the
@@ -101,7 +128,20 @@ impl Pair {
         ensures same { OnErr result (self.new.run ≡ self.old.run) }
         ensures room { self.old.room ≤ self.new.room + 1 }
         ensures kept { OnErr result (self.old.room ≤ self.new.room) }
+        // In a connection that is the last of both ends, each took a beginning of what the other gave, and what the
+        // other holds for confirmed was taken.
+        ensures safe { AreSafe self.new.run.ends }
+        // What a delivery brings is fresh, and of the connection of the end that takes it.
+        ensures rightly { HappensRightly event.now self.old.run.ends }
     {
+        every_event_keeps_time();
+        every_event_keeps_order();
+        intact_is_tested();
+        order_is_safe();
+        items_are_fresh();
+        own_connection();
+        opening_is_new();
+        gives_item(event);
         self.parts.apply(event)
     }
 
@@ -123,7 +163,8 @@ impl Pair {
 
     /// Applies events one after the other, goes on after those that are refused, and answers how many were accepted.
     pub fn run(&mut self, events: &[PairEvent]) -> usize
-        ensures { Runs events.now self.old.run result self.new.run }
+        ensures run { Runs events.now self.old result self.new }
+        ensures safe { AreSafe self.new.run.ends }
     {
         let mut accepted = 0;
         for event in events {
@@ -131,6 +172,8 @@ impl Pair {
                 accepted += 1;
             }
         }
+        order_is_safe();
+        let _ = &self.parts.time;
         accepted
     }
 

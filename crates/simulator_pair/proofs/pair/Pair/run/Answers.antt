@@ -3,6 +3,10 @@ use Rattle.std.specs.Prelude.{is_ok, if◌then◌else◌, ℕ}
 use Rattle.std.proofs.lemmas.List.{take_more}
 use Rattle.simulator_pair.specs.Events.{Runs, stops}
 use Rattle.simulator_pair.specs.declared.event.PairEvent.{PairEvent}
+use Rattle.rasta_core_theorem.specs.Safe.{AreSafe}
+use Rattle.simulator_pair.specs.Pair.{PairView}
+use Rattle.simulator_pair.specs.Parts.{seen}
+use Rattle.simulator_pair.specs.Theorem.{names}
 use Rattle.simulator_pair.proofs.Runs.{run_step}
 use Rattle.simulator_pair.proofs.pair.Pair.run.Goals as goal
 use Rattle.simulator_pair.proofs.pair.Pair.run.Goals.{then-is_ok, else-is_ok}
@@ -22,10 +26,16 @@ loop-event-preserved c =
       | then-is_ok w ↦ w.accepted-is ∙ ap (λ b. if b then loop.accepted + 1 else loop.accepted) (sym w.if-is_ok.true ∙ c.is_ok.ensures.value)
       | else-is_ok w ↦ w.accepted-is ∙ ap (λ b. if b then loop.accepted + 1 else loop.accepted) (sym w.if-is_ok.false ∙ c.is_ok.ensures.value)
     ]
-    in let ran = run_step _ one _ _ _ _ c.apply.result loop.invariant.0 applied.step applied.allowed applied.refused applied.same
-    in let Counted : ℕ → Type 0 = λ n. Runs (take loop.event-index events ++ one ∷ []) c.args.self.now.run n c.apply.new.self.run
-    in let Grown : List PairEvent → Type 0 = λ es. Runs es c.args.self.now.run c.if-is_ok.accepted c.apply.new.self.run
+    in let ran = run_step _ one _ _ _ _ c.apply.result loop.invariant.0 applied.step applied.allowed applied.refused applied.same applied.memory applied.room applied.kept
+    in let Counted : ℕ → Type 0 = λ n. Runs (take loop.event-index events ++ one ∷ []) c.args.self.now n c.apply.new.self
+    in let Grown : List PairEvent → Type 0 = λ es. Runs es c.args.self.now c.if-is_ok.accepted c.apply.new.self
     in (
       subst Grown (sym grown) (subst Counted (sym counted) ran),
       elim c.if-is_ok.branch [ then-is_ok w ↦ omega (arith, loop.invariant.1, w.accepted-is) | else-is_ok w ↦ omega (arith, loop.invariant.1, w.accepted-is) ],
     )
+
+pub returns-clause-safe : goal.returns-clause-safe
+unfolding seen
+returns-clause-safe c =
+    let Safe : PairView → Type 0 = λ view. AreSafe view.run.ends
+    in subst Safe c.self.view_is (c.order_is_safe.ensures names _ c.self.invariant.linked.ordered)

@@ -4,4 +4,4 @@ use Rattle.simulator_pair.proofs.pair.Pair.run.Given as goal
 
 abbrev pub invariant-loop-event : goal.invariant-loop-event
 invariant-loop-event l =
-    Runs (take l.event-index l.events) l.initial.self.run l.accepted l.self.run × (l.accepted ≤ l.event-index)
+    Runs (take l.event-index l.events) l.initial.self l.accepted l.self × (l.accepted ≤ l.event-index)

@@ -1,0 +1,41 @@
+-- What is true of a pair after every list of events.
+use Rattle.std.specs.Prelude.{◌≡◌, ◌≢◌, ℕ, ◌+◌, ◌<◌, true, [], Option, Some}
+use Rattle.md4.specs.declared.message.TheConstants.{STANDARD}
+use Rattle.rasta_core_ends.specs.Ends.{Sent, Receives, is_taken}
+use Rattle.rasta_core_ends.specs.Run.{Ends, end_of, called}
+use Rattle.rasta_core_link.specs.declared.identity.Role.{Role}
+use Rattle.rasta_core_theorem.specs.Ordered.{Ordered}
+use Rattle.rasta_core_time.specs.Invariant.{Names, Timely}
+use Rattle.rasta_core_time.specs.Sentences.{IsOpening, IsOut, freshness, receipt_at}
+use Rattle.rasta_pdu.specs.Items.{IsItem}
+use Rattle.simulator_pair.specs.Pair.{PairState}
+use Rattle.simulator_pair.specs.Events.{copy_of, connection_of}
+use Rattle.simulator_pair.specs.declared.event.PairEvent.{PairEvent}
+use Rattle.simulator_pair.specs.declared.event.PairEvent.TheVariants as event
+
+-- the network of a pair: its key, and the identities of its ends
+abbrev pub names : Names
+names = record { key = record { 0 = STANDARD }; client = 1; server = 2 }
+
+-- the invariant of the link theorem
+pub record IsLinked (ends : Ends) : Type 0 where
+  pub timely : Timely names ends
+  pub ordered : Ordered names ends
+
+-- an item that is given has 1 to 61 bytes
+abbrev pub GivesItem : PairEvent → Type 0
+GivesItem (event.Give who item) = IsItem item
+GivesItem _ = Unit {0}
+
+-- What an end takes of this copy of a datagram: items only where it was sent less than 1802 ms of true time before;
+-- any PDU only where it was sent in the connection that the end is in then; and outside, a server takes a request
+-- that was sent after its last close or restart.
+pub record IsTakenRightly (who : Role) (ends : Ends) (copy : Sent) : Type 0 where
+  pub fresh : (receipt_at who copy.bytes ends).items ≢ [] → ends.time < copy.at + freshness
+  pub own : is_taken (receipt_at who copy.bytes ends).verdict ≡ true → (end_of who (called who (Receives copy.bytes copy.connection) ends)).connection ≡ Some copy.connection
+  pub opening : IsOut who ends → is_taken (receipt_at who copy.bytes ends).verdict ≡ true → IsOpening names who ends copy
+
+-- what is true of an event by the state in which it happens
+abbrev pub HappensRightly : PairEvent → Ends → Type 0
+HappensRightly (event.Deliver who bytes) ends = (copy : Sent) → copy_of bytes.items ends ≡ Some copy → IsTakenRightly who ends copy
+HappensRightly _ ends = Unit {0}
