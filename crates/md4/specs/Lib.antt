@@ -1,1 +1,2 @@
+pub mod Four
 pub mod Md4

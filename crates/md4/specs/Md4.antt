@@ -86,14 +86,6 @@ with_next i block words =
     with_word (round_of i) (slice_index block (slice_index (round_of i).order (i % 16)))
     (slice_index (round_of i).shifts (i % 4)) words
 
--- the sequence with four words more, from four words of a block, by the round's four shifts in turn
-abbrev pub with_four : Round → List ℕ → List ℕ → List ℕ
-with_four round four words =
-    with_word round (slice_index four 3) (slice_index round.shifts 3)
-    (with_word round (slice_index four 2) (slice_index round.shifts 2)
-    (with_word round (slice_index four 1) (slice_index round.shifts 1)
-    (with_word round (slice_index four 0) (slice_index round.shifts 0) words)))
-
 -- the sequence after n steps: it begins with the registers A, D, C, B
 unfoldable pub sequence : List ℕ → List ℕ → ℕ → List ℕ
 sequence registers block zero =

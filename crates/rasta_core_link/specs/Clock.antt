@@ -29,14 +29,14 @@ open_state phase.Up = state.Up
 open_state phase.RetransmissionRequested = state.RetransmissionRequested
 open_state phase.RetransmissionRunning = state.RetransmissionRunning
 
--- the state of a settled link
-unfoldable pub state_of : LinkState → State
-state_of link =
-    if nat_le expiry link.clock then state.Expired
-    else if is_open link.phase then open_state link.phase
-    else if nat_lt link.clock (quiet_until link) then state.Quiet
+-- the state at a reading of the clock
+unfoldable pub state_at : ℕ → LinkState → State
+state_at now link =
+    if nat_le expiry now then state.Expired
+    else if is_open link.phase && nat_lt now (alive_until link) then open_state link.phase
+    else if nat_lt now (quiet_until link) then state.Quiet
     else state.Down
 
 -- whether the link is up at a reading of its clock
-abbrev pub is_up_at : ℕ → LinkState → Bool
-is_up_at now link = is_up (settled now link).phase
+unfoldable pub is_up_at : ℕ → LinkState → Bool
+is_up_at now link = is_up link.phase && nat_lt now (alive_until link)

@@ -1,10 +1,10 @@
 -- How a connection opens.
 use Rattle.std.specs.Prelude.{ℕ, ◌==◌, ◌&&◌, Bool, true, false, List, [], nat_eq, if◌then◌else◌}
-use Rattle.std.specs.Cmp.{pointwise}
+use Rattle.std.specs.Cmp.Lexicographic.{pointwise}
 use Rattle.rasta_core_link.specs.Parameters.{own_version, no_reserved, window_size}
 use Rattle.rasta_core_link.specs.Sequence.{wire}
 use Rattle.rasta_core_link.specs.State.{LinkState, is_client}
-use Rattle.rasta_core_link.specs.Clock.{state_of}
+use Rattle.rasta_core_link.specs.Clock.{state_at}
 use Rattle.rasta_core_link.specs.Sending.{Step, sending, telling}
 use Rattle.rasta_core_link.specs.declared.phase.Phase.TheVariants as phase
 use Rattle.rasta_core_link.specs.declared.phase.State.{State}
@@ -24,7 +24,7 @@ is_down _ = false
 
 -- a client may open where it is down
 abbrev pub may_open : LinkState → Bool
-may_open link = is_client link.identity.role && is_down (state_of link)
+may_open link = is_client link.identity.role && is_down (state_at link.clock link)
 
 -- a connection begins: its counts start anew, and the own sequence numbers go on
 unfoldable pub beginning : LinkState → LinkState

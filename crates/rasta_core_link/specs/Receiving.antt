@@ -3,7 +3,7 @@ use Rattle.std.specs.Prelude.{ℕ, ◌+◌, ◌-◌, ◌==◌, nat_lt, nat_le, �
 use Rattle.rasta_core_link.specs.Parameters.{sequence_range, stops_at_greatest}
 use Rattle.rasta_core_link.specs.Sequence.{wire, before, distance, stamp}
 use Rattle.rasta_core_link.specs.State.{LinkState, is_client}
-use Rattle.rasta_core_link.specs.Clock.{state_of}
+use Rattle.rasta_core_link.specs.Clock.{state_at}
 use Rattle.rasta_core_link.specs.Sending.{Step, silent, then_do, header_of, pdu_of, sending, telling, closed}
 use Rattle.rasta_core_link.specs.Opening.{granting, joining}
 use Rattle.rasta_core_link.specs.declared.phase.Phase.{Phase}
@@ -198,4 +198,4 @@ unfoldable pub hearing : Pdu → LinkState → Receipt
 hearing pdu link =
     if not (pdu.receiver == link.identity.own) then refusing verdict.NotForMe link
     else if not (pdu.sender == link.identity.partner) then refusing verdict.WrongSender link
-    else by_state (state_of link) pdu link
+    else by_state (state_at link.clock link) pdu link

@@ -1,5 +1,5 @@
 -- What an end of a link keeps.
-use Rattle.std.specs.Prelude.{ℕ, ◌-◌, ◌==◌, Bool, true, false, List, length}
+use Rattle.std.specs.Prelude.{◌≡◌, ℕ, ◌-◌, ◌^◌, ◌<◌, ◌≤◌, Bool, true, false, List, length, IsTrue}
 use Rattle.rasta_core_link.specs.declared.identity.Identity.{Identity}
 use Rattle.rasta_core_link.specs.declared.identity.Role.{Role}
 use Rattle.rasta_core_link.specs.declared.identity.Role.TheVariants as role
@@ -71,3 +71,10 @@ is_asking link = asks link.phase where
 -- how many items the partner is known to have taken
 abbrev pub confirmed_items : LinkState → ℕ
 confirmed_items link = link.given - length link.waiting
+
+-- what is true of every link, so that its counts fit: an end in a connection has sent little more than the limit
+pub record IsLink (phase : Phase) (sent capacity waiting : ℕ) : Type 0 where
+  pub in_connection : IsTrue (is_open phase) → sent ≤ 2147483022
+  pub sent_fits : sent < 2 ^ 31
+  pub room : capacity ≡ 20
+  pub few : waiting ≤ 20

@@ -9,6 +9,17 @@ pub enum Role {
     Server,
 }
 
+impl Role {
+    ghost use Rattle.std.specs.Prelude.{◌≡◌};
+    ghost use Rattle.rasta_core_link.specs.State.{is_client};
+
+    pub(crate) fn is_client(self) -> bool
+        ensures { result ≡ is_client self }
+    {
+        matches!(self, Role::Client)
+    }
+}
+
 /// What an end is made with and keeps for good.
 #[derive(Clone, Copy, Debug)]
 pub struct Identity {

@@ -51,8 +51,8 @@ pub struct Link {
 }
 
 impl Model for Link {
-    ghost use Rattle.std.specs.Prelude.{◌≡◌, ◌≤◌, length};
-    ghost use Rattle.rasta_core_link.specs.State.{LinkState};
+    ghost use Rattle.std.specs.Prelude.{length};
+    ghost use Rattle.rasta_core_link.specs.State.{LinkState, IsLink};
 
     ghost Value = { LinkState };
 
@@ -77,7 +77,7 @@ impl Model for Link {
         }
     };
 
-    ghost invariant = { λ l. (l.waiting.capacity ≡ 20) × (length l.waiting.items ≤ 20) };
+    ghost invariant = { λ l. IsLink l.phase l.sent l.waiting.capacity (length l.waiting.items) };
 }
 
 impl Link {

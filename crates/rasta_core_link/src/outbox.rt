@@ -1,6 +1,7 @@
 //! The datagrams that steps hand out.
 
 ghost use Rattle.std.specs.Prelude.{◌≡◌, ◌+◌, ◌*◌, ◌≤◌, ◌↔◌, [], ◌∷◌, length, drop, IsTrue, IfOk, slice_get};
+ghost use Rattle.std.specs.Option.{option_map};
 
 use circular_buffer::HeapCircularBuffer;
 use rasta_pdu::{Datagram, Key, Pdu};
@@ -70,6 +71,7 @@ impl Outbox {
     }
 
     /// Puts the bytes of a PDU at the end.
+    #[tactic(auto, unfolding(crate::specs::Outbox::posted))]
     pub(crate) fn post(&mut self, key: &Key, pdu: Pdu)
         requires { HasRoomFor 1 self.old }
         ensures { self.new ≡ posted key.now (pdu ∷ []) self.old }

@@ -15,7 +15,9 @@ pub(crate) enum Phase {
 }
 
 impl Phase {
+    ghost use Rattle.std.specs.Prelude.{◌≡◌};
     ghost use Rattle.rasta_core_link.specs.State.{is_open, is_up};
+    ghost use Rattle.rasta_core_link.specs.Clock.{open_state};
 
     pub(crate) fn is_open(self) -> bool
         ensures { result ≡ is_open self }
@@ -27,6 +29,19 @@ impl Phase {
         ensures { result ≡ is_up self }
     {
         !matches!(self, Phase::Closed | Phase::Start)
+    }
+
+    /// The state of an open link; a closed one is down where it isn't quiet.
+    pub(crate) fn state(self) -> State
+        ensures { result ≡ open_state self }
+    {
+        match self {
+            Phase::Closed => State::Down,
+            Phase::Start => State::Start,
+            Phase::Up => State::Up,
+            Phase::RetransmissionRequested => State::RetransmissionRequested,
+            Phase::RetransmissionRunning => State::RetransmissionRunning,
+        }
     }
 }
 

@@ -18,6 +18,7 @@ pub(crate) struct Unconfirmed {
 }
 
 /// Lets the items go that are confirmed: those with a tag up to this count.
+#[tactic(auto, using(crate::proofs::Waiting::dropping))]
 pub(crate) fn drop_confirmed(waiting: &mut HeapCircularBuffer<Unconfirmed>, confirmed: u32)
     ensures { waiting.new ≡ buffer (still_waiting confirmed waiting.old.items) waiting.old.capacity }
 {
@@ -37,6 +38,7 @@ pub(crate) fn repeat(
     count: u32,
     outbox: &mut Outbox,
 )
+    requires fits { length waiting.old.items ≤ waiting.old.capacity }
     requires counts_fit { count + length waiting.old.items < 2 ^ 32 }
     requires room { HasRoomFor (length waiting.old.items) outbox.old }
     ensures retagged { waiting.new ≡ buffer (retagged count waiting.old.items) waiting.old.capacity }
@@ -45,7 +47,7 @@ pub(crate) fn repeat(
     for index in 0..waiting.len() {
         if let Some(first) = waiting.pop_front() {
             let tag = count + index as u32;
-            outbox.post(key, header.pdu(tag, Body::RetransmittedData(Items::single(first.item.copy()))));
+            outbox.post(key, header.pdu(tag, Body::RetransmittedData(Items::one(first.item.copy()))));
             let _ = waiting.try_push_back(Unconfirmed { tag, item: first.item });
         }
     }

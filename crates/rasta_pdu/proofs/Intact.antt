@@ -1,5 +1,5 @@
 -- Which bytes are intact, as a fact, as a test, and as the first steps of reading.
-use Rattle.std.proofs.Common.{◌≡◌, ℕ, ◌-◌, ◌≤◌, Bool, true, false, not, cond, ltb, eqb, ◌&&◌, List, length, take, drop, Result, Ok, Err, refl, sym, ap, ◌∙◌, arith}
+use Rattle.std.proofs.Common.{◌≡◌, ℕ, Bool, true, false, not, cond, ltb, eqb, ◌&&◌, List, length, Result, Ok, Err, refl, sym, ◌∙◌}
 use Rattle.std.specs.Prelude.{is_ok, ◌↔◌, IsTrue}
 use Rattle.std.specs.Str.{bytes_eq}
 use Rattle.std.proofs.lemmas.Bool.{eq-eqb, eqb-true, le-ltb, ltb-false, and_parts, not-true}

@@ -1,5 +1,5 @@
 -- An item that is read is the item that was written, and what was written is read again.
-use Rattle.std.proofs.Common.{◌≡◌, ℕ, suc, zero, ◌-◌, ◌+◌, ◌^◌, ◌≤◌, ◌<◌, Bool, true, false, cond, ltb, eqb, List, [], ◌∷◌, ◌++◌, length, take, drop, All, Result, Ok, Err, refl, sym, ap, subst, ◌∙◌, append_assoc, arith}
+use Rattle.std.proofs.Common.{◌≡◌, ℕ, ◌-◌, ◌+◌, ◌≤◌, Bool, true, false, cond, ltb, eqb, List, ◌++◌, length, take, drop, Result, Ok, Err, refl, sym, ap, ◌∙◌, append_assoc, arith}
 use Rattle.std.specs.Int.{w16, from_le_bytes, to_le_bytes}
 use Rattle.std.proofs.lemmas.Bool.{ltb-false, eqb-false, le-ltb, ne_eqb}
 use Rattle.std.proofs.lemmas.List.{take_at, drop_at, take-append-drop, length-take, length-drop, length-append}
@@ -9,8 +9,9 @@ use Rattle.rasta_pdu.specs.declared.fault.PduFault.TheVariants as faults
 use Rattle.rasta_pdu.specs.Items.{IsItem}
 use Rattle.rasta_pdu.specs.Spelling.{item_bytes}
 use Rattle.rasta_pdu.specs.Reading.{item_of}
-use Rattle.rasta_pdu.proofs.Steps.{guard_ok, ok_is}
-use Rattle.rasta_pdu.proofs.Bytes.{IsBytes, IsBytes-drop, front_16}
+use Rattle.rasta_pdu.proofs.Steps.{guard_ok, guard_err, ok_is, err_is}
+use Rattle.rasta_pdu.specs.Values.{IsBytes}
+use Rattle.rasta_pdu.proofs.Bytes.{IsBytes-drop, front_16}
 
 -- what an item that was read says of the bytes
 record Read (bytes item rest : List ℕ) : Type 0 where
@@ -69,3 +70,16 @@ item_again item rest is =
     let n : from_le_bytes w16 (item_bytes item ++ rest) ≡ length item = from_le_bytes-to_le_bytes_2 (length item) (omega (arith, is.most)) in
     let len : length (item_bytes item ++ rest) ≡ 2 + length item + length rest = omega (arith, length-append item rest) in
     rw (n, len) (rw (le-ltb (2 + length item + length rest) 2 (omega arith), ne_eqb (length item) 0 (λ h. omega (arith, is.some)), le-ltb 61 (length item) is.most, le-ltb (2 + length item + length rest - 2) (length item) (omega arith), take_at item rest (length item) refl, drop_at item rest (length item) refl) refl)
+
+four_faults : {A : Type 0} (a b c d : Bool) (x : A) (own fault : PduFault) → cond a (Err own) (cond b (Err own) (cond c (Err own) (cond d (Err own) (Ok x)))) ≡ Err fault → fault ≡ own
+four_faults {A} true b c d x own fault e = sym (err_is {A = A} own fault e)
+four_faults {A} false true c d x own fault e = sym (err_is {A = A} own fault e)
+four_faults {A} false false true d x own fault e = sym (err_is {A = A} own fault e)
+four_faults false false false d x own fault e = guard_err d own fault x e
+
+-- an item has one fault
+pub item_fault : (bytes : List ℕ) (fault : PduFault) → item_of bytes ≡ Err fault → fault ≡ faults.Items
+unfolding item_of
+item_fault bytes fault e =
+    let n = from_le_bytes w16 bytes in
+    four_faults (ltb (length bytes) 2) (eqb n 0) (ltb 61 n) (ltb (length bytes - 2) n) (take n (drop 2 bytes), drop n (drop 2 bytes)) faults.Items fault e

@@ -2,4 +2,10 @@ pub mod Steps
 pub mod Bytes
 pub mod ItemLaws
 pub mod ItemLoop
+pub mod ItemsLaws
+pub mod BodyLaws
+pub mod TypeLaws
+pub mod PduLaws
+pub mod CodecLaws
+pub mod FaultLaws
 pub mod Intact

@@ -1,5 +1,5 @@
 -- What each fault says of the bytes: its own test is the first that fails.
-use Rattle.std.specs.Prelude.{◌≡◌, ◌≢◌, ℕ, ◌<◌, ◌≤◌, ◌⊎◌, List, length, drop}
+use Rattle.std.specs.Prelude.{◌≡◌, ◌≢◌, ℕ, ◌<◌, ◌≤◌, List, length, drop}
 use Rattle.std.specs.List.{flat_map}
 use Rattle.rasta_pdu.specs.declared.fault.PduFault.{PduFault}
 use Rattle.rasta_pdu.specs.declared.fault.PduFault.TheVariants as faults
@@ -25,7 +25,7 @@ pub data HasItems : ℕ → Type 0 where
 
 -- the type, and the payload, of intact bytes
 abbrev pub type_field : List ℕ → ℕ
-type_field bytes = u16_at 2 bytes
+type_field bytes = u16_at 2 (before_code bytes)
 
 abbrev pub payload_field : List ℕ → List ℕ
 payload_field bytes = drop 28 (before_code bytes)

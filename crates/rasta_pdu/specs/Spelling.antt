@@ -1,6 +1,6 @@
 -- The one spelling of each PDU in bytes (DIN VDE V 0831-200 for the order of the fields). Every number is
 -- written low-order byte first.
-use Rattle.std.specs.Prelude.{ℕ, ◌+◌, List, [], ◌++◌, length}
+use Rattle.std.specs.Prelude.{◌≡◌, ℕ, ◌+◌, List, [], ◌++◌, length}
 use Rattle.std.specs.List.{flat_map}
 use Rattle.std.specs.Int.{w16, w32, to_le_bytes}
 use Rattle.rasta_pdu.specs.declared.body.Opening.{Opening}
@@ -8,6 +8,7 @@ use Rattle.rasta_pdu.specs.declared.body.Body.{Body}
 use Rattle.rasta_pdu.specs.declared.body.Body.TheVariants.{ConnectionRequest, ConnectionResponse, RetransmissionRequest, RetransmissionResponse, DisconnectionRequest, Heartbeat, Data, RetransmittedData}
 use Rattle.rasta_pdu.specs.declared.key.Key.{Key}
 use Rattle.rasta_pdu.specs.declared.pdu.Pdu.{Pdu}
+use Rattle.rasta_pdu.specs.Values.{IsPdu}
 use Rattle.rasta_pdu.specs.SafetyCode.{code}
 
 -- the type number
@@ -59,3 +60,7 @@ text pdu = fields pdu (length (payload pdu.body)) ++ payload pdu.body
 -- a PDU with its safety code under a key
 unfoldable pub writing : Key → Pdu → List ℕ
 writing key pdu = text pdu ++ code key (text pdu)
+
+-- these bytes are this value without its safety code
+abbrev pub Spells : Pdu → List ℕ → Type 0
+Spells pdu bytes = IsPdu pdu × (bytes ≡ text pdu)

@@ -1,6 +1,6 @@
 //! The items of a data PDU.
 
-ghost use Rattle.std.specs.Prelude.{◌≡◌, ◌↔◌, ◌≤◌, length, All, IsSome, IfSome};
+ghost use Rattle.std.specs.Prelude.{◌≡◌, ◌↔◌, [], ◌∷◌, ◌≤◌, length, All, IsSome, IfSome};
 ghost use Rattle.rasta_pdu.specs.Items.{AreItems, IsItem};
 
 use crate::item::Item;
@@ -40,6 +40,16 @@ impl Items {
             held.try_push(item.copy()).ok()?;
         }
         Items::held(held)
+    }
+
+    /// One item alone.
+    pub fn one(item: Item) -> Items
+        ensures { result ≡ item ∷ [] }
+    {
+        let _ = item.bytes();
+        let mut items = ArrayVec::new();
+        items.push(item);
+        Items { items }
     }
 
     /// The items of a list, if it has any.

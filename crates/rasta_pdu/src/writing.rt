@@ -102,20 +102,43 @@ fn fields_of(pdu: &Pdu, payload_length: u16) -> [u8; FIELDS_LENGTH]
     ensures value { result ≡ fields pdu.now payload_length }
     ensures fits { IsBody pdu.now.body → IsPdu pdu.now }
 {
+    let Pdu {
+        receiver,
+        sender,
+        sequence_number,
+        confirmed_sequence_number,
+        time_stamp,
+        confirmed_time_stamp,
+        body,
+    } = pdu;
     let mut fields = [0; FIELDS_LENGTH];
     LittleEndian::write_u16(&mut fields[0..2], payload_length + 36);
-    LittleEndian::write_u16(&mut fields[2..4], number_of(&pdu.body));
-    LittleEndian::write_u32(&mut fields[4..8], pdu.receiver);
-    LittleEndian::write_u32(&mut fields[8..12], pdu.sender);
-    LittleEndian::write_u32(&mut fields[12..16], pdu.sequence_number);
-    LittleEndian::write_u32(&mut fields[16..20], pdu.confirmed_sequence_number);
-    LittleEndian::write_u32(&mut fields[20..24], pdu.time_stamp);
-    LittleEndian::write_u32(&mut fields[24..28], pdu.confirmed_time_stamp);
+    LittleEndian::write_u16(&mut fields[2..4], number_of(body));
+    LittleEndian::write_u32(&mut fields[4..8], *receiver);
+    LittleEndian::write_u32(&mut fields[8..12], *sender);
+    LittleEndian::write_u32(&mut fields[12..16], *sequence_number);
+    LittleEndian::write_u32(&mut fields[16..20], *confirmed_sequence_number);
+    LittleEndian::write_u32(&mut fields[20..24], *time_stamp);
+    LittleEndian::write_u32(&mut fields[24..28], *confirmed_time_stamp);
     fields
 }
 
-/// The one spelling of a PDU under a key.
+/// The fields, the payload and the code of both.
 #[tactic(auto, unfolding(crate::specs::Spelling::writing, crate::specs::Spelling::text))]
+fn spelled(key: &Key, pdu: &Pdu) -> Datagram
+    ensures value { result.items ≡ writing key.now pdu.now }
+    ensures fits { IsPdu pdu.now }
+{
+    let payload = payload_of(&pdu.body);
+    let mut datagram = Datagram::new();
+    put(&mut datagram, &fields_of(pdu, payload.len() as u16));
+    put(&mut datagram, &payload);
+    let code = code_of(key, &datagram);
+    put(&mut datagram, &code);
+    datagram
+}
+
+/// The one spelling of a PDU under a key.
 pub fn write(key: &Key, pdu: &Pdu) -> Datagram
     ensures value { result.items ≡ writing key.now pdu.now }
     ensures fits { IsPdu pdu.now }
@@ -126,11 +149,5 @@ pub fn write(key: &Key, pdu: &Pdu) -> Datagram
     ensures intact { IsIntact key.now result.items }
     ensures read_again { reading key.now result.items ≡ Ok pdu.now }
 {
-    let payload = payload_of(&pdu.body);
-    let mut datagram = Datagram::new();
-    put(&mut datagram, &fields_of(pdu, payload.len() as u16));
-    put(&mut datagram, &payload);
-    let code = code_of(key, &datagram);
-    put(&mut datagram, &code);
-    datagram
+    spelled(key, pdu)
 }

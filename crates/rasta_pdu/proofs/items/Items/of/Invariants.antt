@@ -1,4 +1,4 @@
-use Rattle.std.proofs.Common.{◌≡◌, length, take, All}
+use Rattle.std.proofs.Common.{◌≡◌, take, All}
 use Rattle.rasta_pdu.specs.Items.{IsItem}
 use Rattle.rasta_pdu.proofs.items.Items.of.Given as goal
 

@@ -1,0 +1,3 @@
+pub mod Ends
+pub mod Bag
+pub mod Run

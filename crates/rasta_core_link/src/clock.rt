@@ -1,0 +1,68 @@
+//! The rules by the clock.
+
+ghost use Rattle.std.specs.Prelude.{◌≡◌};
+
+use crate::link::{Link, Millis};
+use crate::parameters::{EXPIRY, QUIET_TIME, TIME_LIMIT};
+use crate::phase::{Phase, State};
+
+impl Link {
+    ghost use Rattle.rasta_core_link.specs.Clock.{alive_until, quiet_until, settled, state_at, is_up_at};
+
+    /// The moment at which this link closes by time, or at which it closed, or was created.
+    #[tactic(auto, unfolding(crate::specs::Clock::alive_until))]
+    pub fn alive_until(&self) -> Millis
+        ensures { result ≡ alive_until self.now }
+    {
+        if self.phase.is_open() {
+            self.own_stamp.saturating_add(TIME_LIMIT).min(EXPIRY)
+        } else {
+            self.closed_at
+        }
+    }
+
+    /// The moment from which it may open again, once it has closed: 6000 ms later.
+    #[tactic(auto, unfolding(crate::specs::Clock::quiet_until))]
+    pub fn quiet_until(&self) -> Millis
+        ensures { result ≡ quiet_until self.now }
+    {
+        self.alive_until().saturating_add(QUIET_TIME)
+    }
+
+    /// The state at a clock reading not before that of the last call. Nothing changes.
+    #[tactic(auto, unfolding(crate::specs::Clock::state_at))]
+    pub fn state(&self, now: Millis) -> State
+        ensures { result ≡ state_at now self.now }
+    {
+        if now >= EXPIRY {
+            State::Expired
+        } else if self.phase.is_open() && now < self.alive_until() {
+            self.phase.state()
+        } else if now < self.quiet_until() {
+            State::Quiet
+        } else {
+            State::Down
+        }
+    }
+
+    /// Whether it is up at a clock reading: both ends have entered its connection. Nothing changes.
+    #[tactic(auto, unfolding(crate::specs::Clock::is_up_at))]
+    pub fn is_up(&self, now: Millis) -> bool
+        ensures { result ≡ is_up_at now self.now }
+    {
+        self.phase.is_up() && now < self.alive_until()
+    }
+
+    /// A link whose time has come has closed at that moment, however late the reading.
+    #[tactic(auto, unfolding(crate::specs::Clock::settled))]
+    pub(crate) fn settle(&mut self, now: Millis)
+        ensures { self.new ≡ settled now self.old }
+    {
+        let end = self.alive_until();
+        if self.phase.is_open() && end <= now {
+            self.phase = Phase::Closed;
+            self.closed_at = end;
+        }
+        self.clock = now;
+    }
+}

@@ -1,0 +1,125 @@
+//! Bytes to telegrams.
+
+ghost use Rattle.std.specs.Prelude.{◌≡◌, ◌+◌, ◌≤◌, length, take, drop};
+ghost use Rattle.sci_telegram.specs.Reading.{aspect_in, message_in, name_spelled, payload_length, reading};
+
+use crate::codes::{agreement_at, aspect_at, occupancy_at, position_at, protocol_at, side_at};
+use crate::fault::SciFault;
+use crate::kind::{Kind, kind_at, payload_length};
+use crate::message::{
+    Aspect, DetectionMessage, Initialisation, Message, PointMessage, Protocol, SignalMessage,
+};
+use crate::name::{FIELD_LENGTH, Name};
+use crate::telegram::Telegram;
+
+/// How many bytes stand before the payload: protocol, type and two names.
+pub(crate) const HEADER_LENGTH: usize = 43;
+
+/// Where the names stand.
+const SENDER: usize = 3;
+
+const RECEIVER: usize = 23;
+
+/// What stands behind an aspect.
+pub(crate) const FILLER: [u8; 17] = [0xFF; 17];
+
+/// The name whose field stands at a place.
+fn name_at(place: usize, bytes: &[u8]) -> Option<Name>
+    requires { place + 20 ≤ length bytes.now }
+    ensures { result ≡ name_spelled (take 20 (drop place bytes.now)) }
+{
+    let (_, rest) = bytes.split_at(place);
+    let (field, _) = rest.split_at(FIELD_LENGTH);
+    Name::spelled(field)
+}
+
+/// An aspect and what stands behind it.
+#[tactic(auto, unfolding(crate::specs::Reading::aspect_in))]
+fn aspect_in(payload: &[u8]) -> Option<Aspect>
+    requires { length payload.now ≡ 18 }
+    ensures { result ≡ aspect_in payload.now }
+{
+    let (front, filler) = payload.split_at(1);
+    if filler != FILLER.as_slice() {
+        return None;
+    }
+    aspect_at(front[0])
+}
+
+/// What the telegram of a row carries.
+#[tactic(auto, unfolding(crate::specs::Reading::message_in))]
+fn message_in(protocol: Protocol, kind: Kind, payload: &[u8]) -> Option<Message>
+    requires { length payload.now ≡ payload_length kind }
+    ensures { result ≡ message_in protocol kind payload.now }
+{
+    match kind {
+        Kind::InitialisationRequest => Some(Message::Initialisation(
+            protocol,
+            Initialisation::InitialisationRequest,
+        )),
+        Kind::StartInitialisation => Some(Message::Initialisation(
+            protocol,
+            Initialisation::StartInitialisation,
+        )),
+        Kind::InitialisationCompleted => Some(Message::Initialisation(
+            protocol,
+            Initialisation::InitialisationCompleted,
+        )),
+        Kind::VersionCheck => Some(Message::Initialisation(
+            protocol,
+            Initialisation::VersionCheck {
+                version: payload[0],
+            },
+        )),
+        Kind::VersionAnswer => {
+            let agreement = agreement_at(payload[0])?;
+            Some(Message::Initialisation(
+                protocol,
+                Initialisation::VersionAnswer {
+                    agreement,
+                    version: payload[1],
+                },
+            ))
+        }
+        Kind::MovePoint => Some(Message::Point(PointMessage::MovePoint(side_at(payload[0])?))),
+        Kind::PointPosition => Some(Message::Point(PointMessage::PointPosition(position_at(
+            payload[0],
+        )?))),
+        Kind::Timeout => Some(Message::Point(PointMessage::Timeout)),
+        Kind::IndicateAspect => Some(Message::Signal(SignalMessage::IndicateAspect(aspect_in(
+            payload,
+        )?))),
+        Kind::IndicatedAspect => Some(Message::Signal(SignalMessage::IndicatedAspect(aspect_in(
+            payload,
+        )?))),
+        Kind::OccupancyStatus => Some(Message::Detection(DetectionMessage::OccupancyStatus(
+            occupancy_at(payload[0])?,
+        ))),
+    }
+}
+
+/// The telegram that bytes spell, or what is wrong with them.
+#[tactic(auto, unfolding(crate::specs::Reading::reading, crate::specs::Reading::telegram_in))]
+pub fn read(bytes: &[u8]) -> Result<Telegram, SciFault>
+    // What it answers is a function of the bytes.
+    ensures value { result ≡ reading bytes.now }
+{
+    if bytes.len() < HEADER_LENGTH {
+        return Err(SciFault::Short);
+    }
+    let (_, payload) = bytes.split_at(HEADER_LENGTH);
+    let protocol = protocol_at(bytes[0]).ok_or(SciFault::Protocol)?;
+    let number = u16::from_le_bytes([bytes[1], bytes[2]]);
+    let kind = kind_at(protocol, number).ok_or(SciFault::BadType)?;
+    if payload.len() != payload_length(kind) {
+        return Err(SciFault::Length);
+    }
+    let sender = name_at(SENDER, bytes).ok_or(SciFault::Name)?;
+    let receiver = name_at(RECEIVER, bytes).ok_or(SciFault::Name)?;
+    let message = message_in(protocol, kind, payload).ok_or(SciFault::Value)?;
+    Ok(Telegram {
+        sender,
+        receiver,
+        message,
+    })
+}

@@ -1,0 +1,19 @@
+-- A signal as its contracts see it. The rules are this project's own.
+use Rattle.std.specs.Prelude.{ℕ, nat_lt, if◌then◌else◌}
+use Rattle.signal_ctl.specs.declared.lamp.Aspect.{Aspect}
+use Rattle.signal_ctl.specs.declared.lamp.Aspect.TheVariants.{Stop, Proceed}
+
+-- what a signal was told: the last aspect since the last loss of its link, which is stop where there
+-- is none, and the moment of its own clock, in ms, from which it shows nothing but stop
+pub record Lamp : Type 0 where
+  pub indicated : Aspect
+  pub until : ℕ
+
+-- an aspect as it is shown at a clock reading: any aspect but stop is shown before the moment alone
+abbrev pub standing : Aspect → ℕ → ℕ → Aspect
+standing Stop until now = Stop
+standing Proceed until now = if nat_lt now until then Proceed else Stop
+
+-- what a signal shows at a clock reading: a function of the clock, not of the steps made until then
+abbrev pub aspect_shown : Lamp → ℕ → Aspect
+aspect_shown lamp now = standing lamp.indicated lamp.until now

@@ -1,0 +1,57 @@
+-- A pair: two ends of a link, the network between them, and the lamp that the server keeps.
+use Rattle.std.specs.Prelude.{ℕ, List, [], ◌∷◌, if◌then◌else◌}
+use Rattle.std.specs.Str.{bytes_eq}
+use Rattle.rasta_core_link.specs.State.{LinkState, is_open}
+use Rattle.rasta_core_link.specs.Clock.{alive_until}
+use Rattle.rasta_core_link.specs.declared.identity.Role.{Role}
+use Rattle.rasta_core_link.specs.declared.identity.Role.TheVariants as role
+use Rattle.rasta_core_ends.specs.Ends.{EndState, Call, outcome, reading_of}
+use Rattle.rasta_core_ends.specs.Run.{Ends, end_of, called}
+use Rattle.signal_ctl.specs.Lamp.{Lamp, aspect_shown}
+use Rattle.signal_ctl.specs.declared.lamp.Aspect.{Aspect}
+use Rattle.signal_ctl.specs.declared.lamp.Aspect.TheVariants.{Stop, Proceed}
+
+pub record PairState : Type 0 where
+  pub ends : Ends
+  pub lamp : Lamp
+
+-- an item of the one byte 04 indicates proceed, of the one byte 01 stop; others leave the lamp as it is
+abbrev pub indicated_by : List ℕ → Aspect → Aspect
+indicated_by item last =
+    if bytes_eq item (4 ∷ []) then Proceed else
+    if bytes_eq item (1 ∷ []) then Stop else
+    last
+
+unfoldable pub indicated_after : List (List ℕ) → Aspect → Aspect
+indicated_after [] last = last
+indicated_after (item ∷ later) last = indicated_after later (indicated_by item last)
+
+-- what was indicated before, unless the link is closed
+abbrev pub unless_closed : LinkState → Aspect → Aspect
+unless_closed link last = if is_open link.phase then last else Stop
+
+-- the lamp after a step of the server: it is told of a loss before anything else, then the items taken, then of
+-- a loss in the step itself; and it is kept until the link's time ends
+unfoldable pub lamp_after : LinkState → List (List ℕ) → LinkState → Lamp → Lamp
+lamp_after old items new lamp = record {
+  indicated = unless_closed new (indicated_after items (unless_closed old lamp.indicated));
+  until = alive_until new
+}
+
+abbrev pub lamp_of : Role → LinkState → List (List ℕ) → LinkState → Lamp → Lamp
+lamp_of role.Client old items new lamp = lamp
+lamp_of role.Server old items new lamp = lamp_after old items new lamp
+
+-- a call at one end
+unfoldable pub stepped : Role → Call → PairState → PairState
+stepped who call pair =
+    let old = end_of who pair.ends
+    in let made = outcome call pair.ends.moment old
+    in record { ends = called who call pair.ends; lamp = lamp_of who old.link made.taken made.link pair.lamp }
+
+-- what the lamp shows at the server's clock
+abbrev pub shown : PairState → Aspect
+shown pair = aspect_shown pair.lamp (reading_of pair.ends.server.clock)
+
+abbrev pub new_lamp : Lamp
+new_lamp = record { indicated = Stop; until = 0 }

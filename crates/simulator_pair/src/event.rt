@@ -1,0 +1,73 @@
+//! What happens to a pair, and what it answers.
+
+use arrayvec::ArrayVec;
+use rasta_core_link::{Millis, Reason, Role, SendFault};
+use rasta_pdu::Item;
+use thiserror::Error;
+
+/// Bytes as the network may deliver them: at most 512.
+pub type Bytes = ArrayVec<u8, 512>;
+
+/// What happens to a pair of ends and the network between them.
+#[derive(Debug, Drop)]
+pub enum PairEvent {
+    /// An item is given to an end to send.
+    Give(Role, Item),
+    /// An end is called by its timer: it sends a heartbeat that is due, and a client that is down opens.
+    Tick(Role),
+    /// Time goes on: true time and the clock of each end, in microseconds.
+    Time {
+        elapsed: u64,
+        of_client: u64,
+        of_server: u64,
+    },
+    /// The network delivers bytes to an end: a copy of a datagram that was sent, or damaged ones.
+    Deliver(Role, Bytes),
+    /// The network loses the oldest copy of a datagram.
+    Lose(Bytes),
+    /// The user of an end closes its link.
+    Close(Role, Reason),
+    /// An end is made anew, with a clock in milliseconds and the number of its first PDU.
+    Restart {
+        end: Role,
+        clock: Millis,
+        first_sequence_number: u32,
+    },
+}
+
+/// What a pair answers to an event that it applied.
+#[derive(Clone, Copy, Debug)]
+pub enum PairReply {
+    Done,
+    /// The answer of `Link::send` to an item.
+    Given(Result<(), SendFault>),
+}
+
+/// Why an event can't happen. Nothing has changed then.
+#[derive(Clone, Copy, Debug, PartialEq, Eq, Error)]
+pub enum Refused {
+    /// Intact bytes of which there is no copy that can still be delivered, or none to be lost.
+    #[error("no such datagram was sent")]
+    NeverSent = 2,
+    /// A clock would leave true time by more than 1 in 1000.
+    #[error("a clock drifts too far")]
+    Drift = 3,
+    /// True time or a clock would pass 9000000000000000 microseconds.
+    #[error("the clock is at its limit")]
+    ClockLimit = 5,
+    /// A growth was refused.
+    #[error("out of memory")]
+    OutOfMemory = 6,
+}
+
+impl Refused {
+    ghost use Rattle.std.specs.Prelude.{◌≡◌};
+    ghost use Rattle.simulator_pair.specs.Events.{refusal_number};
+
+    /// Its number in answers: 2, 3, 5 or 6.
+    pub fn number(self) -> u8
+        ensures { result ≡ refusal_number self }
+    {
+        self as u8
+    }
+}

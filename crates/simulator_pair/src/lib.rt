@@ -1,0 +1,15 @@
+//! A simulator of one link: two ends, the network between them, their clocks, and a lamp that the server keeps.
+#![tactic(auto)]
+
+mod bag;
+mod event;
+mod lamp;
+mod node;
+mod pair;
+
+pub use event::{Bytes, PairEvent, PairReply, Refused};
+pub use pair::Pair;
+pub use rasta_core_ends::Sent;
+pub use rasta_core_link::{Reason, Role, SendFault};
+pub use rasta_pdu::Item;
+pub use signal_ctl::Aspect;
