@@ -1,0 +1,18 @@
+-- The verdict on lines, one after the other.
+use Rattle.std.proofs.Common.{◌≡◌, ℕ, List, ◌∷◌, Result, Ok, Err, true, false, refl, ap, sym, ◌∙◌}
+use Rattle.event_words.specs.declared.fault.Fault.{Fault}
+use Rattle.event_words.specs.Cut.{is_passed_over}
+use Rattle.simulator_pair_text.specs.declared.line.PairLine.{PairLine}
+use Rattle.simulator_pair_text.specs.declared.text.LineFault.{LineFault}
+use Rattle.simulator_pair_text.specs.Line.{line}
+use Rattle.simulator_pair_text.specs.Text.{said, at_line}
+
+-- nothing, or the fault
+abbrev pub verdict : Result (List PairLine) LineFault → Result (Unit {0}) LineFault
+verdict (Ok all) = Ok tt
+verdict (Err fault) = Err fault
+
+-- a line without a fault leaves the verdict to the lines behind it
+pub verdict-at_line : (number : ℕ) (this : PairLine) (more : Result (List PairLine) LineFault) → verdict (at_line number (Ok this) more) ≡ verdict more
+verdict-at_line number this (Ok all) = refl
+verdict-at_line number this (Err fault) = refl
