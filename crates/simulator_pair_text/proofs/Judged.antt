@@ -1,11 +1,8 @@
 -- The verdict on lines, one after the other.
-use Rattle.std.proofs.Common.{◌≡◌, ℕ, List, ◌∷◌, Result, Ok, Err, true, false, refl, ap, sym, ◌∙◌}
-use Rattle.event_words.specs.declared.fault.Fault.{Fault}
-use Rattle.event_words.specs.Cut.{is_passed_over}
+use Rattle.std.proofs.Common.{◌≡◌, ℕ, List, Result, Ok, Err, refl}
 use Rattle.simulator_pair_text.specs.declared.line.PairLine.{PairLine}
 use Rattle.simulator_pair_text.specs.declared.text.LineFault.{LineFault}
-use Rattle.simulator_pair_text.specs.Line.{line}
-use Rattle.simulator_pair_text.specs.Text.{said, at_line}
+use Rattle.simulator_pair_text.specs.Text.{at_line}
 
 -- nothing, or the fault
 abbrev pub verdict : Result (List PairLine) LineFault → Result (Unit {0}) LineFault

@@ -1,13 +1,10 @@
 -- The words `END=E` one after the other.
-use Rattle.std.proofs.Common.{◌≡◌, ℕ, ◌+◌, ◌<◌, ◌≤◌, nat_le, Bool, true, false, if◌then◌else◌, List, [], ◌∷◌, ◌++◌, Option, Some, None, Result, Ok, Err, Bor, refl, ap, sym, ◌∙◌, arith}
-use Rattle.std.specs.List.{filter_map}
-use Rattle.std.specs.Option.{option_to_list}
+use Rattle.std.proofs.Common.{◌≡◌, ℕ, List, Result, Ok, Err, Bor, refl, ap, sym, ◌∙◌, arith}
 use Rattle.std.proofs.lemmas.Bool.Decides.{nat_tests}
 use Rattle.std.specs.Result.{MatchResult}
 use Rattle.rasta_core_link.specs.declared.identity.Role.{Role}
 use Rattle.event_words.specs.declared.fault.Fault.{Fault}
-use Rattle.event_words.specs.Fault.{both, lower, number_of, ◌>>=◌}
-use Rattle.simulator_pair_text.specs.Line.{named, names, numbers_for, number_for, sole}
+use Rattle.event_words.specs.Fault.{both, lower, ◌>>=◌}
 
 -- nothing, or the fault
 abbrev pub emptied : {A : Type 0} → Result A Fault → Result (Unit {0}) Fault

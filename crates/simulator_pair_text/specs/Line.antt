@@ -10,7 +10,7 @@
 --     restart END CLOCK SN          each at most 4294967295
 --     flow MS                       10 to 600000, a multiple of 10
 --     picture
-use Rattle.std.specs.Prelude.{ℕ, ◌==◌, ◌%◌, ◌&&◌, nat_le, Bool, true, false, if◌then◌else◌, Option, Some, None, unwrap_or, List, [], ◌∷◌, length, codes, Result, Ok, Err}
+use Rattle.std.specs.Prelude.{ℕ, ◌==◌, ◌%◌, ◌&&◌, nat_le, if◌then◌else◌, Option, Some, None, unwrap_or, List, [], ◌∷◌, length, codes, Result, Ok, Err}
 use Rattle.std.specs.List.{filter_map}
 use Rattle.std.specs.Str.{bytes_eq}
 use Rattle.event_words.specs.declared.fault.Fault.{Fault}
@@ -22,7 +22,6 @@ use Rattle.rasta_core_link.specs.declared.identity.Role.{Role}
 use Rattle.rasta_core_link.specs.declared.identity.Role.TheVariants.{Client, Server}
 use Rattle.rasta_core_link.specs.declared.reason.Reason.{Reason}
 use Rattle.rasta_core_link.specs.declared.reason.Reason.TheVariants.{User, State, Sequence, Version, Window, Time as Silence}
-use Rattle.simulator_pair.specs.declared.event.PairEvent.{PairEvent}
 use Rattle.simulator_pair.specs.declared.event.PairEvent.TheVariants.{Give, Tick, Time, Deliver, Lose, Close, Restart}
 use Rattle.simulator_pair_text.specs.declared.line.PairLine.{PairLine}
 use Rattle.simulator_pair_text.specs.declared.line.PairLine.TheVariants.{Event, Flow, Picture}

@@ -1,5 +1,7 @@
 //! What is written as the answer to an event line.
 
+ghost use Rattle.std.specs.Prelude.{Some};
+
 use simulator_pair::{PairReply, Refused};
 use std::fmt;
 
@@ -29,6 +31,10 @@ impl Answer {
 }
 
 impl fmt::Display for Answer {
+    ghost use Rattle.simulator_pair_text.specs.Answers.{answer_text};
+
+    ghost output = { λ answer. Some (answer_text answer) };
+
     fn fmt<W: fmt::Write>(&self, f: &mut fmt::Formatter<W>) -> fmt::Result {
         match self {
             Answer::Done => write!(f, "ok"),

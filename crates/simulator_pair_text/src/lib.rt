@@ -4,6 +4,7 @@
 
 mod answer;
 mod line;
+mod picture;
 mod print;
 mod run;
 mod text;

@@ -1,16 +1,16 @@
 //! The run of a text, with its answers written.
 
+ghost use Rattle.std.specs.Prelude.{◌≡◌, ◌≤◌, IsOk, IsErr, OnOk};
+ghost use Rattle.simulator_pair_text.specs.Text.{run_of};
+
 use crate::line::{PairLine, read_line};
+use crate::picture::Picture;
 use crate::run::Run;
 use crate::text::{LineFault, judge};
 use event_words::{Lines, is_passed_over};
-use simulator_pair::{Aspect, Pair, Role};
 use std::alloc::{AllocError, Global};
 use std::io;
 use std::io::Write;
-
-/// How many microseconds a millisecond has.
-const MICROS: u64 = 1000;
 
 /// Why a text wasn't run to its end.
 #[derive(Debug, Drop)]
@@ -24,18 +24,30 @@ enum Failure {
 }
 
 impl From<AllocError> for Failure {
+    ghost use Rattle.simulator_pair_text.specs.declared.print.Failure.TheVariants.{OutOfMemory};
+
+    ghost from_gives = { λ _ failure. failure ≡ OutOfMemory };
+
     fn from(_error: AllocError) -> Failure {
         Failure::OutOfMemory
     }
 }
 
 impl From<LineFault> for Failure {
+    ghost use Rattle.simulator_pair_text.specs.declared.print.Failure.TheVariants.{Faulty};
+
+    ghost from_gives = { λ fault failure. failure ≡ Faulty fault };
+
     fn from(fault: LineFault) -> Failure {
         Failure::Faulty(fault)
     }
 }
 
 impl From<io::Error> for Failure {
+    ghost use Rattle.simulator_pair_text.specs.declared.print.Failure.TheVariants.{NotWritten};
+
+    ghost from_gives = { λ _ failure. failure ≡ NotWritten };
+
     fn from(_error: io::Error) -> Failure {
         Failure::NotWritten
     }
@@ -44,7 +56,11 @@ impl From<io::Error> for Failure {
 /// Runs a text of event lines over a new pair, and writes an answer for each line to `out`. The whole text
 /// is judged before the first event: where a line is faulty, `out` stays as it is, and `err` is told. The
 /// status is 0, or 1 where anything failed.
-pub fn pair_text<W: Write, E: Write>(alloc: Global, text: &str, out: &mut W, err: &mut E) -> u8 {
+pub fn pair_text<W: Write, E: Write>(alloc: Global, text: &str, out: &mut W, err: &mut E) -> u8
+    ensures status { result ≤ 1 }
+    ensures done { result ≡ 0 → IsOk (run_of text.now) }
+    ensures faulty { IsErr (run_of text.now) → (result ≡ 1) × (out.new ≡ out.old) }
+{
     let told = match run(alloc, text, out) {
         Ok(()) => return 0,
         Err(Failure::Faulty(fault)) => writeln!(err, "{fault}"),
@@ -56,8 +72,16 @@ pub fn pair_text<W: Write, E: Write>(alloc: Global, text: &str, out: &mut W, err
     1
 }
 
-fn run<W: Write>(alloc: Global, text: &str, out: &mut W) -> Result<(), Failure> {
+fn run<W: Write>(alloc: Global, text: &str, out: &mut W) -> Result<(), Failure>
+    ensures done { OnOk result (IsOk (run_of text.now)) }
+    ensures faulty { IsErr (run_of text.now) → IsErr result × (out.new ≡ out.old) }
+{
     judge(text)?;
+    perform(alloc, text, out)
+}
+
+/// Carries out the lines of a text without a fault.
+fn perform<W: Write>(alloc: Global, text: &str, out: &mut W) -> Result<(), Failure> {
     let mut run = Run::new(alloc)?;
     for (number, line) in Lines::of(text) {
         if is_passed_over(line) {
@@ -76,32 +100,8 @@ fn run<W: Write>(alloc: Global, text: &str, out: &mut W) -> Result<(), Failure> 
 /// Carries out a line, and writes its answer or the picture.
 fn carry_out<W: Write>(run: &mut Run, line: &PairLine, out: &mut W) -> io::Result<()> {
     match line {
-        PairLine::Event(event) => {
-            let answer = run.event(event);
-            writeln!(out, "{answer}")
-        }
-        PairLine::Flow(length) => {
-            let answer = run.flow(*length);
-            writeln!(out, "{answer}")
-        }
-        PairLine::Picture => picture(&run.pair, out),
+        PairLine::Event(event) => out.writeln(run.event(event)),
+        PairLine::Flow(length) => out.writeln(run.flow(*length)),
+        PairLine::Picture => out.writeln(Picture::of(&run.pair)),
     }
-}
-
-/// Writes what can be seen of a pair.
-fn picture<W: Write>(pair: &Pair, out: &mut W) -> io::Result<()> {
-    let time = pair.time() / MICROS;
-    writeln!(out, "time {time}")?;
-    let aspect = match pair.shown() {
-        Aspect::Stop => "stop",
-        Aspect::Proceed => "proceed",
-    };
-    writeln!(out, "lamp {aspect}")?;
-    for (name, end) in [("C", Role::Client), ("S", Role::Server)] {
-        let state = if pair.is_up(end) { "up" } else { "closed" };
-        let given = pair.given(end).len();
-        let taken = pair.taken(end).len();
-        writeln!(out, "{name} {state} given {given} taken {taken}")?;
-    }
-    Ok(())
 }

@@ -1,4 +1,4 @@
-use Rattle.std.proofs.Common.{rules, ◌≡◌, ◌∷◌, Result, Ok, Err, sym, ◌∙◌, ap}
+use Rattle.std.proofs.Common.{rules, ◌≡◌, sym, ◌∙◌, ap}
 use Rattle.event_words.specs.Fault.{both}
 use Rattle.simulator_pair_text.specs.Line.{named, names}
 use Rattle.simulator_pair_text.proofs.Names.{emptied, found_further}

@@ -1,0 +1,34 @@
+-- The texts of answers and of the picture, each without the line feed at its end.
+use Rattle.std.specs.Prelude.{ℕ, if◌then◌else◌, List, ◌++◌, codes}
+use Rattle.std.specs.Fmt.{decimal}
+use Rattle.signal_ctl.specs.declared.lamp.Aspect.{Aspect}
+use Rattle.signal_ctl.specs.declared.lamp.Aspect.TheVariants.{Stop, Proceed}
+use Rattle.simulator_pair_text.specs.declared.answer.Answer.{Answer}
+use Rattle.simulator_pair_text.specs.declared.answer.Answer.TheVariants.{Done, Accepted, Refused, No}
+use Rattle.simulator_pair_text.specs.declared.picture.EndSeen.{EndSeen}
+use Rattle.simulator_pair_text.specs.declared.picture.Picture.{Picture}
+
+-- the answer to an event line
+abbrev pub answer_text : Answer → List ℕ
+answer_text Done = codes "ok"
+answer_text Accepted = codes "accepted"
+answer_text (Refused n) = codes "refused " ++ decimal n
+answer_text (No n) = codes "no " ++ decimal n
+
+abbrev pub aspect_text : Aspect → List ℕ
+aspect_text Stop = codes "stop"
+aspect_text Proceed = codes "proceed"
+
+-- an end: whether its link is up, and how many items were given and taken in its last connection
+abbrev pub end_text : EndSeen → List ℕ
+end_text end =
+    (if end.is_up then codes "up" else codes "closed")
+    ++ (codes " given " ++ (decimal end.given ++ (codes " taken " ++ decimal end.taken)))
+
+-- the picture: whole milliseconds of true time, the lamp, the client and the server
+abbrev pub picture_text : Picture → List ℕ
+picture_text seen =
+    codes "time " ++ (decimal seen.time
+    ++ (codes "\nlamp " ++ (aspect_text seen.lamp
+    ++ (codes "\nC " ++ (end_text seen.client
+    ++ (codes "\nS " ++ end_text seen.server))))))
