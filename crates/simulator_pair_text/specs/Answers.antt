@@ -1,14 +1,27 @@
 -- The texts of answers and of the picture, each without the line feed at its end.
-use Rattle.std.specs.Prelude.{ℕ, if◌then◌else◌, List, ◌++◌, codes}
+use Rattle.std.specs.Prelude.{ℕ, if◌then◌else◌, List, ◌++◌, codes, Result, Ok, Err}
 use Rattle.std.specs.Fmt.{decimal}
 use Rattle.signal_ctl.specs.declared.lamp.Aspect.{Aspect}
 use Rattle.signal_ctl.specs.declared.lamp.Aspect.TheVariants.{Stop, Proceed}
+use Rattle.rasta_core_link.specs.declared.fault.SendFault.TheVariants.{NotUp, WindowFull}
+use Rattle.simulator_pair.specs.declared.event.PairReply.{PairReply}
+use Rattle.simulator_pair.specs.declared.event.PairReply.TheVariants as reply
+use Rattle.simulator_pair.specs.declared.event.Refused.{Refused as Why}
+use Rattle.simulator_pair.specs.Events.{refusal_number}
 use Rattle.simulator_pair_text.specs.declared.answer.Answer.{Answer}
 use Rattle.simulator_pair_text.specs.declared.answer.Answer.TheVariants.{Done, Accepted, Refused, No}
 use Rattle.simulator_pair_text.specs.declared.picture.EndSeen.{EndSeen}
 use Rattle.simulator_pair_text.specs.declared.picture.Picture.{Picture}
 
--- the answer to an event line
+-- the answer to an event, by what the pair says to it
+abbrev pub answer_to : Result PairReply Why → Answer
+answer_to (Ok reply.Done) = Done
+answer_to (Ok (reply.Given (Ok taken))) = Accepted
+answer_to (Ok (reply.Given (Err NotUp))) = Refused 1
+answer_to (Ok (reply.Given (Err WindowFull))) = Refused 2
+answer_to (Err why) = No (refusal_number why)
+
+-- the text of an answer
 abbrev pub answer_text : Answer → List ℕ
 answer_text Done = codes "ok"
 answer_text Accepted = codes "accepted"

@@ -19,8 +19,13 @@ pub(crate) enum Answer {
 }
 
 impl Answer {
+    ghost use Rattle.std.specs.Prelude.{◌≡◌};
+    ghost use Rattle.simulator_pair_text.specs.Answers.{answer_to};
+
     /// The answer to an event.
-    pub(crate) fn to_event(reply: Result<PairReply, Refused>) -> Answer {
+    pub(crate) fn to_event(reply: Result<PairReply, Refused>) -> Answer
+        ensures { result ≡ answer_to reply }
+    {
         match reply {
             Ok(PairReply::Done) => Answer::Done,
             Ok(PairReply::Given(Ok(()))) => Answer::Accepted,
