@@ -1,3 +1,5 @@
 pub mod Posting
 pub mod Waiting
 pub mod Steps
+pub mod Keeping
+pub mod Few

@@ -1,11 +1,10 @@
 -- What handing out PDUs does to an outbox.
-use Rattle.std.proofs.Common.{◌≡◌, ℕ, ◌+◌, ◌≤◌, List, [], ◌∷◌, ◌++◌, length, map, append_assoc, refl, ap, arith}
+use Rattle.std.proofs.Common.{◌≡◌, ℕ, ◌+◌, List, [], ◌++◌, length, append_assoc, refl, ap}
 use Rattle.std.proofs.lemmas.List.{append-nil, map-append, length-append, length-map}
 use Rattle.std.proofs.lemmas.Grind.{common_steps}
-use Rattle.rasta_core_link.specs.Outbox.{OutboxState, posted, spellings}
+use Rattle.rasta_core_link.specs.Outbox.{OutboxState, posted}
 use Rattle.rasta_pdu.specs.declared.key.Key.{Key}
 use Rattle.rasta_pdu.specs.declared.pdu.Pdu.{Pdu}
-use Rattle.rasta_pdu.specs.Spelling.{writing}
 
 -- nothing handed out leaves the outbox
 pub posted_nothing : (key : Key) (box : OutboxState) → posted key [] box ≡ box

@@ -1,15 +1,12 @@
 -- What the parts of a call keep, and how many PDUs they hand out.
-use Rattle.std.proofs.Common.{◌≡◌, ℕ, ◌+◌, ◌-◌, ◌≤◌, ◌<◌, Bool, true, false, List, [], ◌∷◌, ◌++◌, length, refl, sym, ap, ◌∙◌, arith, rules, nat_le, nat_lt, nat_eq, ◌&&◌, if◌then◌else◌, IsTrue}
-use Rattle.std.proofs.lemmas.Grind.{common_steps}
+use Rattle.std.proofs.Common.{◌≡◌, ℕ, ◌≤◌, ◌<◌, length, refl, ◌∙◌, arith, rules, IsTrue}
 use Rattle.std.proofs.lemmas.Bool.Decides.{nat_tests}
 use Rattle.rasta_core_link.specs.Parameters.{connection_limit}
 use Rattle.rasta_core_link.specs.State.{LinkState, is_open}
 use Rattle.rasta_core_link.specs.Clock.{settled}
-use Rattle.rasta_core_link.specs.Sending.{Step, sending, telling, limited, entered}
-use Rattle.rasta_core_link.specs.declared.phase.Phase.{Phase}
+use Rattle.rasta_core_link.specs.Sending.{sending, telling, limited, entered}
 use Rattle.rasta_core_link.specs.declared.phase.Phase.TheVariants as phase
 use Rattle.rasta_core_link.specs.declared.reason.Reason.{Reason}
-use Rattle.rasta_core_link.specs.declared.reason.Reason.TheVariants as reason
 use Rattle.rasta_core_link.proofs.Posting.{posting}
 
 pub identity-settled : (now : ℕ) (link : LinkState) → (settled now link).identity ≡ link.identity

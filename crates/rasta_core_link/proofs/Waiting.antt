@@ -1,5 +1,5 @@
 -- The items that wait for confirmation: those let go, and those handed out again.
-use Rattle.std.proofs.Common.{◌≡◌, ℕ, suc, ◌+◌, ◌-◌, ◌≤◌, ◌<◌, Bool, true, false, List, [], ◌∷◌, ◌++◌, length, take, drop, get_or, append_assoc, add-one, refl, sym, ap, ◌∙◌, arith, rules, slice_get, Option, Some, None, if◌then◌else◌}
+use Rattle.std.proofs.Common.{◌≡◌, ℕ, suc, ◌+◌, ◌-◌, ◌≤◌, ◌<◌, List, [], ◌∷◌, ◌++◌, length, take, drop, get_or, append_assoc, add-one, refl, sym, ap, ◌∙◌, arith, slice_get, Some, None}
 use Rattle.std.proofs.lemmas.List.{append-nil, length-append, length-take, length-drop, take_more, take_all, drop_all}
 use Rattle.std.proofs.Math.Seq.{drop-cons}
 use Rattle.std.proofs.lemmas.Grind.{common_steps}
@@ -103,7 +103,7 @@ pub repeated_none : (header : Header) (key : Key) (count : ℕ) (all : List Unco
 unfolding repeated retagged
 repeated_none header key count all box = record {
   waiting = sym (append-nil all);
-  outbox = sym (posted_nothing key box)
+  outbox = sym (posted_nothing key box);
 }
 
 pub repeated_more : (header : Header) (key : Key) (count done : ℕ) (all now : List Unconfirmed) (before after : OutboxState) (x : Unconfirmed) → done < length all → Repeated header key count done all now before after → slice_get now 0 ≡ Some x → Repeated header key count (done + 1) all (drop 1 now ++ under (count + done) x ∷ []) before (posted key (again header (count + done) x ∷ []) after)
@@ -114,17 +114,17 @@ repeated_more header key count done all now before after x h r e =
     let first : x ≡ get_or all done x = first_of now (drop (done + 1) all ++ retagged count (take done all)) x (get_or all done x) e shown in
     let grown : take (done + 1) all ≡ take done all ++ x ∷ [] = take_more all done x h ∙ ap (λ (u : Unconfirmed). take done all ++ u ∷ []) (sym first) in
     let tags : retagged count (take (done + 1) all) ≡ retagged count (take done all) ++ under (count + done) x ∷ [] =
-        ap (λ (us : List Unconfirmed). retagged count us) grown
-        ∙ retagged-push count (take done all) x
-        ∙ ap (λ (n : ℕ). retagged count (take done all) ++ under (count + n) x ∷ []) long in
+    ap (λ (us : List Unconfirmed). retagged count us) grown
+    ∙ retagged-push count (take done all) x
+    ∙ ap (λ (n : ℕ). retagged count (take done all) ++ under (count + n) x ∷ []) long in
     let sent : repeated header count (take (done + 1) all) ≡ repeated header count (take done all) ++ again header (count + done) x ∷ [] =
-        ap (λ (us : List Unconfirmed). repeated header count us) grown
-        ∙ repeated-push header count (take done all) x
-        ∙ ap (λ (n : ℕ). repeated header count (take done all) ++ again header (count + n) x ∷ []) long in
+    ap (λ (us : List Unconfirmed). repeated header count us) grown
+    ∙ repeated-push header count (take done all) x
+    ∙ ap (λ (n : ℕ). repeated header count (take done all) ++ again header (count + n) x ∷ []) long in
     let more = posted_more key (again header (count + done) x ∷ []) (repeated header count (take done all)) before in
     record {
       waiting = rw (shown, tags) (append_assoc (drop (done + 1) all) (retagged count (take done all)) (under (count + done) x ∷ []));
-      outbox = rw (r.outbox, sent) more
+      outbox = rw (r.outbox, sent) more;
     }
 
 pub repeated_all : (header : Header) (key : Key) (count : ℕ) (all now : List Unconfirmed) (before after : OutboxState) → Repeated header key count (length all) all now before after → (now ≡ retagged count all) × (after ≡ posted key (repeated header count all) before)

@@ -1,5 +1,5 @@
 -- What each call of a link does, from its creation on.
-use Rattle.std.specs.Prelude.{ℕ, ◌≡◌, ◌≤◌, nat_lt, min, Bool, true, false, List, [], ◌++◌, length, Result, Ok, Err, is_ok, if◌then◌else◌}
+use Rattle.std.specs.Prelude.{◌≡◌, ℕ, ◌≤◌, nat_lt, min, Bool, List, [], ◌++◌, length, Result, Ok, Err, is_ok, if◌then◌else◌}
 use Rattle.rasta_core_link.specs.Parameters.{window_size, expiry}
 use Rattle.rasta_core_link.specs.State.{LinkState, is_open, is_up}
 use Rattle.rasta_core_link.specs.Sending.{Step, silent, then_do, entered, beating, giving, closing}
@@ -33,12 +33,17 @@ created identity first_sequence_number now = record {
   partner_stamp = 0;
   waiting = [];
   given = 0;
-  taken = 0
+  taken = 0;
 }
 
 -- a clock that doesn't fall
 abbrev pub MayStep : ℕ → LinkState → Type 0
 MayStep now link = link.clock ≤ now
+
+-- after a call at a clock reading the link has that clock, and the identity that it had
+pub record IsAt (now : ℕ) (old new : LinkState) : Type 0 where
+  pub clock : new.clock ≡ now
+  pub identity : new.identity ≡ old.identity
 
 -- the answer of `open`, and what it does
 unfoldable pub opens : ℕ → LinkState → Bool

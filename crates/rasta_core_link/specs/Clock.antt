@@ -1,5 +1,5 @@
 -- The rules by the clock: when a connection has closed by time, when an end is quiet, and when it has expired.
-use Rattle.std.specs.Prelude.{ℕ, ◌+◌, ◌^◌, min, nat_le, nat_lt, ◌&&◌, Bool, if◌then◌else◌}
+use Rattle.std.specs.Prelude.{ℕ, ◌+◌, min, nat_le, nat_lt, ◌&&◌, Bool, if◌then◌else◌}
 use Rattle.rasta_core_link.specs.Parameters.{time_limit, quiet_time, expiry, stops_at_greatest}
 use Rattle.rasta_core_link.specs.State.{LinkState, is_open, is_up}
 use Rattle.rasta_core_link.specs.declared.phase.Phase.{Phase}

@@ -1,5 +1,5 @@
 -- How a connection opens.
-use Rattle.std.specs.Prelude.{ℕ, ◌==◌, ◌&&◌, Bool, true, false, List, [], nat_eq, if◌then◌else◌}
+use Rattle.std.specs.Prelude.{◌==◌, ◌&&◌, Bool, true, false, [], nat_eq, if◌then◌else◌}
 use Rattle.std.specs.Cmp.Lexicographic.{pointwise}
 use Rattle.rasta_core_link.specs.Parameters.{own_version, no_reserved, window_size}
 use Rattle.rasta_core_link.specs.Sequence.{wire}
@@ -40,7 +40,7 @@ beginning link = record link {
   partner_stamp = 0;
   waiting = [];
   given = 0;
-  taken = 0
+  taken = 0;
 }
 
 -- a client asks for a connection
@@ -53,14 +53,14 @@ meeting pdu link = record link {
   partner_first = pdu.sequence_number;
   opening_stamp = pdu.time_stamp;
   expected = 1;
-  partner_stamp = pdu.time_stamp
+  partner_stamp = pdu.time_stamp;
 }
 
 -- an opening of another version, or of another window, closes; the version is looked at first
 unfoldable pub judging : Opening → (LinkState → Step) → LinkState → Step
 judging opening agreed link =
     if pointwise nat_eq opening.version own_version then (
-      if opening.window == window_size then agreed link else telling reason.Window link
+    if opening.window == window_size then agreed link else telling reason.Window link
     )
     else telling reason.Version link
 

@@ -1,5 +1,5 @@
 -- The parameters of a link. Times are in milliseconds of the end's own clock.
-use Rattle.std.specs.Prelude.{ℕ, ◌+◌, ◌-◌, ◌^◌, min, List, [], ◌∷◌}
+use Rattle.std.specs.Prelude.{ℕ, ◌-◌, ◌^◌, min, List, [], ◌∷◌}
 
 -- how long after the own stamp that the partner returned last a connection lives
 abbrev pub time_limit : ℕ

@@ -1,5 +1,5 @@
 -- What an end does with a PDU that could be read: the tests in their order, and what is taken.
-use Rattle.std.specs.Prelude.{ℕ, ◌+◌, ◌-◌, ◌==◌, nat_lt, nat_le, ◌&&◌, not, Bool, true, List, [], ◌∷◌, ◌++◌, length, if◌then◌else◌}
+use Rattle.std.specs.Prelude.{ℕ, ◌+◌, ◌-◌, ◌==◌, nat_lt, nat_le, ◌&&◌, not, Bool, true, List, [], ◌∷◌, length, if◌then◌else◌}
 use Rattle.rasta_core_link.specs.Parameters.{sequence_range, stops_at_greatest}
 use Rattle.rasta_core_link.specs.Sequence.{wire, before, distance, stamp}
 use Rattle.rasta_core_link.specs.State.{LinkState, is_client}
@@ -37,7 +37,7 @@ violating link = record {
   link = (telling reason.State link).link;
   pdus = (telling reason.State link).pdus;
   items = [];
-  verdict = verdict.WrongState
+  verdict = verdict.WrongState;
 }
 
 abbrev pub accepting : Step → Receipt
@@ -72,7 +72,7 @@ taking pdu link = record link {
   partner_stamp = pdu.time_stamp;
   own_stamp = pdu.confirmed_time_stamp;
   confirmed = link.sent - 1 - behind pdu link;
-  waiting = still_waiting (link.sent - 1 - behind pdu link) link.waiting
+  waiting = still_waiting (link.sent - 1 - behind pdu link) link.waiting;
 }
 
 -- the unconfirmed items again, oldest first, under new counts
@@ -87,7 +87,7 @@ retagged count (first ∷ others) = (record { tag = count; item = first.item }) 
 unfoldable pub repeating : LinkState → Step
 repeating link = record {
   link = record link { waiting = retagged link.sent link.waiting; sent = link.sent + length link.waiting };
-  pdus = repeated (header_of link) link.sent link.waiting
+  pdus = repeated (header_of link) link.sent link.waiting;
 }
 
 -- a retransmission request is answered: the response, the items again, a heartbeat
@@ -106,7 +106,7 @@ handing items link = record {
   link = record link { taken = stops_at_greatest (link.taken + length items) };
   pdus = [];
   items = items;
-  verdict = verdict.Taken
+  verdict = verdict.Taken;
 }
 
 abbrev pub up : LinkState → LinkState

@@ -1,5 +1,5 @@
 -- What an end hands out: its PDUs, with their numbers and stamps.
-use Rattle.std.specs.Prelude.{ℕ, ◌+◌, ◌-◌, ◌^◌, ◌%◌, nat_le, ◌&&◌, Bool, true, false, List, [], ◌∷◌, ◌++◌, if◌then◌else◌}
+use Rattle.std.specs.Prelude.{ℕ, ◌+◌, ◌-◌, nat_le, ◌&&◌, Bool, true, false, List, [], ◌∷◌, ◌++◌, if◌then◌else◌}
 use Rattle.rasta_core_link.specs.Parameters.{heartbeat_interval, connection_limit, stops_at_greatest}
 use Rattle.rasta_core_link.specs.Sequence.{wire, before, stamp}
 use Rattle.rasta_core_link.specs.State.{LinkState, is_open, is_up, is_asking}
@@ -7,11 +7,10 @@ use Rattle.rasta_core_link.specs.Clock.{settled}
 use Rattle.rasta_core_link.specs.declared.phase.Phase.TheVariants as phase
 use Rattle.rasta_core_link.specs.declared.reason.Reason.{Reason}
 use Rattle.rasta_core_link.specs.declared.reason.Reason.TheVariants as reason
-use Rattle.rasta_core_link.specs.declared.window.Unconfirmed.{Unconfirmed}
 use Rattle.rasta_core_link.specs.declared.header.Header.{Header}
 use Rattle.rasta_pdu.specs.declared.pdu.Pdu.{Pdu}
 use Rattle.rasta_pdu.specs.declared.body.Body.{Body}
-use Rattle.rasta_pdu.specs.declared.body.Body.TheVariants.{RetransmissionRequest, RetransmissionResponse, DisconnectionRequest, Heartbeat, Data, RetransmittedData}
+use Rattle.rasta_pdu.specs.declared.body.Body.TheVariants.{DisconnectionRequest, Heartbeat, Data}
 
 -- what a part of a call does: the link after it, and the PDUs handed out
 pub record Step : Type 0 where
@@ -33,7 +32,7 @@ header_of link = record {
   first_sequence_number = link.own_first;
   confirmed_sequence_number = if is_asking link then 0 else wire link.partner_first (before link.expected);
   confirmed_time_stamp = if is_asking link then 0 else link.partner_stamp;
-  time_stamp = stamp link.clock
+  time_stamp = stamp link.clock;
 }
 
 -- the PDU of this count in the connection
@@ -45,14 +44,14 @@ pdu_of header count body = record {
   confirmed_sequence_number = header.confirmed_sequence_number;
   time_stamp = header.time_stamp;
   confirmed_time_stamp = header.confirmed_time_stamp;
-  body = body
+  body = body;
 }
 
 -- the next PDU goes out
 unfoldable pub sending : Body → LinkState → Step
 sending body link = record {
   link = record link { sent = link.sent + 1; sent_at = link.clock };
-  pdus = pdu_of (header_of link) link.sent body ∷ []
+  pdus = pdu_of (header_of link) link.sent body ∷ [];
 }
 
 abbrev pub reason_number : Reason → ℕ

@@ -34,7 +34,8 @@ impl Admission {
             (Body::RetransmissionResponse, Phase::RetransmissionRequested) => Admission::Resumes,
             (Body::RetransmissionResponse, _) => Admission::Violates,
             (Body::DisconnectionRequest { .. }, _) => Admission::Closes,
-            (Body::Heartbeat | Body::Data(_), Phase::RetransmissionRequested) => Admission::Discards,
+            (Body::Heartbeat | Body::Data(_), Phase::RetransmissionRequested) =>
+                Admission::Discards,
             (Body::Heartbeat | Body::Data(_), _) => Admission::InTurn,
             (Body::RetransmittedData(_), Phase::RetransmissionRequested) => Admission::Discards,
             (Body::RetransmittedData(_), Phase::RetransmissionRunning) => Admission::InTurn,

@@ -1,7 +1,7 @@
 //! The calls of a link that take a clock reading. Each asks that the clock hasn't fallen since the last call,
 //! and that the outbox has room for 24 datagrams.
 
-ghost use Rattle.std.specs.Prelude.{◌≡◌};
+ghost use Rattle.std.specs.Prelude.{◌≡◌, ◌≤◌, [], length};
 ghost use Rattle.rasta_core_link.specs.Outbox.{HasRoomFor, posted};
 
 use crate::fault::SendFault;
@@ -14,16 +14,18 @@ use crate::verdict::Verdict;
 use rasta_pdu::Item;
 
 impl Link {
-    ghost use Rattle.rasta_core_link.specs.Calls.{MayStep, opens, opening, ticking, closing_by, acceptance, answer_to_send, sending_item, receiving};
+    ghost use Rattle.rasta_core_link.specs.Calls.{MayStep, IsAt, opens, opening, ticking, closing_by, acceptance, answer_to_send, sending_item, receiving};
 
     /// A client that is down asks for a connection, and answers true; otherwise false.
-    #[tactic(auto, using(crate::proofs::Posting::posting), unfolding(crate::specs::Calls::opening, crate::specs::Calls::opens))]
+    #[tactic(auto, using(crate::proofs::Few::calls, crate::proofs::Keeping::kept), unfolding(crate::specs::Calls::opening, crate::specs::Calls::opens))]
     pub fn open(&mut self, now: Millis, outbox: &mut Outbox) -> bool
         requires clock { MayStep now self.old }
         requires room { HasRoomFor 24 outbox.old }
         ensures link { self.new ≡ (opening now self.old).link }
+        ensures kept { IsAt now self.old (opening now self.old).link }
         ensures posted { outbox.new ≡ posted self.old.identity.key (opening now self.old).pdus outbox.old }
         ensures answer { result ≡ opens now self.old }
+        ensures few { length (opening now self.old).pdus ≤ 1 }
     {
         self.enter(now, outbox);
         if !self.may_open() {
@@ -34,24 +36,28 @@ impl Link {
     }
 
     /// A heartbeat, where it is up and has sent nothing for 300 ms.
-    #[tactic(auto, using(crate::proofs::Posting::posting), unfolding(crate::specs::Calls::ticking))]
+    #[tactic(auto, using(crate::proofs::Few::calls, crate::proofs::Keeping::kept), unfolding(crate::specs::Calls::ticking))]
     pub fn tick(&mut self, now: Millis, outbox: &mut Outbox)
         requires clock { MayStep now self.old }
         requires room { HasRoomFor 24 outbox.old }
         ensures link { self.new ≡ (ticking now self.old).link }
+        ensures kept { IsAt now self.old (ticking now self.old).link }
         ensures posted { outbox.new ≡ posted self.old.identity.key (ticking now self.old).pdus outbox.old }
+        ensures few { length (ticking now self.old).pdus ≤ 1 }
     {
         self.enter(now, outbox);
         self.beat(outbox);
     }
 
     /// Closes for this reason, where it is in a connection; otherwise nothing but what the clock does.
-    #[tactic(auto, using(crate::proofs::Posting::posting), unfolding(crate::specs::Calls::closing_by))]
+    #[tactic(auto, using(crate::proofs::Few::calls, crate::proofs::Keeping::kept), unfolding(crate::specs::Calls::closing_by))]
     pub fn close(&mut self, now: Millis, why: Reason, outbox: &mut Outbox)
         requires clock { MayStep now self.old }
         requires room { HasRoomFor 24 outbox.old }
         ensures link { self.new ≡ (closing_by now why self.old).link }
+        ensures kept { IsAt now self.old (closing_by now why self.old).link }
         ensures posted { outbox.new ≡ posted self.old.identity.key (closing_by now why self.old).pdus outbox.old }
+        ensures few { length (closing_by now why self.old).pdus ≤ 1 }
     {
         self.enter(now, outbox);
         if self.phase.is_open() {
@@ -74,13 +80,15 @@ impl Link {
     }
 
     /// Sends an item, which waits until the partner confirms it. Refused where the link isn't up or 20 items wait.
-    #[tactic(auto, using(crate::proofs::Posting::posting), unfolding(crate::specs::Calls::sending_item, crate::specs::Calls::answer_to_send, crate::specs::Calls::acceptance))]
+    #[tactic(auto, using(crate::proofs::Few::calls, crate::proofs::Keeping::kept), unfolding(crate::specs::Calls::sending_item, crate::specs::Calls::answer_to_send, crate::specs::Calls::acceptance))]
     pub fn send(&mut self, now: Millis, item: &Item, outbox: &mut Outbox) -> Result<(), SendFault>
         requires clock { MayStep now self.old }
         requires room { HasRoomFor 24 outbox.old }
         ensures link { self.new ≡ (sending_item now item.now self.old).link }
+        ensures kept { IsAt now self.old (sending_item now item.now self.old).link }
         ensures posted { outbox.new ≡ posted self.old.identity.key (sending_item now item.now self.old).pdus outbox.old }
         ensures answer { result ≡ answer_to_send now self.old }
+        ensures few { length (sending_item now item.now self.old).pdus ≤ 1 }
     {
         self.enter(now, outbox);
         self.acceptance()?;
@@ -89,7 +97,7 @@ impl Link {
     }
 
     /// A datagram has come. The inbox is emptied first, and then has the items that it brought.
-    #[tactic(auto, using(crate::proofs::Posting::posting), unfolding(crate::specs::Calls::receiving, crate::specs::Calls::hearing_bytes))]
+    #[tactic(auto, using(crate::proofs::Few::calls, crate::proofs::Keeping::kept), unfolding(crate::specs::Calls::receiving, crate::specs::Calls::hearing_bytes))]
     pub fn receive(
         &mut self,
         now: Millis,
@@ -100,9 +108,13 @@ impl Link {
         requires clock { MayStep now self.old }
         requires room { HasRoomFor 24 outbox.old }
         ensures link { self.new ≡ (receiving now datagram.now self.old).link }
+        ensures kept { IsAt now self.old (receiving now datagram.now self.old).link }
         ensures posted { outbox.new ≡ posted self.old.identity.key (receiving now datagram.now self.old).pdus outbox.old }
         ensures items { inbox.new.items ≡ (receiving now datagram.now self.old).items }
         ensures verdict { result ≡ (receiving now datagram.now self.old).verdict }
+        // A call that brings items hands out nothing.
+        ensures few { length (receiving now datagram.now self.old).pdus ≤ 22 }
+        ensures items_alone { 1 ≤ length inbox.new.items → (receiving now datagram.now self.old).pdus ≡ [] }
     {
         inbox.clear();
         self.enter(now, outbox);

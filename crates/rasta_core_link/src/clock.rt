@@ -8,6 +8,8 @@ use crate::phase::{Phase, State};
 
 impl Link {
     ghost use Rattle.rasta_core_link.specs.Clock.{alive_until, quiet_until, settled, state_at, is_up_at};
+    ghost use Rattle.rasta_core_link.specs.Calls.{MayStep, IsAt};
+    ghost use Rattle.rasta_core_link.specs.State.{is_open, is_up};
 
     /// The moment at which this link closes by time, or at which it closed, or was created.
     #[tactic(auto, unfolding(crate::specs::Clock::alive_until))]
@@ -53,9 +55,34 @@ impl Link {
         self.phase.is_up() && now < self.alive_until()
     }
 
-    /// A link whose time has come has closed at that moment, however late the reading.
+    /// Whether it is in a connection as of the last call.
+    pub fn is_open(&self) -> bool
+        ensures { result ≡ is_open self.now.phase }
+    {
+        self.phase.is_open()
+    }
+
+    /// Whether it is up as of the last call.
+    pub fn is_up_now(&self) -> bool
+        ensures { result ≡ is_up self.now.phase }
+    {
+        self.phase.is_up()
+    }
+
+    /// Applies the clock rules alone: a link whose time has come has closed at that moment, however late the
+    /// reading. Every other call does this first.
+    #[tactic(auto, using(crate::proofs::Keeping::kept), unfolding(crate::specs::Clock::settled))]
+    pub fn settle(&mut self, now: Millis)
+        requires { MayStep now self.old }
+        ensures link { self.new ≡ settled now self.old }
+        ensures kept { IsAt now self.old (settled now self.old) }
+    {
+        self.apply_clock(now);
+    }
+
+    /// As `settle`, at any reading.
     #[tactic(auto, unfolding(crate::specs::Clock::settled))]
-    pub(crate) fn settle(&mut self, now: Millis)
+    pub(crate) fn apply_clock(&mut self, now: Millis)
         ensures { self.new ≡ settled now self.old }
     {
         let end = self.alive_until();

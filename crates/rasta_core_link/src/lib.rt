@@ -27,3 +27,6 @@ pub use phase::State;
 pub use reason::Reason;
 pub use receiving::Inbox;
 pub use verdict::Verdict;
+
+#[cfg(test)]
+mod tests;

@@ -56,26 +56,24 @@ impl Model for Link {
 
     ghost Value = { LinkState };
 
-    ghost view = {
-        λ l. record {
-          identity = l.identity;
-          phase = l.phase;
-          clock = l.clock;
-          closed_at = l.closed_at;
-          own_stamp = l.own_stamp;
-          own_first = l.own_first;
-          sent = l.sent;
-          sent_at = l.sent_at;
-          confirmed = l.confirmed;
-          partner_first = l.partner_first;
-          opening_stamp = l.opening_stamp;
-          expected = l.expected;
-          partner_stamp = l.partner_stamp;
-          waiting = l.waiting.items;
-          given = l.given;
-          taken = l.taken
-        }
-    };
+    ghost view = { λ l. record {
+      identity = l.identity;
+      phase = l.phase;
+      clock = l.clock;
+      closed_at = l.closed_at;
+      own_stamp = l.own_stamp;
+      own_first = l.own_first;
+      sent = l.sent;
+      sent_at = l.sent_at;
+      confirmed = l.confirmed;
+      partner_first = l.partner_first;
+      opening_stamp = l.opening_stamp;
+      expected = l.expected;
+      partner_stamp = l.partner_stamp;
+      waiting = l.waiting.items;
+      given = l.given;
+      taken = l.taken;
+    } };
 
     ghost invariant = { λ l. IsLink l.phase l.sent l.waiting.capacity (length l.waiting.items) };
 }
@@ -96,12 +94,20 @@ impl Link {
         first_sequence_number: u32,
         now: Millis,
     ) -> Result<Link, AllocError>
-        ensures {
-            IfOk result (λ link. link ≡ created (record { role = Client; own = own; partner = partner; key = key }) first_sequence_number now)
-        }
+        ensures { IfOk result (λ link. link ≡ created (record { role = Client; own = own; partner = partner; key = key }) first_sequence_number now) }
     {
         let role = Role::Client;
-        Link::new(alloc, Identity { role, own, partner, key }, first_sequence_number, now)
+        Link::new(
+            alloc,
+            Identity {
+                role,
+                own,
+                partner,
+                key,
+            },
+            first_sequence_number,
+            now,
+        )
     }
 
     /// The end that waits to be opened; otherwise as `client`.
@@ -113,12 +119,32 @@ impl Link {
         first_sequence_number: u32,
         now: Millis,
     ) -> Result<Link, AllocError>
-        ensures {
-            IfOk result (λ link. link ≡ created (record { role = Server; own = own; partner = partner; key = key }) first_sequence_number now)
-        }
+        ensures { IfOk result (λ link. link ≡ created (record { role = Server; own = own; partner = partner; key = key }) first_sequence_number now) }
     {
         let role = Role::Server;
-        Link::new(alloc, Identity { role, own, partner, key }, first_sequence_number, now)
+        Link::new(
+            alloc,
+            Identity {
+                role,
+                own,
+                partner,
+                key,
+            },
+            first_sequence_number,
+            now,
+        )
+    }
+
+    /// The same end made anew, as after a restart: nothing but the identity is kept.
+    pub fn anew(
+        &self,
+        alloc: Global,
+        first_sequence_number: u32,
+        now: Millis,
+    ) -> Result<Link, AllocError>
+        ensures { IfOk result (λ link. link ≡ created self.now.identity first_sequence_number now) }
+    {
+        Link::new(alloc, self.identity, first_sequence_number, now)
     }
 
     #[tactic(auto, unfolding(crate::specs::Calls::created))]
@@ -155,6 +181,13 @@ impl Link {
         ensures { IsTrue result ↔ MayStep now self.now }
     {
         self.clock <= now
+    }
+
+    /// Who the link and its partner are, and the key of their network.
+    pub fn identity(&self) -> Identity
+        ensures { result ≡ self.now.identity }
+    {
+        self.identity
     }
 
     /// How many items `send` accepted in the last connection.

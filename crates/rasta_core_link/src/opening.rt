@@ -3,16 +3,15 @@
 ghost use Rattle.std.specs.Prelude.{◌≡◌, ◌<◌, IsTrue};
 ghost use Rattle.rasta_core_link.specs.Parameters.{connection_limit};
 ghost use Rattle.rasta_core_link.specs.Outbox.{HasRoomFor, posted};
+ghost use Rattle.rasta_core_link.specs.Opening.{own_opening};
 
-use crate::link::Link;
 use crate::identity::Role;
+use crate::link::Link;
 use crate::outbox::Outbox;
 use crate::parameters::{OWN_VERSION, OWN_WINDOW};
 use crate::phase::{Phase, State};
 use crate::reason::Reason;
 use rasta_pdu::{Body, Opening, Pdu};
-
-ghost use Rattle.rasta_core_link.specs.Opening.{own_opening};
 
 /// What an end writes into a request or a response.
 fn own_opening() -> Opening

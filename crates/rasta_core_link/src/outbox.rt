@@ -1,6 +1,6 @@
 //! The datagrams that steps hand out.
 
-ghost use Rattle.std.specs.Prelude.{◌≡◌, ◌+◌, ◌*◌, ◌≤◌, ◌↔◌, [], ◌∷◌, length, drop, IsTrue, IfOk, slice_get};
+ghost use Rattle.std.specs.Prelude.{◌≡◌, ◌+◌, ◌*◌, ◌^◌, ◌<◌, ◌≤◌, ◌↔◌, [], ◌∷◌, length, drop, IsTrue, IfOk, slice_get};
 ghost use Rattle.std.specs.Option.{option_map};
 
 use circular_buffer::HeapCircularBuffer;
@@ -50,7 +50,8 @@ impl Outbox {
 
     /// How many datagrams are in it.
     pub fn len(&self) -> usize
-        ensures { result ≡ length self.now.datagrams }
+        ensures count { result ≡ length self.now.datagrams }
+        ensures within { (result ≤ self.now.capacity) × (self.now.capacity < 2 ^ 63) }
     {
         self.datagrams.len()
     }

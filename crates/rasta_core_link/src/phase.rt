@@ -46,7 +46,7 @@ impl Phase {
 }
 
 /// The states of an end at a reading of its clock.
-#[derive(Clone, Copy, Debug)]
+#[derive(Clone, Copy, Debug, PartialEq, Eq)]
 pub enum State {
     /// Closed or created less than 6000 ms ago: it opens nothing and takes nothing.
     Quiet,

@@ -295,9 +295,8 @@ impl Link {
         ensures verdict { result ≡ (asking pdu.now.body pdu.now self.old).verdict }
     {
         match &pdu.body {
-            Body::ConnectionResponse(_) | Body::DisconnectionRequest { .. } if !self.answers_request(pdu) => {
-                Verdict::BadConfirm
-            }
+            Body::ConnectionResponse(_) | Body::DisconnectionRequest { .. }
+                if !self.answers_request(pdu) => { Verdict::BadConfirm }
             Body::ConnectionResponse(opening) => {
                 self.join(pdu, opening, outbox);
                 Verdict::Taken

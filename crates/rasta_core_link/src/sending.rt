@@ -45,7 +45,9 @@ impl Link {
         ensures { result ≡ header_of self.now }
     {
         let asking = self.is_asking();
-        let last_taken = self.partner_first.wrapping_add(self.expected.wrapping_sub(1));
+        let last_taken = self
+            .partner_first
+            .wrapping_add(self.expected.wrapping_sub(1));
         Header {
             receiver: self.identity.partner,
             sender: self.identity.own,
@@ -133,7 +135,7 @@ impl Link {
         ensures below { IsTrue (is_open self.new.phase) → self.new.sent < connection_limit }
         ensures room { HasRoomFor 23 outbox.new }
     {
-        self.settle(now);
+        self.apply_clock(now);
         self.limit(outbox);
     }
 
@@ -161,7 +163,10 @@ impl Link {
     {
         let tag = self.sent;
         self.dispatch(Body::Data(Items::one(item.copy())), outbox);
-        let _ = self.waiting.try_push_back(Unconfirmed { tag, item: item.copy() });
+        let _ = self.waiting.try_push_back(Unconfirmed {
+            tag,
+            item: item.copy(),
+        });
         self.given = self.given.saturating_add(1);
     }
 

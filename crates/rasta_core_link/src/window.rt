@@ -47,8 +47,14 @@ pub(crate) fn repeat(
     for index in 0..waiting.len() {
         if let Some(first) = waiting.pop_front() {
             let tag = count + index as u32;
-            outbox.post(key, header.pdu(tag, Body::RetransmittedData(Items::one(first.item.copy()))));
-            let _ = waiting.try_push_back(Unconfirmed { tag, item: first.item });
+            outbox.post(
+                key,
+                header.pdu(tag, Body::RetransmittedData(Items::one(first.item.copy()))),
+            );
+            let _ = waiting.try_push_back(Unconfirmed {
+                tag,
+                item: first.item,
+            });
         }
     }
 }

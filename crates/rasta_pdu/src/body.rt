@@ -13,7 +13,7 @@ pub struct Opening {
     pub reserved: [u8; 8],
 }
 
-/// The types of PDUs with what each carries, in the order of their numbers.
+/// The types of PDUs with what each carries, in the order of their numbers, which are this profile's.
 #[derive(Debug, PartialEq, Eq, Drop)]
 pub enum Body {
     /// Type 6200: a client asks for a connection.

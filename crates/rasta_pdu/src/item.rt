@@ -7,7 +7,7 @@ use arrayvec::ArrayVec;
 use std::marker::Model;
 
 /// The most bytes that an item has.
-pub(crate) const LONGEST: usize = 61;
+const LONGEST: usize = 61;
 
 /// A message of the layer above: 1 to 61 bytes.
 #[derive(Debug, PartialEq, Eq, Drop)]
@@ -55,7 +55,7 @@ impl Item {
         ensures fits { IsItem self.now }
     {
         let mut bytes = ArrayVec::new();
-        let _ = bytes.try_extend_from_slice(self.bytes.as_slice());
+        let _ = bytes.try_extend_from_slice(self.bytes());
         Item { bytes }
     }
 }

@@ -1,10 +1,12 @@
 //! What holds of reading and writing as functions of values, for the models of crates above.
 
-ghost use Rattle.std.specs.Prelude.{◌≡◌, ◌≤◌, ℕ, List, length, Ok};
+ghost use Rattle.std.specs.Prelude.{◌≡◌, ◌≤◌, ◌↔◌, ℕ, List, length, Ok, Err, IsTrue};
+ghost use Rattle.rasta_pdu.specs.Faults.{IsFault};
 ghost use Rattle.rasta_pdu.specs.Reading.{reading};
-ghost use Rattle.rasta_pdu.specs.SafetyCode.{IsIntact};
+ghost use Rattle.rasta_pdu.specs.SafetyCode.{IsIntact, intact};
 ghost use Rattle.rasta_pdu.specs.Spelling.{Spells, writing};
 ghost use Rattle.rasta_pdu.specs.Values.{IsBytes, IsPdu};
+ghost use Rattle.rasta_pdu.specs.declared.fault.PduFault.{PduFault};
 ghost use Rattle.rasta_pdu.specs.declared.key.Key.{Key};
 ghost use Rattle.rasta_pdu.specs.declared.pdu.Pdu.{Pdu};
 
@@ -27,4 +29,15 @@ pub fn read_was_written()
     ensures intact { (key : Key) (bytes : List ℕ) (pdu : Pdu) → reading key bytes ≡ Ok pdu → IsIntact key bytes }
     ensures written { (key : Key) (bytes : List ℕ) (pdu : Pdu) → IsBytes bytes → reading key bytes ≡ Ok pdu
         → IsPdu pdu × (bytes ≡ writing key pdu) }
+{}
+
+/// The fault that is told under a key is the one whose test is the first to fail.
+pub fn the_first_fault_is_told()
+    ensures { (key : Key) (bytes : List ℕ) (fault : PduFault) → IsBytes bytes
+        → (reading key bytes ≡ Err fault) ↔ IsFault key bytes fault }
+{}
+
+/// The test for intact bytes is true exactly of intact bytes.
+pub fn intact_is_tested()
+    ensures { (key : Key) (bytes : List ℕ) → IsTrue (intact key bytes) ↔ IsIntact key bytes }
 {}

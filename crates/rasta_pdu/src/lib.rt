@@ -20,8 +20,13 @@ pub use fault::PduFault;
 pub use item::Item;
 pub use items::Items;
 pub use key::Key;
-pub use laws::{one_spelling_each, read_was_written, written_is_read};
+pub use laws::{
+    intact_is_tested, one_spelling_each, read_was_written, the_first_fault_is_told, written_is_read,
+};
 pub use pdu::Pdu;
 pub use reading::read;
 pub use safety_code::is_intact;
 pub use writing::{Datagram, write};
+
+#[cfg(test)]
+mod tests;

@@ -2,7 +2,8 @@
 
 use crate::body::Body;
 
-/// A PDU. Its length and its safety code follow from it, and aren't kept.
+/// A PDU, with its fields in the order of DIN VDE V 0831-200. Its length and its safety code follow from it,
+/// and aren't kept.
 #[derive(Debug, PartialEq, Eq, Drop)]
 pub struct Pdu {
     /// Who it is for.

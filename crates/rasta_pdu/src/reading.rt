@@ -10,7 +10,7 @@ ghost use Rattle.rasta_pdu.specs.declared.pdu.Pdu.{Pdu};
 
 use crate::body::{Body, Opening};
 use crate::fault::PduFault;
-use crate::item::{Item, LONGEST};
+use crate::item::Item;
 use crate::items::{Items, MOST};
 use crate::key::Key;
 use crate::numbers::{u16_at, u32_at};

@@ -9,7 +9,7 @@ use crate::key::Key;
 use byteorder::{ByteOrder, LittleEndian};
 
 /// How many bytes the safety code has.
-pub(crate) const CODE_LENGTH: usize = 8;
+const CODE_LENGTH: usize = 8;
 
 /// How many bytes of fields every PDU begins with.
 pub(crate) const FIELDS_LENGTH: usize = 28;

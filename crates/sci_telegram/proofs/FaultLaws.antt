@@ -1,17 +1,17 @@
 -- Each fault is the first test that fails.
-use Rattle.std.proofs.Common.{◌≡◌, ℕ, ◌≤◌, Bool, true, false, not, eqb, ltb, List, length, Option, Some, None, Result, Ok, Err, refl, sym, ap, ◌∙◌, subst, ⊎_elim}
-use Rattle.std.proofs.lemmas.Bool.{ltb-true, ltb-false, eqb-true, eqb-false, not-true, not-false}
+use Rattle.std.proofs.Common.{◌≡◌, ℕ, ◌≤◌, not, eqb, ltb, List, length, Some, None, Err, sym, ap, ◌∙◌, subst, ⊎_elim}
+use Rattle.std.proofs.lemmas.Bool.{cond-true, cond-false, lt-ltb, le-ltb, eq-eqb, ne_eqb, ltb-true, ltb-false, eqb-true, eqb-false, not-true, not-false}
 use Rattle.sci_telegram.specs.declared.fault.SciFault.{SciFault}
 use Rattle.sci_telegram.specs.declared.fault.SciFault.TheVariants as faults
 use Rattle.sci_telegram.specs.declared.kind.Kind.{Kind}
 use Rattle.sci_telegram.specs.declared.message.Message.{Message}
 use Rattle.sci_telegram.specs.declared.message.Protocol.{Protocol}
-use Rattle.sci_telegram.specs.Messages.{protocol_of, protocol_byte, type_number, payload}
-use Rattle.sci_telegram.specs.Reading.{◌>>=◌, protocol_field, type_field, sender_field, receiver_field, payload_field, protocol_at, kind_at, payload_length, name_spelled, message_in, telegram_in, reading}
+use Rattle.sci_telegram.specs.Messages.{protocol_of, protocol_byte, payload}
+use Rattle.sci_telegram.specs.Reading.{protocol_field, type_field, sender_field, receiver_field, payload_field, protocol_at, kind_at, payload_length, name_spelled, message_in, telegram_in, reading}
 use Rattle.sci_telegram.specs.Faults.{HasProtocol, HasType, HasLength, HasNames, IsFault}
-use Rattle.sci_telegram.proofs.Steps.{bind_err, guard_err, some_or_none, same_some}
-use Rattle.sci_telegram.proofs.NameFields.{spelled_takes, spells_none}
-use Rattle.sci_telegram.proofs.Tables.{protocol_takes, protocol_again, kind_of, kind_takes, kind_again, length_again, message_again, some_message, some_of_row}
+use Rattle.sci_telegram.proofs.Steps.{bind_some, bind_none, is_none, cases_option, bind_err, guard_err, some_or_none, same_some}
+use Rattle.sci_telegram.proofs.NameFields.{spelled_takes, spelled_again, spells_none}
+use Rattle.sci_telegram.proofs.Tables.{protocol_takes, protocol_again, kind_of, Carries, message_takes, kind_takes, kind_again, length_again, message_again, some_message, some_of_row}
 
 -- the row that was found is that of every message which has the protocol and type of these bytes
 record AtRow (bytes : List ℕ) (p : Protocol) (k : Kind) : Type 0 where
@@ -56,9 +56,12 @@ at_value : (bytes : List ℕ) (p : Protocol) (k : Kind) (s r : List ℕ) → 43 
 at_value bytes p k s r long at sized sender receiver none =
     let s_is = spelled_takes (sender_field bytes) s sender in
     let r_is = spelled_takes (receiver_field bytes) r receiver in
-    let names : HasNames bytes s r = record { sender_is_name = s_is.0; receiver_is_name = r_is.0; sender_spelled = s_is.1; receiver_spelled = r_is.1 } in
-    (long, (some_message p k, row_has_length bytes p k at sized), (s, r, names),
-     λ m has same. some_or_none _ m (ap (λ (q : Protocol). message_in q k (payload_field bytes)) (same_protocol bytes p m at.protocol has) ∙ ap (λ (j : Kind). message_in (protocol_of m) j (payload_field bytes)) (same_kind bytes p k m at has) ∙ ap (message_in (protocol_of m) (kind_of m)) same ∙ message_again m) none)
+    let names : HasNames bytes s r = record { sender_is_name = s_is.0; receiver_is_name = r_is.0; sender_spelled = s_is.1; receiver_spelled = r_is.1 } in (
+      long,
+      (some_message p k, row_has_length bytes p k at sized),
+      (s, r, names),
+      λ m has same. some_or_none _ m (ap (λ (q : Protocol). message_in q k (payload_field bytes)) (same_protocol bytes p m at.protocol has) ∙ ap (λ (j : Kind). message_in (protocol_of m) j (payload_field bytes)) (same_kind bytes p k m at has) ∙ ap (message_in (protocol_of m) (kind_of m)) same ∙ message_again m) none,
+    )
 
 -- the faults of names and payload
 in_fields : (bytes : List ℕ) (p : Protocol) (k : Kind) (fault : SciFault) → 43 ≤ length bytes → AtRow bytes p k → length (payload_field bytes) ≡ payload_length k → telegram_in p k (sender_field bytes) (receiver_field bytes) (payload_field bytes) ≡ Err fault → IsFault bytes fault
@@ -85,3 +88,85 @@ fault_means bytes fault e =
     (bind_err (kind_at protocol.0 (type_field bytes)) faults.BadType fault _ protocol.2))
     (bind_err (protocol_at (protocol_field bytes)) faults.Protocol fault _ long.1))
     (guard_err (ltb (length bytes) 43) faults.Short fault _ e)
+
+-- ---- where a test fails, its fault is told
+
+reading_at : (bytes : List ℕ) (p : Protocol) (k : Kind) → 43 ≤ length bytes → AtRow bytes p k → length (payload_field bytes) ≡ payload_length k → reading bytes ≡ telegram_in p k (sender_field bytes) (receiver_field bytes) (payload_field bytes)
+unfolding reading
+reading_at bytes p k long at sized =
+    cond-false (ltb (length bytes) 43) _ _ (le-ltb (length bytes) 43 long)
+    ∙ bind_some (protocol_at (protocol_field bytes)) faults.Protocol _ p at.protocol
+    ∙ bind_some (kind_at p (type_field bytes)) faults.BadType _ k at.kind
+    ∙ cond-false (not (eqb (length (payload_field bytes)) (payload_length k))) _ _ (ap not (eq-eqb _ _ sized))
+
+row_of : (bytes : List ℕ) (m : Message) → HasType bytes m → AtRow bytes (protocol_of m) (kind_of m)
+row_of bytes m has =
+    record { protocol = ap protocol_at has.protocol ∙ protocol_again (protocol_of m); kind = ap (kind_at (protocol_of m)) has.type_number ∙ kind_again m }
+
+told_protocol : (bytes : List ℕ) → 43 ≤ length bytes → ((p : Protocol) → HasProtocol bytes p → ⊥) → reading bytes ≡ Err faults.Protocol
+unfolding reading
+told_protocol bytes long none =
+    cond-false (ltb (length bytes) 43) _ _ (le-ltb (length bytes) 43 long)
+    ∙ bind_none (protocol_at (protocol_field bytes)) faults.Protocol _ (is_none _ (λ p e. none p (protocol_takes _ p e)))
+
+told_type : (bytes : List ℕ) (p : Protocol) → 43 ≤ length bytes → HasProtocol bytes p → ((m : Message) → HasType bytes m → ⊥) → reading bytes ≡ Err faults.BadType
+unfolding reading
+told_type bytes p long has none =
+    let at : protocol_at (protocol_field bytes) ≡ Some p = ap protocol_at has ∙ protocol_again p in
+    cond-false (ltb (length bytes) 43) _ _ (le-ltb (length bytes) 43 long)
+    ∙ bind_some (protocol_at (protocol_field bytes)) faults.Protocol _ p at
+    ∙ bind_none (kind_at p (type_field bytes)) faults.BadType _ (is_none _ (λ k e. none (some_message p k) (row_has bytes p k (record { protocol = at; kind = e }))))
+
+told_length : (bytes : List ℕ) (m : Message) → 43 ≤ length bytes → HasType bytes m → (HasLength bytes m → ⊥) → reading bytes ≡ Err faults.Length
+unfolding reading
+told_length bytes m long has none =
+    let at = row_of bytes m has in
+    cond-false (ltb (length bytes) 43) _ _ (le-ltb (length bytes) 43 long)
+    ∙ bind_some (protocol_at (protocol_field bytes)) faults.Protocol _ (protocol_of m) at.protocol
+    ∙ bind_some (kind_at (protocol_of m) (type_field bytes)) faults.BadType _ (kind_of m) at.kind
+    ∙ cond-true (not (eqb (length (payload_field bytes)) (payload_length (kind_of m)))) _ _ (ap not (ne_eqb _ _ (λ e. none (has, e ∙ sym (length_again m)))))
+
+told_in_names : (bytes : List ℕ) (p : Protocol) (k : Kind) → ((s r : List ℕ) → HasNames bytes s r → ⊥) → telegram_in p k (sender_field bytes) (receiver_field bytes) (payload_field bytes) ≡ Err faults.Name
+unfolding telegram_in
+told_in_names bytes p k none =
+    ⊎_elim (λ no_sender. bind_none (name_spelled (sender_field bytes)) faults.Name _ no_sender) (λ sender.
+    let sender_is = spelled_takes (sender_field bytes) sender.0 sender.1 in
+    bind_some (name_spelled (sender_field bytes)) faults.Name _ sender.0 sender.1
+    ∙ bind_none (name_spelled (receiver_field bytes)) faults.Name _ (is_none _ (λ r e.
+    let receiver_is = spelled_takes (receiver_field bytes) r e in
+    none sender.0 r (record { sender_is_name = sender_is.0; receiver_is_name = receiver_is.0; sender_spelled = sender_is.1; receiver_spelled = receiver_is.1 }))))
+    (cases_option (name_spelled (sender_field bytes)))
+
+told_in_value : (bytes : List ℕ) (p : Protocol) (k : Kind) (s r : List ℕ) → HasNames bytes s r → ((m : Message) → message_in p k (payload_field bytes) ≡ Some m → ⊥) → telegram_in p k (sender_field bytes) (receiver_field bytes) (payload_field bytes) ≡ Err faults.Value
+unfolding telegram_in
+told_in_value bytes p k s r names none =
+    bind_some (name_spelled (sender_field bytes)) faults.Name _ s (ap name_spelled names.sender_spelled ∙ spelled_again s names.sender_is_name)
+    ∙ bind_some (name_spelled (receiver_field bytes)) faults.Name _ r (ap name_spelled names.receiver_spelled ∙ spelled_again r names.receiver_is_name)
+    ∙ bind_none (message_in p k (payload_field bytes)) faults.Value _ (is_none _ none)
+
+-- what a row carries has its protocol and type
+carried_type : (bytes : List ℕ) (p : Protocol) (k : Kind) (m : Message) → AtRow bytes p k → Carries p k (payload_field bytes) m → HasType bytes m
+carried_type bytes p k m at carries =
+    let row = kind_takes p (type_field bytes) k at.kind in
+    record { protocol = protocol_takes _ p at.protocol ∙ ap protocol_byte (sym (carries.protocol ∙ row.1)); type_number = row.0 ∙ sym carries.number }
+
+told_value : (bytes s r : List ℕ) (m : Message) → 43 ≤ length bytes → HasLength bytes m → HasNames bytes s r → ((m : Message) → HasType bytes m → payload_field bytes ≡ payload m → ⊥) → reading bytes ≡ Err faults.Value
+told_value bytes s r m long has names none =
+    let p = protocol_of m in
+    let k = kind_of m in
+    let at = row_of bytes m has.0 in
+    let sized : length (payload_field bytes) ≡ payload_length k = has.1 ∙ length_again m in
+    reading_at bytes p k long at sized
+    ∙ told_in_value bytes p k s r names (λ other e. let carries = message_takes p k (payload_field bytes) other sized e in none other (carried_type bytes p k other at carries) carries.bytes_are)
+
+-- the fault of bytes is what reading them answers
+pub fault_told : (bytes : List ℕ) (fault : SciFault) → IsFault bytes fault → reading bytes ≡ Err fault
+unfolding reading
+fault_told bytes faults.Short h = cond-true (ltb (length bytes) 43) _ _ (lt-ltb (length bytes) 43 h)
+fault_told bytes faults.Protocol h = told_protocol bytes h.0 h.1
+fault_told bytes faults.BadType h = told_type bytes h.1.0 h.0 h.1.1 h.2
+fault_told bytes faults.Length h = told_length bytes h.1.0 h.0 h.1.1 (h.2 h.1.0)
+fault_told bytes faults.Name h =
+    let m = h.1.0 in
+    reading_at bytes (protocol_of m) (kind_of m) h.0 (row_of bytes m h.1.1.0) (h.1.1.1 ∙ length_again m) ∙ told_in_names bytes (protocol_of m) (kind_of m) h.2
+fault_told bytes faults.Value h = told_value bytes h.2.0 h.2.1 h.1.0 h.0 h.1.1 h.2.2 h.3

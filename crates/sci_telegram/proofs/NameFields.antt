@@ -1,10 +1,10 @@
 -- A name field, read from both sides.
-use Rattle.std.proofs.Common.{◌≡◌, ℕ, ◌-◌, ◌≤◌, Bool, true, cond, ◌&&◌, List, ◌++◌, length, replicate, Option, Some, None, refl, sym, ap, ◌∙◌, subst, arith}
+use Rattle.std.proofs.Common.{◌≡◌, ℕ, ◌-◌, Bool, true, cond, ◌&&◌, List, length, replicate, Some, None, refl, sym, ap, ◌∙◌, subst, arith}
 use Rattle.std.specs.Str.{bytes_eq}
 use Rattle.std.proofs.lemmas.Bool.{and_parts, and_from, leb-true, le-leb}
 use Rattle.std.proofs.lemmas.List.{length-append, length-replicate}
 use Rattle.std.proofs.lemmas.Slice.Eq.{bytes_eq-Decides}
-use Rattle.sci_telegram.specs.Names.{is_name, is_name_byte, IsName, name_field, name_in}
+use Rattle.sci_telegram.specs.Names.{is_name, IsName, name_field, name_in}
 use Rattle.sci_telegram.specs.Reading.{name_spelled}
 use Rattle.sci_telegram.proofs.Names.{name_in-name_field}
 use Rattle.sci_telegram.proofs.Steps.{test_some, some_is, some_or_none}

@@ -14,6 +14,18 @@ bind_ok None own f y e = absurd cc
 pub bind_some : {A B : Type 0} (o : Option A) (own : SciFault) (f : A → Result B SciFault) (x : A) → o ≡ Some x → (ok_or o own >>= f) ≡ f x
 bind_some o own f x e = ap (λ (o : Option _). ok_or o own >>= f) e
 
+-- a step that gives none
+pub bind_none : {A B : Type 0} (o : Option A) (own : SciFault) (f : A → Result B SciFault) → o ≡ None → (ok_or o own >>= f) ≡ Err own
+bind_none o own f e = ap (λ (o : Option _). ok_or o own >>= f) e
+
+pub is_none : {A : Type 0} (o : Option A) → ((x : A) → o ≡ Some x → ⊥) → o ≡ None
+is_none (Some x) h = absurd (h x refl)
+is_none None h = refl
+
+pub cases_option : {A : Type 0} (o : Option A) → (o ≡ None) ⊎ ((x : A) × (o ≡ Some x))
+cases_option (Some x) = inr (x, refl)
+cases_option None = inl refl
+
 -- where a fault came from
 pub bind_err : {A B : Type 0} (o : Option A) (own fault : SciFault) (f : A → Result B SciFault) → (ok_or o own >>= f) ≡ Err fault → ((o ≡ None) × (fault ≡ own)) ⊎ ((x : A) × (o ≡ Some x) × (f x ≡ Err fault))
 bind_err (Some x) own fault f e = inr (x, refl, e)

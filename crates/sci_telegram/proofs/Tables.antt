@@ -1,5 +1,5 @@
 -- The tables, read from both sides: what a byte or a type number stands for is what is written so.
-use Rattle.std.proofs.Common.{◌≡◌, ℕ, ◌<◌, ◌^◌, Bool, true, false, cond, List, [], ◌∷◌, ◌++◌, length, drop, replicate, slice_index, Option, Some, None, refl, sym, ap, ◌∙◌, subst, arith, lit<}
+use Rattle.std.proofs.Common.{◌≡◌, ℕ, ◌<◌, ◌≤◌, ◌^◌, List, [], ◌∷◌, length, replicate, slice_index, Some, None, refl, ap, ◌∙◌, subst, arith, lit<, lit≤}
 use Rattle.std.specs.Option.{option_map}
 use Rattle.std.specs.Str.{bytes_eq}
 use Rattle.std.proofs.lemmas.Bool.Decides.{nat_tests}
@@ -327,3 +327,16 @@ some_of_row p kinds.Timeout = record { protocol = refl; number = refl; length_is
 some_of_row p kinds.IndicateAspect = record { protocol = refl; number = refl; length_is = refl }
 some_of_row p kinds.IndicatedAspect = record { protocol = refl; number = refl; length_is = refl }
 some_of_row p kinds.OccupancyStatus = record { protocol = refl; number = refl; length_is = refl }
+
+pub row_length_fits : (k : Kind) → payload_length k ≤ 18
+row_length_fits kinds.InitialisationRequest = lit≤ tt
+row_length_fits kinds.StartInitialisation = lit≤ tt
+row_length_fits kinds.InitialisationCompleted = lit≤ tt
+row_length_fits kinds.VersionCheck = lit≤ tt
+row_length_fits kinds.VersionAnswer = lit≤ tt
+row_length_fits kinds.MovePoint = lit≤ tt
+row_length_fits kinds.PointPosition = lit≤ tt
+row_length_fits kinds.Timeout = lit≤ tt
+row_length_fits kinds.IndicateAspect = lit≤ tt
+row_length_fits kinds.IndicatedAspect = lit≤ tt
+row_length_fits kinds.OccupancyStatus = lit≤ tt

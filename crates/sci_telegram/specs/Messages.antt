@@ -68,7 +68,11 @@ abbrev pub occupancy_byte : Occupancy → ℕ
 occupancy_byte Clear = 1
 occupancy_byte Occupied = 2
 
--- the payload; behind an aspect stand 17 bytes that say nothing
+-- an aspect, and behind it 17 bytes that say nothing
+abbrev pub aspect_payload : Aspect → List ℕ
+aspect_payload aspect = aspect_byte aspect ∷ replicate 17 0xFF
+
+-- the payload
 abbrev pub payload : Message → List ℕ
 payload (Initialisation protocol InitialisationRequest) = []
 payload (Initialisation protocol StartInitialisation) = []
@@ -78,6 +82,6 @@ payload (Initialisation protocol (VersionAnswer agreement version)) = agreement_
 payload (Point (MovePoint side)) = side_byte side ∷ []
 payload (Point (PointPosition position)) = position_byte position ∷ []
 payload (Point Timeout) = []
-payload (Signal (IndicateAspect aspect)) = aspect_byte aspect ∷ replicate 17 0xFF
-payload (Signal (IndicatedAspect aspect)) = aspect_byte aspect ∷ replicate 17 0xFF
+payload (Signal (IndicateAspect aspect)) = aspect_payload aspect
+payload (Signal (IndicatedAspect aspect)) = aspect_payload aspect
 payload (Detection (OccupancyStatus occupancy)) = occupancy_byte occupancy ∷ []

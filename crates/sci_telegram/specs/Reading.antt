@@ -1,5 +1,5 @@
 -- Reading a telegram from bytes, with the first fault in the order of the tests.
-use Rattle.std.specs.Prelude.{ℕ, ◌<◌, Bool, not, ◌&&◌, ◌==◌, nat_lt, if◌then◌else◌, List, [], ◌∷◌, length, take, drop, replicate, slice_index, Option, Some, None, Result, Ok, Err}
+use Rattle.std.specs.Prelude.{ℕ, not, ◌&&◌, ◌==◌, nat_lt, if◌then◌else◌, List, [], ◌∷◌, length, take, drop, replicate, slice_index, Option, Some, None, Result, Ok, Err}
 use Rattle.std.specs.Int.{w16, from_le_bytes}
 use Rattle.std.specs.Option.{ok_or, option_map}
 use Rattle.std.specs.Str.{bytes_eq}

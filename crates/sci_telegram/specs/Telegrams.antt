@@ -1,6 +1,6 @@
 -- Which values a telegram can have, and its one spelling in bytes (this profile). The type number is
 -- written low-order byte first.
-use Rattle.std.specs.Prelude.{ℕ, ◌<◌, List, [], ◌∷◌, ◌++◌}
+use Rattle.std.specs.Prelude.{◌≡◌, ℕ, ◌<◌, List, [], ◌∷◌, ◌++◌}
 use Rattle.std.specs.Int.{w16, to_le_bytes}
 use Rattle.sci_telegram.specs.declared.message.Initialisation.TheVariants.{InitialisationRequest, StartInitialisation, InitialisationCompleted, VersionCheck, VersionAnswer}
 use Rattle.sci_telegram.specs.declared.message.Message.{Message}
@@ -26,10 +26,14 @@ pub record IsTelegram (telegram : Telegram) : Type 0 where
   pub message : IsMessage telegram.message
 
 -- protocol, type, sender and receiver: 43 bytes, and behind them the payload
-unfoldable pub spelling : Telegram → List ℕ
-spelling telegram =
+unfoldable pub writing : Telegram → List ℕ
+writing telegram =
     (protocol_byte (protocol_of telegram.message) ∷ [])
     ++ to_le_bytes w16 (type_number telegram.message)
     ++ name_field telegram.sender
     ++ name_field telegram.receiver
     ++ payload telegram.message
+
+-- these bytes are this telegram
+abbrev pub Spells : Telegram → List ℕ → Type 0
+Spells telegram bytes = IsTelegram telegram × (bytes ≡ writing telegram)

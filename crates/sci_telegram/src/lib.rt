@@ -5,13 +5,16 @@
 mod codes;
 mod fault;
 mod kind;
+mod laws;
 mod message;
 mod name;
 mod reading;
 mod telegram;
 mod types;
+mod writing;
 
 pub use fault::SciFault;
+pub use laws::{first_fault_is_read, one_spelling_each, read_was_written, written_is_read};
 pub use message::{
     Agreement, Aspect, DetectionMessage, Initialisation, Message, Occupancy, PointMessage,
     Position, Protocol, Side, SignalMessage,
@@ -19,3 +22,7 @@ pub use message::{
 pub use name::Name;
 pub use reading::read;
 pub use telegram::Telegram;
+pub use writing::write;
+
+#[cfg(test)]
+mod tests;

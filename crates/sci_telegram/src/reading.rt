@@ -1,7 +1,9 @@
 //! Bytes to telegrams.
 
-ghost use Rattle.std.specs.Prelude.{◌≡◌, ◌+◌, ◌≤◌, length, take, drop};
+ghost use Rattle.std.specs.Prelude.{◌≡◌, ◌+◌, ◌≤◌, Ok, Err, IfOk, IfErr, length, take, drop};
+ghost use Rattle.sci_telegram.specs.Faults.{IsFault};
 ghost use Rattle.sci_telegram.specs.Reading.{aspect_in, message_in, name_spelled, payload_length, reading};
+ghost use Rattle.sci_telegram.specs.Telegrams.{IsTelegram, writing};
 
 use crate::codes::{agreement_at, aspect_at, occupancy_at, position_at, protocol_at, side_at};
 use crate::fault::SciFault;
@@ -98,11 +100,10 @@ fn message_in(protocol: Protocol, kind: Kind, payload: &[u8]) -> Option<Message>
     }
 }
 
-/// The telegram that bytes spell, or what is wrong with them.
+/// The telegram that bytes spell, or the first fault.
 #[tactic(auto, unfolding(crate::specs::Reading::reading, crate::specs::Reading::telegram_in))]
-pub fn read(bytes: &[u8]) -> Result<Telegram, SciFault>
-    // What it answers is a function of the bytes.
-    ensures value { result ≡ reading bytes.now }
+fn read_value(bytes: &[u8]) -> Result<Telegram, SciFault>
+    ensures { result ≡ reading bytes.now }
 {
     if bytes.len() < HEADER_LENGTH {
         return Err(SciFault::Short);
@@ -122,4 +123,19 @@ pub fn read(bytes: &[u8]) -> Result<Telegram, SciFault>
         receiver,
         message,
     })
+}
+
+/// The telegram that bytes spell, or the first fault.
+pub fn read(bytes: &[u8]) -> Result<Telegram, SciFault>
+    // What it answers is a function of the bytes.
+    ensures value { result ≡ reading bytes.now }
+    // What is read is spelled so.
+    ensures found { IfOk result (λ telegram. IsTelegram telegram × (bytes.now ≡ writing telegram)) }
+    // What is spelled so is read.
+    ensures only { (telegram : Telegram) → IsTelegram telegram → bytes.now ≡ writing telegram → result ≡ Ok telegram }
+    // The fault is the one whose test is the first to fail, and there is one wherever a test fails.
+    ensures fault { IfErr result (IsFault bytes.now) }
+    ensures each { (fault : SciFault) → IsFault bytes.now fault → result ≡ Err fault }
+{
+    read_value(bytes)
 }

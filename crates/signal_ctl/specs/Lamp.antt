@@ -1,7 +1,7 @@
 -- A signal as its contracts see it. The rules are this project's own.
 use Rattle.std.specs.Prelude.{ℕ, nat_lt, if◌then◌else◌}
-use Rattle.signal_ctl.specs.declared.lamp.Aspect.{Aspect}
-use Rattle.signal_ctl.specs.declared.lamp.Aspect.TheVariants.{Stop, Proceed}
+use Rattle.sci_telegram.specs.declared.message.Aspect.{Aspect}
+use Rattle.sci_telegram.specs.declared.message.Aspect.TheVariants.{Stop, Proceed}
 
 -- what a signal was told: the last aspect since the last loss of its link, which is stop where there
 -- is none, and the moment of its own clock, in ms, from which it shows nothing but stop

@@ -2,14 +2,8 @@
 
 ghost use Rattle.std.specs.Prelude.{◌≡◌};
 
+use sci_telegram::Aspect;
 use std::marker::Model;
-
-/// What a signal shows to a train.
-#[derive(Clone, Copy, Debug, PartialEq, Eq)]
-pub enum Aspect {
-    Stop,
-    Proceed,
-}
 
 /// A signal. Contracts see it as a `Lamp`: the aspect last indicated since the last loss of its
 /// link, and the moment until which that aspect stands.

@@ -3,4 +3,5 @@
 
 mod lamp;
 
-pub use lamp::{Aspect, Signal};
+pub use lamp::Signal;
+pub use sci_telegram::Aspect;

@@ -1,5 +1,5 @@
 -- The events of a pair: which can happen, what they change, and what is answered.
-use Rattle.std.specs.Prelude.{ℕ, ◌+◌, ◌*◌, nat_le, nat_lt, ◌&&◌, not, Bool, true, false, List, [], ◌∷◌, Option, Some, None, is_none, if◌then◌else◌}
+use Rattle.std.specs.Prelude.{◌≡◌, ℕ, ◌+◌, ◌*◌, nat_le, nat_lt, ◌&&◌, not, Bool, true, false, List, [], ◌∷◌, Option, Some, None, is_none, if◌then◌else◌}
 use Rattle.rasta_core_link.specs.State.{LinkState}
 use Rattle.rasta_core_link.specs.Calls.{answer_to_send, created}
 use Rattle.rasta_core_link.specs.declared.identity.Identity.{Identity}
@@ -41,18 +41,24 @@ abbrev pub connection_of : Option Sent → ℕ
 connection_of None = 0
 connection_of (Some sent) = sent.connection
 
+-- why time can't go on so
+unfoldable pub refusal_of_time : ℕ → ℕ → ℕ → Ends → Option Refused
+refusal_of_time elapsed of_client of_server ends =
+    if not (keeps_time elapsed of_client && keeps_time elapsed of_server) then Some refused.Drift else
+    if nat_le (ends.time + elapsed) clock_limit && nat_le (ends.client.clock + of_client) clock_limit && nat_le (ends.server.clock + of_server) clock_limit then None else
+    Some refused.ClockLimit
+
+-- why bytes can't be delivered to an end: they are intact, and have no copy that can still be delivered
+unfoldable pub refusal_of_delivery : Role → List ℕ → Ends → Option Refused
+refusal_of_delivery who bytes ends =
+    if is_none (copy_of bytes ends) && intact (end_of who ends).link.identity.key bytes then Some refused.NeverSent else None
+
 -- why an event can't happen, if so
 unfoldable pub refusal : PairEvent → Ends → Option Refused
 refusal (event.Give who item) ends = None
 refusal (event.Tick who) ends = None
-refusal (event.Time elapsed of_client of_server) ends =
-    if not (keeps_time elapsed of_client && keeps_time elapsed of_server) then Some refused.Drift else
-    if nat_lt clock_limit (ends.time + elapsed) then Some refused.ClockLimit else
-    if nat_lt clock_limit (ends.client.clock + of_client) then Some refused.ClockLimit else
-    if nat_lt clock_limit (ends.server.clock + of_server) then Some refused.ClockLimit else
-    None
-refusal (event.Deliver who bytes) ends =
-    if intact (end_of who ends).link.identity.key bytes.items && is_none (copy_of bytes.items ends) then Some refused.NeverSent else None
+refusal (event.Time elapsed of_client of_server) ends = refusal_of_time elapsed of_client of_server ends
+refusal (event.Deliver who bytes) ends = refusal_of_delivery who bytes.items ends
 refusal (event.Lose bytes) ends = if has_copy bytes.items ends.sent then None else Some refused.NeverSent
 refusal (event.Close who why) ends = None
 refusal (event.Restart who clock first) ends = if nat_lt clock_limit (clock * 1000) then Some refused.ClockLimit else None
@@ -78,16 +84,13 @@ abbrev pub is_restart : PairEvent → Bool
 is_restart (event.Restart who clock first) = true
 is_restart _ = false
 
--- a list of events, in which those that can't happen change nothing
-unfoldable pub run : List PairEvent → PairState → PairState
-run [] pair = pair
-run (event ∷ later) pair = run later (if is_none (refusal event pair.ends) then happens event pair else pair)
-
--- how many of them can happen
-unfoldable pub accepted : List PairEvent → PairState → ℕ
-accepted [] pair = 0
-accepted (event ∷ later) pair =
-    if is_none (refusal event pair.ends) then accepted later (happens event pair) + 1 else accepted later pair
+-- a list of events is applied one after the other: those that can't happen change nothing, and neither do those
+-- for which memory is lacking. So many of them were accepted.
+pub data Runs : List PairEvent → PairState → ℕ → PairState → Type 0 where
+  stops : {pair : PairState} → Runs [] pair 0 pair
+  refuses : {event : PairEvent} {later : List PairEvent} {pair last : PairState} {count : ℕ} {why : Refused} → refusal event pair.ends ≡ Some why → Runs later pair count last → Runs (event ∷ later) pair count last
+  lacks_memory : {event : PairEvent} {later : List PairEvent} {pair last : PairState} {count : ℕ} → refusal event pair.ends ≡ None → Runs later pair count last → Runs (event ∷ later) pair count last
+  accepts : {event : PairEvent} {later : List PairEvent} {pair last : PairState} {count : ℕ} → refusal event pair.ends ≡ None → Runs later (happens event pair) count last → Runs (event ∷ later) pair (count + 1) last
 
 -- an end as it is made: with its clock at 0, in no connection
 abbrev pub new_end : Identity → EndState

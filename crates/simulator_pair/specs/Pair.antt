@@ -8,8 +8,8 @@ use Rattle.rasta_core_link.specs.declared.identity.Role.TheVariants as role
 use Rattle.rasta_core_ends.specs.Ends.{EndState, Call, outcome, reading_of}
 use Rattle.rasta_core_ends.specs.Run.{Ends, end_of, called}
 use Rattle.signal_ctl.specs.Lamp.{Lamp, aspect_shown}
-use Rattle.signal_ctl.specs.declared.lamp.Aspect.{Aspect}
-use Rattle.signal_ctl.specs.declared.lamp.Aspect.TheVariants.{Stop, Proceed}
+use Rattle.sci_telegram.specs.declared.message.Aspect.{Aspect}
+use Rattle.sci_telegram.specs.declared.message.Aspect.TheVariants.{Stop, Proceed}
 
 pub record PairState : Type 0 where
   pub ends : Ends
@@ -55,3 +55,8 @@ shown pair = aspect_shown pair.lamp (reading_of pair.ends.server.clock)
 
 abbrev pub new_lamp : Lamp
 new_lamp = record { indicated = Stop; until = 0 }
+
+-- a pair as its contracts see it: its state, and how many events have their memory already
+pub record PairView : Type 0 where
+  pub run : PairState
+  pub room : ℕ

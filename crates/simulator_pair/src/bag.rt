@@ -1,5 +1,13 @@
 //! The datagrams that were sent, oldest first.
 
+ghost use Rattle.std.specs.Prelude.{◌≡◌, ◌+◌, ◌≤◌, ◌++◌, [], length};
+ghost use Rattle.std.specs.Option.{option_map};
+ghost use Rattle.std.specs.Vec.{vec_len, vec_capacity};
+ghost use Rattle.rasta_core_ends.specs.Bag as spec;
+ghost use Rattle.rasta_core_ends.specs.Ends.{handed_out};
+ghost use Rattle.simulator_pair.specs.Order.{AreInOrder};
+ghost use Rattle.simulator_pair.specs.Events.{clock_limit};
+
 use rasta_core_ends::Sent;
 use rasta_core_link::{Outbox, Role};
 
@@ -7,16 +15,24 @@ use rasta_core_link::{Outbox, Role};
 const LIFETIME: u64 = 2_000_000;
 
 /// Whether it is a copy of these bytes that isn't lost.
-fn is_copy(sent: &Sent, bytes: &[u8]) -> bool {
+fn is_copy(sent: &Sent, bytes: &[u8]) -> bool
+    ensures { result ≡ spec.is_copy bytes.now sent.now }
+{
     !sent.is_lost() && sent.bytes() == bytes
 }
 
 /// The connection of the newest copy of these bytes that can still be delivered. The search goes from the newest
 /// datagram back, and ends at one that is too old.
-pub(crate) fn newest_copy(sent: &[Sent], time: u64, bytes: &[u8]) -> Option<usize> {
-    for index in (0..sent.len()).rev() {
+pub(crate) fn newest_copy(sent: &[Sent], time: u64, bytes: &[u8]) -> Option<usize>
+    requires in_order { AreInOrder time sent.now }
+    requires within { time ≤ clock_limit }
+    ensures { result ≡ option_map (λ s. s.connection) (spec.newest_copy time bytes.now sent.now) }
+{
+    let mut index = sent.len();
+    while index > 0 {
+        index -= 1;
         let one = &sent[index];
-        if time > one.at() + LIFETIME {
+        if one.at() + LIFETIME < time {
             return None;
         }
         if is_copy(one, bytes) {
@@ -26,20 +42,46 @@ pub(crate) fn newest_copy(sent: &[Sent], time: u64, bytes: &[u8]) -> Option<usiz
     None
 }
 
-/// The place of the oldest copy of these bytes.
-pub(crate) fn oldest_copy(sent: &[Sent], bytes: &[u8]) -> Option<usize> {
-    for (index, one) in sent.iter().enumerate() {
+/// Whether there is a copy of these bytes that isn't lost.
+pub(crate) fn has_copy(sent: &[Sent], bytes: &[u8]) -> bool
+    ensures { result ≡ spec.has_copy bytes.now sent.now }
+{
+    for one in sent {
         if is_copy(one, bytes) {
-            return Some(index);
+            return true;
         }
     }
-    None
+    false
+}
+
+/// The network loses the oldest copy of these bytes, if there is one.
+pub(crate) fn lose_oldest(sent: &mut [Sent], bytes: &[u8])
+    ensures { sent.new ≡ spec.without_oldest bytes.now sent.old }
+{
+    for one in sent.iter_mut() {
+        if is_copy(one, bytes) {
+            one.lose();
+            return;
+        }
+    }
 }
 
 /// What was handed out is sent, by this end in its connection.
-pub(crate) fn send_all(sent: &mut Vec<Sent>, outbox: &mut Outbox, time: u64, sender: Role, connection: Option<usize>) {
-    let connection = connection.unwrap_or(0);
+pub(crate) fn send_all(
+    sent: &mut Vec<Sent>,
+    outbox: &mut Outbox,
+    time: u64,
+    sender: Role,
+    connection: Option<usize>,
+)
+    requires { vec_len sent.old + length outbox.old.datagrams ≤ vec_capacity sent.old }
+    ensures items { sent.new.items ≡ sent.old.items ++ handed_out time sender connection outbox.old.datagrams }
+    ensures len { vec_len sent.new ≡ vec_len sent.old + length outbox.old.datagrams }
+    ensures capacity { vec_capacity sent.new ≡ vec_capacity sent.old }
+    ensures emptied { outbox.new ≡ record outbox.old { datagrams = [] } }
+{
+    let number = connection.unwrap_or(0);
     while let Some(datagram) = outbox.take_first() {
-        sent.push_reserved(Sent::new(datagram, time, sender, connection));
+        sent.push_reserved(Sent::new(datagram, time, sender, number));
     }
 }

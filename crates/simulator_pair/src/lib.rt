@@ -1,11 +1,13 @@
 //! A simulator of one link: two ends, the network between them, their clocks, and a lamp that the server keeps.
 #![tactic(auto)]
 
+mod applying;
 mod bag;
 mod event;
 mod lamp;
 mod node;
 mod pair;
+mod parts;
 
 pub use event::{Bytes, PairEvent, PairReply, Refused};
 pub use pair::Pair;

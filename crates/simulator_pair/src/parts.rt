@@ -1,27 +1,18 @@
-//! The parts of a pair, and what each event does to them.
+//! The parts of a pair, and what a call of an end does to them.
+
+ghost use Rattle.std.specs.Prelude.{◌≡◌, ◌≤◌};
+ghost use Rattle.simulator_pair.specs.Pair.{stepped};
+ghost use Rattle.simulator_pair.specs.Calling.{meant};
+ghost use Rattle.rasta_core_ends.specs.Run.{end_of};
+ghost use Rattle.rasta_core_link.specs.declared.identity.Role.TheVariants.{Client, Server};
 
 use crate::bag;
-use crate::event::{PairEvent, PairReply, Refused};
 use crate::lamp;
-use crate::node::Node;
+use crate::node::{Call, Node};
 use rasta_core_ends::Sent;
-use rasta_core_link::{Inbox, Millis, Outbox, Reason, Role, SendFault};
-use rasta_pdu::Item;
+use rasta_core_link::{Inbox, Outbox, Role, SendFault};
 use signal_ctl::Signal;
-use std::alloc::{AllocError, Global};
-
-/// How many datagrams an event may send at most, and how many items it may add to a list.
-const DATAGRAMS_FOR_EACH_EVENT: usize = 24;
-
-const ITEMS_FOR_EACH_EVENT: usize = 3;
-
-/// The greatest true time and the greatest clock, in microseconds.
-const CLOCK_LIMIT: u64 = 9_000_000_000_000_000;
-
-/// The identities of the two ends.
-pub(crate) const CLIENT: u32 = 1;
-
-pub(crate) const SERVER: u32 = 2;
+use std::alloc::Global;
 
 /// All that a pair consists of.
 #[derive(Debug, Drop)]
@@ -33,10 +24,71 @@ pub(crate) struct Parts {
     /// Every datagram sent, oldest first; those not lost are the bag.
     pub(crate) sent: Vec<Sent>,
     pub(crate) lamp: Signal,
-    /// What the present step hands out; empty between steps.
+    /// What the present call hands out, and the items that it took; both empty between calls.
     pub(crate) outbox: Outbox,
     pub(crate) inbox: Inbox,
     /// How many events have their memory already.
     pub(crate) room: usize,
     pub(crate) alloc: Global,
+}
+
+impl Parts {
+    ghost use Rattle.simulator_pair.specs.Seen.{seen_end};
+    ghost use Rattle.simulator_pair.specs.Calling.{answer_of};
+    ghost use Rattle.simulator_pair.specs.Parts.{seen, AreSound, HaveRoom, KeepRoom};
+
+    /// A call of the client's link.
+    fn call_client(&mut self, call: &Call) -> Result<(), SendFault>
+        requires sound { AreSound self.old }
+        requires room { HaveRoom 1 self.old }
+        ensures step { seen self.new ≡ stepped Client (meant call.now) (seen self.old) }
+        ensures answer { result ≡ answer_of (meant call.now) (seen_end self.old.client) }
+        ensures sound { AreSound self.new }
+        ensures room { KeepRoom 1 self.old self.new }
+    {
+        let moment = self.sent.len();
+        let answer = self.client.call(call, moment, &mut self.outbox, &mut self.inbox);
+        self.inbox.clear();
+        let connection = self.client.connection;
+        bag::send_all(&mut self.sent, &mut self.outbox, self.time, Role::Client, connection);
+        answer
+    }
+
+    /// A call of the server's link. Its lamp is told of a loss since the last one before anything else, then of
+    /// what was taken, and then of a loss in the call.
+    fn call_server(&mut self, call: &Call) -> Result<(), SendFault>
+        requires sound { AreSound self.old }
+        requires room { HaveRoom 1 self.old }
+        ensures step { seen self.new ≡ stepped Server (meant call.now) (seen self.old) }
+        ensures answer { result ≡ answer_of (meant call.now) (seen_end self.old.server) }
+        ensures sound { AreSound self.new }
+        ensures room { KeepRoom 1 self.old self.new }
+    {
+        let moment = self.sent.len();
+        lamp::lose_if_closed(&mut self.lamp, &self.server.link);
+        let answer = self.server.call(call, moment, &mut self.outbox, &mut self.inbox);
+        lamp::indicate_all(&mut self.lamp, self.inbox.as_slice());
+        self.inbox.clear();
+        lamp::lose_if_closed(&mut self.lamp, &self.server.link);
+        self.lamp.keep(self.server.link.alive_until());
+        let connection = self.server.connection;
+        bag::send_all(&mut self.sent, &mut self.outbox, self.time, Role::Server, connection);
+        answer
+    }
+
+    /// A call of the link of an end.
+    #[tactic(auto, unfolding(crate::specs::Parts::seen, crate::specs::Parts::seen_ends))]
+    pub(crate) fn call(&mut self, who: Role, call: &Call) -> Result<(), SendFault>
+        requires sound { AreSound self.old }
+        requires room { HaveRoom 1 self.old }
+        ensures step { seen self.new ≡ stepped who (meant call.now) (seen self.old) }
+        ensures answer { result ≡ answer_of (meant call.now) (end_of who (seen self.old).ends) }
+        ensures sound { AreSound self.new }
+        ensures room { KeepRoom 1 self.old self.new }
+    {
+        match who {
+            Role::Client => self.call_client(call),
+            Role::Server => self.call_server(call),
+        }
+    }
 }

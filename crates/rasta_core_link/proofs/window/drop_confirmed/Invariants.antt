@@ -5,7 +5,7 @@ use Rattle.rasta_core_link.proofs.window.drop_confirmed.Given as goal
 abbrev pub invariant-loop-first : goal.invariant-loop-first
 invariant-loop-first l = record {
   still_to_drop : still_waiting l.confirmed l.waiting.items ≡ still_waiting l.confirmed l.fn.waiting.items;
-  capacity : l.waiting.capacity ≡ l.fn.waiting.capacity
+  capacity : l.waiting.capacity ≡ l.fn.waiting.capacity;
 }
 
 abbrev pub decreases-loop-first : goal.decreases-loop-first

@@ -1,0 +1,7 @@
+use Rattle.std.proofs.Common.{◌≤◌, take}
+use Rattle.simulator_pair.specs.Events.{Runs}
+use Rattle.simulator_pair.proofs.pair.Pair.run.Given as goal
+
+abbrev pub invariant-loop-event : goal.invariant-loop-event
+invariant-loop-event l =
+    Runs (take l.event-index l.events) l.initial.self.run l.accepted l.self.run × (l.accepted ≤ l.event-index)

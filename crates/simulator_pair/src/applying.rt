@@ -1,0 +1,281 @@
+//! What each event does to the parts of a pair.
+
+ghost use Rattle.std.specs.Prelude.{◌≡◌, ◌≢◌, ◌≤◌, ◌<◌, ◌+◌, ◌*◌, ◌⊎◌, nat_le, None, Some, Ok, Err, IfOk, IfErr, OnOk, OnErr, IsTrue};
+ghost use Rattle.rasta_core_ends.specs.Run.{end_of, later, lost, restarted};
+ghost use Rattle.rasta_core_ends.specs.Ends.{reading_of};
+ghost use Rattle.rasta_core_ends.specs.Ends as ends;
+ghost use Rattle.rasta_core_ends.specs.Bag.{has_copy};
+ghost use Rattle.rasta_core_link.specs.Calls.{answer_to_send};
+ghost use Rattle.rasta_core_link.specs.declared.identity.Role.TheVariants.{Client, Server};
+ghost use Rattle.rasta_pdu.specs.SafetyCode.{intact};
+ghost use Rattle.simulator_pair.specs.Pair.{stepped};
+ghost use Rattle.simulator_pair.specs.declared.event.PairEvent.TheVariants as event;
+ghost use Rattle.simulator_pair.specs.declared.event.Refused.TheVariants.{OutOfMemory};
+ghost use Rattle.simulator_pair.specs.Events.{refusal, refusal_of_time, refusal_of_delivery, keeps_time, happens, reply_to, is_restart, copy_of, connection_of, clock_limit};
+
+use crate::bag;
+use crate::event::{Bytes, PairEvent, PairReply, Refused};
+use crate::node::{Call, Node};
+use crate::parts::Parts;
+use rasta_core_link::{Millis, Role};
+use rasta_pdu::is_intact;
+use signal_ctl::Signal;
+use std::alloc::AllocError;
+
+/// The greatest true time and the greatest clock, in microseconds.
+const CLOCK_LIMIT: u64 = 9_000_000_000_000_000;
+
+/// How many microseconds a millisecond has.
+const MICROS: u64 = 1000;
+
+/// How many datagrams an event sends at most, and how many items it adds to a list: it makes at most two calls.
+const DATAGRAMS_FOR_EACH_EVENT: usize = 48;
+
+const ITEMS_FOR_EACH_EVENT: usize = 6;
+
+/// Whether a clock that goes on by so much in a true time keeps within one part in a thousand of it.
+fn keeps_time(elapsed: u64, of_clock: u64) -> bool
+    ensures { result ≡ keeps_time elapsed of_clock }
+{
+    let (elapsed, of_clock) = (u128::from(elapsed), u128::from(of_clock));
+    999 * elapsed <= 1000 * of_clock && 1000 * of_clock <= 1001 * elapsed
+}
+
+/// Whether a time or a clock may go on by so much.
+fn is_within(now: u64, elapsed: u64) -> bool
+    requires { now ≤ clock_limit }
+    ensures { result ≡ nat_le (now + elapsed) clock_limit }
+{
+    elapsed <= CLOCK_LIMIT - now
+}
+
+/// The same bytes again.
+fn copied(bytes: &Bytes) -> Bytes
+    ensures { result.items ≡ bytes.now.items }
+{
+    let mut copy = Bytes::new();
+    let _ = copy.try_extend_from_slice(bytes.as_slice());
+    copy
+}
+
+impl Parts {
+    ghost use Rattle.simulator_pair.specs.Parts.{seen, seen_ends, AreSound, HaveRoom, KeepRoom, IsPair};
+    ghost use Rattle.simulator_pair.specs.Seen.{seen_end};
+
+    #[tactic(auto, unfolding(crate::specs::Parts::seen_ends))]
+    pub(crate) fn end(&self, who: Role) -> &Node
+        ensures { seen_end result.now ≡ end_of who (seen_ends self.now) }
+    {
+        match who {
+            Role::Client => &self.client,
+            Role::Server => &self.server,
+        }
+    }
+
+    /// Why time can't go on so.
+    #[tactic(auto, unfolding(crate::specs::Events::refusal_of_time, crate::specs::Parts::seen_ends, crate::specs::Seen::seen_end))]
+    fn refusal_of_time(&self, elapsed: u64, of_client: u64, of_server: u64) -> Option<Refused>
+        requires { AreSound self.now }
+        ensures value { result ≡ refusal_of_time elapsed of_client of_server (seen_ends self.now) }
+        ensures not_memory { result ≢ Some OutOfMemory }
+    {
+        if !keeps_time(elapsed, of_client) || !keeps_time(elapsed, of_server) {
+            return Some(Refused::Drift);
+        }
+        let within = is_within(self.time, elapsed)
+            && is_within(self.client.clock, of_client)
+            && is_within(self.server.clock, of_server);
+        if within {
+            None
+        } else {
+            Some(Refused::ClockLimit)
+        }
+    }
+
+    /// Why bytes can't be delivered to an end.
+    #[tactic(auto, unfolding(crate::specs::Events::refusal_of_delivery, crate::specs::Parts::seen_ends, crate::specs::Seen::seen_end))]
+    fn refusal_of_delivery(&self, who: Role, bytes: &Bytes) -> Option<Refused>
+        requires { AreSound self.now }
+        ensures value { result ≡ refusal_of_delivery who bytes.now.items (seen_ends self.now) }
+        ensures not_memory { result ≢ Some OutOfMemory }
+    {
+        let key = self.end(who).link.identity().key;
+        let copy = bag::newest_copy(self.sent.as_slice(), self.time, bytes.as_slice());
+        if copy.is_none() && is_intact(&key, bytes.as_slice()) {
+            return Some(Refused::NeverSent);
+        }
+        None
+    }
+
+    /// Why an event can't happen, if so.
+    #[tactic(auto, unfolding(crate::specs::Events::refusal, crate::specs::Parts::seen_ends))]
+    pub(crate) fn refusal(&self, event: &PairEvent) -> Option<Refused>
+        requires { AreSound self.now }
+        ensures value { result ≡ refusal event.now (seen_ends self.now) }
+        ensures not_memory { result ≢ Some OutOfMemory }
+    {
+        match event {
+            PairEvent::Time { elapsed, of_client, of_server } => self.refusal_of_time(*elapsed, *of_client, *of_server),
+            PairEvent::Deliver(who, bytes) => self.refusal_of_delivery(*who, bytes),
+            PairEvent::Lose(bytes) if !bag::has_copy(self.sent.as_slice(), bytes.as_slice()) => Some(Refused::NeverSent),
+            PairEvent::Restart { clock, .. } if *clock > CLOCK_LIMIT / MICROS => Some(Refused::ClockLimit),
+            _ => None,
+        }
+    }
+
+    /// The timer of an end: a heartbeat that is due, and then a client that is down opens.
+    #[tactic(auto, unfolding(crate::specs::Events::happens))]
+    fn tick(&mut self, who: Role)
+        requires sound { AreSound self.old }
+        requires room { HaveRoom 2 self.old }
+        ensures step { seen self.new ≡ happens (event.Tick who) (seen self.old) }
+        ensures sound { AreSound self.new }
+        ensures room { KeepRoom 2 self.old self.new }
+    {
+        let _ = self.call(who, &Call::Ticks);
+        if let Role::Client = who {
+            let _ = self.call(who, &Call::Opens);
+        }
+    }
+
+    /// Time goes on.
+    #[tactic(auto, unfolding(crate::specs::Events::happens, crate::specs::Events::refusal_of_time, crate::specs::Parts::seen, crate::specs::Parts::seen_ends, rasta_core_ends::specs::Run::later))]
+    fn pass(&mut self, elapsed: u64, of_client: u64, of_server: u64)
+        requires sound { AreSound self.old }
+        requires allowed { refusal_of_time elapsed of_client of_server (seen_ends self.old) ≡ None }
+        ensures step { seen self.new ≡ happens (event.Time elapsed of_client of_server) (seen self.old) }
+        ensures sound { AreSound self.new }
+        ensures room { KeepRoom 2 self.old self.new }
+    {
+        let moment = self.sent.len();
+        self.time += elapsed;
+        self.client.pass(of_client, moment);
+        self.server.pass(of_server, moment);
+    }
+
+    /// Bytes are delivered to an end.
+    #[tactic(auto, unfolding(crate::specs::Parts::seen, crate::specs::Parts::seen_ends))]
+    fn deliver(&mut self, who: Role, bytes: &Bytes)
+        requires sound { AreSound self.old }
+        requires room { HaveRoom 2 self.old }
+        ensures step { seen self.new ≡ stepped who (ends.Receives bytes.now.items (connection_of (copy_of bytes.now.items (seen_ends self.old)))) (seen self.old) }
+        ensures sound { AreSound self.new }
+        ensures room { KeepRoom 1 self.old self.new }
+    {
+        let copy = bag::newest_copy(self.sent.as_slice(), self.time, bytes.as_slice());
+        let _ = self.call(who, &Call::Receives(copied(bytes), copy.unwrap_or(0)));
+    }
+
+    /// The oldest copy of bytes is lost.
+    #[tactic(auto, unfolding(crate::specs::Events::happens, crate::specs::Parts::seen, crate::specs::Parts::seen_ends, rasta_core_ends::specs::Run::lost))]
+    fn lose(&mut self, bytes: &Bytes)
+        requires sound { AreSound self.old }
+        ensures step { seen self.new ≡ happens (event.Lose bytes.now) (seen self.old) }
+        ensures sound { AreSound self.new }
+        ensures room { KeepRoom 2 self.old self.new }
+    {
+        bag::lose_oldest(self.sent.as_mut_slice(), bytes.as_slice());
+    }
+
+    /// An end is made anew; a restarted server has a new lamp.
+    #[tactic(auto, unfolding(crate::specs::Events::happens, crate::specs::Parts::seen, crate::specs::Parts::seen_ends, crate::specs::Seen::seen_end, rasta_core_ends::specs::Run::restarted, rasta_core_ends::specs::Ends::end_restarted))]
+    fn restart(&mut self, who: Role, clock: Millis, first_sequence_number: u32) -> Result<(), AllocError>
+        requires sound { AreSound self.old }
+        requires allowed { clock * 1000 ≤ clock_limit }
+        ensures step { OnOk result (seen self.new ≡ happens (event.Restart who clock first_sequence_number) (seen self.old)) }
+        ensures same { OnErr result (self.new ≡ self.old) }
+        ensures sound { AreSound self.new }
+        ensures room { KeepRoom 2 self.old self.new }
+    {
+        let link = self.end(who).link.anew(self.alloc, first_sequence_number, clock)?;
+        let moment = self.sent.len();
+        match who {
+            Role::Client => self.client.restart(link, clock, moment),
+            Role::Server => {
+                self.server.restart(link, clock, moment);
+                self.lamp = Signal::new();
+            }
+        }
+        Ok(())
+    }
+
+    /// An event that can happen does; only a restart may lack memory.
+    #[tactic(auto, unfolding(crate::specs::Events::happens, crate::specs::Events::reply_to, crate::specs::Events::refusal, crate::specs::Parts::seen, crate::specs::Parts::seen_ends))]
+    pub(crate) fn happen(&mut self, event: &PairEvent) -> Result<PairReply, AllocError>
+        requires sound { AreSound self.old }
+        requires room { HaveRoom 2 self.old }
+        requires allowed { refusal event.now (seen_ends self.old) ≡ None }
+        ensures step { OnOk result (seen self.new ≡ happens event.now (seen self.old)) }
+        ensures reply { IfOk result (λ answer. answer ≡ reply_to event.now (seen_ends self.old)) }
+        ensures same { OnErr result (self.new ≡ self.old) }
+        ensures only_restarts { OnErr result (IsTrue (is_restart event.now)) }
+        ensures sound { AreSound self.new }
+        ensures room { KeepRoom 2 self.old self.new }
+    {
+        match event {
+            PairEvent::Give(who, item) => {
+                return Ok(PairReply::Given(self.call(*who, &Call::Sends(item.copy()))));
+            }
+            PairEvent::Tick(who) => self.tick(*who),
+            PairEvent::Time { elapsed, of_client, of_server } => self.pass(*elapsed, *of_client, *of_server),
+            PairEvent::Deliver(who, bytes) => self.deliver(*who, bytes),
+            PairEvent::Lose(bytes) => self.lose(bytes),
+            PairEvent::Close(who, why) => {
+                let _ = self.call(*who, &Call::Closes(*why));
+            }
+            PairEvent::Restart { end, clock, first_sequence_number } => {
+                self.restart(*end, *clock, *first_sequence_number)?;
+            }
+        }
+        Ok(PairReply::Done)
+    }
+
+    /// Makes memory for at least so many events.
+    #[tactic(auto, unfolding(crate::specs::Parts::seen, crate::specs::Parts::seen_ends))]
+    pub(crate) fn reserve(&mut self, events: usize) -> Result<(), AllocError>
+        requires { IsPair self.old }
+        ensures room { OnOk result (events ≤ self.new.room) }
+        ensures more { self.old.room ≤ self.new.room }
+        ensures same { seen self.new ≡ seen self.old }
+        ensures whole { IsPair self.new }
+    {
+        if events <= self.room {
+            return Ok(());
+        }
+        let items = events.saturating_mul(ITEMS_FOR_EACH_EVENT);
+        self.sent.reserve(events.saturating_mul(DATAGRAMS_FOR_EACH_EVENT))?;
+        self.client.reserve(items)?;
+        self.server.reserve(items)?;
+        self.room = events;
+        Ok(())
+    }
+
+    /// Applies an event, or says why it can't happen.
+    #[tactic(auto, unfolding(crate::specs::Parts::seen, crate::specs::Parts::seen_ends))]
+    pub(crate) fn apply(&mut self, event: &PairEvent) -> Result<PairReply, Refused>
+        requires { IsPair self.old }
+        ensures step { OnOk result (seen self.new ≡ happens event.now (seen self.old)) }
+        ensures allowed { OnOk result (refusal event.now (seen_ends self.old) ≡ None) }
+        ensures reply { IfOk result (λ answer. answer ≡ reply_to event.now (seen_ends self.old)) }
+        ensures refused { IfErr result (λ why. (refusal event.now (seen_ends self.old) ≡ Some why) ⊎ ((why ≡ OutOfMemory) × (refusal event.now (seen_ends self.old) ≡ None))) }
+        ensures memory { result ≡ Err OutOfMemory → 0 < self.old.room → IsTrue (is_restart event.now) }
+        ensures same { OnErr result (seen self.new ≡ seen self.old) }
+        ensures room { self.old.room ≤ self.new.room + 1 }
+        ensures kept { OnErr result (self.old.room ≤ self.new.room) }
+        ensures whole { IsPair self.new }
+    {
+        if let Some(why) = self.refusal(event) {
+            return Err(why);
+        }
+        if self.room == 0 && self.reserve(1).is_err() {
+            return Err(Refused::OutOfMemory);
+        }
+        match self.happen(event) {
+            Ok(reply) => {
+                self.room -= 1;
+                Ok(reply)
+            }
+            Err(_) => Err(Refused::OutOfMemory),
+        }
+    }
+}

@@ -1,0 +1,192 @@
+//! A pair of ends and the network between them.
+
+ghost use Rattle.std.specs.Prelude.{◌≡◌, ◌≤◌, ◌<◌, ◌+◌, ◌⊎◌, [], None, Some, Err, IfOk, IfErr, OnOk, OnErr, IsTrue};
+ghost use Rattle.rasta_core_ends.specs.Run.{end_of};
+ghost use Rattle.simulator_pair.specs.Seen.{seen_end, HasLists};
+ghost use Rattle.md4.specs.declared.message.TheConstants.{STANDARD};
+
+use crate::event::{PairEvent, PairReply, Refused};
+use crate::node::Node;
+use crate::parts::Parts;
+use rasta_core_ends::Sent;
+use rasta_core_link::{Inbox, Link, Outbox, Role};
+use rasta_pdu::{Item, Key};
+use signal_ctl::{Aspect, Signal};
+use std::alloc::{AllocError, Global};
+use std::marker::Model;
+
+/// The identities of the two ends.
+const CLIENT: u32 = 1;
+
+const SERVER: u32 = 2;
+
+/// A client and a server, their clocks, the network between them, and the lamp that the server keeps. Events happen
+/// to it one after the other, and each is tested first: the network delivers only what was sent and is at most
+/// 2000 ms old, or damaged bytes; clocks keep within 1 in 1000 of true time.
+#[derive(Debug, Drop)]
+pub struct Pair {
+    parts: Parts,
+}
+
+impl Model for Pair {
+    ghost use Rattle.simulator_pair.specs.Pair.{PairView};
+
+    ghost Value = { PairView };
+
+    ghost use Rattle.simulator_pair.specs.Parts.{seen, IsPair};
+
+    ghost view = { λ p. record { run = seen p.parts; room = p.parts.room } };
+
+    ghost invariant = { λ p. IsPair p.parts };
+}
+
+/// An end as it is made: with its clock at 0, in no connection.
+#[tactic(auto, unfolding(crate::specs::Seen::seen_end))]
+fn new_node(alloc: Global, link: Link) -> Node
+    ensures end { seen_end result ≡ record { link = link; clock = 0; connection = None; left = 0; given = []; taken = [] } }
+    ensures link { result.link ≡ link }
+    ensures clock { result.clock ≡ 0 }
+    ensures lists { HasLists 0 result }
+{
+    Node {
+        link,
+        clock: 0,
+        connection: None,
+        left: 0,
+        given: Vec::new(alloc),
+        taken: Vec::new(alloc),
+    }
+}
+
+impl Pair {
+    ghost use Rattle.rasta_core_link.specs.State.{is_up, confirmed_items};
+    ghost use Rattle.simulator_pair.specs.Pair.{shown};
+    ghost use Rattle.simulator_pair.specs.Events.{refusal, happens, reply_to, is_restart, new_pair, Runs};
+    ghost use Rattle.simulator_pair.specs.declared.event.Refused.TheVariants.{OutOfMemory};
+
+    /// A new pair: the client has identity 1, the server 2; their key is the standard start of MD4, their clocks
+    /// and first sequence numbers are 0.
+    #[tactic(auto, unfolding(crate::specs::Parts::seen, crate::specs::Parts::seen_ends, crate::specs::Seen::seen_end, rasta_core_link::specs::Calls::created))]
+    pub fn new(alloc: Global) -> Result<Pair, AllocError>
+        ensures { IfOk result (λ pair. pair.run ≡ new_pair (record { 0 = STANDARD })) }
+    {
+        let key = Key(md4::STANDARD);
+        let client = Link::client(alloc, CLIENT, SERVER, key, 0, 0)?;
+        let server = Link::server(alloc, SERVER, CLIENT, key, 0, 0)?;
+        let outbox = Outbox::for_links(alloc, 1)?;
+        Ok(Pair {
+            parts: Parts {
+                time: 0,
+                client: new_node(alloc, client),
+                server: new_node(alloc, server),
+                sent: Vec::new(alloc),
+                lamp: Signal::new(),
+                outbox,
+                inbox: Inbox::new(),
+                room: 0,
+                alloc,
+            },
+        })
+    }
+
+    /// Applies an event and gives its answer, or says why it can't happen; then nothing has changed but that the
+    /// room may have grown. Where there is room for an event, only a restart can lack memory.
+    #[tactic(auto, unfolding(crate::specs::Parts::seen, crate::specs::Parts::seen_ends, crate::specs::Seen::seen_end))]
+    pub fn apply(&mut self, event: &PairEvent) -> Result<PairReply, Refused>
+        ensures step { OnOk result (self.new.run ≡ happens event.now self.old.run) }
+        ensures reply { IfOk result (λ answer. answer ≡ reply_to event.now self.old.run.ends) }
+        ensures allowed { OnOk result (refusal event.now self.old.run.ends ≡ None) }
+        ensures refused { IfErr result (λ why. (refusal event.now self.old.run.ends ≡ Some why) ⊎ ((why ≡ OutOfMemory) × (refusal event.now self.old.run.ends ≡ None))) }
+        ensures memory { result ≡ Err OutOfMemory → 0 < self.old.room → IsTrue (is_restart event.now) }
+        ensures same { OnErr result (self.new.run ≡ self.old.run) }
+        ensures room { self.old.room ≤ self.new.room + 1 }
+        ensures kept { OnErr result (self.old.room ≤ self.new.room) }
+    {
+        self.parts.apply(event)
+    }
+
+    /// Makes memory for at least so many events; nothing else changes.
+    pub fn reserve(&mut self, events: usize) -> Result<(), AllocError>
+        ensures room { OnOk result (events ≤ self.new.room) }
+        ensures more { self.old.room ≤ self.new.room }
+        ensures same { self.new.run ≡ self.old.run }
+    {
+        self.parts.reserve(events)
+    }
+
+    /// How many events have their memory already.
+    pub fn room(&self) -> usize
+        ensures { result ≡ self.now.room }
+    {
+        self.parts.room
+    }
+
+    /// Applies events one after the other, goes on after those that are refused, and answers how many were accepted.
+    pub fn run(&mut self, events: &[PairEvent]) -> usize
+        ensures { Runs events.now self.old.run result self.new.run }
+    {
+        let mut accepted = 0;
+        for event in events {
+            if self.apply(event).is_ok() {
+                accepted += 1;
+            }
+        }
+        accepted
+    }
+
+    /// True time, in microseconds.
+    #[tactic(auto, unfolding(crate::specs::Parts::seen, crate::specs::Parts::seen_ends, crate::specs::Seen::seen_end))]
+    pub fn time(&self) -> u64
+        ensures { result ≡ self.now.run.ends.time }
+    {
+        self.parts.time
+    }
+
+    /// What the lamp shows at the server's clock.
+    #[tactic(auto, unfolding(crate::specs::Parts::seen, crate::specs::Parts::seen_ends, crate::specs::Seen::seen_end))]
+    pub fn shown(&self) -> Aspect
+        ensures { result ≡ shown self.now.run }
+    {
+        self.parts.lamp.shown(self.parts.server.now())
+    }
+
+    /// Whether an end is up at its clock.
+    #[tactic(auto, unfolding(crate::specs::Parts::seen, crate::specs::Parts::seen_ends, crate::specs::Seen::seen_end))]
+    pub fn is_up(&self, end: Role) -> bool
+        ensures { result ≡ is_up (end_of end self.now.run.ends).link.phase }
+    {
+        self.parts.end(end).link.is_up_now()
+    }
+
+    /// The items that an end accepted in its last connection, oldest first.
+    #[tactic(auto, unfolding(crate::specs::Parts::seen, crate::specs::Parts::seen_ends, crate::specs::Seen::seen_end))]
+    pub fn given(&self, end: Role) -> &[Item]
+        ensures { result.now ≡ (end_of end self.now.run.ends).given }
+    {
+        self.parts.end(end).given.as_slice()
+    }
+
+    /// The items that an end handed out in its last connection, oldest first.
+    #[tactic(auto, unfolding(crate::specs::Parts::seen, crate::specs::Parts::seen_ends, crate::specs::Seen::seen_end))]
+    pub fn taken(&self, end: Role) -> &[Item]
+        ensures { result.now ≡ (end_of end self.now.run.ends).taken }
+    {
+        self.parts.end(end).taken.as_slice()
+    }
+
+    /// How many items an end accepted in its last connection are known to be taken by its partner.
+    #[tactic(auto, unfolding(crate::specs::Parts::seen, crate::specs::Parts::seen_ends, crate::specs::Seen::seen_end))]
+    pub fn confirmed(&self, end: Role) -> u64
+        ensures { result ≡ confirmed_items (end_of end self.now.run.ends).link }
+    {
+        self.parts.end(end).link.confirmed()
+    }
+
+    /// Every datagram that was sent, oldest first; those that aren't lost are the bag.
+    #[tactic(auto, unfolding(crate::specs::Parts::seen, crate::specs::Parts::seen_ends, crate::specs::Seen::seen_end))]
+    pub fn sent(&self) -> &[Sent]
+        ensures { result.now ≡ self.now.run.ends.sent }
+    {
+        self.parts.sent.as_slice()
+    }
+}
