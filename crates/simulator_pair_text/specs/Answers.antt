@@ -1,8 +1,11 @@
 -- The texts of answers and of the picture, each without the line feed at its end.
-use Rattle.std.specs.Prelude.{ℕ, if◌then◌else◌, List, ◌++◌, codes, Result, Ok, Err}
+use Rattle.std.specs.Prelude.{ℕ, ◌/◌, length, if◌then◌else◌, List, ◌++◌, codes, Result, Ok, Err}
 use Rattle.std.specs.Fmt.{decimal}
-use Rattle.signal_ctl.specs.declared.lamp.Aspect.{Aspect}
-use Rattle.signal_ctl.specs.declared.lamp.Aspect.TheVariants.{Stop, Proceed}
+use Rattle.sci_telegram.specs.declared.message.Aspect.{Aspect}
+use Rattle.sci_telegram.specs.declared.message.Aspect.TheVariants.{Stop, Proceed}
+use Rattle.rasta_core_link.specs.State.{is_up}
+use Rattle.rasta_core_ends.specs.Ends.{EndState}
+use Rattle.simulator_pair.specs.Pair.{PairState, shown}
 use Rattle.rasta_core_link.specs.declared.fault.SendFault.TheVariants.{NotUp, WindowFull}
 use Rattle.simulator_pair.specs.declared.event.PairReply.{PairReply}
 use Rattle.simulator_pair.specs.declared.event.PairReply.TheVariants as reply
@@ -31,6 +34,19 @@ answer_text (No n) = codes "no " ++ decimal n
 abbrev pub aspect_text : Aspect → List ℕ
 aspect_text Stop = codes "stop"
 aspect_text Proceed = codes "proceed"
+
+-- what can be seen of an end
+abbrev pub seen_of_end : EndState → EndSeen
+seen_of_end end = record { is_up = is_up end.link.phase; given = length end.given; taken = length end.taken }
+
+-- what can be seen of a pair
+abbrev pub seen_of : PairState → Picture
+seen_of pair = record {
+  time = pair.ends.time / 1000;
+  lamp = shown pair;
+  client = seen_of_end pair.ends.client;
+  server = seen_of_end pair.ends.server
+}
 
 -- an end: whether its link is up, and how many items were given and taken in its last connection
 abbrev pub end_text : EndSeen → List ℕ

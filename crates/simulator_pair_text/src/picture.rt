@@ -1,6 +1,6 @@
 //! What can be seen of a pair.
 
-ghost use Rattle.std.specs.Prelude.{Some};
+ghost use Rattle.std.specs.Prelude.{◌≡◌, Some};
 
 use simulator_pair::{Aspect, Pair, Role};
 use std::fmt;
@@ -19,7 +19,12 @@ pub(crate) struct EndSeen {
 }
 
 impl EndSeen {
-    fn of(pair: &Pair, end: Role) -> EndSeen {
+    ghost use Rattle.rasta_core_ends.specs.Run.{end_of};
+    ghost use Rattle.simulator_pair_text.specs.Answers.{seen_of_end};
+
+    fn of(pair: &Pair, end: Role) -> EndSeen
+        ensures { result ≡ seen_of_end (end_of end pair.now.run.ends) }
+    {
         EndSeen {
             is_up: pair.is_up(end),
             given: pair.given(end).len(),
@@ -52,8 +57,12 @@ pub(crate) struct Picture {
 }
 
 impl Picture {
+    ghost use Rattle.simulator_pair_text.specs.Answers.{seen_of};
+
     /// What can be seen of `pair` now.
-    pub(crate) fn of(pair: &Pair) -> Picture {
+    pub(crate) fn of(pair: &Pair) -> Picture
+        ensures { result ≡ seen_of pair.now.run }
+    {
         Picture {
             time: pair.time() / MICROS,
             lamp: pair.shown(),
