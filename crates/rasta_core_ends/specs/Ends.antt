@@ -73,7 +73,7 @@ outcome Opens moment end =
       pdus = step.pdus;
       enters = if opens (reading_of end.clock) end.link then Some moment else None;
       given = [];
-      taken = []
+      taken = [];
     }
 outcome (Closes why) moment end =
     let step = closing_by (reading_of end.clock) why end.link
@@ -85,7 +85,7 @@ outcome (Sends item) moment end =
       pdus = step.pdus;
       enters = None;
       given = if is_ok (answer_to_send (reading_of end.clock) end.link) then item ∷ [] else [];
-      taken = []
+      taken = [];
     }
 outcome (Receives bytes connection) moment end =
     let receipt = receiving (reading_of end.clock) bytes end.link
@@ -94,7 +94,7 @@ outcome (Receives bytes connection) moment end =
       pdus = receipt.pdus;
       enters = entered_by end.link receipt.verdict connection;
       given = [];
-      taken = receipt.items
+      taken = receipt.items;
     }
 
 -- the end has left its connection in a step from one link to another
@@ -117,7 +117,7 @@ end_after made moment end = record end {
   connection = newer made.enters end.connection;
   left = if leaves end.link made.enters made.link then moment + length made.pdus else end.left;
   given = kept made.enters end.given ++ made.given;
-  taken = kept made.enters end.taken ++ made.taken
+  taken = kept made.enters end.taken ++ made.taken;
 }
 
 -- these bytes, as an end hands them out in the connection that it is in
@@ -136,7 +136,7 @@ end_later elapsed moment end =
     in record end {
       link = link;
       clock = end.clock + elapsed;
-      left = if leaves end.link None link then moment else end.left
+      left = if leaves end.link None link then moment else end.left;
     }
 
 -- an end is made anew, with this clock in milliseconds; the lists of its last connection stay until its next one
@@ -144,5 +144,5 @@ unfoldable pub end_restarted : ℕ → ℕ → ℕ → EndState → EndState
 end_restarted clock first_sequence_number moment end = record end {
   link = created end.link.identity first_sequence_number clock;
   clock = clock * 1000;
-  left = moment
+  left = moment;
 }

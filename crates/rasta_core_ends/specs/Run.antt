@@ -32,7 +32,7 @@ called who call ends =
     in let new = end_after made ends.moment old
     in record (with_end who new ends) {
       sent = ends.sent ++ handed_out ends.time who new.connection (spellings old.link.identity.key made.pdus);
-      moment = ends.moment + length made.pdus
+      moment = ends.moment + length made.pdus;
     }
 
 -- time goes on by so many microseconds, and the clock of each end by its own
@@ -40,7 +40,7 @@ unfoldable pub later : ℕ → ℕ → ℕ → Ends → Ends
 later elapsed of_client of_server ends = record ends {
   time = ends.time + elapsed;
   client = end_later of_client ends.moment ends.client;
-  server = end_later of_server ends.moment ends.server
+  server = end_later of_server ends.moment ends.server;
 }
 
 unfoldable pub lost : List ℕ → Ends → Ends

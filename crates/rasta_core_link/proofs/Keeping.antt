@@ -135,9 +135,9 @@ testing-keeps pdu l =
     in let confirmed = if not (confirms pdu l) then refusing verdict.BadConfirm l else admitted
     in let fresh = if is_stale pdu l then refusing verdict.Stale l else confirmed
     in if_receipt l (nat_lt sequence_range (ahead pdu l)) (refusing verdict.OutOfRange l) fresh same
-      (if_receipt l (is_stale pdu l) (refusing verdict.Stale l) confirmed same
-        (if_receipt l (not (confirms pdu l)) (refusing verdict.BadConfirm l) admitted same
-          (admitting-keeps (admission pdu.body l.phase) pdu l)))
+    (if_receipt l (is_stale pdu l) (refusing verdict.Stale l) confirmed same
+    (if_receipt l (not (confirms pdu l)) (refusing verdict.BadConfirm l) admitted same
+    (admitting-keeps (admission pdu.body l.phase) pdu l)))
 
 connected-keeps : (body : Body) (pdu : Pdu) (l : LinkState) → Keeps l (connected body pdu l).link
 unfolding connected
@@ -188,8 +188,8 @@ hearing-keeps pdu l =
     let stated = by_state (state_at l.clock l) pdu l
     in let for_me = if not (pdu.sender == l.identity.partner) then refusing verdict.WrongSender l else stated
     in if_receipt l (not (pdu.receiver == l.identity.own)) (refusing verdict.NotForMe l) for_me same
-      (if_receipt l (not (pdu.sender == l.identity.partner)) (refusing verdict.WrongSender l) stated same
-        (by_state-keeps (state_at l.clock l) pdu l))
+    (if_receipt l (not (pdu.sender == l.identity.partner)) (refusing verdict.WrongSender l) stated same
+    (by_state-keeps (state_at l.clock l) pdu l))
 
 hearing_bytes-keeps : (read : Result Pdu PduFault) (l : LinkState) → Keeps l (hearing_bytes read l).link
 unfolding hearing_bytes

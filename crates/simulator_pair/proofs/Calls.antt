@@ -29,11 +29,11 @@ sent-as time moment who sent sent' end end' made datagrams end-is datagrams-is s
     ∙ ap (λ ds. sent ++ handed_out time who (end_after made moment end).connection ds) datagrams-is
 
 pub client_step : (call : Call) (pair : PairState) (client : EndState) (sent : List Sent) (moment : ℕ) (datagrams : List (List ℕ)) →
-  client ≡ end_after (outcome call pair.ends.moment pair.ends.client) pair.ends.moment pair.ends.client →
-  datagrams ≡ spellings pair.ends.client.link.identity.key (outcome call pair.ends.moment pair.ends.client).pdus →
-  sent ≡ pair.ends.sent ++ handed_out pair.ends.time Client client.connection datagrams →
-  moment ≡ pair.ends.moment + length (outcome call pair.ends.moment pair.ends.client).pdus →
-  (record { ends = record pair.ends { client = client; sent = sent; moment = moment }; lamp = pair.lamp }) ≡ stepped Client call pair
+    client ≡ end_after (outcome call pair.ends.moment pair.ends.client) pair.ends.moment pair.ends.client →
+    datagrams ≡ spellings pair.ends.client.link.identity.key (outcome call pair.ends.moment pair.ends.client).pdus →
+    sent ≡ pair.ends.sent ++ handed_out pair.ends.time Client client.connection datagrams →
+    moment ≡ pair.ends.moment + length (outcome call pair.ends.moment pair.ends.client).pdus →
+    (record { ends = record pair.ends { client = client; sent = sent; moment = moment }; lamp = pair.lamp }) ≡ stepped Client call pair
 unfolding stepped called
 client_step call pair client sent moment datagrams client-is datagrams-is sent-is moment-is =
     let made = outcome call pair.ends.moment pair.ends.client
@@ -45,12 +45,12 @@ client_step call pair client sent moment datagrams client-is datagrams-is sent-i
     ∙ ap (λ m. built new new_sent m) moment-is
 
 pub server_step : (call : Call) (pair : PairState) (server : EndState) (sent : List Sent) (moment : ℕ) (datagrams : List (List ℕ)) (lamp : Lamp) →
-  server ≡ end_after (outcome call pair.ends.moment pair.ends.server) pair.ends.moment pair.ends.server →
-  datagrams ≡ spellings pair.ends.server.link.identity.key (outcome call pair.ends.moment pair.ends.server).pdus →
-  sent ≡ pair.ends.sent ++ handed_out pair.ends.time Server server.connection datagrams →
-  moment ≡ pair.ends.moment + length (outcome call pair.ends.moment pair.ends.server).pdus →
-  lamp ≡ lamp_after pair.ends.server.link (outcome call pair.ends.moment pair.ends.server).taken server.link pair.lamp →
-  (record { ends = record pair.ends { server = server; sent = sent; moment = moment }; lamp = lamp }) ≡ stepped Server call pair
+    server ≡ end_after (outcome call pair.ends.moment pair.ends.server) pair.ends.moment pair.ends.server →
+    datagrams ≡ spellings pair.ends.server.link.identity.key (outcome call pair.ends.moment pair.ends.server).pdus →
+    sent ≡ pair.ends.sent ++ handed_out pair.ends.time Server server.connection datagrams →
+    moment ≡ pair.ends.moment + length (outcome call pair.ends.moment pair.ends.server).pdus →
+    lamp ≡ lamp_after pair.ends.server.link (outcome call pair.ends.moment pair.ends.server).taken server.link pair.lamp →
+    (record { ends = record pair.ends { server = server; sent = sent; moment = moment }; lamp = lamp }) ≡ stepped Server call pair
 unfolding stepped called end_after
 server_step call pair server sent moment datagrams lamp server-is datagrams-is sent-is moment-is lamp-is =
     let made = outcome call pair.ends.moment pair.ends.server
@@ -64,13 +64,13 @@ server_step call pair server sent moment datagrams lamp server-is datagrams-is s
 
 -- the lamp in the code's steps
 pub lamp_in_steps : (old new : LinkState) (items : List (List ℕ)) (lamp first second third fourth : Lamp) (taken : List (List ℕ)) (until : ℕ) →
-  first ≡ record lamp { indicated = unless_closed old lamp.indicated } →
-  second ≡ record first { indicated = indicated_after items first.indicated } →
-  third ≡ record second { indicated = unless_closed new second.indicated } →
-  fourth ≡ record third { until = until } →
-  until ≡ alive_until new →
-  items ≡ taken →
-  fourth ≡ lamp_after old taken new lamp
+    first ≡ record lamp { indicated = unless_closed old lamp.indicated } →
+    second ≡ record first { indicated = indicated_after items first.indicated } →
+    third ≡ record second { indicated = unless_closed new second.indicated } →
+    fourth ≡ record third { until = until } →
+    until ≡ alive_until new →
+    items ≡ taken →
+    fourth ≡ lamp_after old taken new lamp
 unfolding lamp_after
 lamp_in_steps old new items lamp first second third fourth taken until first-is second-is third-is fourth-is until-is items-is =
     let lit : Aspect → ℕ → Lamp = λ aspect end. record { indicated = aspect; until = end }

@@ -45,8 +45,8 @@ after_without time bytes [] after = after
 after_without time bytes (first ∷ later) after =
     let P = λ (s : Sent). time ≤ s.at
     in elim (is_copy bytes first) as (λ (b : Bool). All P (if b then (record first { is_lost = true }) ∷ later else first ∷ without_oldest bytes later)) [
-      true ↦ All-cons P (record first { is_lost = true }) later (All-head P first later after) (All-tail P first later after)
-    | false ↦ All-cons P first (without_oldest bytes later) (All-head P first later after) (after_without time bytes later (All-tail P first later after))
+      | true ↦ All-cons P (record first { is_lost = true }) later (All-head P first later after) (All-tail P first later after)
+      | false ↦ All-cons P first (without_oldest bytes later) (All-head P first later after) (after_without time bytes later (All-tail P first later after))
     ]
 
 -- the network loses one
@@ -54,6 +54,6 @@ pub in_order_losing : (time : ℕ) (bytes : List ℕ) (sent : List Sent) → Are
 in_order_losing time bytes [] in_order = tt
 in_order_losing time bytes (first ∷ later) in_order =
     elim (is_copy bytes first) as (λ (b : Bool). AreInOrder time (if b then (record first { is_lost = true }) ∷ later else first ∷ without_oldest bytes later)) [
-      true ↦ (in_order.0, in_order.1, in_order.2)
-    | false ↦ (in_order.0, after_without first.at bytes later in_order.1, in_order_losing time bytes later in_order.2)
+      | true ↦ (in_order.0, in_order.1, in_order.2)
+      | false ↦ (in_order.0, after_without first.at bytes later in_order.1, in_order_losing time bytes later in_order.2)
     ]

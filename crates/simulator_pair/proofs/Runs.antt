@@ -34,4 +34,4 @@ run_step events event first last new count (Ok reply) before step allowed refuse
 run_step events event first last new count (Err why) before step allowed refused same =
     let Reached : PairState → Type 0 = λ state. Runs (events ++ event ∷ []) first count state
     in subst Reached (sym same)
-      (elim refused [ inl because ↦ run_refuses events event first last count why before because | inr memory ↦ run_lacks_memory events event first last count before memory.1 ])
+    (elim refused [ inl because ↦ run_refuses events event first last count why before because | inr memory ↦ run_lacks_memory events event first last count before memory.1 ])

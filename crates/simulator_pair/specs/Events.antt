@@ -104,7 +104,7 @@ new_pair key = record {
     client = new_end (record { role = role.Client; own = 1; partner = 2; key = key });
     server = new_end (record { role = role.Server; own = 2; partner = 1; key = key });
     sent = [];
-    moment = 0
+    moment = 0;
   };
-  lamp = new_lamp
+  lamp = new_lamp;
 }

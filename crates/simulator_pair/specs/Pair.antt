@@ -35,7 +35,7 @@ unless_closed link last = if is_open link.phase then last else Stop
 unfoldable pub lamp_after : LinkState → List (List ℕ) → LinkState → Lamp → Lamp
 lamp_after old items new lamp = record {
   indicated = unless_closed new (indicated_after items (unless_closed old lamp.indicated));
-  until = alive_until new
+  until = alive_until new;
 }
 
 abbrev pub lamp_of : Role → LinkState → List (List ℕ) → LinkState → Lamp → Lamp

@@ -14,7 +14,7 @@ seen_ends parts = record {
   client = seen_end parts.client;
   server = seen_end parts.server;
   sent = parts.sent.items;
-  moment = vec_len parts.sent
+  moment = vec_len parts.sent;
 }
 
 unfoldable pub seen : Parts → PairState

@@ -12,7 +12,7 @@ seen_end node = record {
   connection = node.connection;
   left = node.left;
   given = node.given.items;
-  taken = node.taken.items
+  taken = node.taken.items;
 }
 
 -- an end whose link was open or not before a step, and that enters a connection in it or not
@@ -21,7 +21,7 @@ noted was_open enters moment end = record end {
   connection = newer enters end.connection;
   left = if (was_open || is_some enters) && not (is_open end.link.phase) then moment else end.left;
   given = kept enters end.given;
-  taken = kept enters end.taken
+  taken = kept enters end.taken;
 }
 
 -- and that accepts and takes these items in it

@@ -115,10 +115,17 @@ impl Parts {
         ensures not_memory { result ≢ Some OutOfMemory }
     {
         match event {
-            PairEvent::Time { elapsed, of_client, of_server } => self.refusal_of_time(*elapsed, *of_client, *of_server),
+            PairEvent::Time {
+                elapsed,
+                of_client,
+                of_server,
+            } => self.refusal_of_time(*elapsed, *of_client, *of_server),
             PairEvent::Deliver(who, bytes) => self.refusal_of_delivery(*who, bytes),
-            PairEvent::Lose(bytes) if !bag::has_copy(self.sent.as_slice(), bytes.as_slice()) => Some(Refused::NeverSent),
-            PairEvent::Restart { clock, .. } if *clock > CLOCK_LIMIT / MICROS => Some(Refused::ClockLimit),
+            PairEvent::Lose(bytes) if !bag::has_copy(self.sent.as_slice(), bytes.as_slice()) =>
+                Some(Refused::NeverSent),
+            PairEvent::Restart { clock, .. } if *clock > CLOCK_LIMIT / MICROS => Some(
+                Refused::ClockLimit,
+            ),
             _ => None,
         }
     }
@@ -179,7 +186,12 @@ impl Parts {
 
     /// An end is made anew; a restarted server has a new lamp.
     #[tactic(auto, unfolding(crate::specs::Events::happens, crate::specs::Parts::seen, crate::specs::Parts::seen_ends, crate::specs::Seen::seen_end, rasta_core_ends::specs::Run::restarted, rasta_core_ends::specs::Ends::end_restarted))]
-    fn restart(&mut self, who: Role, clock: Millis, first_sequence_number: u32) -> Result<(), AllocError>
+    fn restart(
+        &mut self,
+        who: Role,
+        clock: Millis,
+        first_sequence_number: u32,
+    ) -> Result<(), AllocError>
         requires sound { AreSound self.old }
         requires allowed { clock * 1000 ≤ clock_limit }
         ensures step { OnOk result (seen self.new ≡ happens (event.Restart who clock first_sequence_number) (seen self.old)) }
@@ -187,7 +199,10 @@ impl Parts {
         ensures sound { AreSound self.new }
         ensures room { KeepRoom 2 self.old self.new }
     {
-        let link = self.end(who).link.anew(self.alloc, first_sequence_number, clock)?;
+        let link = self
+            .end(who)
+            .link
+            .anew(self.alloc, first_sequence_number, clock)?;
         let moment = self.sent.len();
         match who {
             Role::Client => self.client.restart(link, clock, moment),
@@ -217,13 +232,21 @@ impl Parts {
                 return Ok(PairReply::Given(self.call(*who, &Call::Sends(item.copy()))));
             }
             PairEvent::Tick(who) => self.tick(*who),
-            PairEvent::Time { elapsed, of_client, of_server } => self.pass(*elapsed, *of_client, *of_server),
+            PairEvent::Time {
+                elapsed,
+                of_client,
+                of_server,
+            } => self.pass(*elapsed, *of_client, *of_server),
             PairEvent::Deliver(who, bytes) => self.deliver(*who, bytes),
             PairEvent::Lose(bytes) => self.lose(bytes),
             PairEvent::Close(who, why) => {
                 let _ = self.call(*who, &Call::Closes(*why));
             }
-            PairEvent::Restart { end, clock, first_sequence_number } => {
+            PairEvent::Restart {
+                end,
+                clock,
+                first_sequence_number,
+            } => {
                 self.restart(*end, *clock, *first_sequence_number)?;
             }
         }
@@ -243,7 +266,8 @@ impl Parts {
             return Ok(());
         }
         let items = events.saturating_mul(ITEMS_FOR_EACH_EVENT);
-        self.sent.reserve(events.saturating_mul(DATAGRAMS_FOR_EACH_EVENT))?;
+        self.sent
+            .reserve(events.saturating_mul(DATAGRAMS_FOR_EACH_EVENT))?;
         self.client.reserve(items)?;
         self.server.reserve(items)?;
         self.room = events;

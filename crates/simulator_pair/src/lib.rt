@@ -15,3 +15,6 @@ pub use rasta_core_ends::Sent;
 pub use rasta_core_link::{Reason, Role, SendFault};
 pub use rasta_pdu::Item;
 pub use signal_ctl::Aspect;
+
+#[cfg(test)]
+mod tests;

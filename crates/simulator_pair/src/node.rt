@@ -5,7 +5,6 @@ ghost use Rattle.std.specs.Vec.{vec_len, vec_capacity};
 ghost use Rattle.rasta_core_link.specs.Outbox.{HasRoomFor, posted};
 ghost use Rattle.rasta_core_link.specs.Calls.{MayStep, IsAt, opening, opens, sending_item, answer_to_send, receiving};
 ghost use Rattle.rasta_core_ends.specs.Ends.{outcome, end_after, end_later, entered_by, reading_of};
-
 ghost use Rattle.arrayvec.specs.ArrayVec.{array_vec_len};
 ghost use Rattle.simulator_pair.specs.Calling.{meant};
 

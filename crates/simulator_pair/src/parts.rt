@@ -6,9 +6,8 @@ ghost use Rattle.simulator_pair.specs.Calling.{meant};
 ghost use Rattle.rasta_core_ends.specs.Run.{end_of};
 ghost use Rattle.rasta_core_link.specs.declared.identity.Role.TheVariants.{Client, Server};
 
-use crate::bag;
-use crate::lamp;
 use crate::node::{Call, Node};
+use crate::{bag, lamp};
 use rasta_core_ends::Sent;
 use rasta_core_link::{Inbox, Outbox, Role, SendFault};
 use signal_ctl::Signal;
@@ -47,10 +46,18 @@ impl Parts {
         ensures room { KeepRoom 1 self.old self.new }
     {
         let moment = self.sent.len();
-        let answer = self.client.call(call, moment, &mut self.outbox, &mut self.inbox);
+        let answer = self
+            .client
+            .call(call, moment, &mut self.outbox, &mut self.inbox);
         self.inbox.clear();
         let connection = self.client.connection;
-        bag::send_all(&mut self.sent, &mut self.outbox, self.time, Role::Client, connection);
+        bag::send_all(
+            &mut self.sent,
+            &mut self.outbox,
+            self.time,
+            Role::Client,
+            connection,
+        );
         answer
     }
 
@@ -66,13 +73,21 @@ impl Parts {
     {
         let moment = self.sent.len();
         lamp::lose_if_closed(&mut self.lamp, &self.server.link);
-        let answer = self.server.call(call, moment, &mut self.outbox, &mut self.inbox);
+        let answer = self
+            .server
+            .call(call, moment, &mut self.outbox, &mut self.inbox);
         lamp::indicate_all(&mut self.lamp, self.inbox.as_slice());
         self.inbox.clear();
         lamp::lose_if_closed(&mut self.lamp, &self.server.link);
         self.lamp.keep(self.server.link.alive_until());
         let connection = self.server.connection;
-        bag::send_all(&mut self.sent, &mut self.outbox, self.time, Role::Server, connection);
+        bag::send_all(
+            &mut self.sent,
+            &mut self.outbox,
+            self.time,
+            Role::Server,
+            connection,
+        );
         answer
     }
 

@@ -14,4 +14,4 @@ returns-clause-end c =
     in c.conclude.ensures.end
     ∙ ap (λ node. concluded was_open made.result.enters made.result.given.items taken (c.args.moment + c.len.result) (seen_end node)) step.link
     ∙ concluded-end _ _ c.args.moment c.len.result was_open _ _ _ c.is_open-was_open.ensures step.enters step.given (c.as_slice.ensures.value ∙ step.taken)
-      (c.len.ensures.count ∙ length-posted_alone _ _ _ _ c.requires.nothing_out step.posted)
+    (c.len.ensures.count ∙ length-posted_alone _ _ _ _ c.requires.nothing_out step.posted)

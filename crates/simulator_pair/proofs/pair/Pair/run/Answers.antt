@@ -18,10 +18,10 @@ loop-event-preserved c =
     in let one = c.event-item.result
     in let grown = take_more events loop.event-index one c.loop-event-test.true ∙ ap (λ e. take loop.event-index events ++ e ∷ []) (sym c.event-item.is)
     in let counted : c.if-is_ok.accepted ≡ (if is_ok c.apply.result then loop.accepted + 1 else loop.accepted) =
-        elim c.if-is_ok.branch [
-          then-is_ok w ↦ w.accepted-is ∙ ap (λ b. if b then loop.accepted + 1 else loop.accepted) (sym w.if-is_ok.true ∙ c.is_ok.ensures.value)
-        | else-is_ok w ↦ w.accepted-is ∙ ap (λ b. if b then loop.accepted + 1 else loop.accepted) (sym w.if-is_ok.false ∙ c.is_ok.ensures.value)
-        ]
+    elim c.if-is_ok.branch [
+      | then-is_ok w ↦ w.accepted-is ∙ ap (λ b. if b then loop.accepted + 1 else loop.accepted) (sym w.if-is_ok.true ∙ c.is_ok.ensures.value)
+      | else-is_ok w ↦ w.accepted-is ∙ ap (λ b. if b then loop.accepted + 1 else loop.accepted) (sym w.if-is_ok.false ∙ c.is_ok.ensures.value)
+    ]
     in let ran = run_step _ one _ _ _ _ c.apply.result loop.invariant.0 applied.step applied.allowed applied.refused applied.same
     in let Counted : ℕ → Type 0 = λ n. Runs (take loop.event-index events ++ one ∷ []) c.args.self.now.run n c.apply.new.self.run
     in let Grown : List PairEvent → Type 0 = λ es. Runs es c.args.self.now.run c.if-is_ok.accepted c.apply.new.self.run

@@ -28,10 +28,10 @@ returns-clause-step c =
     in let call = meant c.args.call.now
     in let posted = datagrams-posted _ _ _ _ c.requires.sound.nothing_out made.posted
     in client_step call (seen c.args.self.now) _ _ _ c.call-answer.new.outbox.datagrams
-      (made.end ∙ ap (λ m. end_after (outcome call m end) m end) moment)
-      (posted ∙ ap (λ m. spellings end.link.identity.key (outcome call m end).pdus) moment)
-      c.send_all.ensures.items
-      (c.send_all.ensures.len ∙ ap (λ n. vec_len c.args.self.now.sent + n) (length-posted_alone _ _ _ _ c.requires.sound.nothing_out made.posted ∙ ap (λ m. length (outcome call m end).pdus) moment))
+    (made.end ∙ ap (λ m. end_after (outcome call m end) m end) moment)
+    (posted ∙ ap (λ m. spellings end.link.identity.key (outcome call m end).pdus) moment)
+    c.send_all.ensures.items
+    (c.send_all.ensures.len ∙ ap (λ n. vec_len c.args.self.now.sent + n) (length-posted_alone _ _ _ _ c.requires.sound.nothing_out made.posted ∙ ap (λ m. length (outcome call m end).pdus) moment))
 
 pub returns-clause-sound : goal.returns-clause-sound
 returns-clause-sound c =
@@ -50,7 +50,7 @@ returns-clause-sound c =
       in_order = subst Ordered (sym c.send_all.ensures.items) (in_order_sending c.args.self.now.time c.args.self.now.sent.items Client c.call-answer.new.self.connection c.call-answer.new.outbox.datagrams sound.in_order);
       time_within = sound.time_within;
       client_within = subst Within (sym made.same_clock) sound.client_within;
-      server_within = sound.server_within
+      server_within = sound.server_within;
     }
 
 pub returns-clause-room : goal.returns-clause-room
@@ -62,5 +62,5 @@ returns-clause-room c =
       server_lists = record { given_memory = omega arith; taken_memory = omega arith; given_more = omega arith; taken_more = omega arith };
       sent_memory = omega (arith, c.send_all.ensures.capacity);
       sent_more = omega (arith, sent, made.few, c.send_all.ensures.len);
-      room = refl
+      room = refl;
     }

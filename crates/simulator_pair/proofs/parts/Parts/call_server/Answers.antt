@@ -28,11 +28,11 @@ returns-clause-step c =
     in let call = meant c.args.call.now
     in let posted = datagrams-posted _ _ _ _ c.requires.sound.nothing_out made.posted
     in server_step call (seen c.args.self.now) _ _ _ c.call-answer.new.outbox.datagrams _
-      (made.end ∙ ap (λ m. end_after (outcome call m end) m end) moment)
-      (posted ∙ ap (λ m. spellings end.link.identity.key (outcome call m end).pdus) moment)
-      c.send_all.ensures.items
-      (c.send_all.ensures.len ∙ ap (λ n. vec_len c.args.self.now.sent + n) (length-posted_alone _ _ _ _ c.requires.sound.nothing_out made.posted ∙ ap (λ m. length (outcome call m end).pdus) moment))
-      (lamp_in_steps _ _ _ _ _ _ _ _ _ _ c.lose_if_closed.ensures c.indicate_all.ensures c.lose_if_closed-2.ensures c.keep.ensures c.alive_until.ensures (c.as_slice.ensures.value ∙ made.taken ∙ ap (λ m. (outcome call m end).taken) moment))
+    (made.end ∙ ap (λ m. end_after (outcome call m end) m end) moment)
+    (posted ∙ ap (λ m. spellings end.link.identity.key (outcome call m end).pdus) moment)
+    c.send_all.ensures.items
+    (c.send_all.ensures.len ∙ ap (λ n. vec_len c.args.self.now.sent + n) (length-posted_alone _ _ _ _ c.requires.sound.nothing_out made.posted ∙ ap (λ m. length (outcome call m end).pdus) moment))
+    (lamp_in_steps _ _ _ _ _ _ _ _ _ _ c.lose_if_closed.ensures c.indicate_all.ensures c.lose_if_closed-2.ensures c.keep.ensures c.alive_until.ensures (c.as_slice.ensures.value ∙ made.taken ∙ ap (λ m. (outcome call m end).taken) moment))
 
 pub returns-clause-sound : goal.returns-clause-sound
 returns-clause-sound c =
@@ -51,7 +51,7 @@ returns-clause-sound c =
       in_order = subst Ordered (sym c.send_all.ensures.items) (in_order_sending c.args.self.now.time c.args.self.now.sent.items Server c.call-answer.new.self.connection c.call-answer.new.outbox.datagrams sound.in_order);
       time_within = sound.time_within;
       client_within = sound.client_within;
-      server_within = subst Within (sym made.same_clock) sound.server_within
+      server_within = subst Within (sym made.same_clock) sound.server_within;
     }
 
 pub returns-clause-room : goal.returns-clause-room
@@ -63,5 +63,5 @@ returns-clause-room c =
       server_lists = made.lists;
       sent_memory = omega (arith, c.send_all.ensures.capacity);
       sent_more = omega (arith, sent, made.few, c.send_all.ensures.len);
-      room = refl
+      room = refl;
     }

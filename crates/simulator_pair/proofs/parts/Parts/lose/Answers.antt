@@ -25,5 +25,5 @@ returns-clause-sound c =
       in_order = subst Ordered (sym stored) (in_order_losing c.args.self.now.time c.as_slice.result.now sent before);
       time_within = sound.time_within;
       client_within = sound.client_within;
-      server_within = sound.server_within
+      server_within = sound.server_within;
     }

@@ -22,5 +22,5 @@ returns-clause-sound c =
       in_order = in_order_later _ _ _ (omega arith) sound.in_order;
       time_within = limits.0;
       client_within = omega (arith, client, limits.1);
-      server_within = omega (arith, server, limits.2)
+      server_within = omega (arith, server, limits.2);
     }

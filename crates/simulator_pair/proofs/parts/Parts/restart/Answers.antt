@@ -23,7 +23,7 @@ returns-in-Client-clause-sound c =
       in_order = sound.in_order;
       time_within = sound.time_within;
       client_within = within;
-      server_within = sound.server_within
+      server_within = sound.server_within;
     }
 
 pub returns-in-Server-clause-sound : goal.returns-in-Server-clause-sound
@@ -42,5 +42,5 @@ returns-in-Server-clause-sound c =
       in_order = sound.in_order;
       time_within = sound.time_within;
       client_within = sound.client_within;
-      server_within = within
+      server_within = within;
     }

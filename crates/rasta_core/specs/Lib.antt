@@ -1,0 +1,12 @@
+pub use Rattle.rasta_core_link.specs.Parameters
+pub use Rattle.rasta_core_link.specs.Sequence
+pub use Rattle.rasta_core_link.specs.State
+pub use Rattle.rasta_core_link.specs.Clock
+pub use Rattle.rasta_core_link.specs.Sending
+pub use Rattle.rasta_core_link.specs.Opening
+pub use Rattle.rasta_core_link.specs.Receiving
+pub use Rattle.rasta_core_link.specs.Calls
+pub use Rattle.rasta_core_link.specs.Outbox
+pub use Rattle.rasta_core_ends.specs.Ends
+pub use Rattle.rasta_core_ends.specs.Bag
+pub use Rattle.rasta_core_ends.specs.Run

@@ -1,0 +1,11 @@
+use Rattle.rasta_core_order.proofs.Calls.{hearing_on, unreadable_on, stranger_on}
+use Rattle.rasta_core_order.proofs.laws.hearing_keeps_order.Goals as goal
+
+pub returns-clause-partners : goal.returns-clause-partners
+returns-clause-partners c = hearing_on
+
+pub returns-clause-unreadable : goal.returns-clause-unreadable
+returns-clause-unreadable c = unreadable_on
+
+pub returns-clause-strangers : goal.returns-clause-strangers
+returns-clause-strangers c = stranger_on

@@ -1,0 +1,5 @@
+pub mod Held
+pub mod Part
+pub mod Order
+pub mod Playing
+pub mod Beginning

@@ -1,0 +1,80 @@
+-- The link of an end, and the part of that end in a connection.
+use Rattle.std.specs.Prelude.{◌≡◌, ℕ, ◌^◌, ◌<◌, ◌≤◌, Bool, true, false, List, [], ◌∷◌, ◌++◌, length, ◌⊎◌, Result, is_ok, if◌then◌else◌}
+use Rattle.rasta_core_link.specs.Parameters.{stops_at_greatest}
+use Rattle.rasta_core_link.specs.State.{LinkState, is_open, is_asking}
+use Rattle.rasta_core_link.specs.Clock.{open_state}
+use Rattle.rasta_core_link.specs.Sending.{Step}
+use Rattle.rasta_core_link.specs.Receiving.{Receipt}
+use Rattle.rasta_core_link.specs.declared.fault.SendFault.{SendFault}
+use Rattle.rasta_core_link.specs.declared.phase.State.{State}
+use Rattle.rasta_core_link.specs.declared.phase.State.TheVariants as state
+use Rattle.rasta_core_order.specs.Part.{Part, sent}
+use Rattle.rasta_core_order.specs.Order.{InOrder}
+use Rattle.rasta_pdu.specs.declared.pdu.Pdu.{Pdu}
+
+-- an end takes PDUs in turn, but where it has asked for a retransmission
+abbrev pub reads : State → Bool
+reads state.RetransmissionRequested = false
+reads _ = true
+
+-- What a link knows of its part, also once it has left the connection. Its counts stop at the greatest number.
+pub record Keeps (link : LinkState) (part : Part) : Type 0 where
+  pub given : link.given ≡ stops_at_greatest (length part.given)
+  pub taken : link.taken ≡ stops_at_greatest (length part.taken)
+  pub waiting : link.waiting ≡ part.waiting
+
+-- A link that was made anew, and has nothing of the connection.
+pub record IsNew (link : LinkState) : Type 0 where
+  pub given : link.given ≡ 0
+  pub taken : link.taken ≡ 0
+
+-- A link in the connection.
+pub record IsInside (link : LinkState) (part : Part) : Type 0 where
+  pub keeps : Keeps link part
+  pub connected : is_open link.phase ≡ true
+  pub own_first : link.own_first ≡ part.first
+  pub counted : link.sent ≡ sent part
+  pub room : sent part ≤ 2147483022
+  pub stamped : 1 ≤ link.own_stamp
+  pub reading : part.reading ≡ reads (open_state link.phase)
+
+-- A link that has taken the first PDU of its partner.
+pub record HasJoined (link : LinkState) (part other : Part) : Type 0 where
+  pub inside : IsInside link part
+  pub joined : is_asking link ≡ false
+  pub partner_first : link.partner_first ≡ other.first
+  pub expected : link.expected ≡ part.reached
+
+-- A link that has asked, and that may still join by the response; its part has taken this response already.
+pub record IsStillAsking (link : LinkState) (part other : Part) : Type 0 where
+  pub inside : IsInside link part
+  pub asking : is_asking link ≡ true
+  pub reached : part.reached ≡ 1
+  pub partner_first : other.first < 2 ^ 32
+
+-- how a link is in a connection, or was until it left
+pub data Plays (link : LinkState) (part other : Part) : Type 0 where
+  joined : HasJoined link part other → Plays link part other
+  asking : IsStillAsking link part other → Plays link part other
+  left : is_open link.phase ≡ false → Keeps link part ⊎ IsNew link → Plays link part other
+
+-- The connection goes on in order: the end has sent these PDUs more, and given and taken these items.
+pub record GoesOn (old other : Part) (link : LinkState) (pdus : List Pdu) (accepted handed : List (List ℕ)) : Type 0 where
+  pub part : Part
+  pub first : part.first ≡ old.first
+  pub flow : part.flow ≡ old.flow ++ pdus
+  pub given : part.given ≡ old.given ++ accepted
+  pub taken : part.taken ≡ old.taken ++ handed
+  pub order : InOrder part other
+  pub plays : Plays link part other
+
+-- what a step of an end does keeps the order, and so does what becomes of a datagram
+abbrev pub StepGoesOn : Part → Part → Step → List (List ℕ) → Type 0
+StepGoesOn own other step accepted = GoesOn own other step.link step.pdus accepted []
+
+abbrev pub ReceiptGoesOn : Part → Part → Receipt → Type 0
+ReceiptGoesOn own other receipt = GoesOn own other receipt.link receipt.pdus [] receipt.items
+
+-- the items that a call of `send` accepts
+abbrev pub accepted : Result Unit SendFault → List ℕ → List (List ℕ)
+accepted answer item = if is_ok answer then item ∷ [] else []

@@ -1,0 +1,54 @@
+-- The order of items between two ends, joined to what is kept of them: who is in which connection, and what was sent.
+use Rattle.std.specs.Prelude.{◌≡◌, ℕ, List, [], Some, None, Ok}
+use Rattle.rasta_core_link.specs.declared.identity.Role.{Role}
+use Rattle.rasta_core_link.specs.declared.identity.Role.TheVariants as role
+use Rattle.rasta_core_ends.specs.Ends.{Sent}
+use Rattle.rasta_core_ends.specs.Run.{Ends}
+use Rattle.rasta_core_order.specs.Part.{Part, IsOf}
+use Rattle.rasta_core_order.specs.Order.{InOrder}
+use Rattle.rasta_core_order.specs.Playing.{Plays}
+use Rattle.rasta_core_order.specs.Beginning.{IsEarly, PlaysEarly}
+use Rattle.rasta_core_time.specs.Each.{Each}
+use Rattle.rasta_core_time.specs.Invariant.{Names}
+use Rattle.rasta_pdu.specs.declared.pdu.Pdu.{Pdu}
+use Rattle.rasta_pdu.specs.Reading.{reading}
+
+-- a datagram that this end sent in this connection spells a PDU of this flow
+abbrev pub IsSpelledIn : Names → Role → ℕ → List Pdu → Sent → Type 0
+IsSpelledIn names who connection flow sent =
+    sent.sender ≡ who → sent.connection ≡ connection → (pdu : Pdu) → reading names.key sent.bytes ≡ Ok pdu → IsOf pdu flow
+
+-- The client has begun its last connection, and the server hasn't entered it.
+pub record IsAlone (names : Names) (ends : Ends) : Type 0 where
+  pub connection : ℕ
+  pub client : Part
+  pub of_client : ends.client.connection ≡ Some connection
+  pub not_of_server : ends.server.connection ≡ Some connection → ⊥
+  pub early : IsEarly client
+  pub plays : PlaysEarly ends.client.link client
+  pub given : ends.client.given ≡ []
+  pub taken : ends.client.taken ≡ []
+  pub flow : Each (IsSpelledIn names role.Client connection client.flow) ends.sent
+
+-- The last connection of both ends is the same, and in order.
+pub record AreTogether (names : Names) (ends : Ends) : Type 0 where
+  pub connection : ℕ
+  pub client : Part
+  pub server : Part
+  pub of_client : ends.client.connection ≡ Some connection
+  pub of_server : ends.server.connection ≡ Some connection
+  pub order : InOrder client server
+  pub client_plays : Plays ends.client.link client server
+  pub server_plays : Plays ends.server.link server client
+  pub client_given : client.given ≡ ends.client.given
+  pub client_taken : client.taken ≡ ends.client.taken
+  pub server_given : server.given ≡ ends.server.given
+  pub server_taken : server.taken ≡ ends.server.taken
+  pub client_flow : Each (IsSpelledIn names role.Client connection client.flow) ends.sent
+  pub server_flow : Each (IsSpelledIn names role.Server connection server.flow) ends.sent
+
+-- how far the connection has come that the client began last
+pub data Ordered (names : Names) (ends : Ends) : Type 0 where
+  unbegun : ends.client.connection ≡ None → Ordered names ends
+  alone : IsAlone names ends → Ordered names ends
+  together : AreTogether names ends → Ordered names ends

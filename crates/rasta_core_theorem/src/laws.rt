@@ -1,0 +1,74 @@
+//! The theorem of the link, for two ends that were just created and every list of events that may happen to them.
+
+ghost use Rattle.std.specs.Prelude.{◌≡◌, ◌≢◌, ◌⊎◌, ℕ, ◌+◌, ◌<◌, true, List, [], Some};
+ghost use Rattle.rasta_core_link.specs.declared.identity.Role.{Role};
+ghost use Rattle.rasta_core_ends.specs.Ends.{Sent, Receives, is_taken};
+ghost use Rattle.rasta_core_ends.specs.Run.{Ends, end_of, called};
+ghost use Rattle.rasta_core_time.specs.Events.{AreForeign, Event, IsDelivered, May, MayRun, Start, happened, run, started};
+ghost use Rattle.rasta_core_time.specs.Invariant.{AreNames, Names, Timely};
+ghost use Rattle.rasta_core_time.specs.Sentences.{IsOpening, IsOut, freshness, receipt_at};
+ghost use Rattle.rasta_core_theorem.specs.Ordered.{Ordered};
+ghost use Rattle.rasta_pdu.specs.SafetyCode.{IsIntact};
+ghost use Rattle.rasta_core_theorem.specs.Safe.{AreSafe, IsIdle};
+
+use rasta_core_time::{
+    every_event_keeps_time, every_run_keeps_time, items_are_fresh, opening_is_new, own_connection,
+    starts_in_time,
+};
+use rasta_pdu::{read_was_written, written_is_read};
+
+/// Two ends that were just created are in order, and every event that may happen keeps the order.
+pub fn every_event_keeps_order()
+    ensures starts { (names : Names) (start : Start) → Ordered names (started names start) }
+    ensures kept { (names : Names) (event : Event) (ends : Ends) → AreNames names → Timely names ends → Ordered names ends
+        → May names event ends → Ordered names (happened event ends) }
+{
+    written_is_read();
+    read_was_written();
+}
+
+/// In a connection that is the last of both ends, what was taken is a beginning of what the partner gave, and what is
+/// held for confirmed was taken.
+pub fn order_is_safe()
+    ensures { (names : Names) (ends : Ends) → Ordered names ends → AreSafe ends }
+{}
+
+/// The link is safe after every list of events.
+pub fn link_is_safe()
+    ensures { (names : Names) (start : Start) (events : List Event) → AreNames names → MayRun names events (started names start)
+        → AreSafe (run events (started names start)) }
+{
+    written_is_read();
+    read_was_written();
+    starts_in_time();
+    every_event_keeps_time();
+}
+
+/// After every list of events, an end takes items only from a datagram that was sent less than 1802 ms of true time
+/// before, and any PDU only from a datagram of the connection that it is in then; and what a server outside takes is a
+/// request that was sent after the server's last close or restart. Nothing is taken of bytes that are no PDU, or that
+/// are of another link.
+pub fn what_is_taken()
+    ensures fresh { (names : Names) (start : Start) (events : List Event) → AreNames names → MayRun names events (started names start)
+        → (who : Role) (bytes : List ℕ) (connection : ℕ) (datagram : Sent) → IsDelivered (run events (started names start)) bytes connection datagram
+        → (receipt_at who bytes (run events (started names start))).items ≢ []
+        → (run events (started names start)).time < datagram.at + freshness }
+    ensures own { (names : Names) (start : Start) (events : List Event) → AreNames names → MayRun names events (started names start)
+        → (who : Role) (bytes : List ℕ) (connection : ℕ) (datagram : Sent) → IsDelivered (run events (started names start)) bytes connection datagram
+        → is_taken (receipt_at who bytes (run events (started names start))).verdict ≡ true
+        → (end_of who (called who (Receives bytes connection) (run events (started names start)))).connection ≡ Some datagram.connection }
+    ensures opening { (names : Names) (start : Start) (events : List Event) → AreNames names → MayRun names events (started names start)
+        → (who : Role) (bytes : List ℕ) (connection : ℕ) (datagram : Sent) → IsDelivered (run events (started names start)) bytes connection datagram
+        → IsOut who (run events (started names start)) → is_taken (receipt_at who bytes (run events (started names start))).verdict ≡ true
+        → IsOpening names who (run events (started names start)) datagram }
+    ensures others { (names : Names) (start : Start) (events : List Event) → AreNames names → MayRun names events (started names start)
+        → (who : Role) (bytes : List ℕ) → (IsIntact names.key bytes → ⊥) ⊎ AreForeign names who bytes
+        → IsIdle (receipt_at who bytes (run events (started names start))) }
+{
+    read_was_written();
+    starts_in_time();
+    every_run_keeps_time();
+    items_are_fresh();
+    own_connection();
+    opening_is_new();
+}

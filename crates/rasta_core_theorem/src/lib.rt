@@ -1,0 +1,7 @@
+//! The theorem of the link: after any list of what can happen to two ends, what was taken is in order, fresh, and
+//! of the connection, and nothing is held for confirmed that wasn't taken.
+#![tactic(auto)]
+
+mod laws;
+
+pub use laws::{every_event_keeps_order, link_is_safe, order_is_safe, what_is_taken};

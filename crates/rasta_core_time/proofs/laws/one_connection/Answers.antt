@@ -1,0 +1,8 @@
+use Rattle.rasta_core_time.proofs.Conclusions.{same_connection, up_connection}
+use Rattle.rasta_core_time.proofs.laws.one_connection.Goals as goal
+
+pub returns-clause-inside : goal.returns-clause-inside
+returns-clause-inside c = same_connection
+
+pub returns-clause-up : goal.returns-clause-up
+returns-clause-up c = up_connection

@@ -1,0 +1,92 @@
+-- The invariant of time: which stamps are how old, and which datagrams can still be delivered.
+use Rattle.std.specs.Prelude.{◌≡◌, ◌≢◌, ℕ, ◌+◌, ◌*◌, ◌≤◌, ◌<◌, Some}
+use Rattle.rasta_core_link.specs.Parameters.{time_limit, expiry}
+use Rattle.rasta_core_link.specs.declared.identity.Role.{Role}
+use Rattle.rasta_core_link.specs.declared.identity.Role.TheVariants as role
+use Rattle.rasta_core_ends.specs.Bag.{lifetime}
+use Rattle.rasta_pdu.specs.declared.pdu.Pdu.{Pdu}
+use Rattle.rasta_pdu.specs.declared.body.Body.{Body}
+use Rattle.rasta_pdu.specs.declared.body.Body.TheVariants.{ConnectionRequest, DisconnectionRequest}
+use Rattle.rasta_core_time.specs.Standing.{Timed, Times, IsInside, IsOutside, HasHeard, own_stamp, heard_stamp, closed_at, at_role, partner_of}
+
+-- A clock that runs at least at 999 in 1000 of true time read this stamp, in milliseconds, at this true time.
+abbrev pub WasRead : ℕ → ℕ → ℕ → ℕ → Type 0
+WasRead time clock stamp at = 999 * time + 1000000 * stamp ≤ 1000 * clock + 999 * at
+
+-- what is true of each end
+pub record IsTimed (time moment newest : ℕ) (end : Timed) : Type 0 where
+  -- it left, sent what was returned, and heard what it took, at some time before now
+  pub left_before : end.past.left_at ≤ time
+  pub returned_before : end.past.returned_at ≤ time
+  pub heard_before : end.past.heard_at ≤ time
+  pub left_counted : end.left ≤ moment
+  -- its last connection began before now
+  pub began : (connection : ℕ) → end.connection ≡ Some connection → connection < moment
+  -- inside, it is in the newest connection, its returned stamp was read when that datagram was sent, and it is young
+  pub in_newest : IsInside end.standing → end.connection ≡ Some newest
+  pub was_read : IsInside end.standing → WasRead time end.clock (own_stamp end.standing) end.past.returned_at
+  pub young : IsInside end.standing → end.clock < 1000 * (own_stamp end.standing + time_limit)
+  pub unexpired : IsInside end.standing → end.clock < 1000 * expiry
+  -- outside, its clock hasn't gone on by more than 1001 in 1000 of the true time since it left
+  pub apart : IsOutside end.standing → 1000 * end.clock + 1001 * end.past.left_at ≤ 1000000 * end.past.left_clock + 1001 * time + 999000
+  -- outside, what it knows of that reading is right, unless it was made when its clock had passed the range of stamps
+  pub closed : IsOutside end.standing → closed_at end.standing < expiry → end.past.left_clock ≡ closed_at end.standing
+  -- outside, it left its last connection after that began
+  pub over : IsOutside end.standing → (connection : ℕ) → end.connection ≡ Some connection → connection < end.left
+
+-- what is true of both ends together
+pub record AreTimed (times : Times) : Type 0 where
+  pub client : IsTimed times.time times.moment times.newest times.client
+  pub server : IsTimed times.time times.moment times.newest times.server
+  -- a server is in a connection that a client began
+  pub begun : IsInside times.server.standing → times.client.connection ≡ Some times.newest
+  -- the server has entered the connection of a client that heard of it
+  pub joined : HasHeard times.client.standing → times.server.connection ≡ Some times.newest
+  -- the stamp that an end heard last was read on its partner's clock when that datagram was sent
+  pub client_heard : HasHeard times.client.standing → IsInside times.server.standing
+      → WasRead times.time times.server.clock (heard_stamp times.client.standing) times.client.past.heard_at
+  pub server_heard : HasHeard times.server.standing → IsInside times.client.standing
+      → WasRead times.time times.client.clock (heard_stamp times.server.standing) times.server.past.heard_at
+  -- an end whose partner has left hears nothing that was sent later
+  pub server_alone : IsInside times.server.standing → IsOutside times.client.standing
+      → times.server.past.returned_at ≤ times.client.past.left_at + lifetime
+  pub client_alone : IsInside times.client.standing → IsOutside times.server.standing → times.server.connection ≡ Some times.newest
+      → times.client.past.returned_at ≤ times.server.past.left_at
+
+-- A PDU that its sender wrote after its partner had entered the connection: all of the server's, and of the client's
+-- all but requests and disconnection requests.
+abbrev pub IsAnswering : Role → Body → Type 0
+IsAnswering role.Server body = Unit {0}
+IsAnswering role.Client (ConnectionRequest opening) = ⊥
+IsAnswering role.Client (DisconnectionRequest detail reason) = ⊥
+IsAnswering role.Client _ = Unit {0}
+
+abbrev pub IsRequest : Body → Type 0
+IsRequest (ConnectionRequest opening) = Unit {0}
+IsRequest _ = ⊥
+
+abbrev pub IsServer : Role → Type 0
+IsServer role.Client = ⊥
+IsServer role.Server = Unit {0}
+
+-- what is true of each datagram: of its sender, the time of its sending, its connection, its PDU, and when its
+-- sender's partner had sent what the sender took last
+pub record IsKnown (times : Times) (who : Role) (at connection : ℕ) (pdu : Pdu) (back : ℕ) : Type 0 where
+  pub sent_before : at ≤ times.time
+  pub heard_before : back ≤ at
+  pub counted : connection < times.moment
+  pub begun : times.client.connection ≡ Some times.newest
+  -- of an older connection than the newest, it can't be delivered any more
+  pub dead : connection ≢ times.newest → at + lifetime < times.time
+  -- the server has entered the connection in which it answers
+  pub entered : connection ≡ times.newest → IsAnswering who pdu.body → times.server.connection ≡ Some times.newest
+  -- its stamp was read when it was sent, and the stamp that it returns when what it answers was sent
+  pub was_read : connection ≡ times.newest → IsInside (at_role who times).standing
+      → WasRead times.time (at_role who times).clock pdu.time_stamp at
+  pub returns : connection ≡ times.newest → IsAnswering who pdu.body → IsInside (at_role (partner_of who) times).standing
+      → WasRead times.time (at_role (partner_of who) times).clock pdu.confirmed_time_stamp back
+  -- an end that left sends nothing more in its connection, and its partner not for long
+  pub last_word : connection ≡ times.newest → IsOutside (at_role who times).standing → at ≤ (at_role who times).past.left_at
+  pub lonely : connection ≡ times.newest → IsServer who → IsOutside times.client.standing → at < times.client.past.left_at + 3802000
+  -- a request sent before the server last left was sent at an earlier time
+  pub request_old : IsRequest pdu.body → connection < times.server.left → at ≤ times.server.past.left_at
