@@ -74,7 +74,7 @@ impl Run {
     }
 }
 
-/// The arrival of a datagram at its sender's partner, unless it is lost.
+/// The arrival of a datagram at its sender's partner, whom its receiver field names, unless it is lost.
 fn arrival(sent: &Sent) -> Option<PairEvent> {
     if sent.is_lost() {
         return None;
