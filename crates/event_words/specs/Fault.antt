@@ -23,3 +23,9 @@ both (Ok a) (Ok b) = Ok (a, b)
 both (Ok a) (Err f) = Err f
 both (Err e) (Ok b) = Err e
 both (Err e) (Err f) = Err (lower e f)
+
+-- the second step, if the first found no fault
+infixl 10 ◌>>=◌
+abbrev pub ◌>>=◌ : {A B : Type 0} → Result A Fault → (A → Result B Fault) → Result B Fault
+Ok x >>= next = next x
+Err fault >>= next = Err fault

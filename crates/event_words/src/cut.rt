@@ -1,12 +1,13 @@
 //! How a text is cut into lines, and a line into words.
 
-ghost use Rattle.std.specs.Prelude.{◌≡◌, ◌+◌, ◌^◌, ◌<◌, ℕ, List, [], length, MatchResult, Ok, Err};
+ghost use Rattle.std.specs.Prelude.{◌≡◌, ◌+◌, ◌^◌, ◌<◌, ℕ, List, [], length, MatchResult, Ok, Err, ⊤};
 ghost use Rattle.std.specs.List.{enumerate_from};
 ghost use Rattle.std.specs.Option.{option_map_or};
 ghost use Rattle.std.specs.Iterator.{YieldsFirstBy, item_count};
 ghost use Rattle.event_words.specs.Cut.{words, lines, is_passed_over, name_and_number};
 
 use crate::fault::Fault;
+use std::alloc::AllocError;
 use std::marker::Model;
 
 /// The words of a line, parted by single spaces. A second space, or one at an end, makes an empty
@@ -29,6 +30,16 @@ impl<'a> Words<'a> {
         ensures { result ≡ words line.now }
     {
         Words { rest: Some(line) }
+    }
+}
+
+impl<'a> Clone for Words<'a> {
+    ghost is_clone = { λ words copy. copy ≡ words };
+
+    ghost is_infallible = { λ _. ⊤ };
+
+    fn clone(&self) -> Result<Self, AllocError> {
+        Ok(Words { rest: self.rest })
     }
 }
 

@@ -1,0 +1,15 @@
+-- The verdict on lines, one after the other.
+use Rattle.std.proofs.Common.{◌≡◌, ℕ, List, Result, Ok, Err, refl}
+use Rattle.simulator_pair_text.specs.declared.line.PairLine.{PairLine}
+use Rattle.simulator_pair_text.specs.declared.text.LineFault.{LineFault}
+use Rattle.simulator_pair_text.specs.Text.{at_line}
+
+-- nothing, or the fault
+abbrev pub verdict : Result (List PairLine) LineFault → Result (Unit {0}) LineFault
+verdict (Ok all) = Ok tt
+verdict (Err fault) = Err fault
+
+-- a line without a fault leaves the verdict to the lines behind it
+pub verdict-at_line : (number : ℕ) (this : PairLine) (more : Result (List PairLine) LineFault) → verdict (at_line number (Ok this) more) ≡ verdict more
+verdict-at_line number this (Ok all) = refl
+verdict-at_line number this (Err fault) = refl

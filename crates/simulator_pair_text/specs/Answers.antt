@@ -1,0 +1,63 @@
+-- The texts of answers and of the picture, each without the line feed at its end.
+use Rattle.std.specs.Prelude.{ℕ, ◌/◌, length, if◌then◌else◌, List, ◌++◌, codes, Result, Ok, Err}
+use Rattle.std.specs.Fmt.{decimal}
+use Rattle.sci_telegram.specs.declared.message.Aspect.{Aspect}
+use Rattle.sci_telegram.specs.declared.message.Aspect.TheVariants.{Stop, Proceed}
+use Rattle.rasta_core_link.specs.State.{is_up}
+use Rattle.rasta_core_ends.specs.Ends.{EndState}
+use Rattle.simulator_pair.specs.Pair.{PairState, shown}
+use Rattle.rasta_core_link.specs.declared.fault.SendFault.TheVariants.{NotUp, WindowFull}
+use Rattle.simulator_pair.specs.declared.event.PairReply.{PairReply}
+use Rattle.simulator_pair.specs.declared.event.PairReply.TheVariants as reply
+use Rattle.simulator_pair.specs.declared.event.Refused.{Refused as Why}
+use Rattle.simulator_pair.specs.Events.{refusal_number}
+use Rattle.simulator_pair_text.specs.declared.answer.Answer.{Answer}
+use Rattle.simulator_pair_text.specs.declared.answer.Answer.TheVariants.{Done, Accepted, Refused, No}
+use Rattle.simulator_pair_text.specs.declared.picture.EndSeen.{EndSeen}
+use Rattle.simulator_pair_text.specs.declared.picture.Picture.{Picture}
+
+-- the answer to an event, by what the pair says to it
+abbrev pub answer_to : Result PairReply Why → Answer
+answer_to (Ok reply.Done) = Done
+answer_to (Ok (reply.Given (Ok taken))) = Accepted
+answer_to (Ok (reply.Given (Err NotUp))) = Refused 1
+answer_to (Ok (reply.Given (Err WindowFull))) = Refused 2
+answer_to (Err why) = No (refusal_number why)
+
+-- the text of an answer
+abbrev pub answer_text : Answer → List ℕ
+answer_text Done = codes "ok"
+answer_text Accepted = codes "accepted"
+answer_text (Refused n) = codes "refused " ++ decimal n
+answer_text (No n) = codes "no " ++ decimal n
+
+abbrev pub aspect_text : Aspect → List ℕ
+aspect_text Stop = codes "stop"
+aspect_text Proceed = codes "proceed"
+
+-- what can be seen of an end
+abbrev pub seen_of_end : EndState → EndSeen
+seen_of_end end = record { is_up = is_up end.link.phase; given = length end.given; taken = length end.taken }
+
+-- what can be seen of a pair
+abbrev pub seen_of : PairState → Picture
+seen_of pair = record {
+  time = pair.ends.time / 1000;
+  lamp = shown pair;
+  client = seen_of_end pair.ends.client;
+  server = seen_of_end pair.ends.server
+}
+
+-- an end: whether its link is up, and how many items were given and taken in its last connection
+abbrev pub end_text : EndSeen → List ℕ
+end_text end =
+    (if end.is_up then codes "up" else codes "closed")
+    ++ (codes " given " ++ (decimal end.given ++ (codes " taken " ++ decimal end.taken)))
+
+-- the picture: whole milliseconds of true time, the lamp, the client and the server
+abbrev pub picture_text : Picture → List ℕ
+picture_text seen =
+    codes "time " ++ (decimal seen.time
+    ++ (codes "\nlamp " ++ (aspect_text seen.lamp
+    ++ (codes "\nC " ++ (end_text seen.client
+    ++ (codes "\nS " ++ end_text seen.server))))))

@@ -1,0 +1,107 @@
+//! The run of a text, with its answers written.
+
+ghost use Rattle.std.specs.Prelude.{◌≡◌, ◌≤◌, IsOk, IsErr, OnOk};
+ghost use Rattle.simulator_pair_text.specs.Text.{run_of};
+
+use crate::line::{PairLine, read_line};
+use crate::picture::Picture;
+use crate::run::Run;
+use crate::text::{LineFault, judge};
+use event_words::{Lines, is_passed_over};
+use std::alloc::{AllocError, Global};
+use std::io;
+use std::io::Write;
+
+/// Why a text wasn't run to its end.
+#[derive(Debug, Drop)]
+enum Failure {
+    /// A line is faulty.
+    Faulty(LineFault),
+    /// A new pair takes memory.
+    OutOfMemory,
+    /// An answer couldn't be written.
+    NotWritten,
+}
+
+impl From<AllocError> for Failure {
+    ghost use Rattle.simulator_pair_text.specs.declared.print.Failure.TheVariants.{OutOfMemory};
+
+    ghost from_gives = { λ _ failure. failure ≡ OutOfMemory };
+
+    fn from(_error: AllocError) -> Failure {
+        Failure::OutOfMemory
+    }
+}
+
+impl From<LineFault> for Failure {
+    ghost use Rattle.simulator_pair_text.specs.declared.print.Failure.TheVariants.{Faulty};
+
+    ghost from_gives = { λ fault failure. failure ≡ Faulty fault };
+
+    fn from(fault: LineFault) -> Failure {
+        Failure::Faulty(fault)
+    }
+}
+
+impl From<io::Error> for Failure {
+    ghost use Rattle.simulator_pair_text.specs.declared.print.Failure.TheVariants.{NotWritten};
+
+    ghost from_gives = { λ _ failure. failure ≡ NotWritten };
+
+    fn from(_error: io::Error) -> Failure {
+        Failure::NotWritten
+    }
+}
+
+/// Runs a text of event lines over a new pair, and writes an answer for each line to `out`. The whole text
+/// is judged before the first event: where a line is faulty, `out` stays as it is, and `err` is told. The
+/// status is 0, or 1 where anything failed.
+pub fn pair_text<W: Write, E: Write>(alloc: Global, text: &str, out: &mut W, err: &mut E) -> u8
+    ensures status { result ≤ 1 }
+    ensures done { result ≡ 0 → IsOk (run_of text.now) }
+    ensures faulty { IsErr (run_of text.now) → (result ≡ 1) × (out.new ≡ out.old) }
+{
+    let told = match run(alloc, text, out) {
+        Ok(()) => return 0,
+        Err(Failure::Faulty(fault)) => writeln!(err, "{fault}"),
+        Err(Failure::OutOfMemory) => writeln!(err, "out of memory"),
+        Err(Failure::NotWritten) => Ok(()),
+    };
+    // Where this can't be written either, the status has to do.
+    let _ = told;
+    1
+}
+
+fn run<W: Write>(alloc: Global, text: &str, out: &mut W) -> Result<(), Failure>
+    ensures done { OnOk result (IsOk (run_of text.now)) }
+    ensures faulty { IsErr (run_of text.now) → IsErr result × (out.new ≡ out.old) }
+{
+    judge(text)?;
+    perform(alloc, text, out)
+}
+
+/// Carries out the lines of a text without a fault.
+fn perform<W: Write>(alloc: Global, text: &str, out: &mut W) -> Result<(), Failure> {
+    let mut run = Run::new(alloc)?;
+    for (number, line) in Lines::of(text) {
+        if is_passed_over(line) {
+            continue;
+        }
+        let said = read_line(line).map_err(|fault| LineFault {
+            line: number,
+            fault,
+        })?;
+        carry_out(&mut run, &said, out)?;
+    }
+    out.flush()?;
+    Ok(())
+}
+
+/// Carries out a line, and writes its answer or the picture.
+fn carry_out<W: Write>(run: &mut Run, line: &PairLine, out: &mut W) -> io::Result<()> {
+    match line {
+        PairLine::Event(event) => out.writeln(run.event(event)),
+        PairLine::Flow(length) => out.writeln(run.flow(*length)),
+        PairLine::Picture => out.writeln(Picture::of(&run.pair)),
+    }
+}

@@ -1,0 +1,218 @@
+use super::*;
+use std::alloc::Global;
+use std::io;
+use std::io::Write;
+use std::process::Abort;
+use std::test::Fail;
+
+/// The line of a run whose answers are known: the client opens at 6000 ms, and both ends are up at 6030.
+const FIRST_RUN: &str = "flow 6030
+give C 04
+flow 10
+picture
+time 1769000
+picture
+time 1000
+picture
+";
+
+const FIRST_ANSWERS: &str = "ok
+accepted
+ok
+time 6040
+lamp proceed
+C up given 1 taken 0
+S up given 0 taken 1
+ok
+time 7809
+lamp proceed
+C closed given 1 taken 0
+S up given 0 taken 1
+ok
+time 7810
+lamp stop
+C closed given 1 taken 0
+S closed given 0 taken 1
+";
+
+// Runs `text`, and compares all that comes out of it.
+fn expect_run(rt: &impl Abort, alloc: Global, text: &str, status: u8, answers: &str, faults: &str) {
+    let mut out = Vec::new(alloc);
+    let mut err = Vec::new(alloc);
+    assert_eq!(rt;
+        pair_text(alloc, text, &mut out, &mut err),
+        status,
+        "of {text:?}"
+    );
+    assert!(rt; out.as_slice() == answers.as_bytes(), "answers of {text:?}");
+    assert!(rt; err.as_slice() == faults.as_bytes(), "faults of {text:?}");
+}
+
+// The line `words`, with `count` bytes behind it.
+fn with_bytes(alloc: Global, words: &str, count: usize) -> Result<String, Fail> {
+    let mut line = String::from_str(alloc, words)?;
+    for _ in 0..count {
+        line.push_str("a5")?;
+    }
+    Ok(line)
+}
+
+#[test]
+fn each_faulty_line_is_told_and_nothing_is_applied(rt: HostRuntime) -> Result<(), Fail> {
+    for (line, number) in [
+        ("jump C", 1),
+        ("set R1", 1),
+        ("Tick C", 1),
+        (" tick C", 1),
+        ("tick", 1),
+        ("tick C S", 1),
+        ("tick  C", 1),
+        ("tick C ", 1),
+        ("tick c", 2),
+        ("tick C\r", 2),
+        ("tick X", 2),
+        ("tick ", 2),
+        ("give C", 1),
+        ("give C 04 01", 1),
+        ("give X 0", 2),
+        ("give C -", 4),
+        ("give C ", 4),
+        ("give C 0", 4),
+        ("give C 0g", 4),
+        ("time", 1),
+        ("time x", 3),
+        ("time -1", 3),
+        ("time +1", 3),
+        ("time 18446744073709551616", 3),
+        ("time 1 C", 1),
+        ("time x X=1 C", 1),
+        ("time x X=1", 2),
+        ("time x C=1 C=2", 2),
+        ("time 1 C=x C=y", 2),
+        ("time 1 C=1 S=1 S=1", 2),
+        ("time 1 =1", 2),
+        ("time 1 C=", 3),
+        ("time 1 C=1=1", 3),
+        ("time 1 C=1 S=1.5", 3),
+        ("deliver C", 1),
+        ("deliver X 0", 2),
+        ("deliver C 0", 4),
+        ("deliver C ", 4),
+        ("deliver C --", 4),
+        ("lose", 1),
+        ("lose -", 4),
+        ("lose 123", 4),
+        ("close C", 1),
+        ("close X 6", 2),
+        ("close C 6", 3),
+        ("close C x", 3),
+        ("restart C 1", 1),
+        ("restart X 1 y", 2),
+        ("restart C 4294967296 0", 3),
+        ("restart C 0 4294967296", 3),
+        ("flow", 1),
+        ("flow x", 3),
+        ("flow 0", 3),
+        ("flow 15", 3),
+        ("flow 600010", 3),
+        ("picture now", 1),
+    ] {
+        let text = format!(in rt.alloc(); "flow 10\n\n# a comment\n{line}\npicture C\n")?;
+        let told = format!(in rt.alloc(); "session fault {number} at line 4\n")?;
+        expect_run(&rt, rt.alloc(), text.as_str(), 1, "", told.as_str());
+    }
+    Ok(())
+}
+
+#[test]
+fn too_many_bytes_are_a_fault(rt: HostRuntime) -> Result<(), Fail> {
+    for (words, most) in [("give C ", 61), ("deliver C ", 512), ("lose ", 512)] {
+        assert!(rt; judge(with_bytes(rt.alloc(), words, most)?.as_str()).is_ok());
+        let text = with_bytes(rt.alloc(), words, most + 1)?;
+        expect_run(
+            &rt,
+            rt.alloc(),
+            text.as_str(),
+            1,
+            "",
+            "session fault 4 at line 1\n",
+        );
+    }
+    Ok(())
+}
+
+#[test]
+fn the_forms_of_lines_are_read(rt: HostRuntime) {
+    expect_run(&rt, rt.alloc(), "", 0, "", "");
+    let text =
+        "# empty lines and comments pass\n\ntime 0010 S=10\ntime 1000 C=1001\ntime 1000 C=1002\ntime 9000000000000000\ntick C\ndeliver S -\ndeliver C aBcD\nlose 00\nclose S 5\nrestart C 4294967295 4294967295\ngive S 0401";
+    let answers = "ok\nok\nno 3\nno 5\nok\nok\nok\nno 2\nok\nok\nrefused 1\n";
+    expect_run(&rt, rt.alloc(), text, 0, answers, "");
+}
+
+#[test]
+fn a_proceed_is_shown_until_the_time_of_the_server_ends(rt: HostRuntime) {
+    expect_run(&rt, rt.alloc(), FIRST_RUN, 0, FIRST_ANSWERS, "");
+}
+
+#[test]
+fn a_closed_link_opens_again(rt: HostRuntime) {
+    expect_run(
+        &rt,
+        rt.alloc(),
+        "flow 6030\nclose C 0\nflow 6030\npicture\n",
+        0,
+        "ok\nok\nok\ntime 12060\nlamp stop\nC up given 0 taken 0\nS up given 0 taken 0\n",
+        "",
+    );
+}
+
+// A writer that takes so many bytes and then fails.
+#[derive(Drop)]
+struct Failing {
+    left: usize,
+}
+
+impl Write for Failing {
+    fn write(&mut self, buf: &[u8]) -> io::Result<usize> {
+        let taken = buf.len().min(self.left);
+        self.left -= taken;
+        if taken == 0 {
+            return Err(io::Error::from(io::ErrorKind::StorageFull));
+        }
+        Ok(taken)
+    }
+
+    fn flush(&mut self) -> io::Result<()> {
+        Ok(())
+    }
+}
+
+#[test]
+fn a_failed_write_ends_the_run_with_status_1(rt: HostRuntime) {
+    let mut err = Vec::new(rt.alloc());
+    for left in [0, 1, 2, 20, FIRST_ANSWERS.len() - 1] {
+        let status = pair_text(rt.alloc(), FIRST_RUN, &mut Failing { left }, &mut err);
+        assert_eq!(rt; status, 1, "after {left} bytes");
+    }
+    let whole = FIRST_ANSWERS.len();
+    assert_eq!(rt;
+        pair_text(
+            rt.alloc(),
+            FIRST_RUN,
+            &mut Failing { left: whole },
+            &mut err
+        ),
+        0
+    );
+    assert_eq!(rt;
+        pair_text(
+            rt.alloc(),
+            "tick",
+            &mut Failing { left: 0 },
+            &mut Failing { left: 0 }
+        ),
+        1
+    );
+    assert!(rt; err.is_empty());
+}
