@@ -23,3 +23,4 @@ pub mod Openings
 pub mod Early
 pub mod EarlyCalls
 pub mod Outside
+pub mod Carries

@@ -3,3 +3,4 @@ pub mod Part
 pub mod Order
 pub mod Playing
 pub mod Beginning
+pub mod Carried

@@ -10,6 +10,7 @@ ghost use Rattle.rasta_core_link.specs.State.{LinkState, confirmed_items, is_cli
 ghost use Rattle.rasta_core_link.specs.declared.identity.Identity.{Identity};
 ghost use Rattle.rasta_core_link.specs.declared.reason.Reason.{Reason};
 ghost use Rattle.rasta_core_order.specs.Beginning.{Asks, EarlyGoesOn, Grants, HearsOutside, IsEarly, PlaysEarly};
+ghost use Rattle.rasta_core_order.specs.Carried.{carried};
 ghost use Rattle.rasta_core_order.specs.Order.{InOrder, Way};
 ghost use Rattle.rasta_core_order.specs.Part.{IsAt, IsOf, Part};
 ghost use Rattle.rasta_core_order.specs.Playing.{accepted, Plays, ReceiptGoesOn, StepGoesOn};
@@ -104,4 +105,14 @@ pub fn connection_begins()
     ensures granting { (client : Part) → IsEarly client → (link : LinkState) (pdu : Pdu)
         → is_client link.identity.role ≡ false → 1 ≤ link.clock → IsAt 0 pdu client.flow
         → Grants client (granting pdu own_opening link).link (granting pdu own_opening link).pdus }
+{}
+
+/// What a call hands out carries exactly the items that it accepts, but for repetitions.
+pub fn calls_carry_what_they_accept()
+    ensures ticking { (now : ℕ) (link : LinkState) → carried (ticking now link).pdus ≡ [] }
+    ensures closing { (now : ℕ) (why : Reason) (link : LinkState) → carried (closing_by now why link).pdus ≡ [] }
+    ensures opening { (now : ℕ) (link : LinkState) → carried (opening now link).pdus ≡ [] }
+    ensures sending { (now : ℕ) (item : List ℕ) (link : LinkState)
+        → carried (sending_item now item link).pdus ≡ accepted (answer_to_send now link) item }
+    ensures receiving { (now : ℕ) (bytes : List ℕ) (link : LinkState) → carried (receiving now bytes link).pdus ≡ [] }
 {}

@@ -5,6 +5,6 @@
 mod laws;
 
 pub use laws::{
-    calls_keep_order, client_alone, connection_begins, hearing_keeps_order, order_is_safe,
-    partner_stays,
+    calls_carry_what_they_accept, calls_keep_order, client_alone, connection_begins,
+    hearing_keeps_order, order_is_safe, partner_stays,
 };

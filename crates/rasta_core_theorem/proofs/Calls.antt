@@ -38,7 +38,7 @@ server_opens_not now link is = not_client (entered now link).link is
     not_client l e = ap (λ (r : Role). is_client r && is_down (state_at l.clock l)) e
 
 module _ (law : WrittenIsRead) (names : Names) (ends : Ends) (timely : Timely names ends) where
-  client_key : ends.client.link.identity.key ≡ names.key
+  pub client_key : ends.client.link.identity.key ≡ names.key
   client_key = ap (λ (i : Identity). i.key) timely.client.identity
 
   pub server_key : ends.server.link.identity.key ≡ names.key
@@ -67,11 +67,11 @@ module _ (law : WrittenIsRead) (names : Names) (ends : Ends) (timely : Timely na
   swap is = record { there = is.order.back; back = is.order.there }
 
   -- what a call does, at the reading of the clock
-  at_clock : (who : Role) (enters : ℕ → Bool) (step : ℕ → Step) → Steps (end_of who ends).link (enters (end_of who ends).link.clock) (step (end_of who ends).link.clock)
+  pub at_clock : (who : Role) (enters : ℕ → Bool) (step : ℕ → Step) → Steps (end_of who ends).link (enters (end_of who ends).link.clock) (step (end_of who ends).link.clock)
       → Steps (end_of who ends).link (enters (reading_of (end_of who ends).clock)) (step (reading_of (end_of who ends).clock))
   at_clock who enters step does = subst (λ (now : ℕ). Steps (end_of who ends).link (enters now) (step now)) (ends_clock names ends who timely) does
 
-  step_pdus : (link : LinkState) (enters : Bool) (step : Step) → Steps link enters step → Each IsPdu step.pdus
+  pub step_pdus : (link : LinkState) (enters : Bool) (step : Step) → Steps link enters step → Each IsPdu step.pdus
   step_pdus link enters step does = deed_pdus link.identity link.clock Own (standing link) (standing step.link) enters [] step.pdus does.deed
 
   step_silent : (link : LinkState) (enters : Bool) (step : Step) → Steps link enters step → (IsInside (standing link) → ⊥) → enters ≡ false → step.pdus ≡ []

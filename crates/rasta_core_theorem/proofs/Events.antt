@@ -1,6 +1,7 @@
 -- Every event keeps the order of two ends, and so does every run.
 use Rattle.std.proofs.Common.{◌≡◌, ℕ, ◌+◌, ◌≤◌, inr, true, List, [], ◌∷◌, ◌++◌, length, Some, None, refl, sym, ap, subst, ◌∙◌}
-use Rattle.rasta_core_link.specs.State.{confirmed_items}
+use Rattle.rasta_core_link.specs.Parameters.{stops_at_greatest}
+use Rattle.rasta_core_link.specs.State.{LinkState, is_open, confirmed_items}
 use Rattle.rasta_core_link.specs.Calls.{created}
 use Rattle.rasta_core_link.specs.declared.identity.Identity.{Identity}
 use Rattle.rasta_core_link.specs.declared.identity.Role.{Role}
@@ -9,6 +10,7 @@ use Rattle.rasta_core_ends.specs.Bag.{is_copy, without_oldest}
 use Rattle.rasta_core_ends.specs.Ends.{Sent, Call, Ticks, Opens, Closes, Sends, Receives, reading_of, end_later, end_restarted}
 use Rattle.rasta_core_ends.specs.Run.{Ends, called, later, lost, restarted}
 use Rattle.rasta_core_order.specs.Part.{Part}
+use Rattle.rasta_core_order.specs.Playing.{Plays, joined, asking, left}
 use Rattle.rasta_core_order.specs.Beginning.{PlaysEarly, gone}
 use Rattle.rasta_core_order.proofs.Enters.{settled_plays}
 use Rattle.rasta_core_order.proofs.EarlyCalls.{early_settled}
@@ -239,6 +241,11 @@ some_same a b e = cc
 not_none : (connection : ℕ) → None ≡ Some connection → ⊥
 not_none connection e = cc
 
+taken_counted : (link : LinkState) (own other : Part) → Plays link own other → is_open link.phase ≡ true → link.taken ≡ stops_at_greatest (length own.taken)
+taken_counted link own other (joined has) inside = has.inside.keeps.taken
+taken_counted link own other (asking still) inside = still.inside.keeps.taken
+taken_counted link own other (left shut keeps) inside = absurd (cc (shut, inside))
+
 pub ordered_safe : (names : Names) (ends : Ends) → Ordered names ends → AreSafe ends
 ordered_safe names ends (unbegun is) connection of_client of_server = absurd (not_none connection (sym is ∙ of_client))
 ordered_safe names ends (alone is) connection of_client of_server =
@@ -252,6 +259,7 @@ ordered_safe names ends (together is) connection of_client of_server = (there, b
           rest = first.0;
           beginning = sym is.client_given ∙ first.1 ∙ ap (λ (taken : List (List ℕ)). taken ++ first.0) is.server_taken;
           confirmed = subst (λ (taken : List (List ℕ)). confirmed_items ends.client.link ≤ length taken) is.server_taken (confirmed ends.client.link is.client is.server is.order is.client_plays);
+          counted = λ inside. taken_counted ends.server.link is.server is.client is.server_plays inside ∙ ap (λ (taken : List (List ℕ)). stops_at_greatest (length taken)) is.server_taken;
         }
 
     back : IsSafe ends.server ends.client
@@ -262,4 +270,5 @@ ordered_safe names ends (together is) connection of_client of_server = (there, b
           beginning = sym is.server_given ∙ first.1 ∙ ap (λ (taken : List (List ℕ)). taken ++ first.0) is.client_taken;
           confirmed = subst (λ (taken : List (List ℕ)). confirmed_items ends.server.link ≤ length taken) is.client_taken
               (confirmed ends.server.link is.server is.client (swapped is.client is.server is.order) is.server_plays);
+          counted = λ inside. taken_counted ends.client.link is.client is.server is.client_plays inside ∙ ap (λ (taken : List (List ℕ)). stops_at_greatest (length taken)) is.client_taken;
         }

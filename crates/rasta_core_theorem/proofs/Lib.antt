@@ -6,3 +6,5 @@ pub mod Receptions
 pub mod Tests
 pub mod Events
 pub mod Others
+pub mod Givings
+pub mod GivenKept

@@ -48,12 +48,12 @@ use Rattle.rasta_pdu.specs.declared.fault.PduFault.{PduFault}
 use Rattle.rasta_pdu.specs.declared.key.Key.{Key}
 use Rattle.rasta_pdu.specs.Reading.{reading}
 
-both_true : (one other : Bool) → (one && other) ≡ true → (one ≡ true) × (other ≡ true)
+pub both_true : (one other : Bool) → (one && other) ≡ true → (one ≡ true) × (other ≡ true)
 both_true true true e = (refl, refl)
 both_true true false e = absurd (cc (e))
 both_true false other e = absurd (cc (e))
 
-not_true : (one : Bool) → not one ≡ true → one ≡ false
+pub not_true : (one : Bool) → not one ≡ true → one ≡ false
 not_true true e = absurd (cc (e))
 not_true false e = refl
 

@@ -1,6 +1,7 @@
 -- When a link is safe: in the connection that is the last of both ends.
-use Rattle.std.specs.Prelude.{◌≡◌, ℕ, ◌≤◌, false, List, [], ◌++◌, length, Some}
-use Rattle.rasta_core_link.specs.State.{confirmed_items}
+use Rattle.std.specs.Prelude.{◌≡◌, true, ℕ, ◌≤◌, false, List, [], ◌++◌, length, Some}
+use Rattle.rasta_core_link.specs.Parameters.{stops_at_greatest}
+use Rattle.rasta_core_link.specs.State.{confirmed_items, is_open}
 use Rattle.rasta_core_link.specs.Receiving.{Receipt}
 use Rattle.rasta_core_ends.specs.Ends.{EndState, is_taken}
 use Rattle.rasta_core_ends.specs.Run.{Ends}
@@ -10,6 +11,8 @@ pub record IsSafe (giver taker : EndState) : Type 0 where
   pub rest : List (List ℕ)
   pub beginning : giver.given ≡ taker.taken ++ rest
   pub confirmed : confirmed_items giver.link ≤ length taker.taken
+  -- while it is in the connection, the taker counts what it took
+  pub counted : is_open taker.link.phase ≡ true → taker.link.taken ≡ stops_at_greatest (length taker.taken)
 
 -- both directions of a connection that is the last of both ends
 abbrev pub AreSafe : Ends → Type 0

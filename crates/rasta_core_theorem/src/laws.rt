@@ -7,6 +7,7 @@ ghost use Rattle.rasta_core_ends.specs.Run.{Ends, end_of, called};
 ghost use Rattle.rasta_core_time.specs.Events.{AreForeign, Event, IsDelivered, May, MayRun, Start, happened, run, started};
 ghost use Rattle.rasta_core_time.specs.Invariant.{AreNames, Names, Timely};
 ghost use Rattle.rasta_core_time.specs.Sentences.{IsOpening, IsOut, freshness, receipt_at};
+ghost use Rattle.rasta_core_theorem.specs.Given.{IsGiven};
 ghost use Rattle.rasta_core_theorem.specs.Ordered.{Ordered};
 ghost use Rattle.rasta_pdu.specs.SafetyCode.{IsIntact};
 ghost use Rattle.rasta_core_theorem.specs.Safe.{AreSafe, IsIdle};
@@ -71,4 +72,16 @@ pub fn what_is_taken()
     items_are_fresh();
     own_connection();
     opening_is_new();
+}
+
+/// What an end gave in its last connection are the items of the data PDUs that it sent there, in order; repetitions
+/// aren't counted again.
+pub fn given_was_sent()
+    ensures { (names : Names) (start : Start) (events : List Event) → AreNames names → MayRun names events (started names start)
+        → (who : Role) → IsGiven names who (run events (started names start)) }
+{
+    written_is_read();
+    read_was_written();
+    starts_in_time();
+    every_event_keeps_time();
 }

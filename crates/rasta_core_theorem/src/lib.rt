@@ -4,4 +4,6 @@
 
 mod laws;
 
-pub use laws::{every_event_keeps_order, link_is_safe, order_is_safe, what_is_taken};
+pub use laws::{
+    every_event_keeps_order, given_was_sent, link_is_safe, order_is_safe, what_is_taken,
+};
