@@ -12,6 +12,8 @@ mod plan;
 mod port;
 mod reading;
 mod resolving;
+#[cfg(test)]
+mod tests;
 mod text;
 mod values;
 mod written;
