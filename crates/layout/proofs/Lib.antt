@@ -1,0 +1,4 @@
+pub mod Loops
+pub mod ValueLemmas
+pub mod TextLemmas
+pub mod KnownLemmas

@@ -1,0 +1,6 @@
+use Rattle.layout.specs.declared.fault.TableName.TheVariants as named
+use Rattle.layout.proofs.KnownLemmas.{each_of-sure}
+use Rattle.layout.proofs.doubles.point_names.Goals as goal
+
+pub returns : goal.returns
+returns c = rw (each_of-sure (λ x. x.name) named.Point 1 c.args.points.now) at c.each.ensures

@@ -1,0 +1,6 @@
+use Rattle.layout.specs.declared.fault.TableName.TheVariants as named
+use Rattle.layout.proofs.KnownLemmas.{each_of-sure}
+use Rattle.layout.proofs.doubles.route_names.Goals as goal
+
+pub returns : goal.returns
+returns c = rw (each_of-sure (λ x. x.name) named.Route 1 c.args.routes.now) at c.each.ensures

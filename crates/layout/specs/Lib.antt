@@ -1,0 +1,9 @@
+pub mod Reading
+pub mod Values
+pub mod Entries
+pub mod Written
+pub mod Text
+pub mod Limits
+pub mod Known
+pub mod Doubles
+pub mod Resolving

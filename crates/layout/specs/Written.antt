@@ -1,0 +1,35 @@
+-- Detectors, routes and a whole layout as they are written: their entries call one another by name.
+use Rattle.std.specs.Prelude.{ℕ, List}
+use Rattle.sci_telegram.specs.declared.message.Side.{Side}
+use Rattle.layout.specs.declared.entries.Station.{Station}
+use Rattle.layout.specs.declared.written.PortName.{PortName}
+use Rattle.layout.specs.declared.written.WrittenTrack.{WrittenTrack}
+use Rattle.layout.specs.declared.written.WrittenPoint.{WrittenPoint}
+use Rattle.layout.specs.declared.written.WrittenJoint.{WrittenJoint}
+use Rattle.layout.specs.declared.written.WrittenSignal.{WrittenSignal}
+
+pub record DetectorText : Type 0 where
+  pub name : List ℕ
+  pub id : ℕ
+  pub sections : List (List ℕ)
+
+pub record RouteText : Type 0 where
+  pub name : List ℕ
+  pub entry : List ℕ
+  pub exit : List ℕ
+  pub path : List PortName
+  pub points : List (List ℕ × Side)
+  pub flank : List (List ℕ × Side)
+  pub approach : List (List ℕ)
+  pub extra : List (List ℕ)
+
+pub record LayoutText : Type 0 where
+  pub station : Station
+  pub sections : List (List ℕ)
+  pub tracks : List WrittenTrack
+  pub points : List WrittenPoint
+  pub borders : List (List ℕ)
+  pub joints : List WrittenJoint
+  pub signals : List WrittenSignal
+  pub detectors : List DetectorText
+  pub routes : List RouteText

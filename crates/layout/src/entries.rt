@@ -1,0 +1,195 @@
+//! The entries of a layout, whose names for one another are places.
+
+ghost use Rattle.std.specs.Prelude.{◌≡◌};
+
+use crate::ids::{BorderId, PointId, RouteId, SectionId, SignalId};
+use crate::port::Port;
+use sci_telegram::{Name, Side};
+use std::marker::Model;
+
+/// The station, which is the interlocking.
+#[derive(Clone, Copy, Debug)]
+pub struct Station {
+    /// Its name in telegrams.
+    pub name: Name,
+    /// Its identity on the links, 1 to 4294967295.
+    pub id: u32,
+    /// The four registers from which the safety code starts, if the text gives them.
+    pub key: Option<[u32; 4]>,
+}
+
+/// A track: the ports `a` and `b`, and nothing between.
+#[derive(Debug, Drop)]
+pub struct Track {
+    /// Its name.
+    pub name: Name,
+    /// The section in which it lies.
+    pub section: SectionId,
+}
+
+/// A point.
+#[derive(Debug, Drop)]
+pub struct Point {
+    /// Its name, and that of its controller.
+    pub name: Name,
+    /// The identity of its controller, 1 to 4294967295.
+    pub id: u32,
+    /// The section in which it lies.
+    pub section: SectionId,
+}
+
+/// Two ports that lie end to end.
+#[derive(Clone, Copy, Debug, PartialEq, Eq)]
+pub struct Joint {
+    /// The port that is written first.
+    pub first: Port,
+    /// The port that is written second.
+    pub second: Port,
+}
+
+/// A signal.
+#[derive(Debug, Drop)]
+pub struct Signal {
+    /// Its name, and that of its controller.
+    pub name: Name,
+    /// The identity of its controller, 1 to 4294967295.
+    pub id: u32,
+    /// The port at which it stands. It rules the trains that leave the element there.
+    pub at: Port,
+}
+
+/// A detection controller.
+#[derive(Debug, Drop)]
+pub struct Detector {
+    pub(crate) name: Name,
+    pub(crate) id: u32,
+    pub(crate) sections: Vec<SectionId>,
+}
+
+impl Model for Detector {
+    ghost use Rattle.layout.specs.Entries.{DetectorEntry};
+
+    ghost Value = { DetectorEntry };
+
+    ghost view = { λ d. record { name = d.name; id = d.id; sections = d.sections.items } };
+}
+
+impl Detector {
+    /// Its name.
+    pub fn name(&self) -> &Name
+        ensures { result.now ≡ self.now.name }
+    {
+        &self.name
+    }
+
+    /// Its identity on its link, 1 to 4294967295.
+    pub fn id(&self) -> u32
+        ensures { result ≡ self.now.id }
+    {
+        self.id
+    }
+
+    /// The sections that it reports, in its own order.
+    pub fn sections(&self) -> &[SectionId]
+        ensures { result.now ≡ self.now.sections }
+    {
+        &self.sections
+    }
+}
+
+/// Where a route ends.
+#[derive(Clone, Copy, Debug, PartialEq, Eq)]
+pub enum Exit {
+    /// At a signal.
+    Signal(SignalId),
+    /// At a border.
+    Border(BorderId),
+}
+
+/// A route, as the table of routes writes it.
+#[derive(Debug, Drop)]
+pub struct Route {
+    pub(crate) name: Name,
+    pub(crate) entry: SignalId,
+    pub(crate) exit: Exit,
+    pub(crate) path: Vec<Port>,
+    pub(crate) points: Vec<(PointId, Side)>,
+    pub(crate) flank: Vec<(PointId, Side)>,
+    pub(crate) approach: Vec<SectionId>,
+    pub(crate) extra: Vec<RouteId>,
+}
+
+impl Model for Route {
+    ghost use Rattle.layout.specs.Entries.{RouteEntry};
+
+    ghost Value = { RouteEntry };
+
+    ghost view = { λ r. record {
+      name = r.name;
+      entry = r.entry;
+      exit = r.exit;
+      path = r.path.items;
+      points = r.points.items;
+      flank = r.flank.items;
+      approach = r.approach.items;
+      extra = r.extra.items;
+    } };
+}
+
+impl Route {
+    /// Its name.
+    pub fn name(&self) -> &Name
+        ensures { result.now ≡ self.now.name }
+    {
+        &self.name
+    }
+
+    /// The signal at which it begins.
+    pub fn entry(&self) -> SignalId
+        ensures { result ≡ self.now.entry }
+    {
+        self.entry
+    }
+
+    /// Where it ends.
+    pub fn exit(&self) -> Exit
+        ensures { result ≡ self.now.exit }
+    {
+        self.exit
+    }
+
+    /// The port by which each of its elements is left, in the order of the path.
+    pub fn path(&self) -> &[Port]
+        ensures { result.now ≡ self.now.path }
+    {
+        &self.path
+    }
+
+    /// The points on its path, and the side at which each has to lie.
+    pub fn points(&self) -> &[(PointId, Side)]
+        ensures { result.now ≡ self.now.points }
+    {
+        &self.points
+    }
+
+    /// The points off its path that protect its flank, and the side at which each has to lie.
+    pub fn flank(&self) -> &[(PointId, Side)]
+        ensures { result.now ≡ self.now.flank }
+    {
+        &self.flank
+    }
+
+    /// The sections on which a train approaches its entry signal.
+    pub fn approach(&self) -> &[SectionId]
+        ensures { result.now ≡ self.now.approach }
+    {
+        &self.approach
+    }
+
+    /// The routes that are listed as conflicting, beside those that conflict by themselves.
+    pub fn extra(&self) -> &[RouteId]
+        ensures { result.now ≡ self.now.extra }
+    {
+        &self.extra
+    }
+}

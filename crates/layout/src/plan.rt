@@ -1,0 +1,212 @@
+//! The layout of one station.
+
+ghost use Rattle.std.specs.Prelude.{◌≡◌};
+ghost use Rattle.toml.specs.View.{table_view};
+ghost use Rattle.layout.specs.Reading.{Gives};
+ghost use Rattle.layout.specs.Limits.{all_within};
+ghost use Rattle.layout.specs.Resolving.{names_of, entries_of, ports_once, layout_of, layout_in, section_reported};
+ghost use Rattle.layout.specs.declared.fault.TableName.TheVariants as named;
+
+use crate::doubles::{directory, ids, joined, reported, signalled};
+use crate::each::{Step, each};
+use crate::entries::{Detector, Joint, Point, Route, Signal, Station, Track};
+use crate::fault::{LayoutFault, Place, TableName};
+use crate::limits::within_limits;
+use crate::resolving::plan;
+use crate::text::{document, written};
+use crate::written::WrittenLayout;
+use indexmap::IndexMap;
+use sci_telegram::Name;
+use std::alloc::Global;
+use std::marker::Model;
+use toml::Table;
+
+/// The layout of one station: what stands where, and which routes there are. An entry is named by its
+/// place in its list, counted from 0.
+#[derive(Debug, Drop)]
+pub struct Layout {
+    pub(crate) station: Station,
+    pub(crate) sections: Vec<Name>,
+    pub(crate) tracks: Vec<Track>,
+    pub(crate) points: Vec<Point>,
+    pub(crate) borders: Vec<Name>,
+    pub(crate) joints: Vec<Joint>,
+    pub(crate) signals: Vec<Signal>,
+    pub(crate) detectors: Vec<Detector>,
+    pub(crate) routes: Vec<Route>,
+}
+
+impl Model for Layout {
+    ghost use Rattle.layout.specs.Entries.{Plan};
+
+    ghost Value = { Plan };
+
+    ghost view = { λ l. record {
+      station = l.station;
+      sections = l.sections.items;
+      tracks = l.tracks.items;
+      points = l.points.items;
+      borders = l.borders.items;
+      joints = l.joints.items;
+      signals = l.signals.items;
+      detectors = l.detectors.items;
+      routes = l.routes.items;
+    } };
+}
+
+/// Tests that a section is reported by some detector.
+#[derive(Clone, Copy)]
+struct IsReported<'a>(&'a IndexMap<Name, Place>);
+
+impl<'a> Step for IsReported<'a> {
+    ghost use Rattle.layout.specs.Resolving.{section_reported};
+
+    type From = Name;
+
+    type To = ();
+
+    ghost gives = { λ reported place name. section_reported reported.0.now.entries place name };
+
+    fn step(&self, _alloc: Global, place: Place, from: &Name) -> Result<(), LayoutFault> {
+        if self.0.contains_key(from) {
+            return Ok(());
+        }
+        Err(LayoutFault::UnknownName(place))
+    }
+}
+
+/// Tests that every section is reported.
+fn all_reported(
+    alloc: Global,
+    reported: &IndexMap<Name, Place>,
+    sections: &[Name],
+) -> Result<(), LayoutFault>
+    ensures { Gives (λ u. u) result (all_within (section_reported reported.now.entries) named.Section sections.now) }
+{
+    each(alloc, &IsReported(reported), TableName::Section, sections)?;
+    Ok(())
+}
+
+/// All names, of a layout that keeps the limits and in which no name and no identity is used twice.
+#[tactic(auto, unfolding(crate::specs::Resolving::names_of))]
+fn names_of(alloc: Global, written: &WrittenLayout) -> Result<IndexMap<Name, Place>, LayoutFault>
+    ensures { Gives (λ m. m.entries) result (names_of written.now) }
+{
+    within_limits(alloc, written)?;
+    let directory = directory(alloc, written)?;
+    let _ids = ids(alloc, written)?;
+    Ok(directory)
+}
+
+/// The layout of the entries, of which every name is there and every section reported.
+#[tactic(auto, unfolding(crate::specs::Resolving::entries_of))]
+fn entries_of(alloc: Global, written: &WrittenLayout) -> Result<Layout, LayoutFault>
+    ensures { Gives (λ l. l) result (entries_of written.now) }
+{
+    let directory = names_of(alloc, written)?;
+    let reported = reported(alloc, &written.detectors)?;
+    let layout = plan(alloc, &directory, written)?;
+    all_reported(alloc, &reported, &layout.sections)?;
+    Ok(layout)
+}
+
+/// Tests that no port is joined twice, and that no two signals stand at one.
+#[tactic(auto, unfolding(crate::specs::Resolving::ports_once))]
+fn ports_once(alloc: Global, layout: &Layout) -> Result<(), LayoutFault>
+    ensures { Gives (λ u. u) result (ports_once layout.now) }
+{
+    let _joined = joined(alloc, &layout.joints)?;
+    let _signalled = signalled(alloc, &layout.signals)?;
+    Ok(())
+}
+
+/// The layout that a TOML document is.
+#[tactic(auto, unfolding(crate::specs::Resolving::layout_of))]
+fn layout_of(alloc: Global, document: &Table) -> Result<Layout, LayoutFault>
+    ensures { Gives (λ l. l) result (layout_of (table_view document.now)) }
+{
+    let written = written(alloc, document)?;
+    let layout = entries_of(alloc, &written)?;
+    ports_once(alloc, &layout)?;
+    Ok(layout)
+}
+
+impl Layout {
+    /// Reads a layout: the text's entries, all and in order, or the first fault.
+    ///
+    /// The text is TOML 1.1. The tests are made in this order: that it is TOML; that no key is missing
+    /// and no value of a wrong kind, as it is read; the limits; that no name and no identity is used
+    /// twice, and no section reported twice; that every name and port is there, and every section
+    /// reported; that no port is joined twice, and no two signals stand at one port. `OutOfMemory`
+    /// comes only where memory was refused.
+    #[tactic(auto, unfolding(crate::specs::Resolving::layout_in))]
+    pub fn read(alloc: Global, text: &str) -> Result<Layout, LayoutFault>
+        ensures { Gives (λ l. l) result (layout_in text.now) }
+    {
+        let document = document(alloc, text)?;
+        layout_of(alloc, &document)
+    }
+
+    /// The station.
+    pub fn station(&self) -> &Station
+        ensures { result.now ≡ self.now.station }
+    {
+        &self.station
+    }
+
+    /// The names of the sections.
+    pub fn sections(&self) -> &[Name]
+        ensures { result.now ≡ self.now.sections }
+    {
+        &self.sections
+    }
+
+    /// The tracks.
+    pub fn tracks(&self) -> &[Track]
+        ensures { result.now ≡ self.now.tracks }
+    {
+        &self.tracks
+    }
+
+    /// The points.
+    pub fn points(&self) -> &[Point]
+        ensures { result.now ≡ self.now.points }
+    {
+        &self.points
+    }
+
+    /// The names of the borders.
+    pub fn borders(&self) -> &[Name]
+        ensures { result.now ≡ self.now.borders }
+    {
+        &self.borders
+    }
+
+    /// The joints.
+    pub fn joints(&self) -> &[Joint]
+        ensures { result.now ≡ self.now.joints }
+    {
+        &self.joints
+    }
+
+    /// The signals.
+    pub fn signals(&self) -> &[Signal]
+        ensures { result.now ≡ self.now.signals }
+    {
+        &self.signals
+    }
+
+    /// The detection controllers.
+    pub fn detectors(&self) -> &[Detector]
+        ensures { result.now ≡ self.now.detectors }
+    {
+        &self.detectors
+    }
+
+    /// The routes.
+    pub fn routes(&self) -> &[Route]
+        ensures { result.now ≡ self.now.routes }
+    {
+        &self.routes
+    }
+}
