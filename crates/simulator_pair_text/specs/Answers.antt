@@ -45,7 +45,7 @@ seen_of pair = record {
   time = pair.ends.time / 1000;
   lamp = shown pair;
   client = seen_of_end pair.ends.client;
-  server = seen_of_end pair.ends.server
+  server = seen_of_end pair.ends.server;
 }
 
 -- an end: whether its link is up, and how many items were given and taken in its last connection
