@@ -130,8 +130,8 @@ impl Bench {
     }
 
     /// The picture at this true time in milliseconds.
-    fn shows(&self, rt: &impl Abort, millis: u64, lamp: Aspect) {
-        assert_eq!(rt; self.pair.time(), millis * 1000);
+    fn shows(&self, rt: &impl Abort, millis: u32, lamp: Aspect) {
+        assert_eq!(rt; self.pair.time(), u64::from(millis) * 1000);
         assert!(rt; self.pair.shown() == lamp);
     }
 
