@@ -1,16 +1,16 @@
 #!/usr/bin/env bash
 # Measures MD4 over a buffer of 64 MiB: this repository's, as LLVM builds it, against OpenSSL's.
 # usage: bench/md4.sh [ROUNDS]. Each round times both, by the processor time that they use; the best
-# of all rounds counts, so that other work on the machine disturbs little.
+# of all rounds counts. It wants a quiet machine: other work takes more from whichever it meets.
 set -eu
-rounds=${1:-15}
+rounds=${1:-20}
 cd "$(dirname "$0")/../crates/md4_speed"
 rt run >/dev/null 2>&1 # proves it where it isn't yet, and leaves out/md4_speed
 exec python3 - "$PWD/out/md4_speed" "$rounds" <<'PY'
 import os, platform, re, resource, subprocess, sys
 
 program, rounds = sys.argv[1], int(sys.argv[2])
-MEBIBYTES, MORE = 64, 8
+MEBIBYTES, MORE = 64, 4
 SIZE = MEBIBYTES << 20
 
 

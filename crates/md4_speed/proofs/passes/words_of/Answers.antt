@@ -1,4 +1,4 @@
-use Rattle.std.proofs.Common.{rules, refl}
+use Rattle.std.proofs.Common.{rules}
 use Rattle.md4.specs.Md4.{block_words}
 use Rattle.md4_speed.proofs.passes.words_of.Goals as goal
 
