@@ -1,16 +1,16 @@
 #!/usr/bin/env bash
 # Measures MD4 over a buffer of 64 MiB: this repository's, as LLVM builds it, against OpenSSL's.
 # usage: bench/md4.sh [ROUNDS]. Each round times both, by the processor time that they use; the best
-# of all rounds counts, so that other work on the machine disturbs little.
+# of all rounds counts. It wants a quiet machine: other work takes more from whichever it meets.
 set -eu
-rounds=${1:-15}
+rounds=${1:-20}
 cd "$(dirname "$0")/../crates/md4_speed"
 rt run >/dev/null 2>&1 # proves it where it isn't yet, and leaves out/md4_speed
 exec python3 - "$PWD/out/md4_speed" "$rounds" <<'PY'
 import os, platform, re, resource, subprocess, sys
 
 program, rounds = sys.argv[1], int(sys.argv[2])
-MEBIBYTES, PASSES = 64, 8
+MEBIBYTES, MORE = 64, 4
 SIZE = MEBIBYTES << 20
 
 
@@ -19,10 +19,10 @@ def used():
     return usage.ru_utime + usage.ru_stime
 
 
-def seconds(passes):
-    """The processor time of a run over the buffer."""
+def seconds(more):
+    """The processor time of a run: one pass over the buffer, and so many more."""
     before = used()
-    subprocess.run([program, str(MEBIBYTES), str(passes)], check=True, stdout=subprocess.DEVNULL)
+    subprocess.run([program, str(MEBIBYTES), str(more)], check=True, stdout=subprocess.DEVNULL)
     return used() - before
 
 
@@ -40,12 +40,12 @@ def openssl():
 
 one, many, theirs = [], [], []
 for _ in range(rounds):
-    one.append(seconds(1))
-    many.append(seconds(1 + PASSES))
+    one.append(seconds(0))
+    many.append(seconds(MORE))
     theirs.append(openssl())
 
-# What more passes take is digesting alone, without the start of the program and of the buffer.
-ours = SIZE * PASSES / (min(many) - min(one))
+# What more passes take is digesting alone, without the program's start and the filling of the buffer.
+ours = SIZE * MORE / (min(many) - min(one))
 names = (line.split(":", 1)[1].strip() for line in open("/proc/cpuinfo") if line.startswith("model name"))
 print(f"{next(names, platform.machine())}, {os.cpu_count()} processors, load {os.getloadavg()[0]:.1f}, best of {rounds}")
 print(f"md4 of this repository: {ours / 1e6:.0f} MB/s")

@@ -1,10 +1,103 @@
 use crate::{STANDARD, digest_from};
 
+// A start that is not the standard's, and the digests from it: of an implementation in Python that
+// was written from RFC 1320 alone.
+const KEY: [u32; 4] = [0x0123_4567, 0x89ab_cdef, 0xfedc_ba98, 0x7654_3210];
+
+// The first `LEN` of the bytes 3, 10, 17 .., each 7 above the one before it, modulo 256.
+fn sevens<const LEN: usize>() -> [u8; LEN] {
+    let mut bytes = [0; LEN];
+    let mut next = 3u8;
+    for byte in bytes.iter_mut() {
+        *byte = next;
+        next = next.wrapping_add(7);
+    }
+    bytes
+}
+
+// The bytes that 32 hex digits stand for, written as one number.
+fn hex(digits: u128) -> [u8; 16] {
+    digits.to_be_bytes()
+}
+
 #[test]
-fn the_digest_of_abc_is_that_of_the_standard(rt: HostRuntime) {
-    let abc: [u8; 16] = [
-        0xa4, 0x48, 0x01, 0x7a, 0xaf, 0x21, 0xd8, 0x52, 0x5f, 0xc1, 0x0a, 0xe8, 0x7a, 0xa6, 0x72,
-        0x9d,
+fn digests_of_the_test_suite_of_the_standard(rt: HostRuntime) {
+    let eighty =
+        b"12345678901234567890123456789012345678901234567890123456789012345678901234567890";
+    let suite: [(&[u8], u128); 6] = [
+        (b"", 0x31d6_cfe0_d16a_e931_b73c_59d7_e0c0_89c0),
+        (b"a", 0xbde5_2cb3_1de3_3e46_245e_05fb_dbd6_fb24),
+        (b"abc", 0xa448_017a_af21_d852_5fc1_0ae8_7aa6_729d),
+        (b"message digest", 0xd913_0a81_6454_9fe8_1887_4806_e1c7_014b),
+        (
+            b"abcdefghijklmnopqrstuvwxyz",
+            0xd79e_1c30_8aa5_bbcd_eea8_ed63_df41_2da9,
+        ),
+        (eighty, 0xe33b_4ddc_9c38_f219_9c3e_7b16_4fcc_0536),
     ];
-    assert_eq!(rt; digest_from(STANDARD, b"abc").as_slice(), abc.as_slice());
+    for (message, expected) in suite {
+        assert_eq!(rt; digest_from(STANDARD, message), hex(expected));
+    }
+}
+
+// Messages around the last that has room for the padding in its block, and around whole blocks. The
+// digests are OpenSSL's.
+#[test]
+fn digests_around_the_end_of_a_block_are_those_of_openssl(rt: HostRuntime) {
+    assert_eq!(rt;
+        digest_from(STANDARD, &sevens::<55>()),
+        hex(0x04d4_4dc3_dbdc_f760_4f25_9009_de6e_352f)
+    );
+    assert_eq!(rt;
+        digest_from(STANDARD, &sevens::<56>()),
+        hex(0xcdbc_435e_37e7_a468_d047_02cf_9eba_65bb)
+    );
+    assert_eq!(rt;
+        digest_from(STANDARD, &sevens::<63>()),
+        hex(0x45a8_744e_9987_8276_c479_27b0_1649_21f4)
+    );
+    assert_eq!(rt;
+        digest_from(STANDARD, &sevens::<64>()),
+        hex(0x8773_3dbe_6c3f_c125_ee30_897c_751b_d9d6)
+    );
+    assert_eq!(rt;
+        digest_from(STANDARD, &sevens::<119>()),
+        hex(0x2c38_b59b_e691_9f10_ba8b_a735_3ef2_88f7)
+    );
+    assert_eq!(rt;
+        digest_from(STANDARD, &sevens::<120>()),
+        hex(0x4414_f924_c8b7_da56_ae0d_be08_9698_9660)
+    );
+    assert_eq!(rt;
+        digest_from(STANDARD, &sevens::<128>()),
+        hex(0x15cb_31f3_af81_3097_fd7a_706b_860c_5e2e)
+    );
+    assert_eq!(rt;
+        digest_from(STANDARD, &sevens::<1000>()),
+        hex(0x9a27_d966_bf49_84d8_5978_62b1_c33b_fbba)
+    );
+}
+
+#[test]
+fn digests_from_a_key_are_those_of_another_implementation(rt: HostRuntime) {
+    assert_eq!(rt;
+        digest_from(KEY, b""),
+        hex(0xd2ee_7799_4d39_670c_ecd1_cc01_0986_8d4b)
+    );
+    assert_eq!(rt;
+        digest_from(KEY, &sevens::<28>()),
+        hex(0x899f_ba45_d387_ce38_b54e_2656_6ab2_134f)
+    );
+    assert_eq!(rt;
+        digest_from(KEY, &sevens::<56>()),
+        hex(0xf374_dbc2_b672_a87f_0868_a968_749a_12ff)
+    );
+    assert_eq!(rt;
+        digest_from(KEY, &sevens::<64>()),
+        hex(0x446c_082b_1ee8_a295_2eb7_c785_a2a2_1deb)
+    );
+    assert_eq!(rt;
+        digest_from(KEY, &sevens::<200>()),
+        hex(0x7b40_8f1d_af73_03dd_6a9c_19f5_3ab6_9f5b)
+    );
 }

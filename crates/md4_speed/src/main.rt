@@ -1,10 +1,10 @@
-// Digests a buffer as often as it is told, for a script that times it: `md4_speed MEBIBYTES PASSES`.
-// Each pass starts from the digest of the one before it, so no pass can be left out.
+// Digests a buffer, and then as often again as it is told, for a script that times it: `md4_speed
+// MEBIBYTES MORE`. Each digest starts from the one before it, so none can be left out.
 #![tactic(auto)]
 
 mod passes;
 
-use crate::passes::digest_after;
+use crate::passes::digest_again;
 use anyhow::bail;
 use std::env;
 
@@ -15,13 +15,13 @@ const FILLING: u8 = 0x5a;
 
 fn main(rt: HostRuntime) -> anyhow::Result<()> {
     let mut args = env::args(&rt)?.skip(1);
-    let (mebibytes, passes) = match (args.next(), args.next()) {
-        (None, _) => (1, 1),
-        (Some(mebibytes), Some(passes)) => (mebibytes.parse::<u16>()?, passes.parse::<u32>()?),
-        _ => bail!("usage: md4_speed MEBIBYTES PASSES"),
+    let (mebibytes, more) = match (args.next(), args.next()) {
+        (None, _) => (1, 0),
+        (Some(mebibytes), Some(more)) => (mebibytes.parse::<u16>()?, more.parse::<u32>()?),
+        _ => bail!("usage: md4_speed MEBIBYTES MORE"),
     };
     let buffer = vec![in rt.alloc(); FILLING; usize::from(mebibytes) * MEBIBYTE]?;
-    let digest = digest_after(&buffer, passes);
+    let digest = digest_again(&buffer, more);
     let text = hex::encode(rt.alloc(), &digest)?;
     println!(rt; "{text}")?;
     Ok(())

@@ -1,11 +1,15 @@
 // One digest after another of the same message.
 
 ghost use Rattle.std.specs.Prelude.{◌≡◌};
+ghost use Rattle.md4.specs.Md4.{block_words};
+ghost use Rattle.md4_speed.specs.Passes.{digest_again};
 
 use md4::{STANDARD, digest_from};
 
 // The four words of a digest.
-fn words_of(digest: [u8; 16]) -> [u32; 4] {
+fn words_of(digest: [u8; 16]) -> [u32; 4]
+    ensures { result ≡ block_words digest 4 }
+{
     let [
         a0,
         a1,
@@ -32,10 +36,12 @@ fn words_of(digest: [u8; 16]) -> [u32; 4] {
     ]
 }
 
-/// The digest of `message` after `passes` passes, each started from the digest before it.
-pub fn digest_after(message: &[u8], passes: u32) -> [u8; 16] {
+/// The digest of `message`, and then `more` times that started from the digest before it.
+pub fn digest_again(message: &[u8], more: u32) -> [u8; 16]
+    ensures { result ≡ digest_again STANDARD message.now more }
+{
     let mut digest = digest_from(STANDARD, message);
-    for _ in 1..passes {
+    for _pass in 0..more {
         let next = digest_from(words_of(digest), message);
         digest = next;
     }
