@@ -1,5 +1,5 @@
 //! Runs of a pair whose times and answers were worked out by hand. Every event is given again where memory is lacking,
-//! so that the tests also hold with any one allocation refused.
+//! so that the runs also hold with any one allocation refused.
 
 use super::*;
 use rasta_core_link::Millis;
