@@ -10,3 +10,9 @@ pub use Rattle.rasta_core_link.specs.Outbox
 pub use Rattle.rasta_core_ends.specs.Ends
 pub use Rattle.rasta_core_ends.specs.Bag
 pub use Rattle.rasta_core_ends.specs.Run
+pub use Rattle.rasta_core_time.specs.Events
+pub use Rattle.rasta_core_time.specs.Invariant
+pub use Rattle.rasta_core_time.specs.Sentences
+pub use Rattle.rasta_core_theorem.specs.Given
+pub use Rattle.rasta_core_theorem.specs.Ordered
+pub use Rattle.rasta_core_theorem.specs.Safe

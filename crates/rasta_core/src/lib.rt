@@ -1,8 +1,16 @@
-//! The link after RaSTA (DIN VDE V 0831-200): one end, and two ends with the datagrams between them. The parts stand
-//! in crates of their own, whose names begin with this one's; this is their public surface.
+//! The link after RaSTA (DIN VDE V 0831-200): one end, two ends with the datagrams between them, and what is true of
+//! them after every list of events. The parts stand in crates of their own, whose names begin with this one's; this is
+//! their public surface.
 #![tactic(auto)]
 
 pub use rasta_core_ends::Sent;
 pub use rasta_core_link::{
     Identity, Inbox, Link, Millis, Outbox, Reason, Role, SendFault, State, Verdict,
+};
+pub use rasta_core_theorem::{
+    every_event_keeps_order, given_was_sent, link_is_safe, order_is_safe, what_is_taken,
+};
+pub use rasta_core_time::{
+    alone_after_quiet, alone_after_waiting, every_event_keeps_time, items_are_fresh,
+    one_connection, opening_is_new, own_connection, starts_in_time,
 };

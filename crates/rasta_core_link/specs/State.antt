@@ -28,7 +28,7 @@ pub record LinkState : Type 0 where
   pub confirmed : ℕ
   -- the sequence number of the partner's first PDU in the connection
   pub partner_first : ℕ
-  -- the time stamp of the request that opened this server
+  -- the time stamp of the PDU with which the partner entered the connection
   pub opening_stamp : ℕ
   -- which of the partner's PDUs it expects, counted from 0, modulo 2^32
   pub expected : ℕ
@@ -53,7 +53,7 @@ is_open phase.Up = true
 is_open phase.RetransmissionRequested = true
 is_open phase.RetransmissionRunning = true
 
--- in a connection that both ends have entered
+-- in a connection, and the own request or response was answered
 abbrev pub is_up : Phase → Bool
 is_up phase.Closed = false
 is_up phase.Start = false

@@ -17,7 +17,7 @@ pub enum Reason {
     Version = 4,
     /// The partner has another window, or the own one is full.
     Window = 5,
-    /// The clock has passed the range of stamps.
+    /// The clock has reached the expiry, before stamps could wrap.
     Expired = 6,
 }
 

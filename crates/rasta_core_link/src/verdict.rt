@@ -27,6 +27,6 @@ pub enum Verdict {
     Discarded,
     /// The link is quiet after a close.
     Quiet,
-    /// The clock has passed the range of stamps.
+    /// The clock has reached the expiry, before stamps could wrap.
     Expired,
 }
