@@ -1,2 +1,5 @@
+pub mod Answering
 pub mod Judged
 pub mod Names
+pub mod Rounds
+pub mod Transcripts

@@ -1,3 +1,5 @@
 pub mod Answers
+pub mod Flow
 pub mod Line
 pub mod Text
+pub mod Transcript

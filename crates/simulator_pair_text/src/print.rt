@@ -1,7 +1,9 @@
 //! The run of a text, with its answers written.
 
-ghost use Rattle.std.specs.Prelude.{◌≡◌, ◌≤◌, IsOk, IsErr, OnOk};
+ghost use Rattle.std.specs.Prelude.{◌≡◌, ◌≤◌, ℕ, List, IsErr, OnOk};
+ghost use Rattle.std.specs.Io.KnownBytes.{Appends};
 ghost use Rattle.simulator_pair_text.specs.Text.{run_of};
+ghost use Rattle.simulator_pair_text.specs.Transcript.{IsWritten, Writes};
 
 use crate::line::{PairLine, read_line};
 use crate::picture::Picture;
@@ -58,7 +60,8 @@ impl From<io::Error> for Failure {
 /// status is 0, or 1 where anything failed.
 pub fn pair_text<W: Write, E: Write>(alloc: Global, text: &str, out: &mut W, err: &mut E) -> u8
     ensures status { result ≤ 1 }
-    ensures done { result ≡ 0 → IsOk (run_of text.now) }
+    // What the lines say, carried out one after the other by a new pair, is what was written.
+    ensures done { result ≡ 0 → IsWritten text.now (W.contents out.old) (W.contents out.new) }
     ensures faulty { IsErr (run_of text.now) → (result ≡ 1) × (out.new ≡ out.old) }
 {
     let told = match run(alloc, text, out) {
@@ -72,8 +75,9 @@ pub fn pair_text<W: Write, E: Write>(alloc: Global, text: &str, out: &mut W, err
     1
 }
 
+/// Judges a text, and then carries it out.
 fn run<W: Write>(alloc: Global, text: &str, out: &mut W) -> Result<(), Failure>
-    ensures done { OnOk result (IsOk (run_of text.now)) }
+    ensures done { OnOk result (IsWritten text.now (W.contents out.old) (W.contents out.new)) }
     ensures faulty { IsErr (run_of text.now) → IsErr result × (out.new ≡ out.old) }
 {
     judge(text)?;
@@ -81,16 +85,23 @@ fn run<W: Write>(alloc: Global, text: &str, out: &mut W) -> Result<(), Failure>
 }
 
 /// Carries out the lines of a text without a fault.
-fn perform<W: Write>(alloc: Global, text: &str, out: &mut W) -> Result<(), Failure> {
+fn perform<W: Write>(alloc: Global, text: &str, out: &mut W) -> Result<(), Failure>
+    ensures done { OnOk result (IsWritten text.now (W.contents out.old) (W.contents out.new)) }
+{
     let mut run = Run::new(alloc)?;
     for (number, line) in Lines::of(text) {
         if is_passed_over(line) {
             continue;
         }
-        let said = read_line(line).map_err(|fault| LineFault {
-            line: number,
-            fault,
-        })?;
+        let said = match read_line(line) {
+            Ok(said) => said,
+            Err(fault) => {
+                return Err(Failure::Faulty(LineFault {
+                    line: number,
+                    fault,
+                }));
+            }
+        };
         carry_out(&mut run, &said, out)?;
     }
     out.flush()?;
@@ -98,7 +109,9 @@ fn perform<W: Write>(alloc: Global, text: &str, out: &mut W) -> Result<(), Failu
 }
 
 /// Carries out a line, and writes its answer or the picture.
-fn carry_out<W: Write>(run: &mut Run, line: &PairLine, out: &mut W) -> io::Result<()> {
+fn carry_out<W: Write>(run: &mut Run, line: &PairLine, out: &mut W) -> io::Result<()>
+    ensures { OnOk result ((text : List ℕ) × Writes run.old line.now text run.new × Appends (W.contents out.old) (W.contents out.new) text) }
+{
     match line {
         PairLine::Event(event) => out.writeln(run.event(event)),
         PairLine::Flow(length) => out.writeln(run.flow(*length)),
