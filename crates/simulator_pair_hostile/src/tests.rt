@@ -7,10 +7,10 @@ use std::alloc::Global;
 use std::process::Abort;
 
 /// How many events a run has.
-const EVENTS: usize = 10_000;
+const EVENTS: usize = 20_000;
 
 /// How many runs there are; a run's seed is its number.
-const RUNS: u64 = 5;
+const RUNS: u64 = 20;
 
 /// Runs a pair through events drawn from a seed, and looks at it after each one.
 fn hostile_run(rt: &impl Abort, alloc: Global, seed: u64, tally: &mut Tally) {
@@ -31,19 +31,19 @@ fn the_sentences_hold_of_hostile_runs(rt: HostRuntime) {
         hostile_run(&rt, rt.alloc(), seed, &mut tally);
     }
     for (count, least) in [
-        (tally.taken_by_client, 500),
-        (tally.taken_by_server, 500),
-        (tally.confirmed, 500),
-        (tally.connections, 50),
-        (tally.answers, 50),
-        (tally.restarts, 30),
-        (tally.closes, 30),
-        (tally.window_full, 30),
-        (tally.proceed_shown, 80),
-        (tally.proceed_fell, 80),
-        (tally.never_sent, 1000),
-        (tally.drift, 100),
-        (tally.clock_limit, 1),
+        (tally.taken_by_client, 3000),
+        (tally.taken_by_server, 3000),
+        (tally.confirmed, 3000),
+        (tally.connections, 300),
+        (tally.answers, 300),
+        (tally.restarts, 200),
+        (tally.closes, 200),
+        (tally.window_full, 300),
+        (tally.proceed_shown, 500),
+        (tally.proceed_fell, 500),
+        (tally.never_sent, 10_000),
+        (tally.drift, 1000),
+        (tally.clock_limit, 30),
     ] {
         assert!(rt; count >= least, "{tally:?}");
     }
