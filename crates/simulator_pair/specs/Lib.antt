@@ -6,3 +6,4 @@ pub mod Calling
 pub mod Order
 pub mod Parts
 pub mod Theorem
+pub mod Worked
