@@ -8,7 +8,8 @@ pub use rasta_core_link::{
     Identity, Inbox, Link, Millis, Outbox, Reason, Role, SendFault, State, Verdict,
 };
 pub use rasta_core_theorem::{
-    every_event_keeps_order, given_was_sent, link_is_safe, order_is_safe, what_is_taken,
+    every_event_keeps_order, given_was_sent, link_is_safe, order_is_safe, outside_until_it_enters,
+    what_is_taken,
 };
 pub use rasta_core_time::{
     alone_after_quiet, alone_after_waiting, every_event_keeps_time, items_are_fresh,

@@ -8,3 +8,4 @@ pub mod Events
 pub mod Others
 pub mod Givings
 pub mod GivenKept
+pub mod Outside

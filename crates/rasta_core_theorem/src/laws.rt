@@ -1,8 +1,10 @@
 //! The theorem of the link, for two ends that were just created and every list of events that may happen to them.
 
-ghost use Rattle.std.specs.Prelude.{◌≡◌, ◌≢◌, ◌⊎◌, ℕ, ◌+◌, ◌<◌, true, List, [], Some};
+ghost use Rattle.std.specs.Prelude.{◌≡◌, ◌≢◌, ◌⊎◌, ℕ, ◌+◌, ◌<◌, true, false, List, [], Some, None};
 ghost use Rattle.rasta_core_link.specs.declared.identity.Role.{Role};
-ghost use Rattle.rasta_core_ends.specs.Ends.{Sent, Receives, is_taken};
+ghost use Rattle.rasta_core_link.specs.declared.identity.Role.TheVariants as role;
+ghost use Rattle.rasta_core_link.specs.State.{is_open};
+ghost use Rattle.rasta_core_ends.specs.Ends.{Sent, Call, EndState, Receives, is_taken, outcome};
 ghost use Rattle.rasta_core_ends.specs.Run.{Ends, end_of, called};
 ghost use Rattle.rasta_core_time.specs.Events.{AreForeign, Event, IsDelivered, May, MayRun, Start, happened, run, started};
 ghost use Rattle.rasta_core_time.specs.Invariant.{AreNames, Names, Timely};
@@ -12,6 +14,7 @@ ghost use Rattle.rasta_core_theorem.specs.Ordered.{Ordered};
 ghost use Rattle.rasta_pdu.specs.SafetyCode.{IsIntact};
 ghost use Rattle.rasta_core_theorem.specs.Safe.{AreSafe, IsIdle};
 
+use rasta_core_order::connection_begins;
 use rasta_core_time::{
     every_event_keeps_time, every_run_keeps_time, items_are_fresh, opening_is_new, own_connection,
     starts_in_time,
@@ -84,4 +87,15 @@ pub fn given_was_sent()
     read_was_written();
     starts_in_time();
     every_event_keeps_time();
+}
+
+/// An end that is outside, and enters no connection in a call, is outside after it; and a server enters one only from
+/// outside.
+pub fn outside_until_it_enters()
+    ensures stays { (call : Call) (moment : ℕ) (end : EndState) → is_open end.link.phase ≡ false → (outcome call moment end).enters ≡ None
+        → is_open (outcome call moment end).link.phase ≡ false }
+    ensures server { (call : Call) (moment connection : ℕ) (end : EndState) → end.link.identity.role ≡ role.Server
+        → (outcome call moment end).enters ≡ Some connection → is_open end.link.phase ≡ false }
+{
+    connection_begins();
 }

@@ -1,6 +1,6 @@
 -- Every event of a pair keeps the invariant of the link theorem.
-use Rattle.std.proofs.Common.{◌≡◌, ◌≢◌, ◌<◌, ◌≤◌, ◌+◌, ◌^◌, ℕ, sym, ap, ◌∙◌, subst, inl, inr, Bool, true, false, List, [], ◌∷◌, Option, Some, None, arith, refl, lit<, Result, Ok, Err}
-use Rattle.std.specs.Prelude.{◌⊎◌, ◌↔◌, OnOk, OnErr, IsTrue, if◌then◌else◌, ◌&&◌, not, nat_le, is_none}
+use Rattle.std.proofs.Common.{◌≡◌, ◌≢◌, ◌<◌, ◌≤◌, ◌+◌, ℕ, sym, ap, ◌∙◌, subst, inl, inr, Bool, true, false, List, [], ◌∷◌, Option, Some, None, arith, refl, lit<, Result, Ok, Err}
+use Rattle.std.specs.Prelude.{◌↔◌, OnOk, OnErr, IsTrue, not, nat_le}
 use Rattle.std.specs.Str.{bytes_eq}
 use Rattle.std.proofs.lemmas.Bool.{and_parts, false≢true}
 use Rattle.std.proofs.lemmas.Bool.Decides.{nat_tests}
@@ -20,7 +20,7 @@ use Rattle.simulator_pair.specs.declared.event.Refused.{Refused}
 use Rattle.rasta_pdu.specs.SafetyCode.{IsIntact, intact}
 use Rattle.rasta_pdu.specs.declared.key.Key.{Key}
 use Rattle.simulator_pair.specs.Pair.{PairState, stepped}
-use Rattle.simulator_pair.specs.Events.{connection_of, copy_of, happens, keeps_time, refusal, refusal_of_delivery, refusal_of_time}
+use Rattle.simulator_pair.specs.Events.{connection_of, copy_of, happens, refusal, refusal_of_delivery, refusal_of_time}
 use Rattle.simulator_pair.specs.Theorem.{GivesItem, HappensRightly, IsLinked, IsTakenRightly, names}
 use Rattle.simulator_pair.specs.declared.event.PairEvent.{PairEvent}
 use Rattle.simulator_pair.specs.declared.event.PairEvent.TheVariants as event

@@ -1,7 +1,7 @@
 -- A run goes on by one more event.
-use Rattle.std.proofs.Common.{◌≡◌, ℕ, ◌+◌, ◌≤◌, ◌<◌, inl, inr, ap, subst, add-zero, arith, List, [], ◌∷◌, ◌++◌, Option, Some, None, Result, Ok, Err}
+use Rattle.std.proofs.Common.{◌≡◌, ℕ, ◌+◌, ◌≤◌, ◌<◌, inl, inr, ap, subst, add-zero, arith, List, [], ◌∷◌, ◌++◌, Some, None, Result, Ok, Err}
 use Rattle.std.specs.Prelude.{OnOk, OnErr, IfErr, IsTrue, is_ok, ◌⊎◌, if◌then◌else◌}
-use Rattle.simulator_pair.specs.Pair.{PairState, PairView}
+use Rattle.simulator_pair.specs.Pair.{PairView}
 use Rattle.simulator_pair.specs.Events.{refusal, happens, is_restart, Runs, stops, refuses, lacks_memory, accepts}
 use Rattle.simulator_pair.specs.declared.event.PairEvent.{PairEvent}
 use Rattle.simulator_pair.specs.declared.event.PairReply.{PairReply}

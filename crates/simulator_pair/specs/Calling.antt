@@ -1,5 +1,5 @@
 -- Calls as the code has them.
-use Rattle.std.specs.Prelude.{ℕ, Result, Ok}
+use Rattle.std.specs.Prelude.{Result, Ok}
 use Rattle.rasta_core_ends.specs.Ends as spec
 use Rattle.rasta_core_ends.specs.Ends.{EndState, reading_of}
 use Rattle.rasta_core_link.specs.Calls.{answer_to_send}

@@ -1,16 +1,14 @@
 -- The events of a pair: which can happen, what they change, and what is answered.
 use Rattle.std.specs.Prelude.{◌≡◌, ℕ, ◌+◌, ◌*◌, ◌≤◌, ◌<◌, IsTrue, nat_le, nat_lt, ◌&&◌, not, Bool, true, false, List, [], ◌∷◌, Option, Some, None, is_none, if◌then◌else◌}
-use Rattle.rasta_core_link.specs.State.{LinkState}
 use Rattle.rasta_core_link.specs.Calls.{answer_to_send, created}
 use Rattle.rasta_core_link.specs.declared.identity.Identity.{Identity}
 use Rattle.rasta_core_link.specs.declared.identity.Role.{Role}
 use Rattle.rasta_core_link.specs.declared.identity.Role.TheVariants as role
-use Rattle.rasta_core_ends.specs.Ends.{Sent, EndState, Call, Ticks, Opens, Closes, Sends, Receives, reading_of}
+use Rattle.rasta_core_ends.specs.Ends.{Sent, EndState, Ticks, Opens, Closes, Sends, Receives, reading_of}
 use Rattle.rasta_core_ends.specs.Bag.{newest_copy, has_copy}
 use Rattle.rasta_core_ends.specs.Run.{Ends, end_of, later, lost, restarted}
 use Rattle.rasta_pdu.specs.SafetyCode.{intact}
 use Rattle.rasta_pdu.specs.declared.key.Key.{Key}
-use Rattle.signal_ctl.specs.Lamp.{Lamp}
 use Rattle.simulator_pair.specs.Pair.{PairState, PairView, stepped, new_lamp}
 use Rattle.simulator_pair.specs.declared.event.PairEvent.{PairEvent}
 use Rattle.simulator_pair.specs.declared.event.PairEvent.TheVariants as event
@@ -73,7 +71,9 @@ happens (event.Deliver who bytes) pair = stepped who (Receives bytes.items (conn
 happens (event.Lose bytes) pair = record pair { ends = lost bytes.items pair.ends }
 happens (event.Close who why) pair = stepped who (Closes why) pair
 happens (event.Restart role.Client clock first) pair = record pair { ends = restarted role.Client clock first pair.ends }
-happens (event.Restart role.Server clock first) pair = record { ends = restarted role.Server clock first pair.ends; lamp = new_lamp }
+happens (event.Restart role.Server clock first) pair =
+    let ends = restarted role.Server clock first pair.ends
+    in record { ends = ends; lamp = new_lamp ends.server.link }
 
 -- what is answered to it
 unfoldable pub reply_to : PairEvent → Ends → PairReply
@@ -99,13 +99,15 @@ new_end identity = record { link = created identity 0 0; clock = 0; connection =
 
 -- a new pair under a key: the client has identity 1, the server 2
 abbrev pub new_pair : Key → PairState
-new_pair key = record {
-  ends = record {
-    time = 0;
-    client = new_end (record { role = role.Client; own = 1; partner = 2; key = key });
-    server = new_end (record { role = role.Server; own = 2; partner = 1; key = key });
-    sent = [];
-    moment = 0;
-  };
-  lamp = new_lamp;
-}
+new_pair key =
+    let server = new_end (record { role = role.Server; own = 2; partner = 1; key = key })
+    in record {
+      ends = record {
+        time = 0;
+        client = new_end (record { role = role.Client; own = 1; partner = 2; key = key });
+        server = server;
+        sent = [];
+        moment = 0;
+      };
+      lamp = new_lamp server.link;
+    }

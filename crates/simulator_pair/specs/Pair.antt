@@ -5,7 +5,7 @@ use Rattle.rasta_core_link.specs.State.{LinkState, is_open}
 use Rattle.rasta_core_link.specs.Clock.{alive_until}
 use Rattle.rasta_core_link.specs.declared.identity.Role.{Role}
 use Rattle.rasta_core_link.specs.declared.identity.Role.TheVariants as role
-use Rattle.rasta_core_ends.specs.Ends.{EndState, Call, outcome, reading_of}
+use Rattle.rasta_core_ends.specs.Ends.{Call, outcome, reading_of}
 use Rattle.rasta_core_ends.specs.Run.{Ends, end_of, called}
 use Rattle.signal_ctl.specs.Lamp.{Lamp, aspect_shown}
 use Rattle.sci_telegram.specs.declared.message.Aspect.{Aspect}
@@ -15,11 +15,18 @@ pub record PairState : Type 0 where
   pub ends : Ends
   pub lamp : Lamp
 
--- an item of the one byte 04 indicates proceed, of the one byte 01 stop; others leave the lamp as it is
+-- the items that indicate an aspect
+abbrev pub proceed_item : List ℕ
+proceed_item = 4 ∷ []
+
+abbrev pub stop_item : List ℕ
+stop_item = 1 ∷ []
+
+-- the aspect indicated after an item; other items leave it as it is
 abbrev pub indicated_by : List ℕ → Aspect → Aspect
 indicated_by item last =
-    if bytes_eq item (4 ∷ []) then Proceed else
-    if bytes_eq item (1 ∷ []) then Stop else
+    if bytes_eq item proceed_item then Proceed else
+    if bytes_eq item stop_item then Stop else
     last
 
 unfoldable pub indicated_after : List (List ℕ) → Aspect → Aspect
@@ -53,8 +60,9 @@ stepped who call pair =
 abbrev pub shown : PairState → Aspect
 shown pair = aspect_shown pair.lamp (reading_of pair.ends.server.clock)
 
-abbrev pub new_lamp : Lamp
-new_lamp = record { indicated = Stop; until = 0 }
+-- a lamp as it is made: at stop, and kept until the time of its link ends
+abbrev pub new_lamp : LinkState → Lamp
+new_lamp link = record { indicated = Stop; until = alive_until link }
 
 -- a pair as its contracts see it: its state, and how many events have their memory already
 pub record PairView : Type 0 where

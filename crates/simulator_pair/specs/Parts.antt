@@ -6,6 +6,7 @@ use Rattle.simulator_pair.specs.Pair.{PairState}
 use Rattle.simulator_pair.specs.Events.{clock_limit}
 use Rattle.simulator_pair.specs.Order.{AreInOrder}
 use Rattle.simulator_pair.specs.Seen.{seen_end, IsAtClock, HasLists, KeepsLists}
+use Rattle.simulator_pair.specs.Lamp.{IsLit}
 use Rattle.simulator_pair.specs.Theorem.{IsLinked}
 use Rattle.simulator_pair.specs.declared.parts.Parts.{Parts}
 
@@ -52,7 +53,8 @@ pub record IsPair (parts : Parts) : Type 0 where
   pub sound : AreSound parts
   pub room : HaveRoom (2 * parts.room) parts
 
--- and the link theorem's invariant holds of its two ends
+-- the link theorem's invariant holds of its two ends, and the lamp was told what the server took
 pub record IsLinkedPair (parts : Parts) : Type 0 where
   pub whole : IsPair parts
   pub linked : IsLinked (seen_ends parts)
+  pub lit : IsLit (seen parts)

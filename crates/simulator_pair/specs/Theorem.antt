@@ -1,5 +1,5 @@
 -- What is true of a pair after every list of events.
-use Rattle.std.specs.Prelude.{◌≡◌, ◌≢◌, ℕ, ◌+◌, ◌<◌, true, [], Option, Some}
+use Rattle.std.specs.Prelude.{◌≡◌, ◌≢◌, ◌+◌, ◌<◌, true, [], Some}
 use Rattle.md4.specs.declared.message.TheConstants.{STANDARD}
 use Rattle.rasta_core_ends.specs.Ends.{Sent, Receives, is_taken}
 use Rattle.rasta_core_ends.specs.Run.{Ends, end_of, called}
@@ -8,8 +8,7 @@ use Rattle.rasta_core_theorem.specs.Ordered.{Ordered}
 use Rattle.rasta_core_time.specs.Invariant.{Names, Timely}
 use Rattle.rasta_core_time.specs.Sentences.{IsOpening, IsOut, freshness, receipt_at}
 use Rattle.rasta_pdu.specs.Items.{IsItem}
-use Rattle.simulator_pair.specs.Pair.{PairState}
-use Rattle.simulator_pair.specs.Events.{copy_of, connection_of}
+use Rattle.simulator_pair.specs.Events.{copy_of}
 use Rattle.simulator_pair.specs.declared.event.PairEvent.{PairEvent}
 use Rattle.simulator_pair.specs.declared.event.PairEvent.TheVariants as event
 

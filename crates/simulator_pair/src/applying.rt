@@ -209,6 +209,7 @@ impl Parts {
             Role::Server => {
                 self.server.restart(link, clock, moment);
                 self.lamp = Signal::new();
+                self.lamp.keep(self.server.link.alive_until());
             }
         }
         Ok(())

@@ -8,6 +8,7 @@ mod lamp;
 mod node;
 mod pair;
 mod parts;
+mod worked;
 
 pub use event::{Bytes, PairEvent, PairReply, Refused};
 pub use pair::Pair;
@@ -15,6 +16,7 @@ pub use rasta_core_ends::Sent;
 pub use rasta_core_link::{Reason, Role, SendFault};
 pub use rasta_pdu::Item;
 pub use signal_ctl::Aspect;
+pub use worked::worked_runs;
 
 #[cfg(test)]
 mod tests;

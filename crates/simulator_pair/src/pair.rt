@@ -13,7 +13,7 @@ use crate::node::Node;
 use crate::parts::Parts;
 use rasta_core_ends::Sent;
 use rasta_core_link::{Inbox, Link, Outbox, Role};
-use rasta_core_theorem::{every_event_keeps_order, order_is_safe};
+use rasta_core_theorem::{every_event_keeps_order, order_is_safe, outside_until_it_enters};
 use rasta_core_time::{
     every_event_keeps_time, items_are_fresh, opening_is_new, own_connection, starts_in_time,
 };
@@ -66,7 +66,7 @@ fn new_node(alloc: Global, link: Link) -> Node
 }
 
 /// The parts of a new pair.
-#[tactic(auto, unfolding(crate::specs::Parts::seen, crate::specs::Parts::seen_ends, crate::specs::Seen::seen_end, rasta_core_link::specs::Calls::created))]
+#[tactic(auto, unfolding(crate::specs::Parts::seen, crate::specs::Parts::seen_ends, crate::specs::Seen::seen_end, rasta_core_link::specs::Calls::created, rasta_core_link::specs::Clock::alive_until))]
 fn new_parts(alloc: Global) -> Result<Parts, AllocError>
     ensures state { IfOk result (λ parts. seen parts ≡ new_pair (record { 0 = STANDARD })) }
     ensures whole { IfOk result IsPair }
@@ -101,7 +101,9 @@ impl Pair {
     ghost use Rattle.rasta_core_theorem.specs.Safe.{AreSafe};
     ghost use Rattle.simulator_pair.specs.Theorem.{HappensRightly};
     ghost use Rattle.rasta_core_link.specs.State.{is_up, confirmed_items};
+    ghost use Rattle.rasta_core_link.specs.Clock.{alive_until};
     ghost use Rattle.simulator_pair.specs.Pair.{shown};
+    ghost use Rattle.simulator_pair.specs.Lamp.{StopHolds, aspect_due};
     ghost use Rattle.simulator_pair.specs.Events.{refusal, happens, reply_to, is_restart, Runs};
     ghost use Rattle.simulator_pair.specs.declared.event.Refused.TheVariants.{OutOfMemory};
 
@@ -133,6 +135,11 @@ impl Pair {
         ensures safe { AreSafe self.new.run.ends }
         // What a delivery brings is fresh, and of the connection of the end that takes it.
         ensures rightly { HappensRightly event.now self.old.run.ends }
+        // The lamp shows the last aspect that the server took since its link was lost last, while the link's time lasts.
+        ensures lamp { shown self.new.run ≡ aspect_due self.new.run.ends.server }
+        ensures until { self.new.run.lamp.until ≡ alive_until self.new.run.ends.server.link }
+        // Where the client counts a stop as confirmed, the lamp shows proceed only if a later proceed was taken.
+        ensures stop { StopHolds self.new.run }
     {
         every_event_keeps_time();
         every_event_keeps_order();
@@ -141,6 +148,7 @@ impl Pair {
         items_are_fresh();
         own_connection();
         opening_is_new();
+        outside_until_it_enters();
         gives_item(event);
         self.parts.apply(event)
     }
@@ -165,6 +173,8 @@ impl Pair {
     pub fn run(&mut self, events: &[PairEvent]) -> usize
         ensures run { Runs events.now self.old result self.new }
         ensures safe { AreSafe self.new.run.ends }
+        ensures lamp { shown self.new.run ≡ aspect_due self.new.run.ends.server }
+        ensures stop { StopHolds self.new.run }
     {
         let mut accepted = 0;
         for event in events {
@@ -188,7 +198,8 @@ impl Pair {
     /// What the lamp shows at the server's clock.
     #[tactic(auto, unfolding(crate::specs::Parts::seen, crate::specs::Parts::seen_ends, crate::specs::Seen::seen_end))]
     pub fn shown(&self) -> Aspect
-        ensures { result ≡ shown self.now.run }
+        ensures value { result ≡ shown self.now.run }
+        ensures due { result ≡ aspect_due self.now.run.ends.server }
     {
         self.parts.lamp.shown(self.parts.server.now())
     }

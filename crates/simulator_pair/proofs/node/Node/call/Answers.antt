@@ -1,5 +1,4 @@
 use Rattle.std.proofs.Common.{ap, ◌+◌, ◌∙◌}
-use Rattle.rasta_core_ends.specs.Ends.{outcome}
 use Rattle.simulator_pair.specs.Seen.{seen_end, concluded}
 use Rattle.simulator_pair.proofs.Steps.{concluded-end, length-posted_alone}
 use Rattle.simulator_pair.proofs.node.Node.call.Goals as goal

@@ -1,13 +1,15 @@
-use Rattle.std.proofs.Common.{sym, subst}
+use Rattle.std.proofs.Common.{inl, refl, sym, subst}
+use Rattle.rasta_core_link.specs.Calls.{created}
 use Rattle.rasta_core_time.specs.Events.{Start}
 use Rattle.simulator_pair.specs.Pair.{PairState}
 use Rattle.simulator_pair.specs.Parts.{seen}
+use Rattle.simulator_pair.specs.Lamp.{IsLit}
 use Rattle.simulator_pair.specs.Theorem.{IsLinked, names}
 use Rattle.simulator_pair.proofs.Linked.{are_names}
 use Rattle.simulator_pair.proofs.pair.Pair.new.Goals as goal
 
 pub invariant_of-result : goal.invariant_of-result
-unfolding seen
+unfolding seen created
 invariant_of-result c =
     let start : Start = record { time = 0; moment = 0; client_clock = 0; client_first = 0; server_clock = 0; server_first = 0 }
     in let Linked : PairState → Type 0 = λ state. IsLinked state.ends
@@ -17,4 +19,5 @@ invariant_of-result c =
         timely = c.starts_in_time.ensures names start are_names;
         ordered = c.every_event_keeps_order.ensures.starts names start;
       });
+      lit = subst IsLit (sym c.in_ok-parts.ensures.state) (record { until = refl; inside = λ inside. cc; outside = λ outside. inl refl });
     }

@@ -1,6 +1,7 @@
 use Rattle.std.proofs.Common.{sym, subst}
 use Rattle.simulator_pair.specs.Pair.{PairState}
 use Rattle.simulator_pair.specs.Parts.{seen}
+use Rattle.simulator_pair.specs.Lamp.{IsLit}
 use Rattle.simulator_pair.specs.Theorem.{IsLinked}
 use Rattle.simulator_pair.proofs.pair.Pair.reserve.Goals as goal
 
@@ -11,4 +12,5 @@ invariant_of-self c =
     in record {
       whole = c.reserve.ensures.whole;
       linked = subst Linked (sym c.reserve.ensures.same) c.self.invariant.linked;
+      lit = subst IsLit (sym c.reserve.ensures.same) c.self.invariant.lit;
     }

@@ -4,9 +4,11 @@ use Rattle.std.proofs.lemmas.List.{take_more}
 use Rattle.simulator_pair.specs.Events.{Runs, stops}
 use Rattle.simulator_pair.specs.declared.event.PairEvent.{PairEvent}
 use Rattle.rasta_core_theorem.specs.Safe.{AreSafe}
-use Rattle.simulator_pair.specs.Pair.{PairView}
+use Rattle.simulator_pair.specs.Pair.{PairView, shown}
+use Rattle.simulator_pair.specs.Lamp.{StopHolds, aspect_due}
 use Rattle.simulator_pair.specs.Parts.{seen}
 use Rattle.simulator_pair.specs.Theorem.{names}
+use Rattle.simulator_pair.proofs.Lit.{lit_shows, stop_holds}
 use Rattle.simulator_pair.proofs.Runs.{run_step}
 use Rattle.simulator_pair.proofs.pair.Pair.run.Goals as goal
 use Rattle.simulator_pair.proofs.pair.Pair.run.Goals.{then-is_ok, else-is_ok}
@@ -39,3 +41,15 @@ unfolding seen
 returns-clause-safe c =
     let Safe : PairView → Type 0 = λ view. AreSafe view.run.ends
     in subst Safe c.self.view_is (c.order_is_safe.ensures names _ c.self.invariant.linked.ordered)
+
+pub returns-clause-lamp : goal.returns-clause-lamp
+unfolding seen
+returns-clause-lamp c =
+    let Due : PairView → Type 0 = λ view. shown view.run ≡ aspect_due view.run.ends.server
+    in subst Due c.self.view_is (lit_shows _ c.self.invariant.lit)
+
+pub returns-clause-stop : goal.returns-clause-stop
+unfolding seen
+returns-clause-stop c =
+    let Holds : PairView → Type 0 = λ view. StopHolds view.run
+    in subst Holds c.self.view_is (stop_holds _ (c.order_is_safe.ensures names _ c.self.invariant.linked.ordered) c.self.invariant.lit)

@@ -1,4 +1,4 @@
-use Rattle.std.proofs.Common.{◌≡◌, ◌≤◌, ℕ, ◌+◌, refl, sym, ap, ◌∙◌, subst, List, length, arith}
+use Rattle.std.proofs.Common.{◌≤◌, ℕ, ◌+◌, refl, sym, ap, ◌∙◌, subst, List, length, arith}
 use Rattle.std.specs.Vec.{vec_len}
 use Rattle.rasta_core_link.specs.Outbox.{spellings}
 use Rattle.rasta_core_ends.specs.Ends.{Sent, outcome, end_after}
@@ -7,7 +7,7 @@ use Rattle.rasta_core_link.specs.declared.identity.Role.TheVariants.{Client}
 use Rattle.simulator_pair.specs.Events.{clock_limit}
 use Rattle.simulator_pair.specs.Order.{AreInOrder}
 use Rattle.simulator_pair.specs.Seen.{seen_end}
-use Rattle.simulator_pair.specs.Parts.{seen, seen_ends, AreSound, KeepRoom}
+use Rattle.simulator_pair.specs.Parts.{seen, seen_ends}
 use Rattle.simulator_pair.proofs.Steps.{length-posted_alone, capacity-posted_after}
 use Rattle.simulator_pair.proofs.Calls.{client_step, datagrams-posted}
 use Rattle.simulator_pair.proofs.Order.{in_order_sending}

@@ -3,7 +3,6 @@ use Rattle.rasta_core_link.specs.Calls.{created}
 use Rattle.rasta_core_ends.specs.Ends.{reading_of}
 use Rattle.simulator_pair.specs.Events.{clock_limit}
 use Rattle.simulator_pair.specs.Seen.{IsAtClock}
-use Rattle.simulator_pair.specs.Parts.{AreSound}
 use Rattle.simulator_pair.proofs.Limits.{reading-milliseconds}
 use Rattle.simulator_pair.proofs.parts.Parts.restart.Goals as goal
 

@@ -1,0 +1,8 @@
+use Rattle.rasta_core_theorem.proofs.Outside.{enters_from_outside, stays_outside}
+use Rattle.rasta_core_theorem.proofs.laws.outside_until_it_enters.Goals as goal
+
+pub returns-clause-stays : goal.returns-clause-stays
+returns-clause-stays c = stays_outside (record { entering = c.connection_begins.ensures.entering; hearing = c.connection_begins.ensures.hearing })
+
+pub returns-clause-server : goal.returns-clause-server
+returns-clause-server c = enters_from_outside
