@@ -18,7 +18,7 @@ use crate::text::{document, written};
 use crate::written::WrittenLayout;
 use indexmap::IndexMap;
 use sci_telegram::Name;
-use std::alloc::Global;
+use std::alloc::{AllocError, Global};
 use std::marker::Model;
 use toml::Table;
 
@@ -151,6 +151,28 @@ fn layout_of(alloc: Global, document: &Table) -> Result<Layout, LayoutFault>
     Ok(Layout { draft })
 }
 
+/// Equal detection controllers.
+fn copy_detectors(alloc: Global, detectors: &[Detector]) -> Result<Vec<Detector>, AllocError>
+    ensures { IfOk result (λ v. v.items ≡ detectors.now) }
+{
+    let mut copies = Vec::new(alloc);
+    for detector in detectors {
+        copies.push(detector.copy(alloc)?)?;
+    }
+    Ok(copies)
+}
+
+/// Equal routes.
+fn copy_routes(alloc: Global, routes: &[Route]) -> Result<Vec<Route>, AllocError>
+    ensures { IfOk result (λ v. v.items ≡ routes.now) }
+{
+    let mut copies = Vec::new(alloc);
+    for route in routes {
+        copies.push(route.copy(alloc)?)?;
+    }
+    Ok(copies)
+}
+
 impl Layout {
     /// Reads a layout: the text's entries, all and in order, or the first fault.
     ///
@@ -166,6 +188,31 @@ impl Layout {
     {
         let document = document(alloc, text)?;
         layout_of(alloc, &document)
+    }
+
+    /// An equal layout.
+    pub fn copy(&self, alloc: Global) -> Result<Layout, AllocError>
+        ensures { IfOk result (λ l. l ≡ self.now) }
+    {
+        let sections = Vec::from_slice(alloc, &self.sections)?;
+        let tracks = Vec::from_slice(alloc, &self.tracks)?;
+        let points = Vec::from_slice(alloc, &self.points)?;
+        let borders = Vec::from_slice(alloc, &self.borders)?;
+        let joints = Vec::from_slice(alloc, &self.joints)?;
+        let signals = Vec::from_slice(alloc, &self.signals)?;
+        let detectors = copy_detectors(alloc, &self.detectors)?;
+        let routes = copy_routes(alloc, &self.routes)?;
+        Ok(Layout {
+            station: self.station,
+            sections,
+            tracks,
+            points,
+            borders,
+            joints,
+            signals,
+            detectors,
+            routes,
+        })
     }
 
     /// The station.
