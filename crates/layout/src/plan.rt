@@ -173,6 +173,33 @@ fn copy_routes(alloc: Global, routes: &[Route]) -> Result<Vec<Route>, AllocError
     Ok(copies)
 }
 
+impl Draft {
+    /// Equal entries.
+    fn copy(&self, alloc: Global) -> Result<Draft, AllocError>
+        ensures { IfOk result (λ d. d ≡ self.now) }
+    {
+        let sections = Vec::from_slice(alloc, &self.sections)?;
+        let tracks = Vec::from_slice(alloc, &self.tracks)?;
+        let points = Vec::from_slice(alloc, &self.points)?;
+        let borders = Vec::from_slice(alloc, &self.borders)?;
+        let joints = Vec::from_slice(alloc, &self.joints)?;
+        let signals = Vec::from_slice(alloc, &self.signals)?;
+        let detectors = copy_detectors(alloc, &self.detectors)?;
+        let routes = copy_routes(alloc, &self.routes)?;
+        Ok(Draft {
+            station: self.station,
+            sections,
+            tracks,
+            points,
+            borders,
+            joints,
+            signals,
+            detectors,
+            routes,
+        })
+    }
+}
+
 impl Layout {
     /// Reads a layout: the text's entries, all and in order, or the first fault.
     ///
@@ -194,25 +221,8 @@ impl Layout {
     pub fn copy(&self, alloc: Global) -> Result<Layout, AllocError>
         ensures { IfOk result (λ l. l ≡ self.now) }
     {
-        let sections = Vec::from_slice(alloc, &self.sections)?;
-        let tracks = Vec::from_slice(alloc, &self.tracks)?;
-        let points = Vec::from_slice(alloc, &self.points)?;
-        let borders = Vec::from_slice(alloc, &self.borders)?;
-        let joints = Vec::from_slice(alloc, &self.joints)?;
-        let signals = Vec::from_slice(alloc, &self.signals)?;
-        let detectors = copy_detectors(alloc, &self.detectors)?;
-        let routes = copy_routes(alloc, &self.routes)?;
-        Ok(Layout {
-            station: self.station,
-            sections,
-            tracks,
-            points,
-            borders,
-            joints,
-            signals,
-            detectors,
-            routes,
-        })
+        let draft = self.draft.copy(alloc)?;
+        Ok(Layout { draft })
     }
 
     /// The station.
