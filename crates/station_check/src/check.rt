@@ -51,12 +51,7 @@ impl From<io::Error> for Failure {
 /// Checks the text of a layout. Where its control table is sound, the size of the station and its
 /// conflicting routes are written to `out`, and the status is 0. Otherwise `out` stays as it is, `err` is
 /// told the first fault, and the status is 1. It is 1 also where the report couldn't be written.
-pub fn check_text<W: Write, E: Write>(
-    alloc: Global,
-    layout: &str,
-    out: &mut W,
-    err: &mut E,
-) -> u8 {
+pub fn check_text<W: Write, E: Write>(alloc: Global, layout: &str, out: &mut W, err: &mut E) -> u8 {
     let told = match report(alloc, layout, out) {
         Ok(()) => return 0,
         Err(Failure::Layout(fault)) => writeln!(err, "layout fault {fault}"),

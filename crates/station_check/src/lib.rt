@@ -7,3 +7,5 @@ mod report;
 
 pub use check::check_text;
 
+#[cfg(test)]
+mod tests;

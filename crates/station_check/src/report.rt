@@ -3,9 +3,8 @@
 use control_table::Checked;
 use layout::RouteId;
 use sci_telegram::Name;
-use std::fmt;
-use std::io;
 use std::io::Write;
+use std::{fmt, io};
 
 /// How many signals, points, sections and routes a station has.
 #[derive(Clone, Copy, Debug)]
@@ -34,7 +33,10 @@ impl fmt::Display for Summary {
         let points = self.points;
         let sections = self.sections;
         let routes = self.routes;
-        write!(f, "ok: {signals} signals, {points} points, {sections} sections, {routes} routes")
+        write!(
+            f,
+            "ok: {signals} signals, {points} points, {sections} sections, {routes} routes"
+        )
     }
 }
 

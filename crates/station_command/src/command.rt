@@ -17,7 +17,7 @@ const CHECK: &str = "check";
 
 const FILE: &str = "FILE";
 
-const ABOUT: &str = "A railway interlocking for one station, with its signals, points and train detection";
+const ABOUT: &str = "The interlocking of a railway station";
 
 const CHECK_ABOUT: &str = "Checks the layout of a station and its table of routes";
 
@@ -27,12 +27,14 @@ A layout is a TOML file that says what lies where (tracks, points, signals, dete
 which routes there are. It is sound where each route has an unbroken path, names exactly the points
 that it needs on its path and at its flanks, and has its signals at the right places.
 
-For a sound layout it prints how much the station has, and each pair of routes that can't be set at
-the same time. Otherwise it prints the first fault, and ends with status 1.";
+For a sound layout it prints how many signals, points, sections and routes the station has, and each
+pair of routes that can't be set at the same time. Otherwise it prints the first fault, and ends with
+status 1. docs/INTERLOCKING.md has the keys of the file and all faults, examples/ has stations.";
 
 /// The command line of `station`.
 fn station<'a>(alloc: Global) -> Result<Command<'a>, AllocError> {
     Command::new(alloc, "station")
+        .bin_name("station")?
         .about(ABOUT)
         .subcommand_required(true)
         .arg_required_else_help(true)

@@ -6,3 +6,5 @@ mod command;
 pub use clap::Error;
 pub use command::{Asked, is_memory, read_words};
 
+#[cfg(test)]
+mod tests;
