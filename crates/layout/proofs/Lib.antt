@@ -2,3 +2,5 @@ pub mod Loops
 pub mod ValueLemmas
 pub mod TextLemmas
 pub mod KnownLemmas
+pub mod OnceLemmas
+pub mod OncePlan

@@ -7,3 +7,4 @@ pub mod Limits
 pub mod Known
 pub mod Doubles
 pub mod Resolving
+pub mod Once

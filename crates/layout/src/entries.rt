@@ -1,10 +1,11 @@
 //! The entries of a layout, whose names for one another are places.
 
-ghost use Rattle.std.specs.Prelude.{◌≡◌};
+ghost use Rattle.std.specs.Prelude.{◌≡◌, IfOk};
 
 use crate::ids::{BorderId, PointId, RouteId, SectionId, SignalId};
 use crate::port::Port;
 use sci_telegram::{Name, Side};
+use std::alloc::{AllocError, Global};
 use std::marker::Model;
 
 /// The station, which is the interlocking.
@@ -19,7 +20,7 @@ pub struct Station {
 }
 
 /// A track: the ports `a` and `b`, and nothing between.
-#[derive(Debug, Drop)]
+#[derive(Clone, Copy, Debug)]
 pub struct Track {
     /// Its name.
     pub name: Name,
@@ -28,7 +29,7 @@ pub struct Track {
 }
 
 /// A point.
-#[derive(Debug, Drop)]
+#[derive(Clone, Copy, Debug)]
 pub struct Point {
     /// Its name, and that of its controller.
     pub name: Name,
@@ -48,7 +49,7 @@ pub struct Joint {
 }
 
 /// A signal.
-#[derive(Debug, Drop)]
+#[derive(Clone, Copy, Debug)]
 pub struct Signal {
     /// Its name, and that of its controller.
     pub name: Name,
@@ -75,6 +76,18 @@ impl Model for Detector {
 }
 
 impl Detector {
+    /// An equal one.
+    pub(crate) fn copy(&self, alloc: Global) -> Result<Detector, AllocError>
+        ensures { IfOk result (λ d. d ≡ self.now) }
+    {
+        let sections = Vec::from_slice(alloc, &self.sections)?;
+        Ok(Detector {
+            name: self.name,
+            id: self.id,
+            sections,
+        })
+    }
+
     /// Its name.
     pub fn name(&self) -> &Name
         ensures { result.now ≡ self.now.name }
@@ -137,6 +150,27 @@ impl Model for Route {
 }
 
 impl Route {
+    /// An equal one.
+    pub(crate) fn copy(&self, alloc: Global) -> Result<Route, AllocError>
+        ensures { IfOk result (λ r. r ≡ self.now) }
+    {
+        let path = Vec::from_slice(alloc, &self.path)?;
+        let points = Vec::from_slice(alloc, &self.points)?;
+        let flank = Vec::from_slice(alloc, &self.flank)?;
+        let approach = Vec::from_slice(alloc, &self.approach)?;
+        let extra = Vec::from_slice(alloc, &self.extra)?;
+        Ok(Route {
+            name: self.name,
+            entry: self.entry,
+            exit: self.exit,
+            path,
+            points,
+            flank,
+            approach,
+            extra,
+        })
+    }
+
     /// Its name.
     pub fn name(&self) -> &Name
         ensures { result.now ≡ self.now.name }

@@ -7,6 +7,8 @@ mod entries;
 mod fault;
 mod ids;
 mod known;
+#[cfg(test)]
+mod limit_tests;
 mod limits;
 mod plan;
 mod port;

@@ -1,9 +1,10 @@
 //! The layout of one station.
 
-ghost use Rattle.std.specs.Prelude.{◌≡◌};
+ghost use Rattle.std.specs.Prelude.{◌≡◌, IfOk};
 ghost use Rattle.toml.specs.View.{table_view};
 ghost use Rattle.layout.specs.Reading.{Gives};
 ghost use Rattle.layout.specs.Limits.{all_within};
+ghost use Rattle.layout.specs.Once.{Once};
 ghost use Rattle.layout.specs.Resolving.{names_of, entries_of, ports_once, layout_of, layout_in, section_reported};
 ghost use Rattle.layout.specs.declared.fault.TableName.TheVariants as named;
 
@@ -17,14 +18,13 @@ use crate::text::{document, written};
 use crate::written::WrittenLayout;
 use indexmap::IndexMap;
 use sci_telegram::Name;
-use std::alloc::Global;
+use std::alloc::{AllocError, Global};
 use std::marker::Model;
 use toml::Table;
 
-/// The layout of one station: what stands where, and which routes there are. An entry is named by its
-/// place in its list, counted from 0.
+/// The entries of a text, of which some port may still stand in two joints, or have two signals.
 #[derive(Debug, Drop)]
-pub struct Layout {
+pub(crate) struct Draft {
     pub(crate) station: Station,
     pub(crate) sections: Vec<Name>,
     pub(crate) tracks: Vec<Track>,
@@ -36,7 +36,7 @@ pub struct Layout {
     pub(crate) routes: Vec<Route>,
 }
 
-impl Model for Layout {
+impl Model for Draft {
     ghost use Rattle.layout.specs.Entries.{Plan};
 
     ghost Value = { Plan };
@@ -52,6 +52,25 @@ impl Model for Layout {
       detectors = l.detectors.items;
       routes = l.routes.items;
     } };
+}
+
+/// The layout of one station: what stands where, and which routes there are. An entry is named by its
+/// place in its list, counted from 0. No name and no identity is used twice, no port is joined twice, and
+/// no two signals stand at one.
+#[derive(Debug, Drop)]
+pub struct Layout {
+    draft: Draft,
+}
+
+impl Model for Layout {
+    ghost use Rattle.layout.specs.Entries.{Plan};
+    ghost use Rattle.layout.specs.Once.{Once};
+
+    ghost Value = { Plan };
+
+    ghost view = { λ l. l.draft };
+
+    ghost invariant = { λ l. Once l.draft };
 }
 
 /// Tests that a section is reported by some detector.
@@ -100,35 +119,85 @@ fn names_of(alloc: Global, written: &WrittenLayout) -> Result<IndexMap<Name, Pla
 
 /// The layout of the entries, of which every name is there and every section reported.
 #[tactic(auto, unfolding(crate::specs::Resolving::entries_of))]
-fn entries_of(alloc: Global, written: &WrittenLayout) -> Result<Layout, LayoutFault>
-    ensures { Gives (λ l. l) result (entries_of written.now) }
+fn entries_of(alloc: Global, written: &WrittenLayout) -> Result<Draft, LayoutFault>
+    ensures { Gives (λ d. d) result (entries_of written.now) }
 {
     let directory = names_of(alloc, written)?;
     let reported = reported(alloc, &written.detectors)?;
-    let layout = plan(alloc, &directory, written)?;
-    all_reported(alloc, &reported, &layout.sections)?;
-    Ok(layout)
+    let draft = plan(alloc, &directory, written)?;
+    all_reported(alloc, &reported, &draft.sections)?;
+    Ok(draft)
 }
 
 /// Tests that no port is joined twice, and that no two signals stand at one.
 #[tactic(auto, unfolding(crate::specs::Resolving::ports_once))]
-fn ports_once(alloc: Global, layout: &Layout) -> Result<(), LayoutFault>
-    ensures { Gives (λ u. u) result (ports_once layout.now) }
+fn ports_once(alloc: Global, draft: &Draft) -> Result<(), LayoutFault>
+    ensures { Gives (λ u. u) result (ports_once draft.now) }
 {
-    let _joined = joined(alloc, &layout.joints)?;
-    let _signalled = signalled(alloc, &layout.signals)?;
+    let _joined = joined(alloc, &draft.joints)?;
+    let _signalled = signalled(alloc, &draft.signals)?;
     Ok(())
 }
 
 /// The layout that a TOML document is.
-#[tactic(auto, unfolding(crate::specs::Resolving::layout_of))]
+#[tactic(auto, unfolding(crate::specs::Resolving::layout_of), using(crate::proofs::OncePlan::once_of))]
 fn layout_of(alloc: Global, document: &Table) -> Result<Layout, LayoutFault>
-    ensures { Gives (λ l. l) result (layout_of (table_view document.now)) }
+    ensures read { Gives (λ l. l) result (layout_of (table_view document.now)) }
+    ensures once { IfOk result (λ l. Once l) }
 {
     let written = written(alloc, document)?;
-    let layout = entries_of(alloc, &written)?;
-    ports_once(alloc, &layout)?;
-    Ok(layout)
+    let draft = entries_of(alloc, &written)?;
+    ports_once(alloc, &draft)?;
+    Ok(Layout { draft })
+}
+
+/// Equal detection controllers.
+fn copy_detectors(alloc: Global, detectors: &[Detector]) -> Result<Vec<Detector>, AllocError>
+    ensures { IfOk result (λ v. v.items ≡ detectors.now) }
+{
+    let mut copies = Vec::new(alloc);
+    for detector in detectors {
+        copies.push(detector.copy(alloc)?)?;
+    }
+    Ok(copies)
+}
+
+/// Equal routes.
+fn copy_routes(alloc: Global, routes: &[Route]) -> Result<Vec<Route>, AllocError>
+    ensures { IfOk result (λ v. v.items ≡ routes.now) }
+{
+    let mut copies = Vec::new(alloc);
+    for route in routes {
+        copies.push(route.copy(alloc)?)?;
+    }
+    Ok(copies)
+}
+
+impl Draft {
+    /// Equal entries.
+    fn copy(&self, alloc: Global) -> Result<Draft, AllocError>
+        ensures { IfOk result (λ d. d ≡ self.now) }
+    {
+        let sections = Vec::from_slice(alloc, &self.sections)?;
+        let tracks = Vec::from_slice(alloc, &self.tracks)?;
+        let points = Vec::from_slice(alloc, &self.points)?;
+        let borders = Vec::from_slice(alloc, &self.borders)?;
+        let joints = Vec::from_slice(alloc, &self.joints)?;
+        let signals = Vec::from_slice(alloc, &self.signals)?;
+        let detectors = copy_detectors(alloc, &self.detectors)?;
+        let routes = copy_routes(alloc, &self.routes)?;
+        Ok(Draft {
+            station: self.station,
+            sections,
+            tracks,
+            points,
+            borders,
+            joints,
+            signals,
+            detectors,
+            routes,
+        })
+    }
 }
 
 impl Layout {
@@ -141,72 +210,82 @@ impl Layout {
     /// comes only where memory was refused.
     #[tactic(auto, unfolding(crate::specs::Resolving::layout_in))]
     pub fn read(alloc: Global, text: &str) -> Result<Layout, LayoutFault>
-        ensures { Gives (λ l. l) result (layout_in text.now) }
+        ensures read { Gives (λ l. l) result (layout_in text.now) }
+        ensures once { IfOk result (λ l. Once l) }
     {
         let document = document(alloc, text)?;
         layout_of(alloc, &document)
+    }
+
+    /// An equal layout.
+    pub fn copy(&self, alloc: Global) -> Result<Layout, AllocError>
+        ensures { IfOk result (λ l. l ≡ self.now) }
+    {
+        let draft = self.draft.copy(alloc)?;
+        Ok(Layout { draft })
     }
 
     /// The station.
     pub fn station(&self) -> &Station
         ensures { result.now ≡ self.now.station }
     {
-        &self.station
+        &self.draft.station
     }
 
     /// The names of the sections.
     pub fn sections(&self) -> &[Name]
         ensures { result.now ≡ self.now.sections }
     {
-        &self.sections
+        &self.draft.sections
     }
 
     /// The tracks.
     pub fn tracks(&self) -> &[Track]
         ensures { result.now ≡ self.now.tracks }
     {
-        &self.tracks
+        &self.draft.tracks
     }
 
     /// The points.
     pub fn points(&self) -> &[Point]
         ensures { result.now ≡ self.now.points }
     {
-        &self.points
+        &self.draft.points
     }
 
     /// The names of the borders.
     pub fn borders(&self) -> &[Name]
         ensures { result.now ≡ self.now.borders }
     {
-        &self.borders
+        &self.draft.borders
     }
 
-    /// The joints.
+    /// The joints. In no layout a name, an identity, a joined port or a signal's port stands twice.
     pub fn joints(&self) -> &[Joint]
-        ensures { result.now ≡ self.now.joints }
+        ensures lent { result.now ≡ self.now.joints }
+        ensures once { Once self.now }
     {
-        &self.joints
+        &self.draft.joints
     }
 
     /// The signals.
     pub fn signals(&self) -> &[Signal]
         ensures { result.now ≡ self.now.signals }
     {
-        &self.signals
+        &self.draft.signals
     }
 
     /// The detection controllers.
     pub fn detectors(&self) -> &[Detector]
         ensures { result.now ≡ self.now.detectors }
     {
-        &self.detectors
+        &self.draft.detectors
     }
 
     /// The routes.
     pub fn routes(&self) -> &[Route]
         ensures { result.now ≡ self.now.routes }
     {
-        &self.routes
+        &self.draft.routes
     }
 }

@@ -9,7 +9,7 @@ use crate::each::{Step, all, each};
 use crate::entries::{Detector, Exit, Joint, Point, Route, Signal, Track};
 use crate::fault::{LayoutFault, Place, TableName};
 use crate::ids::{BorderId, PointId, RouteId, SectionId, SignalId, TrackId};
-use crate::plan::Layout;
+use crate::plan::Draft;
 use crate::port::{Element, End, Port};
 use crate::written::{
     PortName, WrittenDetector, WrittenJoint, WrittenLayout, WrittenPoint, WrittenRoute,
@@ -522,14 +522,14 @@ fn copied(alloc: Global, names: &[Name]) -> Result<Vec<Name>, LayoutFault>
     Ok(names)
 }
 
-/// The layout of these entries, with their names resolved in reading order.
+/// The entries, with their names resolved in reading order.
 #[tactic(auto, unfolding(crate::specs::Resolving::plan_of))]
 pub(crate) fn plan(
     alloc: Global,
     directory: &IndexMap<Name, Place>,
     written: &WrittenLayout,
-) -> Result<Layout, LayoutFault>
-    ensures { Gives (λ l. l) result (plan_of directory.now.entries written.now) }
+) -> Result<Draft, LayoutFault>
+    ensures { Gives (λ d. d) result (plan_of directory.now.entries written.now) }
 {
     let tracks = tracks(alloc, directory, &written.tracks)?;
     let points = points(alloc, directory, &written.points)?;
@@ -539,7 +539,7 @@ pub(crate) fn plan(
     let routes = routes(alloc, directory, &written.routes)?;
     let sections = copied(alloc, &written.sections)?;
     let borders = copied(alloc, &written.borders)?;
-    Ok(Layout {
+    Ok(Draft {
         station: written.station,
         sections,
         tracks,

@@ -1,0 +1,5 @@
+pub mod Topology
+pub mod Path
+pub mod Sides
+pub mod Table
+pub mod Judging

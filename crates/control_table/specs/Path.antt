@@ -1,0 +1,83 @@
+-- The path of a route: a relation between the route and the ports by which a train passes its elements.
+use Rattle.std.specs.Prelude.{◌≡◌, ◌≢◌, ◌⊎◌, List, [], ◌∷◌, Option, Some, None, map, Bool, ◌==◌, false, if◌then◌else◌}
+use Rattle.std.specs.List.{Contains, filter_map}
+use Rattle.layout.specs.declared.ids.SectionId.{SectionId}
+use Rattle.layout.specs.declared.ids.PointId.{PointId}
+use Rattle.layout.specs.declared.ids.SignalId.{SignalId}
+use Rattle.layout.specs.declared.port.Port.{Port}
+use Rattle.layout.specs.declared.port.Element.{Element}
+use Rattle.layout.specs.declared.port.Element.TheVariants as element
+use Rattle.layout.specs.declared.port.End.TheVariants as end
+use Rattle.layout.specs.declared.entries.Joint.{Joint}
+use Rattle.layout.specs.declared.entries.Exit.{Exit}
+use Rattle.layout.specs.declared.entries.Exit.TheVariants as exit
+use Rattle.layout.specs.Entries.{RouteEntry, Plan}
+use Rattle.control_table.specs.declared.passage.Passage.{Passage}
+use Rattle.control_table.specs.Topology.{joined_to, Joined, StandsAt, section_of}
+
+-- A passage over one element: it is left by another port than the one by which it is entered, and through a
+-- point one of the two is the tip.
+pub record Passes (g : Passage) : Type 0 where
+  pub element : g.entered.element ≡ g.left.element
+  pub ports : g.entered.end ≢ g.left.end
+  pub by_tip : (p : PointId) → g.left.element ≡ element.Point p → (g.entered.end ≡ end.Tip) ⊎ (g.left.end ≡ end.Tip)
+
+-- From a port on, each joint leads to the port by which the next element is entered.
+abbrev pub Leads : List Joint → Port → List Passage → Type 0
+Leads joints from [] = Unit {0}
+Leads joints from (g ∷ path) = (joined_to joints from ≡ Some g.entered) × Passes g × Leads joints g.left path
+
+-- The passages of a route: its path names the ports by which the elements are left, and it leads on from the
+-- port at which the entry signal stands. It isn't empty.
+pub record Follows (l : Plan) (r : RouteEntry) (path : List Passage) : Type 0 where
+  pub ports : r.path ≡ map (λ g. g.left) path
+  pub some : path ≢ []
+  pub begins : (from : Port) × StandsAt l r.entry from × Leads l.joints from path
+
+-- No item of a list comes twice.
+abbrev pub AllDifferent : {A : Type 0} → List A → Type 0
+AllDifferent [] = Unit {0}
+AllDifferent (x ∷ xs) = (Contains xs x → ⊥) × AllDifferent xs
+
+-- The elements over which a path leads.
+abbrev pub elements : List Passage → List Element
+elements path = map (λ g. g.left.element) path
+
+-- Sections, of which neighbours that are equal are counted once: those behind one that was counted last.
+abbrev pub counted_behind : Option SectionId → List SectionId → List SectionId
+counted_behind last [] = []
+counted_behind None (s ∷ ss) = s ∷ counted_behind (Some s) ss
+counted_behind (Some last) (s ∷ ss) = if last.0 == s.0 then counted_behind (Some last) ss else s ∷ counted_behind (Some s) ss
+
+-- The sections of a path: those of its elements in order, neighbours that are equal counted once.
+abbrev pub sections : Plan → List Passage → List SectionId
+sections l path = counted_behind None (filter_map (section_of l) (elements path))
+
+-- No element comes twice, and no section comes again after it was left.
+pub record ComesOnce (l : Plan) (path : List Passage) : Type 0 where
+  pub elements : AllDifferent (elements path)
+  pub sections : AllDifferent (sections l path)
+
+-- The exit is at a port: the signal stands there, or the border is joined to it.
+abbrev pub ExitAt : Plan → Exit → Port → Type 0
+ExitAt l (exit.Signal s) p = StandsAt l s p
+ExitAt l (exit.Border b) p = (beyond : Port) × Joined l p beyond × (beyond.element ≡ element.Border b)
+
+-- The exit is at the port by which the last element of the path is left.
+abbrev pub EndsAt : Plan → Exit → List Passage → Type 0
+EndsAt l x [] = ⊥
+EndsAt l x (g ∷ []) = ExitAt l x g.left
+EndsAt l x (g ∷ path) = EndsAt l x path
+
+-- The path ends at the exit, which isn't the entry, and no other signal stands at a port by which the path leaves
+-- an element.
+pub record SignalsPlaced (l : Plan) (r : RouteEntry) (path : List Passage) : Type 0 where
+  pub ends : EndsAt l r.exit path
+  pub elsewhere : r.exit ≢ exit.Signal r.entry
+  pub between : (g : Passage) (s : SignalId) → Contains path g → StandsAt l s g.left → r.exit ≡ exit.Signal s
+
+-- The path of a route.
+pub record Path (l : Plan) (r : RouteEntry) (path : List Passage) : Type 0 where
+  pub follows : Follows l r path
+  pub once : ComesOnce l path
+  pub signals : SignalsPlaced l r path

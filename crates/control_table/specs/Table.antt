@@ -1,0 +1,57 @@
+-- Which tables are sound, and which routes conflict.
+use Rattle.std.specs.Prelude.{◌≡◌, ◌≢◌, ◌⊎◌, List}
+use Rattle.std.specs.List.{Contains}
+use Rattle.sci_telegram.specs.declared.message.Side.{Side}
+use Rattle.layout.specs.declared.ids.SectionId.{SectionId}
+use Rattle.layout.specs.declared.ids.PointId.{PointId}
+use Rattle.layout.specs.declared.ids.RouteId.{RouteId}
+use Rattle.layout.specs.Entries.{RouteEntry, Plan}
+use Rattle.control_table.specs.declared.passage.Passage.{Passage}
+use Rattle.control_table.specs.Topology.{IsRoute}
+use Rattle.control_table.specs.Path.{Path, sections}
+use Rattle.control_table.specs.Sides.{Requires, FlanksGuarded, NoneAtBothSides, WritesRequired}
+
+-- A route lists another as an extra conflict.
+abbrev pub Lists : Plan → RouteId → RouteId → Type 0
+Lists l a b = (r : RouteEntry) × IsRoute l a r × Contains r.extra b
+
+-- The extra conflicts of a route are listed the other way too, and none is with itself.
+abbrev pub ExtrasListed : Plan → RouteId → RouteEntry → Type 0
+ExtrasListed l a r = (b : RouteId) → Contains r.extra b → (b ≢ a) × Lists l b a
+
+-- A route is sound: it has a path, writes what this path requires, and leaves no flank open.
+pub record SoundRoute (l : Plan) (a : RouteId) (r : RouteEntry) : Type 0 where
+  pub path : List Passage
+  pub is_path : Path l r path
+  pub writes : WritesRequired l r path
+  pub consistent : NoneAtBothSides l path
+  pub guarded : FlanksGuarded l path
+  pub listed : ExtrasListed l a r
+
+-- A table is sound.
+abbrev pub Sound : Plan → Type 0
+Sound l = (a : RouteId) (r : RouteEntry) → IsRoute l a r → SoundRoute l a r
+
+-- A route leads over a section.
+abbrev pub LeadsOver : Plan → RouteId → SectionId → Type 0
+LeadsOver l a s = (r : RouteEntry) × (path : List Passage) × IsRoute l a r × Path l r path × Contains (sections l path) s
+
+-- A route requires a point at a side.
+abbrev pub RouteRequires : Plan → RouteId → PointId → Side → Type 0
+RouteRequires l a p s = (r : RouteEntry) × (path : List Passage) × IsRoute l a r × Path l r path × Requires l path p s
+
+-- Two routes have the same entry signal.
+abbrev pub SameEntry : Plan → RouteId → RouteId → Type 0
+SameEntry l a b = (r : RouteEntry) × (q : RouteEntry) × IsRoute l a r × IsRoute l b q × (r.entry ≡ q.entry)
+
+-- Two routes share a section.
+abbrev pub ShareSection : Plan → RouteId → RouteId → Type 0
+ShareSection l a b = (s : SectionId) × LeadsOver l a s × LeadsOver l b s
+
+-- Two routes require one point at different sides.
+abbrev pub RequireDifferently : Plan → RouteId → RouteId → Type 0
+RequireDifferently l a b = (p : PointId) × (s : Side) × (t : Side) × (s ≢ t) × RouteRequires l a p s × RouteRequires l b p t
+
+-- Two routes conflict.
+abbrev pub Conflict : Plan → RouteId → RouteId → Type 0
+Conflict l a b = (a ≢ b) × (SameEntry l a b ⊎ ShareSection l a b ⊎ RequireDifferently l a b ⊎ Lists l a b ⊎ Lists l b a)

@@ -1,0 +1,19 @@
+//! The control table of one station: which layouts are sound, which routes conflict, and which points
+//! and sections each route needs.
+#![tactic(auto)]
+
+mod checked;
+mod fault;
+mod order;
+mod passage;
+mod row;
+mod sections;
+mod sides;
+mod signals;
+#[cfg(test)]
+mod tests;
+mod topology;
+mod written;
+
+pub use checked::{Checked, check};
+pub use fault::{FaultyRoute, TableFault};

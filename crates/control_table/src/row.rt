@@ -1,0 +1,121 @@
+//! One route of the control table.
+
+use crate::fault::{FaultyRoute, TableFault};
+use crate::order::in_layout_order;
+use crate::passage::{Passage, passages};
+use crate::sections::{all_different, elements, sections};
+use crate::sides::{flanks_guarded, needs, without_contradiction};
+use crate::signals::{extras_listed, port_of, signals_placed};
+use crate::written::{flank_written, points_written, written_right};
+use layout::{Layout, PointId, Route, RouteId, SectionId};
+use sci_telegram::Side;
+use std::alloc::{AllocError, Global};
+
+/// What a route needs.
+#[derive(Debug, Drop)]
+pub(crate) struct Row {
+    /// The sections over which it leads, in the order of its path.
+    pub(crate) sections: Vec<SectionId>,
+    /// The points that it requires, each with its side, in layout order.
+    pub(crate) required: Vec<(PointId, Side)>,
+}
+
+impl Row {
+    /// An equal row.
+    pub(crate) fn copy(&self, alloc: Global) -> Result<Row, AllocError> {
+        let sections = Vec::from_slice(alloc, &self.sections)?;
+        let required = Vec::from_slice(alloc, &self.required)?;
+        Ok(Row { sections, required })
+    }
+}
+
+/// The path of a route, unless it is broken.
+fn path_of(
+    alloc: Global,
+    place: FaultyRoute,
+    layout: &Layout,
+    route: &Route,
+) -> Result<Vec<Passage>, TableFault> {
+    let Some(start) = port_of(layout.signals(), route.entry()) else {
+        return Err(TableFault::PathBroken(place));
+    };
+    if route.path().is_empty() {
+        return Err(TableFault::PathBroken(place));
+    }
+    passages(alloc, place, layout.joints(), start, route.path())
+}
+
+/// The sections of a path, unless an element or a section comes again.
+fn sections_of(
+    alloc: Global,
+    place: FaultyRoute,
+    layout: &Layout,
+    path: &[Passage],
+) -> Result<Vec<SectionId>, TableFault> {
+    let elements = elements(alloc, path)?;
+    let sections = sections(alloc, layout, &elements)?;
+    if !all_different(&elements) || !all_different(&sections) {
+        return Err(TableFault::PathRepeats(place));
+    }
+    Ok(sections)
+}
+
+/// The points that a path requires, unless a fault is in what the route writes, in the flanks or in
+/// the points.
+fn required_of(
+    alloc: Global,
+    place: FaultyRoute,
+    layout: &Layout,
+    route: &Route,
+    path: &[Passage],
+) -> Result<Vec<(PointId, Side)>, TableFault> {
+    let needs = needs(alloc, layout, path)?;
+    if !points_written(route, path) {
+        return Err(TableFault::PointMissing(place));
+    }
+    if !written_right(route, path, &needs) {
+        return Err(TableFault::PointWrong(place));
+    }
+    if !flank_written(route, path, &needs) {
+        return Err(TableFault::FlankMissing(place));
+    }
+    if !flanks_guarded(layout, path) {
+        return Err(TableFault::FlankOpen(place));
+    }
+    if !without_contradiction(&needs) {
+        return Err(TableFault::FlankContradicts(place));
+    }
+    Ok(in_layout_order(alloc, &needs)?)
+}
+
+/// The row of a route, or its first fault.
+fn row_of(
+    alloc: Global,
+    place: FaultyRoute,
+    layout: &Layout,
+    route: &Route,
+) -> Result<Row, TableFault> {
+    let path = path_of(alloc, place, layout, route)?;
+    let sections = sections_of(alloc, place, layout, &path)?;
+    let required = required_of(alloc, place, layout, route, &path)?;
+    if !signals_placed(layout, route, &path) {
+        return Err(TableFault::SignalPlace(place));
+    }
+    if !extras_listed(layout.routes(), place.id, route.extra()) {
+        return Err(TableFault::NotSymmetric(place));
+    }
+    Ok(Row { sections, required })
+}
+
+/// The rows of all routes, or the first fault of the first faulty one.
+pub(crate) fn rows(alloc: Global, layout: &Layout) -> Result<Vec<Row>, TableFault> {
+    let mut rows = Vec::new(alloc);
+    for (before, route) in layout.routes().iter().enumerate() {
+        let place = FaultyRoute {
+            id: RouteId(before),
+            name: *route.name(),
+        };
+        rows.push(row_of(alloc, place, layout, route)?)?;
+    }
+    Ok(rows)
+}

@@ -1,0 +1,361 @@
+use super::{Checked, TableFault, check};
+use layout::{Layout, RouteId};
+use sci_telegram::Side;
+use std::alloc::{AllocError, Global};
+use std::test::Fail;
+
+/// A station of one point and three routes, key by key.
+const SMALL: [(&str, &str); 9] = [
+    ("station", "station = {name=\"IXL1\",id=1}\n"),
+    ("section", "section = [\"GA\", \"GP\", \"G1\", \"G2\"]\n"),
+    ("border", "border = [\"W\", \"E1\", \"E2\"]\n"),
+    (
+        "joint",
+        "joint = [[\"W.end\",\"A1.a\"], [\"A1.b\",\"P1.tip\"], [\"P1.left\",\"T1.a\"], [\"P1.right\",\"T2.a\"], [\"T1.b\",\"E1.end\"], [\"T2.b\",\"E2.end\"]]\n",
+    ),
+    (
+        "track",
+        "track = [{name=\"A1\",section=\"GA\"}, {name=\"T1\",section=\"G1\"}, {name=\"T2\",section=\"G2\"}]\n",
+    ),
+    ("point", "point = [{name=\"P1\",id=10,section=\"GP\"}]\n"),
+    (
+        "signal",
+        "signal = [{name=\"S1\",id=2,at=\"A1.b\"}, {name=\"S3\",id=3,at=\"T1.a\"}, {name=\"S4\",id=4,at=\"T2.a\"}]\n",
+    ),
+    (
+        "detector",
+        "detector = [{name=\"D1\",id=20,sections=[\"GA\",\"GP\",\"G1\",\"G2\"]}]\n",
+    ),
+    (
+        "route",
+        "route = [{name=\"R1\",entry=\"S1\",exit=\"E2\",path=[\"P1.right\",\"T2.b\"],points={P1=\"right\"},approach=[\"GA\"]}, {name=\"R2\",entry=\"S1\",exit=\"E1\",path=[\"P1.left\",\"T1.b\"],points={P1=\"left\"},approach=[\"GA\"]}, {name=\"R3\",entry=\"S3\",exit=\"W\",path=[\"P1.tip\",\"A1.a\"],points={P1=\"left\"},approach=[\"G1\"]}]\n",
+    ),
+];
+
+/// The text of the small station, with another line for a key.
+fn changed(alloc: Global, key: &str, line: &str) -> Result<String, AllocError> {
+    let mut text = String::new(alloc);
+    for (word, written) in &SMALL {
+        if *word == key {
+            text.push_str(line)?;
+        } else {
+            text.push_str(*written)?;
+        }
+    }
+    Ok(text)
+}
+
+/// The control table of a text.
+fn table(alloc: Global, text: &str) -> Result<Checked, Fail> {
+    let layout = Layout::read(alloc, text)?;
+    Ok(check(alloc, layout)?)
+}
+
+#[test]
+fn checks_the_small_station(rt: HostRuntime) -> Result<(), Fail> {
+    let alloc = rt.alloc();
+    let text = changed(alloc, "", "")?;
+    let checked = table(alloc, text.as_str())?;
+    assert_eq!(rt; checked.layout().routes().len(), 3);
+    assert!(rt; checked.conflict(RouteId(0), RouteId(1)));
+    assert!(rt; checked.conflict(RouteId(0), RouteId(2)));
+    assert!(rt; checked.conflict(RouteId(1), RouteId(2)));
+    assert!(rt; !checked.conflict(RouteId(0), RouteId(0)));
+    let required = checked.required(RouteId(0));
+    assert_eq!(rt; required.len(), 1);
+    assert!(rt; required[0].0.0 == 0 && required[0].1 == Side::Right);
+    assert_eq!(rt; checked.sections(RouteId(0)).len(), 2);
+    Ok(())
+}
+
+/// The fault of the small station with another line for a key.
+fn told(alloc: Global, key: &str, line: &str) -> Result<Option<TableFault>, Fail> {
+    let text = changed(alloc, key, line)?;
+    fault(alloc, text.as_str())
+}
+
+/// The fault of a text that is a layout.
+fn fault(alloc: Global, text: &str) -> Result<Option<TableFault>, Fail> {
+    let layout = Layout::read(alloc, text)?;
+    match check(alloc, layout) {
+        Ok(_) => Ok(None),
+        Err(fault) => Ok(Some(fault)),
+    }
+}
+
+/// Whether a fault prints as this text.
+fn prints(alloc: Global, fault: Option<TableFault>, text: &str) -> Result<bool, Fail> {
+    let Some(fault) = fault else {
+        return Ok(false);
+    };
+    let printed = format!(in alloc; "{fault}")?;
+    Ok(printed.as_str() == text)
+}
+
+const R1: &str =
+    "{name=\"R1\",entry=\"S1\",exit=\"E2\",path=[\"P1.right\",\"T2.b\"],points={P1=\"right\"},approach=[\"GA\"]}";
+
+const R2: &str =
+    "{name=\"R2\",entry=\"S1\",exit=\"E1\",path=[\"P1.left\",\"T1.b\"],points={P1=\"left\"},approach=[\"GA\"]}";
+
+const R3: &str =
+    "{name=\"R3\",entry=\"S3\",exit=\"W\",path=[\"P1.tip\",\"A1.a\"],points={P1=\"left\"},approach=[\"G1\"]}";
+
+/// The fault of the small station with these three routes.
+fn routes_told(
+    alloc: Global,
+    first: &str,
+    second: &str,
+    third: &str,
+) -> Result<Option<TableFault>, Fail> {
+    let line = format!(in alloc; "route = [{first}, {second}, {third}]\n")?;
+    told(alloc, "route", line.as_str())
+}
+
+const WRONG_FIRST_ROUTES: [(&str, &str); 12] = [
+    (
+        "{name=\"R1\",entry=\"S1\",exit=\"E1\",path=[\"P1.right\",\"T2.b\"],points={P1=\"right\"},approach=[\"GA\"]}",
+        "8 SignalPlace at route R1",
+    ),
+    (
+        "{name=\"R1\",entry=\"S1\",exit=\"E2\",path=[\"P1.right\",\"T2.a\"],points={P1=\"right\"},approach=[\"GA\"]}",
+        "1 PathBroken at route R1",
+    ),
+    (
+        "{name=\"R1\",entry=\"S1\",exit=\"E2\",path=[\"P1.right\",\"T2.b\"],points={},approach=[\"GA\"]}",
+        "3 PointMissing at route R1",
+    ),
+    (
+        "{name=\"R1\",entry=\"S1\",exit=\"E2\",path=[\"P1.right\",\"T2.b\"],points={P1=\"left\"},approach=[\"GA\"]}",
+        "4 PointWrong at route R1",
+    ),
+    (
+        "{name=\"R1\",entry=\"S1\",exit=\"E2\",path=[],points={}}",
+        "1 PathBroken at route R1",
+    ),
+    (
+        "{name=\"R1\",entry=\"S1\",exit=\"E2\",path=[\"P1.right\",\"T1.b\"],points={P1=\"right\"}}",
+        "1 PathBroken at route R1",
+    ),
+    (
+        "{name=\"R1\",entry=\"S1\",exit=\"E2\",path=[\"P1.tip\",\"A1.a\"],points={P1=\"right\"}}",
+        "1 PathBroken at route R1",
+    ),
+    (
+        "{name=\"R1\",entry=\"S1\",exit=\"E2\",path=[\"P1.right\",\"T2.b\",\"E2.end\"],points={P1=\"right\"}}",
+        "1 PathBroken at route R1",
+    ),
+    (
+        "{name=\"R1\",entry=\"S1\",exit=\"E2\",path=[\"P1.right\",\"T2.b\"],points={P1=\"right\"},flank={P1=\"right\"}}",
+        "4 PointWrong at route R1",
+    ),
+    (
+        "{name=\"R1\",entry=\"S1\",exit=\"S1\",path=[\"P1.right\",\"T2.b\"],points={P1=\"right\"}}",
+        "8 SignalPlace at route R1",
+    ),
+    (
+        "{name=\"R1\",entry=\"S1\",exit=\"E2\",path=[\"P1.right\",\"T2.b\"],points={P1=\"right\"},extra=[\"R1\"]}",
+        "9 NotSymmetric at route R1",
+    ),
+    (
+        "{name=\"R1\",entry=\"S1\",exit=\"S4\",path=[\"P1.right\",\"T2.b\"],points={P1=\"left\"},extra=[\"R1\"]}",
+        "4 PointWrong at route R1",
+    ),
+];
+
+#[test]
+fn tells_the_lowest_fault_of_a_route(rt: HostRuntime) -> Result<(), Fail> {
+    let alloc = rt.alloc();
+    for (route, text) in &WRONG_FIRST_ROUTES {
+        let fault = routes_told(alloc, *route, R2, R3)?;
+        assert!(rt; prints(alloc, fault, *text)?);
+    }
+    Ok(())
+}
+
+#[test]
+fn tells_an_extra_conflict_that_is_listed_one_way(rt: HostRuntime) -> Result<(), Fail> {
+    let alloc = rt.alloc();
+    let third =
+        "{name=\"R3\",entry=\"S3\",exit=\"W\",path=[\"P1.tip\",\"A1.a\"],points={P1=\"left\"},approach=[\"G1\"],extra=[\"R1\"]}";
+    let fault = routes_told(alloc, R1, R2, third)?;
+    assert!(rt; prints(alloc, fault, "9 NotSymmetric at route R3")?);
+    let first =
+        "{name=\"R1\",entry=\"S1\",exit=\"E2\",path=[\"P1.right\",\"T2.b\"],points={P1=\"right\"},extra=[\"R3\"]}";
+    let fault = routes_told(alloc, first, R2, third)?;
+    assert!(rt; fault.is_none());
+    Ok(())
+}
+
+#[test]
+fn tells_the_first_faulty_route(rt: HostRuntime) -> Result<(), Fail> {
+    let alloc = rt.alloc();
+    let first =
+        "{name=\"R1\",entry=\"S1\",exit=\"E2\",path=[\"P1.right\",\"T2.b\"],points={P1=\"right\"},extra=[\"R2\"]}";
+    let second = "{name=\"R2\",entry=\"S1\",exit=\"E1\",path=[],points={}}";
+    let fault = routes_told(alloc, first, second, R3)?;
+    assert!(rt; prints(alloc, fault, "9 NotSymmetric at route R1")?);
+    let fault = routes_told(alloc, R1, second, R3)?;
+    assert!(rt; prints(alloc, fault, "1 PathBroken at route R2")?);
+    Ok(())
+}
+
+#[test]
+fn tells_an_open_flank(rt: HostRuntime) -> Result<(), Fail> {
+    let alloc = rt.alloc();
+    let without_s4 = "signal = [{name=\"S1\",id=2,at=\"A1.b\"}, {name=\"S3\",id=3,at=\"T1.a\"}]\n";
+    let fault = told(alloc, "signal", without_s4)?;
+    assert!(rt; prints(alloc, fault, "6 FlankOpen at route R2")?);
+    Ok(())
+}
+
+#[test]
+fn leaves_a_leg_without_a_joint_alone(rt: HostRuntime) -> Result<(), Fail> {
+    let alloc = rt.alloc();
+    let cut =
+        "joint = [[\"W.end\",\"A1.a\"], [\"A1.b\",\"P1.tip\"], [\"P1.left\",\"T1.a\"], [\"T1.b\",\"E1.end\"], [\"T2.b\",\"E2.end\"]]\nsignal = [{name=\"S1\",id=2,at=\"A1.b\"}, {name=\"S3\",id=3,at=\"T1.a\"}]\nroute = [{name=\"R2\",entry=\"S1\",exit=\"E1\",path=[\"P1.left\",\"T1.b\"],points={P1=\"left\"}}]\n";
+    let kept = [0, 1, 2, 4, 5, 7];
+    let mut other = String::new(alloc);
+    other.push_str(cut)?;
+    for place in kept {
+        other.push_str(SMALL[place].1)?;
+    }
+    let checked = table(alloc, other.as_str())?;
+    assert_eq!(rt; checked.required(RouteId(0)).len(), 1);
+    Ok(())
+}
+
+/// Two points P1 and P2 side by side, and a third, Q, whose legs are joined to theirs. Route `a` leads
+/// over P1 and `b` over P2, with nothing in common but that both need Q, at different sides.
+const BETWEEN: &str = "station = {name=\"IXL1\",id=1}
+section = [\"GA\", \"G1\", \"GB\", \"G2\", \"GQ\"]
+border = [\"W1\", \"E1\", \"W2\", \"E2\", \"WQ\"]
+joint = [[\"W1.end\",\"A1.a\"], [\"A1.b\",\"P1.tip\"], [\"P1.right\",\"T1.a\"], [\"T1.b\",\"E1.end\"], [\"W2.end\",\"A2.a\"], [\"A2.b\",\"P2.tip\"], [\"P2.right\",\"T2.a\"], [\"T2.b\",\"E2.end\"], [\"P1.left\",\"Q.left\"], [\"Q.right\",\"P2.left\"], [\"WQ.end\",\"Q.tip\"]]
+track = [{name=\"A1\",section=\"GA\"}, {name=\"T1\",section=\"G1\"}, {name=\"A2\",section=\"GB\"}, {name=\"T2\",section=\"G2\"}]
+point = [{name=\"P1\",id=10,section=\"G1\"}, {name=\"Q\",id=11,section=\"GQ\"}, {name=\"P2\",id=12,section=\"G2\"}]
+signal = [{name=\"S1\",id=2,at=\"A1.b\"}, {name=\"S2\",id=3,at=\"A2.b\"}]
+detector = [{name=\"D1\",id=20,sections=[\"GA\",\"G1\",\"GB\",\"G2\",\"GQ\"]}]
+";
+
+#[test]
+fn routes_that_need_a_flank_point_differently_conflict(rt: HostRuntime) -> Result<(), Fail> {
+    let alloc = rt.alloc();
+    let routes =
+        "route = [{name=\"a\",entry=\"S1\",exit=\"E1\",path=[\"P1.right\",\"T1.b\"],points={P1=\"right\"},flank={Q=\"right\"}}, {name=\"b\",entry=\"S2\",exit=\"E2\",path=[\"P2.right\",\"T2.b\"],points={P2=\"right\"},flank={Q=\"left\"}}]\n";
+    let text = format!(in alloc; "{BETWEEN}{routes}")?;
+    let checked = table(alloc, text.as_str())?;
+    assert!(rt; checked.conflict(RouteId(0), RouteId(1)));
+    assert!(rt; checked.conflict(RouteId(1), RouteId(0)));
+    assert_eq!(rt; checked.sections(RouteId(0)).len(), 1);
+    let a = checked.required(RouteId(0));
+    assert_eq!(rt; a.len(), 2);
+    assert!(rt; a[0].0.0 == 0 && a[0].1 == Side::Right && a[1].0.0 == 1 && a[1].1 == Side::Right);
+    let b = checked.required(RouteId(1));
+    assert_eq!(rt; b.len(), 2);
+    assert!(rt; b[0].0.0 == 1 && b[0].1 == Side::Left && b[1].0.0 == 2 && b[1].1 == Side::Right);
+    Ok(())
+}
+
+#[test]
+fn tells_a_flank_point_that_is_not_written(rt: HostRuntime) -> Result<(), Fail> {
+    let alloc = rt.alloc();
+    let missing =
+        "route = [{name=\"a\",entry=\"S1\",exit=\"E1\",path=[\"P1.right\",\"T1.b\"],points={P1=\"right\"}}]\n";
+    let text = format!(in alloc; "{BETWEEN}{missing}")?;
+    let fault = fault(alloc, text.as_str())?;
+    assert!(rt; prints(alloc, fault, "5 FlankMissing at route a")?);
+    Ok(())
+}
+
+/// Two points one behind the other, whose left legs meet.
+const FACING: &str = "station = {name=\"IXL1\",id=1}
+section = [\"GA\", \"G1\"]
+border = [\"W\", \"E\"]
+joint = [[\"W.end\",\"A1.a\"], [\"A1.b\",\"P1.tip\"], [\"P1.right\",\"P2.left\"], [\"P1.left\",\"P2.right\"], [\"P2.tip\",\"E.end\"]]
+track = [{name=\"A1\",section=\"GA\"}]
+point = [{name=\"P1\",id=10,section=\"G1\"}, {name=\"P2\",id=12,section=\"G1\"}]
+signal = [{name=\"S1\",id=2,at=\"A1.b\"}]
+detector = [{name=\"D1\",id=20,sections=[\"GA\",\"G1\"]}]
+";
+
+#[test]
+fn a_flank_point_on_the_path_is_written_under_points_alone(rt: HostRuntime) -> Result<(), Fail> {
+    let alloc = rt.alloc();
+    let sound =
+        "route = [{name=\"a\",entry=\"S1\",exit=\"E\",path=[\"P1.right\",\"P2.tip\"],points={P1=\"right\",P2=\"left\"}}]\n";
+    let text = format!(in alloc; "{FACING}{sound}")?;
+    let checked = table(alloc, text.as_str())?;
+    assert_eq!(rt; checked.required(RouteId(0)).len(), 2);
+    assert_eq!(rt; checked.sections(RouteId(0)).len(), 1);
+    let twice =
+        "route = [{name=\"a\",entry=\"S1\",exit=\"E\",path=[\"P1.right\",\"P2.tip\"],points={P1=\"right\",P2=\"left\"},flank={P2=\"left\"}}]\n";
+    let text = format!(in alloc; "{FACING}{twice}")?;
+    let fault = fault(alloc, text.as_str())?;
+    assert!(rt; prints(alloc, fault, "4 PointWrong at route a")?);
+    Ok(())
+}
+
+/// The same two points, where the legs that meet ask each for the side of the other's unused leg.
+const CROSSED: &str = "station = {name=\"IXL1\",id=1}
+section = [\"GA\", \"G1\"]
+border = [\"W\", \"E\"]
+joint = [[\"W.end\",\"A1.a\"], [\"A1.b\",\"P1.tip\"], [\"P1.right\",\"T1.a\"], [\"T1.b\",\"P2.left\"], [\"P1.left\",\"P2.right\"], [\"P2.tip\",\"E.end\"]]
+track = [{name=\"A1\",section=\"GA\"}, {name=\"T1\",section=\"GA\"}]
+point = [{name=\"P1\",id=10,section=\"G1\"}, {name=\"P2\",id=12,section=\"G1\"}]
+signal = [{name=\"S1\",id=2,at=\"A1.b\"}]
+detector = [{name=\"D1\",id=20,sections=[\"GA\",\"G1\"]}]
+";
+
+#[test]
+fn tells_a_section_that_comes_again(rt: HostRuntime) -> Result<(), Fail> {
+    let alloc = rt.alloc();
+    let again =
+        "route = [{name=\"a\",entry=\"S1\",exit=\"E\",path=[\"P1.right\",\"T1.b\",\"P2.tip\"],points={P1=\"right\",P2=\"left\"}}]\n";
+    let text = format!(in alloc; "{CROSSED}{again}")?;
+    let fault = fault(alloc, text.as_str())?;
+    assert!(rt; prints(alloc, fault, "2 PathRepeats at route a")?);
+    Ok(())
+}
+
+/// A point of which a leg is joined to the same leg of the next one.
+const CONTRARY: &str = "station = {name=\"IXL1\",id=1}
+section = [\"GA\", \"G1\", \"G2\"]
+border = [\"W\", \"E\", \"N\"]
+joint = [[\"W.end\",\"A1.a\"], [\"A1.b\",\"P1.tip\"], [\"P1.right\",\"P2.tip\"], [\"P1.left\",\"Q.left\"], [\"P2.left\",\"Q.right\"], [\"P2.right\",\"E.end\"], [\"Q.tip\",\"N.end\"]]
+track = [{name=\"A1\",section=\"GA\"}]
+point = [{name=\"P1\",id=10,section=\"G1\"}, {name=\"P2\",id=12,section=\"G1\"}, {name=\"Q\",id=13,section=\"G2\"}]
+signal = [{name=\"S1\",id=2,at=\"A1.b\"}]
+detector = [{name=\"D1\",id=20,sections=[\"GA\",\"G1\",\"G2\"]}]
+route = [{name=\"a\",entry=\"S1\",exit=\"E\",path=[\"P1.right\",\"P2.right\"],points={P1=\"right\",P2=\"right\"},flank={Q=\"left\"}}]
+";
+
+#[test]
+fn tells_a_point_that_is_required_at_both_sides(rt: HostRuntime) -> Result<(), Fail> {
+    let alloc = rt.alloc();
+    let fault = fault(alloc, CONTRARY)?;
+    assert!(rt; prints(alloc, fault, "7 FlankContradicts at route a")?);
+    Ok(())
+}
+
+#[test]
+fn tells_a_signal_on_the_way(rt: HostRuntime) -> Result<(), Fail> {
+    let alloc = rt.alloc();
+    let signals =
+        "signal = [{name=\"S1\",id=2,at=\"A1.b\"}, {name=\"S3\",id=3,at=\"T1.a\"}, {name=\"S4\",id=4,at=\"T2.a\"}, {name=\"S5\",id=5,at=\"T2.b\"}]\n";
+    let fault = told(alloc, "signal", signals)?;
+    assert!(rt; prints(alloc, fault, "8 SignalPlace at route R1")?);
+    Ok(())
+}
+
+#[test]
+fn copies_an_equal_table(rt: HostRuntime) -> Result<(), Fail> {
+    let alloc = rt.alloc();
+    let text = changed(alloc, "", "")?;
+    let checked = table(alloc, text.as_str())?;
+    let copy = checked.copy(alloc)?;
+    assert_eq!(rt; copy.layout().signals().len(), 3);
+    assert!(rt; copy.conflict(RouteId(0), RouteId(2)));
+    assert_eq!(rt; copy.required(RouteId(2)).len(), 1);
+    assert_eq!(rt; copy.sections(RouteId(2)).len(), 2);
+    Ok(())
+}
