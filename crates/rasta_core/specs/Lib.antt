@@ -16,3 +16,4 @@ pub use Rattle.rasta_core_time.specs.Sentences
 pub use Rattle.rasta_core_theorem.specs.Given
 pub use Rattle.rasta_core_theorem.specs.Ordered
 pub use Rattle.rasta_core_theorem.specs.Safe
+pub use Rattle.rasta_core_links.specs.Links

@@ -7,6 +7,7 @@ pub use rasta_core_ends::Sent;
 pub use rasta_core_link::{
     Identity, Inbox, Link, Millis, Outbox, Reason, Role, SendFault, State, Verdict,
 };
+pub use rasta_core_links::{each_link_is_a_run, links_of_one_client};
 pub use rasta_core_theorem::{
     every_event_keeps_order, given_was_sent, link_is_safe, order_is_safe, outside_until_it_enters,
     what_is_taken,

@@ -1,0 +1,8 @@
+//! Many links over one list of datagrams: each sees the others only by the number of datagrams that were sent, and is
+//! itself a run of two ends. So the theorem of one link holds of each of any number of them. There is no code here but
+//! laws.
+#![tactic(auto)]
+
+mod laws;
+
+pub use laws::{each_link_is_a_run, links_of_one_client};
