@@ -1,0 +1,2 @@
+pub mod Behaviour
+pub mod Lawful
