@@ -1,5 +1,5 @@
 -- A signal as its contracts see it. The rules are this project's own.
-use Rattle.std.specs.Prelude.{ℕ, nat_lt, if◌then◌else◌}
+use Rattle.std.specs.Prelude.{ℕ, nat_lt, Bool, true, false, Option, Some, None, if◌then◌else◌}
 use Rattle.sci_telegram.specs.declared.message.Aspect.{Aspect}
 use Rattle.sci_telegram.specs.declared.message.Aspect.TheVariants.{Stop, Proceed}
 
@@ -8,6 +8,8 @@ use Rattle.sci_telegram.specs.declared.message.Aspect.TheVariants.{Stop, Proceed
 pub record Lamp : Type 0 where
   pub indicated : Aspect
   pub until : ℕ
+  -- whether it owes a report of the aspect indicated
+  pub owes : Bool
 
 -- an aspect as it is shown at a clock reading: any aspect but stop is shown before the moment alone
 abbrev pub standing : Aspect → ℕ → ℕ → Aspect

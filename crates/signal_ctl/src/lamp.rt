@@ -1,8 +1,11 @@
 //! The lamp of a signal, which falls to stop by the clock alone.
 
-ghost use Rattle.std.specs.Prelude.{◌≡◌};
+ghost use Rattle.std.specs.Prelude.{◌≡◌, false};
+ghost use Rattle.signal_ctl.specs.Controlled.{indicated_report, signal_behaviour};
 
-use sci_telegram::Aspect;
+use object_host::{Controller, Report, Sense};
+use rasta_core_link::Millis;
+use sci_telegram::{Aspect, Message, Protocol, SignalMessage, Telegram};
 use std::marker::Model;
 
 /// A signal. Contracts see it as a `Lamp`: the aspect last indicated since the last loss of its
@@ -11,6 +14,7 @@ use std::marker::Model;
 pub struct Signal {
     indicated: Aspect,
     until: u64,
+    owes: bool,
 }
 
 impl Model for Signal {
@@ -18,9 +22,9 @@ impl Model for Signal {
 
     ghost Value = { Lamp };
 
-    ghost view = { λ s. record { indicated = s.indicated; until = s.until } };
+    ghost view = { λ s. record { indicated = s.indicated; until = s.until; owes = s.owes } };
 
-    ghost inverse = { λ l. record { indicated = l.indicated; until = l.until } };
+    ghost inverse = { λ l. record { indicated = l.indicated; until = l.until; owes = l.owes } };
 }
 
 impl Signal {
@@ -28,11 +32,12 @@ impl Signal {
 
     /// A signal that was told nothing yet: it shows stop at every clock.
     pub fn new() -> Signal
-        ensures { result ≡ record { indicated = Aspect.Stop; until = 0 } }
+        ensures { result ≡ record { indicated = Aspect.Stop; until = 0; owes = false } }
     {
         Signal {
             indicated: Aspect::Stop,
             until: 0,
+            owes: false,
         }
     }
 
@@ -50,11 +55,12 @@ impl Signal {
         self.until = until;
     }
 
-    /// The link was lost: what was indicated before counts no more.
+    /// The link was lost: what was indicated before counts no more, and no report is owed.
     pub fn lost(&mut self)
-        ensures { self.new ≡ record self.old { indicated = Aspect.Stop } }
+        ensures { self.new ≡ record self.old { indicated = Aspect.Stop; owes = false } }
     {
         self.indicated = Aspect::Stop;
+        self.owes = false;
     }
 
     /// What the signal shows at a reading of its own clock, in ms. It asks for no call in between:
@@ -74,6 +80,72 @@ impl Signal {
     {
         self.indicated
     }
+
+    /// The report of the indicated aspect.
+    fn report(&self) -> Report
+        ensures { result ≡ indicated_report self.now }
+    {
+        Report {
+            section: None,
+            message: Message::Signal(SignalMessage::IndicatedAspect(self.indicated)),
+        }
+    }
+}
+
+impl Controller for Signal {
+    ghost behaviour = { signal_behaviour };
+
+    fn protocol(&self) -> Protocol {
+        Protocol::LightSignal
+    }
+
+    fn take(&mut self, _now: Millis, telegram: &Telegram) -> bool {
+        match telegram.message {
+            Message::Signal(SignalMessage::IndicateAspect(aspect)) => {
+                self.indicate(aspect);
+                self.owes = true;
+                true
+            }
+            _ => false,
+        }
+    }
+
+    fn tick(&mut self, _now: Millis) {}
+
+    fn sense(&mut self, _now: Millis, _sense: Sense) {}
+
+    fn keep(&mut self, until: Millis) {
+        self.until = until;
+    }
+
+    fn owed(&self) -> Option<Report> {
+        if self.owes { Some(self.report()) } else { None }
+    }
+
+    fn paid(&mut self) {
+        self.owes = false;
+    }
+
+    fn status(&self, place: usize) -> Option<Report> {
+        if place == 0 {
+            Some(self.report())
+        } else {
+            None
+        }
+    }
+
+    fn lost(&mut self) {
+        self.indicated = Aspect::Stop;
+        self.owes = false;
+    }
+
+    fn restrictive(&self, now: Millis) -> bool {
+        matches!(self.shown(now), Aspect::Stop)
+    }
+
+    ghost use Rattle.signal_ctl.specs.Law.{signal_is_lawful};
+
+    ghost lawful = { signal_is_lawful };
 }
 
 #[cfg(test)]
