@@ -16,8 +16,9 @@ pub record Behaviour (Object : Type 0) : Type 0 where
   pub after_tick : ℕ → Object → Object
   -- after a contact has changed, at a clock reading
   pub after_sense : ℕ → Sense → Object → Object
-  -- after it was told the moment of its own clock from which it has to be restrictive, and the moment last told
+  -- after it was told the moment of its own clock from which it has to be restrictive
   pub after_keep : ℕ → Object → Object
+  -- the moment from which it is: none after the one last told
   pub until : Object → ℕ
   -- the first report that it owes, and the object after that was sent
   pub owed : Object → Option Report

@@ -18,8 +18,8 @@ pub record IsLawful {Object : Type 0} (does : Behaviour Object) : Type 0 where
   pub sense_idles : (now : ℕ) (sense : Sense) (object : Object) → does.is_idle object ≡ true → does.is_idle (does.after_sense now sense object) ≡ true
   pub keep_idles : (moment : ℕ) (object : Object) → does.is_idle object ≡ true → does.is_idle (does.after_keep moment object) ≡ true
   pub paid_idles : (object : Object) → does.is_idle object ≡ true → does.is_idle (does.after_paid object) ≡ true
-  -- only a moment told changes the moment kept
-  pub keeps : (moment : ℕ) (object : Object) → does.until (does.after_keep moment object) ≡ moment
+  -- the moment kept is none after the one last told, and nothing else changes it
+  pub keeps : (moment : ℕ) (object : Object) → does.until (does.after_keep moment object) ≤ moment
   pub take_keeps : (now : ℕ) (telegram : Telegram) (object : Object) → does.until (does.after_take now telegram object) ≡ does.until object
   pub tick_keeps : (now : ℕ) (object : Object) → does.until (does.after_tick now object) ≡ does.until object
   pub sense_keeps : (now : ℕ) (sense : Sense) (object : Object) → does.until (does.after_sense now sense object) ≡ does.until object

@@ -1,6 +1,7 @@
 -- A signal keeps the law of field objects.
 use Rattle.std.specs.Prelude.{◌≡◌, ℕ, ◌≤◌, nat_lt, Bool, true, false, Option, Some, None, refl, if◌then◌else◌}
 use Rattle.std.proofs.Common.{ap}
+use Rattle.std.proofs.Math.Nat.{le_refl}
 use Rattle.std.proofs.lemmas.Bool.{le-ltb, false≢true}
 use Rattle.sci_telegram.specs.declared.message.Aspect.{Aspect}
 use Rattle.sci_telegram.specs.declared.message.Aspect.TheVariants.{Stop, Proceed}
@@ -30,7 +31,7 @@ signal_is_lawful = record {
   sense_idles = λ now sense lamp idle. idle;
   keep_idles = λ moment lamp idle. idle;
   paid_idles = λ lamp idle. idle;
-  keeps = λ moment lamp. refl;
+  keeps = λ moment lamp. le_refl moment;
   take_keeps = λ now telegram lamp. leaves _ lamp;
   tick_keeps = λ now lamp. refl;
   sense_keeps = λ now sense lamp. refl;
