@@ -84,11 +84,13 @@ module _ {Object : Type 0} where
   initial_status does zero place object = []
   initial_status does (suc more) place object = report_then (does.status place object) (initial_status does more (place + 1) object)
 
+  abbrev pub telling_status : Behaviour Object → ℕ → HostState Object → Part Object
+  telling_status does now host = posting_all now (initial_status does most_objects 0 host.object) host
+
   -- the initialisation: start, the status of each object, completed
   unfoldable pub initialising : Behaviour Object → ℕ → HostState Object → Part Object
   initialising does now host =
-      let begun = posting now (said does StartInitialisation) host
-      in let told = then_do begun (posting_all now (initial_status does most_objects 0 host.object))
+      let told = then_do (posting now (said does StartInitialisation) host) (telling_status does now)
       in at_stage stage.Completed (then_do told (posting now (said does InitialisationCompleted)))
 
   -- the object is told a telegram; one that doesn't fit closes the link

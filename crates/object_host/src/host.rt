@@ -1,16 +1,20 @@
 //! A host without its outbox: the parts of a step.
 
-ghost use Rattle.std.specs.Prelude.{◌≡◌, ◌≤◌, length};
+ghost use Rattle.std.specs.Prelude.{◌≡◌, ◌≤◌, ℕ, List, length};
 ghost use Rattle.rasta_core_link.specs.Calls.{MayStep, IsAt, answer_to_send};
 ghost use Rattle.rasta_core_link.specs.Outbox.{HasRoomFor, posted};
 ghost use Rattle.object_host.specs.Host.{said};
-ghost use Rattle.object_host.specs.Step.{most_objects, answering, commanding, initial_status, posting, posting_all, violating};
+ghost use Rattle.object_host.specs.Course.{course};
+ghost use Rattle.object_host.specs.Step.{acting, answering, commanding, following, initialising, is_from_peer, is_same_protocol, posting, telling_status, violating};
+ghost use Rattle.sci_telegram.specs.Reading.{reading};
 
 use crate::controller::Controller;
+use crate::course::Course;
 use crate::report::Report;
 use crate::stage::Stage;
 use rasta_core_link::{Link, Millis, Outbox, Reason, SendFault};
-use sci_telegram::{Agreement, Initialisation, Message, Name, Telegram};
+use rasta_pdu::Item;
+use sci_telegram::{Agreement, Initialisation, Message, Name, Protocol, Telegram};
 use std::marker::Model;
 
 /// The version of the telegrams, which both ends tell.
@@ -137,10 +141,10 @@ impl<C: Controller> Host<C> {
     fn post_status(&mut self, now: Millis, outbox: &mut Outbox)
         requires at { self.old.link.clock ≡ now }
         requires room { HasRoomFor 40 outbox.old }
-        ensures host { self.new ≡ (posting_all now (initial_status C.behaviour most_objects 0 self.old.object) self.old).host }
-        ensures kept { IsAt now self.old.link (posting_all now (initial_status C.behaviour most_objects 0 self.old.object) self.old).host.link }
-        ensures posted { outbox.new ≡ posted self.old.link.identity.key (posting_all now (initial_status C.behaviour most_objects 0 self.old.object) self.old).pdus outbox.old }
-        ensures few { length (posting_all now (initial_status C.behaviour most_objects 0 self.old.object) self.old).pdus ≤ 16 }
+        ensures host { self.new ≡ (telling_status C.behaviour now self.old).host }
+        ensures kept { IsAt now self.old.link (telling_status C.behaviour now self.old).host.link }
+        ensures posted { outbox.new ≡ posted self.old.link.identity.key (telling_status C.behaviour now self.old).pdus outbox.old }
+        ensures few { length (telling_status C.behaviour now self.old).pdus ≤ 16 }
     {
         for place in 0..MOST_OBJECTS {
             match self.object.status(place) {
@@ -151,4 +155,76 @@ impl<C: Controller> Host<C> {
             }
         }
     }
+
+    /// The initialisation: start, the state of each object, completed.
+    #[tactic(auto, using(crate::proofs::Posting::posting), unfolding(crate::specs::Step::initialising))]
+    fn initialise(&mut self, now: Millis, outbox: &mut Outbox)
+        requires at { self.old.link.clock ≡ now }
+        requires room { HasRoomFor 42 outbox.old }
+        ensures host { self.new ≡ (initialising C.behaviour now self.old).host }
+        ensures kept { IsAt now self.old.link (initialising C.behaviour now self.old).host.link }
+        ensures posted { outbox.new ≡ posted self.old.link.identity.key (initialising C.behaviour now self.old).pdus outbox.old }
+        ensures few { length (initialising C.behaviour now self.old).pdus ≤ 18 }
+    {
+        let start = self.say(Initialisation::StartInitialisation);
+        let _ = self.post(now, &start, outbox);
+        self.post_status(now, outbox);
+        let completed = self.say(Initialisation::InitialisationCompleted);
+        let _ = self.post(now, &completed, outbox);
+        self.stage = Stage::Completed;
+    }
+
+    /// A telegram of the peer, in its order.
+    #[tactic(auto, unfolding(crate::specs::Step::following))]
+    fn follow(&mut self, now: Millis, telegram: &Telegram, outbox: &mut Outbox)
+        requires at { self.old.link.clock ≡ now }
+        requires room { HasRoomFor 42 outbox.old }
+        ensures host { (item : List ℕ) → self.new ≡ (following C.behaviour now item telegram.now (course telegram.now.message self.old.stage) self.old).host }
+        ensures kept { (item : List ℕ) → IsAt now self.old.link (following C.behaviour now item telegram.now (course telegram.now.message self.old.stage) self.old).host.link }
+        ensures posted { (item : List ℕ) → outbox.new ≡ posted self.old.link.identity.key (following C.behaviour now item telegram.now (course telegram.now.message self.old.stage) self.old).pdus outbox.old }
+        ensures few { (item : List ℕ) → length (following C.behaviour now item telegram.now (course telegram.now.message self.old.stage) self.old).pdus ≤ 18 }
+    {
+        match Course::of(&telegram.message, self.stage) {
+            Course::Checks(version) => self.answer(now, version, outbox),
+            Course::Initialises => self.initialise(now, outbox),
+            Course::Commands => self.command(now, telegram, outbox),
+            Course::Violates => self.violate(now, outbox),
+        }
+    }
+
+    /// Whether a telegram is in the object's protocol, of the peer, and for this controller.
+    fn is_from_peer(&self, telegram: &Telegram) -> bool
+        ensures { result ≡ is_from_peer C.behaviour telegram.now self.now }
+    {
+        is_same(telegram.message.protocol(), self.object.protocol())
+            && telegram.sender.bytes() == self.peer_name.bytes()
+            && telegram.receiver.bytes() == self.own_name.bytes()
+    }
+
+    /// An item that was taken.
+    #[tactic(auto, unfolding(crate::specs::Step::acting))]
+    fn act(&mut self, now: Millis, item: &Item, outbox: &mut Outbox)
+        requires at { self.old.link.clock ≡ now }
+        requires room { HasRoomFor 42 outbox.old }
+        ensures host { self.new ≡ (acting C.behaviour now item.now (reading item.now) self.old).host }
+        ensures kept { IsAt now self.old.link (acting C.behaviour now item.now (reading item.now) self.old).host.link }
+        ensures posted { outbox.new ≡ posted self.old.link.identity.key (acting C.behaviour now item.now (reading item.now) self.old).pdus outbox.old }
+        ensures few { length (acting C.behaviour now item.now (reading item.now) self.old).pdus ≤ 18 }
+    {
+        match sci_telegram::read(item.bytes()) {
+            Ok(telegram) if self.is_from_peer(&telegram) => self.follow(now, &telegram, outbox),
+            _ => self.violate(now, outbox),
+        }
+    }
+}
+
+fn is_same(protocol: Protocol, other: Protocol) -> bool
+    ensures { result ≡ is_same_protocol protocol other }
+{
+    matches!(
+        (protocol, other),
+        (Protocol::TrainDetection, Protocol::TrainDetection)
+            | (Protocol::LightSignal, Protocol::LightSignal)
+            | (Protocol::Point, Protocol::Point)
+    )
 }
