@@ -1,3 +1,5 @@
 pub mod Posting
 pub mod UnderWay
 pub mod Status
+pub mod Acting
+pub mod Paying
