@@ -5,11 +5,12 @@ ghost use Rattle.rasta_core_link.specs.Calls.{MayStep, IsAt, answer_to_send};
 ghost use Rattle.rasta_core_link.specs.Outbox.{HasRoomFor, posted};
 ghost use Rattle.object_host.specs.Host.{fallen, risen, said};
 ghost use Rattle.object_host.specs.Course.{course};
-ghost use Rattle.object_host.specs.Step.{acting, acting_all, answering, beginning, commanding, following, hearing, initialising, is_from_peer, goes_on, is_same_protocol, most_owed, paying, paying_first, posting, telling_status, violating};
+ghost use Rattle.object_host.specs.Step.{acting, acting_all, answering, beating, beginning, commanding, ending, following, given, hearing, host_step, initialising, is_from_peer, goes_on, is_same_protocol, most_owed, paying, paying_first, posting, telling_status, violating};
 ghost use Rattle.sci_telegram.specs.Reading.{reading};
 
 use crate::controller::Controller;
 use crate::course::Course;
+use crate::input::Input;
 use crate::report::Report;
 use crate::stage::Stage;
 use rasta_core_link::{Inbox, Link, Millis, Outbox, Reason, SendFault};
@@ -281,7 +282,8 @@ impl<C: Controller> Host<C> {
     /// A connection that has opened begins with the version check.
     #[tactic(auto, unfolding(crate::specs::Host::risen))]
     fn rise(&mut self)
-        ensures { self.new ≡ risen self.old }
+        ensures host { self.new ≡ risen self.old }
+        ensures link { self.new.link ≡ self.old.link }
     {
         if self.stage.is_outside() && self.link.is_open() {
             self.stage = Stage::AwaitsCheck;
@@ -291,7 +293,8 @@ impl<C: Controller> Host<C> {
     /// Where the link has closed, the object is told of the loss.
     #[tactic(auto, unfolding(crate::specs::Host::fallen))]
     fn fall(&mut self)
-        ensures { self.new ≡ fallen C.behaviour self.old }
+        ensures host { self.new ≡ fallen C.behaviour self.old }
+        ensures link { self.new.link ≡ self.old.link }
     {
         if !self.stage.is_outside() && !self.link.is_open() {
             self.stage = Stage::Outside;
@@ -325,6 +328,61 @@ impl<C: Controller> Host<C> {
         self.link.settle(now);
         self.fall();
         self.object.tick(now);
+    }
+
+    /// What the step is made for.
+    #[tactic(auto, using(crate::proofs::Posting::posting), unfolding(crate::specs::Step::given))]
+    fn give(&mut self, now: Millis, input: &Input, outbox: &mut Outbox)
+        requires at { self.old.link.clock ≡ now }
+        requires room { HasRoomFor 120 outbox.old }
+        ensures host { self.new ≡ (given C.behaviour now input.now self.old).host }
+        ensures kept { IsAt now self.old.link (given C.behaviour now input.now self.old).host.link }
+        ensures posted { outbox.new ≡ posted self.old.link.identity.key (given C.behaviour now input.now self.old).pdus outbox.old }
+        ensures few { length (given C.behaviour now input.now self.old).pdus ≤ 76 }
+    {
+        match input {
+            Input::Tick => {}
+            Input::Datagram(datagram) => self.hear(now, datagram, outbox),
+            Input::Sense(sense) => self.object.sense(now, *sense),
+        }
+    }
+
+    /// A tick is the link's too.
+    #[tactic(auto, using(crate::proofs::Posting::posting), unfolding(crate::specs::Step::beating))]
+    fn beat(&mut self, now: Millis, input: &Input, outbox: &mut Outbox)
+        requires at { self.old.link.clock ≡ now }
+        requires room { HasRoomFor 24 outbox.old }
+        ensures host { self.new ≡ (beating now input.now self.old).host }
+        ensures kept { IsAt now self.old.link (beating now input.now self.old).host.link }
+        ensures posted { outbox.new ≡ posted self.old.link.identity.key (beating now input.now self.old).pdus outbox.old }
+    {
+        if matches!(input, Input::Tick) {
+            self.link.tick(now, outbox);
+        }
+    }
+
+    /// How a step ends: a loss in the step itself, and the moment at which the link dies.
+    #[tactic(auto, unfolding(crate::specs::Host::keeping))]
+    fn end(&mut self)
+        ensures { self.new ≡ ending C.behaviour self.old }
+    {
+        self.fall();
+        self.object.keep(self.link.alive_until());
+    }
+
+    /// A step at a clock reading that hasn't fallen, with an empty outbox for two links.
+    #[tactic(auto, using(crate::proofs::Posting::posting), unfolding(crate::specs::Step::host_step))]
+    pub(crate) fn step(&mut self, now: Millis, input: &Input, outbox: &mut Outbox)
+        requires clock { MayStep now self.old.link }
+        requires room { HasRoomFor 128 outbox.old }
+        ensures host { self.new ≡ (host_step C.behaviour now input.now self.old).host }
+        ensures posted { outbox.new ≡ posted self.old.link.identity.key (host_step C.behaviour now input.now self.old).pdus outbox.old }
+    {
+        self.begin(now);
+        self.give(now, input, outbox);
+        self.pay(now, outbox);
+        self.beat(now, input, outbox);
+        self.end();
     }
 }
 
