@@ -28,7 +28,7 @@ module _ {Object : Type 0} (does : Behaviour Object) where
   closed_drops now (item ∷ others) host closed = rw closed (record { stays = refl; posts_none = refl })
 
   first_item : (now : ℕ) (item : List ℕ) (others : List (List ℕ)) (host : HostState Object) → is_open host.link.phase ≡ true →
-    IsFirst (acting_all does now (item ∷ others) host) (acting does now item (reading item) host) (acting_all does now others (acting does now item (reading item) host).host)
+      IsFirst (acting_all does now (item ∷ others) host) (acting does now item (reading item) host) (acting_all does now others (acting does now item (reading item) host).host)
   unfolding acting_all
   first_item now item others host opened = rw opened (record { ends_same = refl; pdus_joined = refl })
 
@@ -37,17 +37,17 @@ module _ {Object : Type 0} (does : Behaviour Object) where
       subst (λ rest. IsNothing host (acting_all does now rest host)) (sym (at_drop_all (λ rest. rest) items place past)) (no_items now host)
 
   pub acting_next : (now place : ℕ) (items : List (List ℕ)) (item : List ℕ) (start : HostState Object) (box : OutboxState) (host : HostState Object) (outbox : OutboxState) (new : HostState Object) (out : OutboxState) →
-    IsActing now items start box place host outbox → place < length items → item ≡ get_or items place item → is_open host.link.phase ≡ true →
-    WasMade now 18 host outbox (acting does now item (reading item) host) new out → IsActing now items start box (place + 1) new out
+      IsActing now items start box place host outbox → place < length items → item ≡ get_or items place item → is_open host.link.phase ≡ true →
+      WasMade now 18 host outbox (acting does now item (reading item) host) new out → IsActing now items start box (place + 1) new out
   acting_next now place items item start box host outbox new out state within is_item opened made =
       let rest : drop place items ≡ item ∷ drop (place + 1) items =
-          at_drop_more (λ rest. rest) items place item within ∙ ap (λ i. i ∷ drop (place + 1) items) (sym is_item)
+      at_drop_more (λ rest. rest) items place item within ∙ ap (λ i. i ∷ drop (place + 1) items) (sym is_item)
       in let split : IsFirst (left_at now items place host) (acting does now item (reading item) host) (left_at now items (place + 1) (acting does now item (reading item) host).host) =
-          subst (λ r. IsFirst (acting_all does now r host) (acting does now item (reading item) host) (left_at now items (place + 1) (acting does now item (reading item) host).host))
-            (sym rest) (first_item now item (drop (place + 1) items) host opened)
+      subst (λ r. IsFirst (acting_all does now r host) (acting does now item (reading item) host) (left_at now items (place + 1) (acting does now item (reading item) host).host))
+      (sym rest) (first_item now item (drop (place + 1) items) host opened)
       in let next = goes_on now start box _ (18 * place) 18 host outbox _ _ _ new out state.way split made
       in let counted : 18 * place + 18 ≡ 18 * (place + 1) = omega arith
       in record {
         way = subst (λ n. IsUnderWay now start box (acting_all does now items start) n new out (left_at now items (place + 1) new)) counted
-          (subst (λ h. IsUnderWay now start box (acting_all does now items start) (18 * place + 18) new out (left_at now items (place + 1) h)) (sym made.host) next);
+            (subst (λ h. IsUnderWay now start box (acting_all does now items start) (18 * place + 18) new out (left_at now items (place + 1) h)) (sym made.host) next);
       }

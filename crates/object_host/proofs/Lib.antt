@@ -3,3 +3,4 @@ pub mod UnderWay
 pub mod Status
 pub mod Acting
 pub mod Paying
+pub mod Between

@@ -1,5 +1,5 @@
 -- Sending the owed reports, one after another.
-use Rattle.std.proofs.Common.{◌≡◌, ℕ, ◌+◌, ◌-◌, ◌<◌, suc, true, false, arith, refl, ap, sym, ◌∙◌, subst}
+use Rattle.std.proofs.Common.{◌≡◌, ℕ, ◌+◌, ◌-◌, ◌<◌, suc, true, false, arith, refl, sym, subst}
 use Rattle.std.proofs.lemmas.List.{append-nil}
 use Rattle.rasta_core_link.specs.Outbox.{OutboxState}
 use Rattle.object_host.specs.Behaviour.{Behaviour}
@@ -23,12 +23,12 @@ module _ {Object : Type 0} (does : Behaviour Object) where
   more round within = omega (arith, within)
 
   going : (now : ℕ) (rounds : ℕ) (host : HostState Object) → goes_on now (does.owed host.object) host ≡ true →
-    IsFirst (paying does now (suc rounds) host) (first_of now host) (paying does now rounds (first_of now host).host)
+      IsFirst (paying does now (suc rounds) host) (first_of now host) (paying does now rounds (first_of now host).host)
   unfolding paying
   going now rounds host on = rw on (record { ends_same = refl; pdus_joined = refl })
 
   stopping : (now : ℕ) (rounds : ℕ) (host : HostState Object) → goes_on now (does.owed host.object) host ≡ false →
-    IsFirst (paying does now (suc rounds) host) (first_of now host) (silent (first_of now host).host)
+      IsFirst (paying does now (suc rounds) host) (first_of now host) (silent (first_of now host).host)
   unfolding paying
   stopping now rounds host off = rw off (record { ends_same = refl; pdus_joined = sym (append-nil (first_of now host).pdus) })
 
@@ -37,16 +37,16 @@ module _ {Object : Type 0} (does : Behaviour Object) where
   nothing_at_end now round host last = subst (λ r. IsNothing host (left_at now r host)) (sym last) (record { stays = refl; posts_none = refl })
 
   pub paying_next : (now round : ℕ) (start : HostState Object) (box : OutboxState) (host : HostState Object) (outbox : OutboxState) (new : HostState Object) (out : OutboxState) →
-    IsPaying now start box round host outbox → round < most_owed → goes_on now (does.owed host.object) host ≡ true →
-    WasMade now 1 host outbox (first_of now host) new out → IsPaying now start box (round + 1) new out
+      IsPaying now start box round host outbox → round < most_owed → goes_on now (does.owed host.object) host ≡ true →
+      WasMade now 1 host outbox (first_of now host) new out → IsPaying now start box (round + 1) new out
   paying_next now round start box host outbox new out state within on made =
       let split = subst (λ n. IsFirst (paying does now n host) (first_of now host) (left_at now (round + 1) (first_of now host).host)) (sym (more round within)) (going now (most_owed - (round + 1)) host on)
       in let next = loops.goes_on now start box _ round 1 host outbox _ _ _ new out state.way split made
       in record { way = subst (λ h. IsUnderWay now start box (paying does now most_owed start) (round + 1) new out (left_at now (round + 1) h)) (sym made.host) next }
 
   pub paying_stops : (now round : ℕ) (start : HostState Object) (box : OutboxState) (host : HostState Object) (outbox : OutboxState) (new : HostState Object) (out : OutboxState) →
-    IsPaying now start box round host outbox → round < most_owed → goes_on now (does.owed host.object) host ≡ false →
-    WasMade now 1 host outbox (first_of now host) new out → loops.IsDone now start box (paying does now most_owed start) (round + 1) new out
+      IsPaying now start box round host outbox → round < most_owed → goes_on now (does.owed host.object) host ≡ false →
+      WasMade now 1 host outbox (first_of now host) new out → loops.IsDone now start box (paying does now most_owed start) (round + 1) new out
   paying_stops now round start box host outbox new out state within off made =
       let split = subst (λ n. IsFirst (paying does now n host) (first_of now host) (silent (first_of now host).host)) (sym (more round within)) (stopping now (most_owed - (round + 1)) host off)
       in let next = loops.goes_on now start box _ round 1 host outbox _ _ _ new out state.way split made

@@ -3,3 +3,4 @@ pub mod Lawful
 pub mod Course
 pub mod Host
 pub mod Step
+pub mod Hosted

@@ -60,12 +60,7 @@ impl<C: Controller> Host<C> {
 
     /// A report goes to the peer, where the link accepts it.
     #[tactic(auto, unfolding(crate::specs::Step::posting))]
-    fn post(
-        &mut self,
-        now: Millis,
-        report: &Report,
-        outbox: &mut Outbox,
-    ) -> Result<(), SendFault>
+    fn post(&mut self, now: Millis, report: &Report, outbox: &mut Outbox) -> Result<(), SendFault>
         requires clock { MayStep now self.old.link }
         requires room { HasRoomFor 24 outbox.old }
         ensures host { self.new ≡ (posting now report.now self.old).host }

@@ -5,12 +5,14 @@
 mod controller;
 mod course;
 mod host;
+mod hosted;
 mod input;
 mod report;
 mod sense;
 mod stage;
 
 pub use controller::Controller;
+pub use hosted::Hosted;
 pub use input::Input;
 pub use report::Report;
 pub use sense::Sense;

@@ -1,5 +1,5 @@
 -- each round acts on one item; a closed link drops those that are left
-use Rattle.std.proofs.Common.{◌≡◌, ◌*◌, ap, sym, ◌∙◌, arith}
+use Rattle.std.proofs.Common.{◌*◌, ap, sym, ◌∙◌, arith}
 use Rattle.rasta_core_link.specs.State.{is_open}
 use Rattle.object_host.specs.Step.{acting_all}
 use Rattle.object_host.proofs.Acting.{acting_next, closed_drops, nothing_at_end}
@@ -13,8 +13,8 @@ loop-item-init g c = record { way = begins _ _ _ _ c.requires.at }
 pub loop-item-preserved : goal.loop-item-preserved
 loop-item-preserved g c =
     acting_next g.C.Controller.behaviour _ _ _ c.item-item.result _ _ _ _ _ _ c.loop-item.invariant c.loop-item-test.true c.item-item.is
-      (ap (λ h. is_open h.link.phase) (sym c.self.view_is) ∙ sym c.is_open.ensures ∙ c.if-not-is_open.false)
-      (record { host = c.act.ensures.host; kept = c.act.ensures.kept; posts = c.act.ensures.posted; few = c.act.ensures.few })
+    (ap (λ h. is_open h.link.phase) (sym c.self.view_is) ∙ sym c.is_open.ensures ∙ c.if-not-is_open.false)
+    (record { host = c.act.ensures.host; kept = c.act.ensures.kept; posts = c.act.ensures.posted; few = c.act.ensures.few })
 
 dropped : (g : Over) (c : goal.Then-not-is_open g) → IsDone c.args.now c.args.self.now c.args.outbox.now (acting_all g.C.Controller.behaviour c.args.now c.args.items.now c.args.self.now) (18 * c.loop-item.item-index) c.loop-item.self c.loop-item.outbox
 dropped g c = comes_to_end _ _ _ _ _ _ _ _ c.loop-item.invariant.way

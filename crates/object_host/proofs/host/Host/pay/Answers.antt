@@ -1,5 +1,5 @@
 -- each round sends one report, and the first that isn't sent ends the loop
-use Rattle.std.proofs.Common.{◌≡◌, ◌+◌, ap, sym, ◌∙◌, arith}
+use Rattle.std.proofs.Common.{◌+◌, sym, ◌∙◌, arith}
 use Rattle.object_host.specs.Step.{paying, most_owed}
 use Rattle.object_host.proofs.Paying.{paying_next, paying_stops, nothing_at_end}
 use Rattle.object_host.proofs.UnderWay.{IsDone, begins, comes_to_end}
@@ -12,14 +12,14 @@ loop-round-init g c = record { way = begins _ _ _ _ c.requires.at }
 pub loop-round-preserved : goal.loop-round-preserved
 loop-round-preserved g c =
     paying_next g.C.Controller.behaviour _ _ _ _ _ _ _ _ c.loop-round.invariant c.loop-round-test.true
-      (sym c.pay_first.ensures.answer ∙ c.if-not-pay_first.false)
-      (record { host = c.pay_first.ensures.host; kept = c.pay_first.ensures.kept; posts = c.pay_first.ensures.posted; few = c.pay_first.ensures.few })
+    (sym c.pay_first.ensures.answer ∙ c.if-not-pay_first.false)
+    (record { host = c.pay_first.ensures.host; kept = c.pay_first.ensures.kept; posts = c.pay_first.ensures.posted; few = c.pay_first.ensures.few })
 
 stopped : (g : Over) (c : goal.Then-not-pay_first g) → IsDone c.args.now c.args.self.now c.args.outbox.now (paying g.C.Controller.behaviour c.args.now most_owed c.args.self.now) (c.loop-round._round + 1) c.pay_first.new.self c.pay_first.new.outbox
 stopped g c =
     paying_stops g.C.Controller.behaviour _ _ _ _ _ _ _ _ c.loop-round.invariant c.loop-round-test.true
-      (sym c.pay_first.ensures.answer ∙ c.if-not-pay_first.true)
-      (record { host = c.pay_first.ensures.host; kept = c.pay_first.ensures.kept; posts = c.pay_first.ensures.posted; few = c.pay_first.ensures.few })
+    (sym c.pay_first.ensures.answer ∙ c.if-not-pay_first.true)
+    (record { host = c.pay_first.ensures.host; kept = c.pay_first.ensures.kept; posts = c.pay_first.ensures.posted; few = c.pay_first.ensures.few })
 
 pub returns-then-not-pay_first-clause-host : goal.returns-then-not-pay_first-clause-host
 returns-then-not-pay_first-clause-host g c = (stopped g c).ends
