@@ -2,6 +2,8 @@
 #![tactic(auto)]
 
 mod lamp;
+mod signal;
 
-pub use lamp::Signal;
+pub use lamp::Lamp;
 pub use sci_telegram::Aspect;
+pub use signal::Signal;
