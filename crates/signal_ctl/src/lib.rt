@@ -7,3 +7,6 @@ mod signal;
 pub use lamp::Lamp;
 pub use sci_telegram::Aspect;
 pub use signal::Signal;
+
+#[cfg(test)]
+mod tests;
