@@ -17,6 +17,7 @@ use Rattle.rasta_core_link.specs.Calls.{answer_to_send, created, receiving, tick
 use Rattle.rasta_core_link.specs.declared.identity.Identity.{Identity}
 use Rattle.rasta_core_link.specs.declared.phase.Phase.{Phase}
 use Rattle.rasta_core_link.specs.declared.phase.Phase.TheVariants as phase
+use Rattle.object_host.proofs.Closed.{settled_closed, ticking_closed}
 use Rattle.object_host.specs.Behaviour.{Behaviour}
 use Rattle.object_host.specs.Lawful.{IsLawful}
 use Rattle.object_host.specs.Course.{course, commanding as to_object}
@@ -31,37 +32,6 @@ use Rattle.object_host.specs.declared.report.Report.{Report}
 use Rattle.object_host.specs.declared.stage.Stage.{Stage}
 use Rattle.object_host.specs.declared.stage.Stage.TheVariants as stage
 
--- a closed link stays closed, whatever the clock does
-settled_is : (now : ℕ) (link : LinkState) → is_open link.phase ≡ false → settled now link ≡ record link { clock = now }
-unfolding settled
-settled_is now link closed = rw closed refl
-
-limited_is : (link : LinkState) → is_open link.phase ≡ false → limited link ≡ links_silent link
-unfolding limited
-limited_is link closed = rw closed refl
-
-not_up : (p : Phase) → is_open p ≡ false → is_up p ≡ false
-not_up phase.Closed closed = refl
-not_up phase.Start closed = refl
-not_up phase.Up closed = absurd (true≢false closed)
-not_up phase.RetransmissionRequested closed = absurd (true≢false closed)
-not_up phase.RetransmissionRunning closed = absurd (true≢false closed)
-
-beats_not : (link : LinkState) → is_open link.phase ≡ false → link_beats link ≡ links_silent link
-unfolding link_beats
-beats_not link closed = rw (not_up link.phase closed) refl
-
-settled_closed : (now : ℕ) (link : LinkState) → is_open link.phase ≡ false → is_open (settled now link).phase ≡ false
-settled_closed now link closed = ap (λ (l : LinkState). is_open l.phase) (settled_is now link closed) ∙ closed
-
-ticking_closed : (now : ℕ) (link : LinkState) → is_open link.phase ≡ false → is_open (ticking now link).link.phase ≡ false
-unfolding ticking entered
-ticking_closed now link closed =
-    let enters : limited (settled now link) ≡ links_silent (record link { clock = now }) =
-    ap limited (settled_is now link closed) ∙ limited_is (record link { clock = now }) closed
-    in ap (λ (s : Step). is_open (links_then s link_beats).link.phase) enters
-    ∙ ap (λ (s : Step). is_open s.link.phase) (beats_not (record link { clock = now }) closed) ∙ closed
-
 -- the courses
 is_check : Course → Bool
 is_check (courses.Checks version) = true
@@ -69,7 +39,7 @@ is_check courses.Initialises = false
 is_check courses.Commands = false
 is_check courses.Violates = false
 
-is_command : Course → Bool
+unfoldable pub is_command : Course → Bool
 is_command (courses.Checks version) = false
 is_command courses.Initialises = false
 is_command courses.Commands = true
@@ -93,7 +63,7 @@ checks_early m stage.AwaitsRequest holds = refl
 checks_early m stage.Completed holds = absurd (false≢true (sym (completed_no_check m) ∙ holds))
 checks_early m stage.Refused holds = refl
 
-no_command : (p : Protocol) (x : Initialisation) (s : Stage) → is_command (course (message.Initialisation p x) s) ≡ false
+pub no_command : (p : Protocol) (x : Initialisation) (s : Stage) → is_command (course (message.Initialisation p x) s) ≡ false
 unfolding is_command
 no_command p init.InitialisationRequest stage.Outside = refl
 no_command p init.InitialisationRequest stage.AwaitsCheck = refl

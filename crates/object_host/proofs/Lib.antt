@@ -3,4 +3,7 @@ pub mod UnderWay
 pub mod Status
 pub mod Acting
 pub mod Paying
+pub mod Closed
 pub mod Between
+pub mod Made
+pub mod Acts

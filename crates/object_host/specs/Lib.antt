@@ -4,3 +4,4 @@ pub mod Course
 pub mod Host
 pub mod Step
 pub mod Hosted
+pub mod Made
