@@ -1,1 +1,3 @@
 pub mod Lamp
+pub mod Signal
+pub mod Law

@@ -5,32 +5,32 @@ ghost use Rattle.std.specs.Prelude.{◌≡◌};
 use sci_telegram::Aspect;
 use std::marker::Model;
 
-/// A signal. Contracts see it as a `Lamp`: the aspect last indicated since the last loss of its
-/// link, and the moment until which that aspect stands.
+/// A lamp: the aspect last indicated since the last loss of its link, and the moment until which that
+/// aspect stands.
 #[derive(Clone, Debug, Drop, PartialEq, Eq)]
-pub struct Signal {
+pub struct Lamp {
     indicated: Aspect,
     until: u64,
 }
 
-impl Model for Signal {
-    ghost use Rattle.signal_ctl.specs.Lamp.{Lamp};
+impl Model for Lamp {
+    ghost use Rattle.signal_ctl.specs.Lamp as spec;
 
-    ghost Value = { Lamp };
+    ghost Value = { spec.Lamp };
 
     ghost view = { λ s. record { indicated = s.indicated; until = s.until } };
 
     ghost inverse = { λ l. record { indicated = l.indicated; until = l.until } };
 }
 
-impl Signal {
+impl Lamp {
     ghost use Rattle.signal_ctl.specs.Lamp.{aspect_shown};
 
-    /// A signal that was told nothing yet: it shows stop at every clock.
-    pub fn new() -> Signal
+    /// A lamp that was told nothing yet: it shows stop at every clock.
+    pub fn new() -> Lamp
         ensures { result ≡ record { indicated = Aspect.Stop; until = 0 } }
     {
-        Signal {
+        Lamp {
             indicated: Aspect::Stop,
             until: 0,
         }
@@ -43,7 +43,7 @@ impl Signal {
         self.indicated = aspect;
     }
 
-    /// Takes the moment, in ms of the signal's own clock, from which only stop is shown.
+    /// Takes the moment, in ms of the controller's own clock, from which only stop is shown.
     pub fn keep(&mut self, until: u64)
         ensures { self.new ≡ record self.old { until = until } }
     {
@@ -57,7 +57,7 @@ impl Signal {
         self.indicated = Aspect::Stop;
     }
 
-    /// What the signal shows at a reading of its own clock, in ms. It asks for no call in between:
+    /// What the lamp shows at a reading of its own clock, in ms. It asks for no call in between:
     /// the lamp is stop as soon as the clock reaches the moment last kept.
     pub fn shown(&self, now: u64) -> Aspect
         ensures { result ≡ aspect_shown self.now now }
@@ -83,25 +83,25 @@ mod tests {
     /// The last time stamp that came back is 10000, so the aspect stands until 11800.
     #[test]
     fn falls_to_stop_with_no_step_between(rt: HostRuntime) {
-        let mut signal = Signal::new();
-        assert_eq!(rt; signal.shown(0), Aspect::Stop);
-        signal.indicate(Aspect::Proceed);
-        signal.keep(11800);
-        assert_eq!(rt; signal.shown(11799), Aspect::Proceed);
-        assert_eq!(rt; signal.shown(11800), Aspect::Stop);
-        assert_eq!(rt; signal.indicated(), Aspect::Proceed);
+        let mut lamp = Lamp::new();
+        assert_eq!(rt; lamp.shown(0), Aspect::Stop);
+        lamp.indicate(Aspect::Proceed);
+        lamp.keep(11800);
+        assert_eq!(rt; lamp.shown(11799), Aspect::Proceed);
+        assert_eq!(rt; lamp.shown(11800), Aspect::Stop);
+        assert_eq!(rt; lamp.indicated(), Aspect::Proceed);
     }
 
     #[test]
     fn forgets_the_aspect_with_the_link(rt: HostRuntime) {
-        let mut signal = Signal::new();
-        signal.keep(5000);
-        signal.indicate(Aspect::Proceed);
-        signal.lost();
-        signal.keep(9000);
-        assert_eq!(rt; signal.shown(4000), Aspect::Stop);
-        assert_eq!(rt; signal.indicated(), Aspect::Stop);
-        signal.indicate(Aspect::Proceed);
-        assert_eq!(rt; signal.shown(8999), Aspect::Proceed);
+        let mut lamp = Lamp::new();
+        lamp.keep(5000);
+        lamp.indicate(Aspect::Proceed);
+        lamp.lost();
+        lamp.keep(9000);
+        assert_eq!(rt; lamp.shown(4000), Aspect::Stop);
+        assert_eq!(rt; lamp.indicated(), Aspect::Stop);
+        lamp.indicate(Aspect::Proceed);
+        assert_eq!(rt; lamp.shown(8999), Aspect::Proceed);
     }
 }

@@ -1,0 +1,20 @@
+//! The part of an object controller that every kind of field object shares: what an object is told and
+//! answers, and the law that makes it restrictive whatever its own program does.
+#![tactic(auto)]
+
+mod controller;
+mod course;
+mod host;
+mod hosted;
+mod input;
+mod laws;
+mod report;
+mod sense;
+mod stage;
+
+pub use controller::Controller;
+pub use hosted::Hosted;
+pub use input::Input;
+pub use laws::{step_is_calls, step_tells_what_was_taken};
+pub use report::Report;
+pub use sense::Sense;
