@@ -1,2 +1,5 @@
 pub mod Behaviour
 pub mod Lawful
+pub mod Course
+pub mod Host
+pub mod Step

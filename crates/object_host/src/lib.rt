@@ -3,9 +3,14 @@
 #![tactic(auto)]
 
 mod controller;
+mod course;
+mod host;
+mod input;
 mod report;
 mod sense;
+mod stage;
 
 pub use controller::Controller;
+pub use input::Input;
 pub use report::Report;
 pub use sense::Sense;

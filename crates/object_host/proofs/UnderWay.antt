@@ -1,0 +1,88 @@
+-- A loop that does part after part: what is left to do from here does what all of it does from the start.
+use Rattle.std.proofs.Common.{◌≡◌, ℕ, ◌+◌, ◌≤◌, List, [], ◌++◌, length, arith, refl, ap, sym, ◌∙◌}
+use Rattle.rasta_core_link.specs.Calls.{IsAt}
+use Rattle.rasta_core_link.specs.Outbox.{OutboxState, posted}
+use Rattle.object_host.specs.Host.{HostState, Part}
+use Rattle.object_host.proofs.Posting.{posted_nothing, posted_more, length-posted, capacity-posted}
+
+module _ {Object : Type 0} where
+  -- so far at most so many PDUs were handed out
+  pub record IsUnderWay (now : ℕ) (start : HostState Object) (box : OutboxState) (all : Part Object) (most : ℕ) (host : HostState Object) (outbox : OutboxState) (left : Part Object) : Type 0 where
+    pub identity : host.link.identity ≡ start.link.identity
+    pub clock : host.link.clock ≡ now
+    pub capacity : outbox.capacity ≡ box.capacity
+    pub few : length outbox.datagrams ≤ length box.datagrams + most
+    pub ends_same : left.host ≡ all.host
+    pub posts_same : posted start.link.identity.key left.pdus outbox ≡ posted start.link.identity.key all.pdus box
+
+  -- all was done
+  pub record IsDone (now : ℕ) (start : HostState Object) (box : OutboxState) (all : Part Object) (most : ℕ) (host : HostState Object) (outbox : OutboxState) : Type 0 where
+    pub ends : host ≡ all.host
+    pub kept : IsAt now start.link all.host.link
+    pub posts : outbox ≡ posted start.link.identity.key all.pdus box
+    pub few : length all.pdus ≤ most
+
+  -- a part that leaves nothing to do
+  pub record IsNothing (host : HostState Object) (left : Part Object) : Type 0 where
+    pub stays : left.host ≡ host
+    pub posts_none : left.pdus ≡ []
+
+  -- a part of what is left, and what is left behind it
+  pub record IsFirst (left first next : Part Object) : Type 0 where
+    pub ends_same : left.host ≡ next.host
+    pub pdus_joined : left.pdus ≡ first.pdus ++ next.pdus
+
+  -- a part was done: how a function's clauses say it
+  pub record WasMade (now most : ℕ) (old : HostState Object) (box : OutboxState) (part : Part Object) (new : HostState Object) (outbox : OutboxState) : Type 0 where
+    pub host : new ≡ part.host
+    pub kept : IsAt now old.link part.host.link
+    pub posts : outbox ≡ posted old.link.identity.key part.pdus box
+    pub few : length part.pdus ≤ most
+
+  pub begins : (now : ℕ) (start : HostState Object) (box : OutboxState) (all : Part Object) → start.link.clock ≡ now → IsUnderWay now start box all 0 start box all
+  begins now start box all at = record {
+    identity = refl;
+    clock = at;
+    capacity = refl;
+    few = omega arith;
+    ends_same = refl;
+    posts_same = refl;
+  }
+
+  pub goes_on : (now : ℕ) (start : HostState Object) (box : OutboxState) (all : Part Object) (most more : ℕ) (host : HostState Object) (outbox : OutboxState) (left first next : Part Object) (new : HostState Object) (out : OutboxState) →
+    IsUnderWay now start box all most host outbox left → IsFirst left first next → WasMade now more host outbox first new out →
+    IsUnderWay now start box all (most + more) new out next
+  goes_on now start box all most more host outbox left first next new out way split made =
+      let key_is : host.link.identity.key ≡ start.link.identity.key = ap (λ i. i.key) way.identity
+      in let count : length out.datagrams ≡ length outbox.datagrams + length first.pdus =
+          ap (λ (b : OutboxState). length b.datagrams) made.posts ∙ length-posted _ _ outbox
+      in record {
+        identity = ap (λ (h : HostState Object). h.link.identity) made.host ∙ made.kept.identity ∙ way.identity;
+        clock = ap (λ (h : HostState Object). h.link.clock) made.host ∙ made.kept.clock;
+        capacity = ap (λ (b : OutboxState). b.capacity) made.posts ∙ capacity-posted _ _ outbox ∙ way.capacity;
+        few = omega (arith, count, way.few, made.few);
+        ends_same = sym split.ends_same ∙ way.ends_same;
+        posts_same =
+          ap (λ b. posted start.link.identity.key next.pdus b) (made.posts ∙ ap (λ k. posted k first.pdus outbox) key_is)
+          ∙ posted_more start.link.identity.key next.pdus first.pdus outbox
+          ∙ ap (λ pdus. posted start.link.identity.key pdus outbox) (sym split.pdus_joined) ∙ way.posts_same;
+      }
+
+  pub comes_to_end : (now : ℕ) (start : HostState Object) (box : OutboxState) (all : Part Object) (most : ℕ) (host : HostState Object) (outbox : OutboxState) (left : Part Object) →
+    IsUnderWay now start box all most host outbox left → IsNothing host left → IsDone now start box all most host outbox
+  comes_to_end now start box all most host outbox left way nothing =
+      let reached : host ≡ all.host = sym nothing.stays ∙ way.ends_same
+      in let out : outbox ≡ posted start.link.identity.key all.pdus box =
+          sym (posted_nothing start.link.identity.key outbox)
+          ∙ ap (λ pdus. posted start.link.identity.key pdus outbox) (sym nothing.posts_none) ∙ way.posts_same
+      in let counted : length outbox.datagrams ≡ length box.datagrams + length all.pdus =
+          ap (λ (b : OutboxState). length b.datagrams) out ∙ length-posted _ _ box
+      in record {
+        ends = reached;
+        kept = record {
+          clock = sym (ap (λ (h : HostState Object). h.link.clock) reached) ∙ way.clock;
+          identity = sym (ap (λ (h : HostState Object). h.link.identity) reached) ∙ way.identity;
+        };
+        posts = out;
+        few = omega (arith, counted, way.few);
+      }

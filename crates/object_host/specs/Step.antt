@@ -1,0 +1,185 @@
+-- A step of a host, in its order: the clock with the object's tick, the input, the owed reports, the link's tick, and
+-- what the object is told of its link at the end.
+use Rattle.std.specs.Prelude.{ℕ, zero, suc, ◌+◌, ◌==◌, ◌&&◌, Bool, true, false, List, [], ◌∷◌, ◌++◌, Option, Some, None, Result, Ok, Err, is_ok, if◌then◌else◌}
+use Rattle.std.specs.Str.{bytes_eq}
+use Rattle.sci_telegram.specs.Messages.{protocol_of, protocol_byte}
+use Rattle.sci_telegram.specs.Reading.{reading}
+use Rattle.sci_telegram.specs.Telegrams.{writing}
+use Rattle.sci_telegram.specs.declared.fault.SciFault.{SciFault}
+use Rattle.sci_telegram.specs.declared.message.Agreement.TheVariants.{NoMatch, Match}
+use Rattle.sci_telegram.specs.declared.message.Initialisation.TheVariants.{StartInitialisation, InitialisationCompleted, VersionAnswer}
+use Rattle.sci_telegram.specs.declared.message.Protocol.{Protocol}
+use Rattle.sci_telegram.specs.declared.message.Protocol.TheVariants as protocols
+use Rattle.sci_telegram.specs.declared.telegram.Telegram.{Telegram}
+use Rattle.rasta_core_link.specs.State.{is_open}
+use Rattle.rasta_core_link.specs.Clock.{settled}
+use Rattle.rasta_core_link.specs.Calls.{ticking, closing_by, answer_to_send, sending_item, receiving}
+use Rattle.rasta_core_link.specs.Receiving.{Receipt}
+use Rattle.rasta_core_link.specs.declared.reason.Reason.TheVariants as reason
+use Rattle.object_host.specs.Behaviour.{Behaviour}
+use Rattle.object_host.specs.Course.{course}
+use Rattle.object_host.specs.Host.{HostState, Part, Ticks, Closes, Sends, Receives, silent, then_do, linked, at_stage, acting_on, is_completed, risen, fallen, keeping, telegram_of, said}
+use Rattle.object_host.specs.declared.course.Course.{Course}
+use Rattle.object_host.specs.declared.course.Course.TheVariants as courses
+use Rattle.object_host.specs.declared.report.Report.{Report}
+use Rattle.object_host.specs.declared.sense.Sense.{Sense}
+use Rattle.object_host.specs.declared.stage.Stage.TheVariants as stage
+use Rattle.object_host.specs.declared.input.Input.{Input}
+use Rattle.object_host.specs.declared.input.Input.TheVariants as inputs
+
+-- the version of the telegrams
+abbrev pub own_version : ℕ
+own_version = 1
+
+-- how many objects a controller has at most, and so how many reports its initial status
+abbrev pub most_objects : ℕ
+most_objects = 16
+
+-- how many owed reports a step sends at most: the window of a link
+abbrev pub most_owed : ℕ
+most_owed = 20
+
+abbrev pub is_same_protocol : Protocol → Protocol → Bool
+is_same_protocol protocols.TrainDetection protocols.TrainDetection = true
+is_same_protocol protocols.LightSignal protocols.LightSignal = true
+is_same_protocol protocols.Point protocols.Point = true
+is_same_protocol _ _ = false
+
+-- a report and those behind it; where there is none, those behind it are none
+abbrev pub report_then : Option Report → List Report → List Report
+report_then None others = []
+report_then (Some report) others = report ∷ others
+
+module _ {Object : Type 0} where
+  -- a telegram in the object's protocol, of the peer, for this controller
+  abbrev pub is_from_peer : Behaviour Object → Telegram → HostState Object → Bool
+  is_from_peer does telegram host =
+      is_same_protocol (protocol_of telegram.message) does.protocol
+      && bytes_eq telegram.sender host.peer_name
+      && bytes_eq telegram.receiver host.own_name
+
+  -- a report goes to the peer, where the link accepts it
+  unfoldable pub posting : ℕ → Report → HostState Object → Part Object
+  posting now report host =
+      let item = writing (telegram_of report host)
+      in linked (Sends item) (sending_item now item host.link) host
+
+  unfoldable pub posting_all : ℕ → List Report → HostState Object → Part Object
+  posting_all now [] host = silent host
+  posting_all now (first ∷ others) host = then_do (posting now first host) (posting_all now others)
+
+  -- what doesn't belong there closes the link
+  unfoldable pub violating : ℕ → HostState Object → Part Object
+  violating now host = linked (Closes reason.State) (closing_by now reason.State host.link) host
+
+  -- the version is answered; nothing more is taken where it is another one
+  unfoldable pub answering : Behaviour Object → ℕ → ℕ → HostState Object → Part Object
+  answering does now version host =
+      if version == own_version
+      then at_stage stage.AwaitsRequest (posting now (said does (VersionAnswer Match own_version)) host)
+      else at_stage stage.Refused (posting now (said does (VersionAnswer NoMatch own_version)) host)
+
+  -- the reports of the initial status from a place on, up to the first place that has none
+  unfoldable pub initial_status : Behaviour Object → ℕ → ℕ → Object → List Report
+  initial_status does zero place object = []
+  initial_status does (suc more) place object = report_then (does.status place object) (initial_status does more (place + 1) object)
+
+  abbrev pub telling_status : Behaviour Object → ℕ → HostState Object → Part Object
+  telling_status does now host = posting_all now (initial_status does most_objects 0 host.object) host
+
+  -- the initialisation: start, the status of each object, completed
+  unfoldable pub initialising : Behaviour Object → ℕ → HostState Object → Part Object
+  initialising does now host =
+      let told = then_do (posting now (said does StartInitialisation) host) (telling_status does now)
+      in at_stage stage.Completed (then_do told (posting now (said does InitialisationCompleted)))
+
+  -- the object is told a telegram; one that doesn't fit closes the link
+  unfoldable pub commanding : Behaviour Object → ℕ → Telegram → HostState Object → Part Object
+  commanding does now telegram host =
+      let after = record host { object = does.after_take now telegram host.object }
+      in if does.accepts now telegram host.object then silent after else violating now after
+
+  unfoldable pub following : Behaviour Object → ℕ → List ℕ → Telegram → Course → HostState Object → Part Object
+  following does now item telegram (courses.Checks version) host = acting_on item [] (answering does now version host)
+  following does now item telegram courses.Initialises host = acting_on item [] (initialising does now host)
+  following does now item telegram courses.Commands host = acting_on item (telegram ∷ []) (commanding does now telegram host)
+  following does now item telegram courses.Violates host = violating now host
+
+  -- an item that was taken: whether it is a telegram, whom it is from and for, and then the order
+  unfoldable pub acting : Behaviour Object → ℕ → List ℕ → Result Telegram SciFault → HostState Object → Part Object
+  acting does now item (Err fault) host = violating now host
+  acting does now item (Ok telegram) host =
+      if is_from_peer does telegram host
+      then following does now item telegram (course telegram.message host.stage) host
+      else violating now host
+
+  -- the items of a datagram, one after another; those behind one that closed the link are dropped
+  unfoldable pub acting_all : Behaviour Object → ℕ → List (List ℕ) → HostState Object → Part Object
+  acting_all does now [] host = silent host
+  acting_all does now (item ∷ others) host =
+      if is_open host.link.phase
+      then then_do (acting does now item (reading item) host) (acting_all does now others)
+      else silent host
+
+  -- a datagram has come
+  unfoldable pub received : ℕ → List ℕ → Receipt → HostState Object → Part Object
+  received now bytes receipt host = record {
+    host = risen (record host { link = receipt.link });
+    pdus = receipt.pdus;
+    calls = Receives bytes ∷ [];
+    acted = [];
+    told = [];
+  }
+
+  unfoldable pub hearing : Behaviour Object → ℕ → List ℕ → HostState Object → Part Object
+  hearing does now bytes host =
+      let receipt = receiving now bytes host.link
+      in then_do (received now bytes receipt host) (acting_all does now receipt.items)
+
+  -- a report was sent, or isn't to be
+  abbrev pub paid : Behaviour Object → HostState Object → HostState Object
+  paid does host = record host { object = does.after_paid host.object }
+
+  -- an owed report is sent once the initialisation was completed, and stays owed where the link refuses it; before,
+  -- nothing is owed
+  abbrev pub paying_then : Behaviour Object → ℕ → Option Report → (HostState Object → Part Object) → HostState Object → Part Object
+  paying_then does now None next host = silent host
+  paying_then does now (Some report) next host =
+      if is_completed host.stage
+      then (
+        let sent = posting now report host
+        in if is_ok (answer_to_send now host.link) then then_do (record sent { host = paid does sent.host }) next else sent
+      )
+      else next (paid does host)
+
+  -- the owed reports, in the object's order
+  unfoldable pub paying : Behaviour Object → ℕ → ℕ → HostState Object → Part Object
+  paying does now zero host = silent host
+  paying does now (suc more) host = paying_then does now (does.owed host.object) (paying does now more) host
+
+  -- how a step begins: the clock rules of the link, a loss that they bring, and the object's tick
+  unfoldable pub beginning : Behaviour Object → ℕ → HostState Object → HostState Object
+  beginning does now host =
+      let clocked = fallen does (record host { link = settled now host.link })
+      in record clocked { object = does.after_tick now clocked.object }
+
+  unfoldable pub given : Behaviour Object → ℕ → Input → HostState Object → Part Object
+  given does now inputs.Tick host = silent host
+  given does now (inputs.Datagram bytes) host = hearing does now bytes.now host
+  given does now (inputs.Sense sense) host = silent (record host { object = does.after_sense now sense host.object })
+
+  -- a tick is the link's too
+  unfoldable pub beating : ℕ → Input → HostState Object → Part Object
+  beating now inputs.Tick host = linked Ticks (ticking now host.link) host
+  beating now _ host = silent host
+
+  -- how it ends: a loss in the step itself, and the moment at which the link dies
+  abbrev pub ending : Behaviour Object → HostState Object → HostState Object
+  ending does host = keeping does (fallen does host)
+
+  unfoldable pub host_step : Behaviour Object → ℕ → Input → HostState Object → Part Object
+  host_step does now input host =
+      let heard = given does now input (beginning does now host)
+      in let told = then_do heard (paying does now most_owed)
+      in let done = then_do told (beating now input)
+      in record done { host = ending does done.host }
