@@ -66,13 +66,6 @@ impl Point {
         }
     }
 
-    /// Where the point was sensed last.
-    pub fn sensed(&self) -> Position
-        ensures { result ≡ self.now.sensed }
-    {
-        self.sensed
-    }
-
     /// The side to which the point is driven at a reading of its own clock, in ms. It asks for no call in
     /// between: the drive ends as soon as the clock reaches its limit, or the moment last kept.
     pub fn drives(&self, now: Millis) -> Option<Side>
@@ -144,9 +137,7 @@ impl Controller for Point {
     }
 
     fn paid(&mut self) {
-        if matches!(self.progress, Progress::Arrived | Progress::TimedOut) {
-            self.progress = Progress::Answered;
-        }
+        self.progress = self.progress.answered();
     }
 
     fn status(&self, place: usize) -> Option<Report> {

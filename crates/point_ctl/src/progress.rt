@@ -31,7 +31,7 @@ pub(crate) fn is_at(side: Side, position: Position) -> bool
 }
 
 impl Progress {
-    ghost use Rattle.point_ctl.specs.Drive.{is_answered, limited, reached};
+    ghost use Rattle.point_ctl.specs.Drive.{answered, is_answered, limited, reached};
 
     /// Whether every move that was taken has been answered.
     pub(crate) fn is_answered(self) -> bool
@@ -58,6 +58,16 @@ impl Progress {
     {
         match self {
             Progress::Driving { side, .. } if is_at(side, position) => Progress::Arrived,
+            progress => progress,
+        }
+    }
+
+    /// A final report that was owed was sent.
+    pub(crate) fn answered(self) -> Progress
+        ensures { result ≡ answered self }
+    {
+        match self {
+            Progress::Arrived | Progress::TimedOut => Progress::Answered,
             progress => progress,
         }
     }

@@ -88,7 +88,10 @@ fn reports_the_commanded_position_and_nothing_on_the_way(rt: HostRuntime) {
     point.sense(100200, Sense::Position(Position::NoEndPosition));
     point.sense(100300, Sense::Section(0, Occupancy::Occupied));
     assert_eq!(rt; point.owed(), None);
-    assert_eq!(rt; point.sensed(), Position::NoEndPosition);
+    assert_eq!(rt;
+        point.status(0),
+        report(PointMessage::PointPosition(Position::NoEndPosition))
+    );
     assert_eq!(rt; point.drives(100300), Some(Side::Right));
     point.sense(104000, Sense::Position(Position::Right));
     assert_eq!(rt; point.drives(104000), None);

@@ -85,8 +85,8 @@ paying_settles place [] free = free
 paying_settles zero (section ∷ rest) free = rw free refl
 paying_settles (suc place) (section ∷ rest) free =
     elim section.owes as (λ (b : Bool). owes_at (suc place) (if b then settled section ∷ rest else section ∷ paying rest) ≡ false) [
-      true ↦ free
-    | false ↦ paying_settles place rest free
+      | true ↦ free
+      | false ↦ paying_settles place rest free
     ]
 
 losing_settles : (place : ℕ) (sections : List Section) → owes_at place (losing sections) ≡ false

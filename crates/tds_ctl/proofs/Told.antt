@@ -32,9 +32,9 @@ paying_tells [] told known = known
 paying_tells (section ∷ rest) [] known = absurd known
 paying_tells (section ∷ rest) (last ∷ told) known =
     elim section.owes as (λ (b : Bool). AreTold (if b then settled section ∷ rest else section ∷ paying rest)
-      (if b then section.occupancy ∷ told else last ∷ telling rest told)) [
-      true ↦ (λ free. refl, known.1)
-    | false ↦ (known.0, paying_tells rest told known.1)
+    (if b then section.occupancy ∷ told else last ∷ telling rest told)) [
+      | true ↦ (λ free. refl, known.1)
+      | false ↦ (known.0, paying_tells rest told known.1)
     ]
 
 losing_tells : (sections : List Section) → AreTold (losing sections) (occupancies sections)
