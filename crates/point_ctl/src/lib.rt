@@ -1,0 +1,16 @@
+//! A point: the drive that a move begins, and the one final report that answers it.
+#![tactic(auto)]
+
+mod laws;
+mod parameters;
+mod point;
+mod progress;
+
+pub use laws::{
+    answers_each_move_once, answers_what_was_commanded, drives_for_a_move, reports_standing_still,
+    stands_still,
+};
+pub use point::Point;
+
+#[cfg(test)]
+mod tests;
