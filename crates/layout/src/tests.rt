@@ -84,7 +84,7 @@ fn reads_the_small_station(rt: HostRuntime) -> Result<(), Fail> {
     Ok(())
 }
 
-const WRONG_FORMS: [(&str, &str, LayoutFault); 14] = [
+const WRONG_FORMS: [(&str, &str, LayoutFault); 26] = [
     ("border", "border = [\n", LayoutFault::Toml),
     ("border", "a = 1\na = 2\n", LayoutFault::Toml),
     (
@@ -183,18 +183,87 @@ const WRONG_FORMS: [(&str, &str, LayoutFault); 14] = [
             entry: 1,
         }),
     ),
+    ("border", "border = [\"W\n", LayoutFault::Toml),
+    (
+        "border",
+        "border = [\"W\", \"E1\", \"E2\"] x\n",
+        LayoutFault::Toml,
+    ),
+    (
+        "border",
+        "border [\"W\", \"E1\", \"E2\"]\n",
+        LayoutFault::Toml,
+    ),
+    ("border", "[border\n", LayoutFault::Toml),
+    ("border", "border = \"\\q\"\n", LayoutFault::Toml),
+    (
+        "station",
+        "",
+        LayoutFault::MissingKey(Place {
+            table: TableName::Station,
+            entry: 0,
+        }),
+    ),
+    (
+        "station",
+        "station = \"IXL1\"\n",
+        LayoutFault::WrongKind(Place {
+            table: TableName::Station,
+            entry: 0,
+        }),
+    ),
+    (
+        "section",
+        "section = [\"GA\", \"GP\", \"G1\", \"G2\", \"\"]\n",
+        LayoutFault::WrongKind(Place {
+            table: TableName::Section,
+            entry: 5,
+        }),
+    ),
+    (
+        "section",
+        "section = [\"GA\", \"GP\", \"G1\", \"A123456789B123456789C\"]\n",
+        LayoutFault::WrongKind(Place {
+            table: TableName::Section,
+            entry: 4,
+        }),
+    ),
+    (
+        "detector",
+        "detector = [{name=\"D1\",id=20,sections=\"GA\"}]\n",
+        LayoutFault::WrongKind(Place {
+            table: TableName::Detector,
+            entry: 1,
+        }),
+    ),
+    (
+        "signal",
+        "signal = [{name=\"S1\",id=2}]\n",
+        LayoutFault::MissingKey(Place {
+            table: TableName::Signal,
+            entry: 1,
+        }),
+    ),
+    (
+        "station",
+        "station = {name=\"IXL1\",id=1,key=\"0123456789abcdef0123456789abcdeg\"}\n",
+        LayoutFault::WrongKind(Place {
+            table: TableName::Station,
+            entry: 1,
+        }),
+    ),
 ];
 
 #[test]
 fn tells_missing_keys_and_wrong_kinds(rt: HostRuntime) -> Result<(), Fail> {
     let alloc = rt.alloc();
     for (key, line, fault) in &WRONG_FORMS {
-        assert_eq!(rt; told(alloc, *key, *line)?, Some(*fault));
+        assert_eq!(rt; told(alloc, *key, *line)?, Some(*fault), "of {line}");
     }
     Ok(())
 }
 
-const WRONG_NAMES: [(&str, &str, LayoutFault); 10] = [
+const WRONG_NAMES: [(&str, &str, LayoutFault); 28] = [
     (
         "signal",
         "signal = [{name=\"S1\",id=2,at=\"A1.b\"}, {name=\"S1\",id=3,at=\"T1.a\"}, {name=\"S4\",id=4,at=\"T2.a\"}]\n",
@@ -275,13 +344,166 @@ const WRONG_NAMES: [(&str, &str, LayoutFault); 10] = [
             entry: 1,
         }),
     ),
+    (
+        "border",
+        "border = [\"W\", \"E1\", \"R2\"]\n",
+        LayoutFault::DoubleName(Place {
+            table: TableName::Route,
+            entry: 2,
+        }),
+    ),
+    (
+        "border",
+        "border = [\"W\", \"IXL1\", \"E2\"]\n",
+        LayoutFault::DoubleName(Place {
+            table: TableName::Border,
+            entry: 2,
+        }),
+    ),
+    (
+        "point",
+        "point = [{name=\"P1\",id=1,section=\"GP\"}]\n",
+        LayoutFault::DoubleName(Place {
+            table: TableName::Point,
+            entry: 1,
+        }),
+    ),
+    (
+        "detector",
+        "detector = [{name=\"D1\",id=20,sections=[\"GA\",\"GP\",\"G1\",\"G2\",\"GA\"]}]\n",
+        LayoutFault::DoubleName(Place {
+            table: TableName::Detector,
+            entry: 1,
+        }),
+    ),
+    (
+        "point",
+        "point = [{name=\"P1\",id=10,section=\"GX\"}]\n",
+        LayoutFault::UnknownName(Place {
+            table: TableName::Point,
+            entry: 1,
+        }),
+    ),
+    (
+        "joint",
+        "joint = [[\"W.end\",\"A1.a\"], [\"S1.a\",\"A1.b\"]]\n",
+        LayoutFault::UnknownName(Place {
+            table: TableName::Joint,
+            entry: 2,
+        }),
+    ),
+    (
+        "joint",
+        "joint = [[\"W.a\",\"A1.a\"]]\n",
+        LayoutFault::UnknownName(Place {
+            table: TableName::Joint,
+            entry: 1,
+        }),
+    ),
+    (
+        "signal",
+        "signal = [{name=\"S1\",id=2,at=\"A9.b\"}]\n",
+        LayoutFault::UnknownName(Place {
+            table: TableName::Signal,
+            entry: 1,
+        }),
+    ),
+    (
+        "detector",
+        "detector = [{name=\"D1\",id=20,sections=[\"GA\",\"GP\",\"G1\",\"G2\",\"A1\"]}]\n",
+        LayoutFault::UnknownName(Place {
+            table: TableName::Detector,
+            entry: 1,
+        }),
+    ),
+    (
+        "route",
+        "route = [{name=\"R1\",entry=\"W\",exit=\"E2\",path=[],points={}}]\n",
+        LayoutFault::UnknownName(Place {
+            table: TableName::Route,
+            entry: 1,
+        }),
+    ),
+    (
+        "route",
+        "route = [{name=\"R1\",entry=\"S1\",exit=\"R1\",path=[],points={}}]\n",
+        LayoutFault::UnknownName(Place {
+            table: TableName::Route,
+            entry: 1,
+        }),
+    ),
+    (
+        "route",
+        "route = [{name=\"R1\",entry=\"S1\",exit=\"E2\",path=[\"P9.tip\"],points={}}]\n",
+        LayoutFault::UnknownName(Place {
+            table: TableName::Route,
+            entry: 1,
+        }),
+    ),
+    (
+        "route",
+        "route = [{name=\"R1\",entry=\"S1\",exit=\"E2\",path=[],points={A1=\"left\"}}]\n",
+        LayoutFault::UnknownName(Place {
+            table: TableName::Route,
+            entry: 1,
+        }),
+    ),
+    (
+        "route",
+        "route = [{name=\"R1\",entry=\"S1\",exit=\"E2\",path=[],points={},flank={S1=\"left\"}}]\n",
+        LayoutFault::UnknownName(Place {
+            table: TableName::Route,
+            entry: 1,
+        }),
+    ),
+    (
+        "route",
+        "route = [{name=\"R1\",entry=\"S1\",exit=\"E2\",path=[],points={},approach=[\"P1\"]}]\n",
+        LayoutFault::UnknownName(Place {
+            table: TableName::Route,
+            entry: 1,
+        }),
+    ),
+    (
+        "route",
+        "route = [{name=\"R1\",entry=\"S1\",exit=\"E2\",path=[],points={},extra=[\"R2\"]}]\n",
+        LayoutFault::UnknownName(Place {
+            table: TableName::Route,
+            entry: 1,
+        }),
+    ),
+    (
+        "signal",
+        "signal = [{name=\"S1\",id=2,at=\"A9.b\"}, {name=\"S1\",id=3,at=\"A9.b\"}]\n",
+        LayoutFault::DoubleName(Place {
+            table: TableName::Signal,
+            entry: 2,
+        }),
+    ),
+    (
+        "joint",
+        "joint = [[\"A1.a\",\"A1.a\"], [\"W.end\",\"A1.tip\"]]\n",
+        LayoutFault::UnknownName(Place {
+            table: TableName::Joint,
+            entry: 2,
+        }),
+    ),
 ];
 
 #[test]
 fn tells_names_and_ports(rt: HostRuntime) -> Result<(), Fail> {
     let alloc = rt.alloc();
     for (key, line, fault) in &WRONG_NAMES {
-        assert_eq!(rt; told(alloc, *key, *line)?, Some(*fault));
+        assert_eq!(rt; told(alloc, *key, *line)?, Some(*fault), "of {line}");
     }
+    Ok(())
+}
+
+#[test]
+fn reads_toml_1_1_and_passes_over_other_keys(rt: HostRuntime) -> Result<(), Fail> {
+    let alloc = rt.alloc();
+    let line =
+        "point = [{ # one\n  name = \"P1\", id = 0xA, colour = \"red\",\n  section = \"G\\x50\",\n}]\nplatform = []\n";
+    assert_eq!(rt; told(alloc, "point", line)?, None);
     Ok(())
 }

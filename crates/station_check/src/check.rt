@@ -1,5 +1,9 @@
 //! The check of a text, with what it finds written.
 
+ghost use Rattle.std.specs.Prelude.{◌≡◌, ◌≤◌, IsErr, OnOk};
+ghost use Rattle.layout.specs.Entries.{Plan};
+ghost use Rattle.station_check.specs.Report.{IsSound, Reported};
+
 use crate::report::write_report;
 use control_table::{TableFault, check};
 use layout::{Layout, LayoutFault};
@@ -51,7 +55,11 @@ impl From<io::Error> for Failure {
 /// Checks the text of a layout. Where its control table is sound, the size of the station and its
 /// conflicting routes are written to `out`, and the status is 0. Otherwise `out` stays as it is, `err` is
 /// told the first fault, and the status is 1. It is 1 also where the report couldn't be written.
-pub fn check_text<W: Write, E: Write>(alloc: Global, layout: &str, out: &mut W, err: &mut E) -> u8 {
+pub fn check_text<W: Write, E: Write>(alloc: Global, layout: &str, out: &mut W, err: &mut E) -> u8
+    ensures status { result ≤ 1 }
+    ensures done { result ≡ 0 → (plan : Plan) × IsSound layout.now plan × Reported plan (W.contents out.old) (W.contents out.new) }
+    ensures faulty { ((plan : Plan) → IsSound layout.now plan → ⊥) → (result ≡ 1) × (out.new ≡ out.old) }
+{
     let told = match report(alloc, layout, out) {
         Ok(()) => return 0,
         Err(Failure::Layout(fault)) => writeln!(err, "layout fault {fault}"),
@@ -63,7 +71,10 @@ pub fn check_text<W: Write, E: Write>(alloc: Global, layout: &str, out: &mut W, 
     1
 }
 
-fn report<W: Write>(alloc: Global, text: &str, out: &mut W) -> Result<(), Failure> {
+fn report<W: Write>(alloc: Global, text: &str, out: &mut W) -> Result<(), Failure>
+    ensures done { OnOk result ((plan : Plan) × IsSound text.now plan × Reported plan (W.contents out.old) (W.contents out.new)) }
+    ensures faulty { ((plan : Plan) → IsSound text.now plan → ⊥) → IsErr result × (out.new ≡ out.old) }
+{
     let layout = Layout::read(alloc, text)?;
     let table = check(alloc, layout)?;
     write_report(&table, out)?;

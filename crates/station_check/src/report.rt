@@ -1,5 +1,8 @@
 //! The report on a sound table.
 
+ghost use Rattle.std.specs.Prelude.{◌≡◌, ◌<◌, ◌-◌, suc, length, OnOk, Some};
+ghost use Rattle.station_check.specs.Report.{ToldRoutes, ToldBehind, ToldPair, route_name, summary_text, conflict_text};
+
 use control_table::Checked;
 use layout::RouteId;
 use sci_telegram::Name;
@@ -16,7 +19,14 @@ struct Summary {
 }
 
 impl Summary {
-    fn of(table: &Checked) -> Summary {
+    fn of(table: &Checked) -> Summary
+        ensures { result ≡ record {
+          signals = length table.now.signals;
+          points = length table.now.points;
+          sections = length table.now.sections;
+          routes = length table.now.routes;
+        } }
+    {
         let layout = table.layout();
         Summary {
             signals: layout.signals().len(),
@@ -28,6 +38,8 @@ impl Summary {
 }
 
 impl fmt::Display for Summary {
+    ghost output = { λ s. Some (summary_text s.signals s.points s.sections s.routes) };
+
     fn fmt<W: fmt::Write>(&self, f: &mut fmt::Formatter<W>) -> fmt::Result {
         let signals = self.signals;
         let points = self.points;
@@ -48,6 +60,8 @@ struct Conflict {
 }
 
 impl fmt::Display for Conflict {
+    ghost output = { λ c. Some (conflict_text c.earlier c.later) };
+
     fn fmt<W: fmt::Write>(&self, f: &mut fmt::Formatter<W>) -> fmt::Result {
         let earlier = self.earlier.as_str();
         let later = self.later.as_str();
@@ -56,24 +70,54 @@ impl fmt::Display for Conflict {
 }
 
 /// Writes how large the station is, and then each pair of conflicting routes once, in table order.
-pub(crate) fn write_report<W: Write>(table: &Checked, out: &mut W) -> io::Result<()> {
+#[tactic(auto, using(crate::proofs::Telling::routes_begin))]
+pub(crate) fn write_report<W: Write>(table: &Checked, out: &mut W) -> io::Result<()>
+    ensures { OnOk result (ToldRoutes table.now (length table.now.routes) (W.contents out.old) (W.contents out.new)) }
+{
     out.writeln(Summary::of(table))?;
-    for earlier in 0..table.layout().routes().len() {
+    let routes = table.layout().routes().len();
+    for earlier in 0..routes {
         write_conflicts(table, RouteId(earlier), out)?;
     }
     out.flush()
 }
 
 /// Writes the conflicts of a route with those behind it.
-fn write_conflicts<W: Write>(table: &Checked, earlier: RouteId, out: &mut W) -> io::Result<()> {
-    let routes = table.layout().routes();
-    for later in earlier.0 + 1..routes.len() {
-        if table.conflict(earlier, RouteId(later)) {
-            out.writeln(Conflict {
-                earlier: *routes[earlier.0].name(),
-                later: *routes[later].name(),
-            })?;
-        }
+fn write_conflicts<W: Write>(table: &Checked, earlier: RouteId, out: &mut W) -> io::Result<()>
+    requires { earlier.0 < length table.now.routes }
+    ensures { OnOk result (ToldBehind table.now earlier.0 (length table.now.routes - suc earlier.0) (W.contents out.old) (W.contents out.new)) }
+{
+    let routes = table.layout().routes().len();
+    for later in earlier.0 + 1..routes {
+        write_pair(table, earlier, RouteId(later), out)?;
     }
     Ok(())
+}
+
+/// Writes that two routes conflict, if they do.
+fn write_pair<W: Write>(
+    table: &Checked,
+    earlier: RouteId,
+    later: RouteId,
+    out: &mut W,
+) -> io::Result<()>
+    requires { (earlier.0 < length table.now.routes) × (later.0 < length table.now.routes) }
+    ensures { OnOk result (ToldPair table.now earlier.0 later.0 (W.contents out.old) (W.contents out.new)) }
+{
+    if !table.conflict(earlier, later) {
+        return Ok(());
+    }
+    let earlier = route_name(table, earlier);
+    let later = route_name(table, later);
+    out.writeln(Conflict { earlier, later })?;
+    Ok(())
+}
+
+/// The name of a route.
+#[tactic(auto, unfolding(crate::specs::Report::route_name))]
+fn route_name(table: &Checked, route: RouteId) -> Name
+    requires { route.0 < length table.now.routes }
+    ensures { result ≡ route_name table.now route.0 }
+{
+    *table.layout().routes()[route.0].name()
 }

@@ -1,5 +1,9 @@
 //! The words of a command line.
 
+ghost use Rattle.std.specs.Prelude.{◌≡◌, ◌↔◌, IsTrue};
+ghost use Rattle.clap.specs.Words.{kind_of};
+ghost use Rattle.clap.specs.declared.error.kind.ErrorKind.TheVariants as kind;
+
 use clap::error::ErrorKind;
 use clap::{Arg, Command, Error};
 use std::alloc::{AllocError, Global};
@@ -68,6 +72,8 @@ pub fn read_words<'a, S: AsStr>(alloc: Global, words: &'a [S]) -> Result<Asked<'
 }
 
 /// Whether memory ran out as the words were read.
-pub fn is_memory(error: &Error) -> bool {
+pub fn is_memory(error: &Error) -> bool
+    ensures { IsTrue result ↔ (kind_of error.now ≡ kind.OutOfMemory) }
+{
     matches!(error.kind(), ErrorKind::OutOfMemory)
 }

@@ -1,0 +1,68 @@
+-- The report on a layout whose control table is sound.
+use Rattle.std.specs.Prelude.{◌≡◌, ℕ, zero, suc, ◌+◌, ◌-◌, ◌⊎◌, List, [], ◌∷◌, ◌++◌, length, map, codes, Result, Ok, slice_get, Option}
+use Rattle.std.specs.Fmt.{decimal}
+use Rattle.std.specs.Option.{option_map, unwrap_or}
+use Rattle.std.specs.Io.KnownBytes.{Appends}
+use Rattle.layout.specs.declared.ids.RouteId.{RouteId}
+use Rattle.layout.specs.Entries.{Plan}
+use Rattle.layout.specs.Resolving.{layout_in}
+use Rattle.control_table.specs.Table.{Sound, Conflict}
+
+-- how many signals, points, sections and routes a station has
+abbrev pub summary_text : ℕ → ℕ → ℕ → ℕ → List ℕ
+summary_text signals points sections routes =
+    codes "ok: " ++ (decimal signals ++ (codes " signals, " ++ (decimal points ++ (codes " points, "
+    ++ (decimal sections ++ (codes " sections, " ++ (decimal routes ++ codes " routes")))))))
+
+abbrev pub summary_line : Plan → List ℕ
+summary_line l = summary_text (length l.signals) (length l.points) (length l.sections) (length l.routes) ++ codes "\n"
+
+-- two routes that conflict
+abbrev pub conflict_text : List ℕ → List ℕ → List ℕ
+conflict_text earlier later = codes "conflict " ++ (earlier ++ (codes " " ++ later))
+
+unfoldable pub route_name : Plan → ℕ → List ℕ
+route_name l n = unwrap_or (option_map (λ r. r.name) (slice_get l.routes n)) []
+
+abbrev pub conflict_line : Plan → ℕ → ℕ → List ℕ
+conflict_line l a b = conflict_text (route_name l a) (route_name l b) ++ codes "\n"
+
+-- What is told of two routes: a line where they conflict, and nothing where they don't.
+abbrev pub TellsPair : Plan → ℕ → ℕ → List ℕ → Type 0
+TellsPair l a b text =
+    let conflict = Conflict l (record { 0 = a }) (record { 0 = b }) in
+    (conflict × (text ≡ conflict_line l a b)) ⊎ ((conflict → ⊥) × (text ≡ []))
+
+-- A text tells with which of the k routes behind route a this route conflicts, one after the other.
+unfoldable pub TellsBehind : Plan → ℕ → ℕ → List ℕ → Type 0
+TellsBehind l a zero text = text ≡ []
+TellsBehind l a (suc k) text = (front : List ℕ) × (line : List ℕ) × TellsBehind l a k front × TellsPair l a (a + suc k) line × (text ≡ front ++ line)
+
+-- A text is the report as far as the first k routes: how large the station is, and the conflicts of each of them with
+-- those behind it.
+unfoldable pub TellsRoutes : Plan → ℕ → List ℕ → Type 0
+TellsRoutes l zero text = text ≡ summary_line l
+TellsRoutes l (suc k) text =
+    (front : List ℕ) × (lines : List ℕ) × TellsRoutes l k front × TellsBehind l k (length l.routes - suc k) lines × (text ≡ front ++ lines)
+
+-- The report on a sound table.
+abbrev pub IsReport : Plan → List ℕ → Type 0
+IsReport l text = TellsRoutes l (length l.routes) text
+
+-- A text is a layout whose control table is sound.
+abbrev pub IsSound : List ℕ → Plan → Type 0
+IsSound text plan = (layout_in text ≡ Ok plan) × Sound plan
+
+-- What a writer held and holds, where it is known, and in between what was told.
+abbrev pub ToldPair : Plan → ℕ → ℕ → Option (List ℕ) → Option (List ℕ) → Type 0
+ToldPair l a b old new = (text : List ℕ) × TellsPair l a b text × Appends old new text
+
+abbrev pub ToldBehind : Plan → ℕ → ℕ → Option (List ℕ) → Option (List ℕ) → Type 0
+ToldBehind l a k old new = (text : List ℕ) × TellsBehind l a k text × Appends old new text
+
+abbrev pub ToldRoutes : Plan → ℕ → Option (List ℕ) → Option (List ℕ) → Type 0
+ToldRoutes l k old new = (text : List ℕ) × TellsRoutes l k text × Appends old new text
+
+-- The report was written.
+abbrev pub Reported : Plan → Option (List ℕ) → Option (List ℕ) → Type 0
+Reported l old new = (text : List ℕ) × IsReport l text × Appends old new text
