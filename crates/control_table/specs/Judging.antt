@@ -237,10 +237,14 @@ is_exit l (exit.Border b) p = leads_out l.joints p b
 unfoldable pub ends_at_exit : Plan → Exit → List Passage → Bool
 ends_at_exit l x path = elim (slice_get path (length path - 1)) [ None ↦ false | Some g ↦ is_exit l x g.left ]
 
+-- a signal stands at a port and isn't the exit
+unfoldable pub is_other_at : Signal → SignalId → Exit → Port → Bool
+is_other_at s id x p = is_port s.at p && not (same_exit x (exit.Signal id))
+
 -- no other signal than the exit stands at a port, of the signals from the n-th on
 unfoldable pub no_other_at : ℕ → List Signal → Exit → Port → Bool
 no_other_at n [] x p = true
-no_other_at n (s ∷ signals) x p = if is_port s.at p && not (same_exit x (exit.Signal (record { 0 = n }))) then false else no_other_at (suc n) signals x p
+no_other_at n (s ∷ signals) x p = if is_other_at s (record { 0 = n }) x p then false else no_other_at (suc n) signals x p
 
 abbrev pub none_between : List Signal → Exit → List Passage → Bool
 none_between signals x path = list_all (λ g. no_other_at 0 signals x g.left) path
@@ -248,9 +252,12 @@ none_between signals x path = list_all (λ g. no_other_at 0 signals x g.left) pa
 unfoldable pub signals_placed : Plan → RouteEntry → List Passage → Bool
 signals_placed l r path = ends_at_exit l r.exit path && not (same_exit r.exit (exit.Signal r.entry)) && none_between l.signals r.exit path
 
+abbrev pub names_route : List RouteId → RouteId → Bool
+names_route extra b = list_any (λ c. c.0 == b.0) extra
+
 abbrev pub lists_in : RouteId → Option RouteEntry → Bool
 lists_in b None = false
-lists_in b (Some r) = list_any (λ c. c.0 == b.0) r.extra
+lists_in b (Some r) = names_route r.extra b
 
 unfoldable pub lists : List RouteEntry → RouteId → RouteId → Bool
 lists routes a b = lists_in b (slice_get routes a.0)

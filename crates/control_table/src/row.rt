@@ -1,7 +1,7 @@
 //! One route of the control table.
 
 ghost use Rattle.std.specs.Prelude.{◌≡◌, IfOk, map};
-ghost use Rattle.control_table.specs.Judging.{Gives, path_of, sections_of, required_of, row_of, rows_of};
+ghost use Rattle.control_table.specs.Judging.{Gives, path_of, sections_of, required_of, row_of, rows_from, rows_of};
 
 use crate::fault::{FaultyRoute, TableFault};
 use crate::order::in_layout_order;
@@ -133,13 +133,12 @@ fn row_of(
     Ok(Row { sections, required })
 }
 
-/// The rows of all routes, or the first fault of the first faulty one.
-#[tactic(auto, unfolding(crate::specs::Judging::rows_of))]
-pub(crate) fn rows(alloc: Global, layout: &Layout) -> Result<Vec<Row>, TableFault>
-    ensures { Gives (λ v. v.items) result (rows_of layout.now) }
+/// The rows of routes, or the first fault of the first faulty one.
+fn each_row(alloc: Global, layout: &Layout, routes: &[Route]) -> Result<Vec<Row>, TableFault>
+    ensures { Gives (λ v. v.items) result (rows_from layout.now 0 routes.now) }
 {
     let mut rows = Vec::new(alloc);
-    for (before, route) in layout.routes().iter().enumerate() {
+    for (before, route) in routes.iter().enumerate() {
         let place = FaultyRoute {
             id: RouteId(before),
             name: *route.name(),
@@ -147,4 +146,12 @@ pub(crate) fn rows(alloc: Global, layout: &Layout) -> Result<Vec<Row>, TableFaul
         rows.push(row_of(alloc, &place, layout, route)?)?;
     }
     Ok(rows)
+}
+
+/// The rows of all routes, or the first fault of the first faulty one.
+#[tactic(auto, unfolding(crate::specs::Judging::rows_of))]
+pub(crate) fn rows(alloc: Global, layout: &Layout) -> Result<Vec<Row>, TableFault>
+    ensures { Gives (λ v. v.items) result (rows_of layout.now) }
+{
+    each_row(alloc, layout, layout.routes())
 }

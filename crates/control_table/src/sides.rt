@@ -117,6 +117,7 @@ fn protection_of(layout: &Layout, point: PointId, side: Side) -> Protection
 
 /// All points that a path requires, each with its side: for each point on it the point itself, and
 /// the one that protects its unused leg.
+#[tactic(auto, unfolding(crate::specs::Judging::needs))]
 pub(crate) fn needs(
     alloc: Global,
     layout: &Layout,

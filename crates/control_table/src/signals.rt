@@ -2,7 +2,7 @@
 
 ghost use Rattle.std.specs.Prelude.{◌≡◌};
 ghost use Rattle.control_table.specs.Topology.{port_of};
-ghost use Rattle.control_table.specs.Judging.{same_exit, stands_at, none_between, leads_out, is_exit, ends_at_exit, no_other_at, signals_placed, lists, lists_in, extras_listed};
+ghost use Rattle.control_table.specs.Judging.{same_exit, is_other_at, names_route, stands_at, none_between, leads_out, is_exit, ends_at_exit, no_other_at, signals_placed, lists, lists_in, extras_listed};
 ghost use Rattle.std.specs.Option.{option_map};
 
 use crate::passage::Passage;
@@ -68,12 +68,20 @@ fn ends_at_exit(layout: &Layout, exit: Exit, path: &[Passage]) -> bool
     }
 }
 
+/// Whether a signal stands at a port and isn't the exit.
+#[tactic(auto, unfolding(crate::specs::Judging::is_other_at))]
+fn is_other_at(signal: &Signal, id: SignalId, exit: Exit, port: Port) -> bool
+    ensures { result ≡ is_other_at signal.now id exit port }
+{
+    is_port(signal.at, port) && !same_exit(exit, Exit::Signal(id))
+}
+
 /// Whether no signal but the exit stands at a port.
 fn no_other_at(signals: &[Signal], exit: Exit, port: Port) -> bool
     ensures { result ≡ no_other_at 0 signals.now exit port }
 {
     for (place, signal) in signals.iter().enumerate() {
-        if is_port(signal.at, port) && !same_exit(exit, Exit::Signal(SignalId(place))) {
+        if is_other_at(signal, SignalId(place), exit, port) {
             return false;
         }
     }
@@ -98,12 +106,19 @@ pub(crate) fn signals_placed(layout: &Layout, route: &Route, path: &[Passage]) -
         && none_between(layout.signals(), route.exit(), path)
 }
 
+/// Whether a route stands in a list.
+fn names_route(extra: &[RouteId], other: RouteId) -> bool
+    ensures { result ≡ names_route extra.now other }
+{
+    extra.iter().any(|listed| listed.0 == other.0)
+}
+
 /// Whether a route, if it is one, lists another as an extra conflict.
 fn lists_in(route: Option<&Route>, other: RouteId) -> bool
     ensures { result ≡ lists_in other (option_map (λ r. r.now) route.entry) }
 {
     match route {
-        Some(route) => route.extra().iter().any(|extra| extra.0 == other.0),
+        Some(route) => names_route(route.extra(), other),
         None => false,
     }
 }
