@@ -1,1 +1,5 @@
 pub mod Loops
+pub mod Members
+pub mod Same
+pub mod PathLaws
+pub mod Judged

@@ -50,6 +50,11 @@ Gives view (Err e) judged = Fails e judged
 
 -- ---- ports, elements and signals
 
+-- there is a value, and it passes a test
+abbrev pub some_and : {A : Type 0} → (A → Bool) → Option A → Bool
+some_and test None = false
+some_and test (Some x) = test x
+
 abbrev pub has_signal : List Signal → Port → Bool
 has_signal signals p = list_any (λ s. is_port s.at p) signals
 
@@ -62,8 +67,12 @@ is_point _ = false
 unfoldable pub may_pass : Port → Port → Bool
 may_pass entered left = is_element entered.element left.element && not (is_end entered.end left.end) && (not (is_point entered.element) || is_end entered.end end.Tip || is_end left.end end.Tip)
 
+abbrev pub passage_from : Option Port → Port → Option Passage
+passage_from None left = None
+passage_from (Some entered) left = if may_pass entered left then Some (record { entered = entered; left = left }) else None
+
 unfoldable pub passage_behind : List Joint → Port → Port → Option Passage
-passage_behind joints before left = elim (joined_to joints before) [ None ↦ None | Some entered ↦ if may_pass entered left then Some (record { entered = entered; left = left }) else None ]
+passage_behind joints before left = passage_from (joined_to joints before) left
 
 unfoldable pub passages : FaultyRoute → List Joint → Port → List Port → Result (List Passage) TableFault
 passages place joints before [] = Ok []
@@ -105,24 +114,40 @@ abbrev pub point_of : Element → Option PointId
 point_of (element.Point p) = Some p
 point_of _ = None
 
+abbrev pub used_of : Passage → Option PointId → Option (PointId × Side)
+used_of g None = None
+used_of g (Some p) = option_map (λ s. (p, s)) (leg_used g)
+
 -- the point over which a passage leads, and the side of the leg that it uses
 unfoldable pub used : Passage → Option (PointId × Side)
-used g = elim (point_of g.left.element) [ None ↦ None | Some p ↦ option_map (λ s. (p, s)) (leg_used g) ]
+used g = used_of g (point_of g.left.element)
 
 -- what protects a path at an unused leg that is joined to a port
 abbrev pub guarded_by : Bool → Protection
 guarded_by true = protection.Given
 guarded_by false = protection.Open
 
--- the leg of another point
+-- the leg of another point, at an end of an element
+abbrev pub leg_at_port : PointId → End → Option PointId → Option (PointId × Side)
+leg_at_port p e None = None
+leg_at_port p e (Some q) = if q.0 == p.0 then None else option_map (λ s. (q, s)) (side_of e)
+
 unfoldable pub leg_of_another : PointId → Port → Option (PointId × Side)
-leg_of_another p from = elim (point_of from.element) [ None ↦ None | Some q ↦ if q.0 == p.0 then None else option_map (λ s. (q, s)) (side_of from.end) ]
+leg_of_another p from = leg_at_port p from.end (point_of from.element)
+
+abbrev pub protection_by : Bool → Option (PointId × Side) → Protection
+protection_by signal None = guarded_by signal
+protection_by signal (Some q) = protection.By q.0 (other q.1)
 
 unfoldable pub protection_from : Plan → PointId → Port → Protection
-protection_from l p from = elim (leg_of_another p from) [ None ↦ guarded_by (has_signal l.signals from) | Some q ↦ protection.By q.0 (other q.1) ]
+protection_from l p from = protection_by (has_signal l.signals from) (leg_of_another p from)
+
+abbrev pub protection_behind : Plan → PointId → Option Port → Protection
+protection_behind l p None = protection.Given
+protection_behind l p (Some from) = protection_from l p from
 
 unfoldable pub protection_of : Plan → PointId → Side → Protection
-protection_of l p s = elim (joined_to l.joints (leg p (other s))) [ None ↦ protection.Given | Some from ↦ protection_from l p from ]
+protection_of l p s = protection_behind l p (joined_to l.joints (leg p (other s)))
 
 abbrev pub flank_need : Protection → List (PointId × Side)
 flank_need (protection.By q t) = (q, t) ∷ []
@@ -141,8 +166,7 @@ is_open_leg protection.Open = true
 is_open_leg _ = false
 
 abbrev pub is_open_at : Plan → Option (PointId × Side) → Bool
-is_open_at l None = false
-is_open_at l (Some n) = is_open_leg (protection_of l n.0 n.1)
+is_open_at l n = some_and (λ n. is_open_leg (protection_of l n.0 n.1)) n
 
 unfoldable pub flanks_guarded : Plan → List Passage → Bool
 flanks_guarded l path = list_all (λ g. not (is_open_at l (used g))) path
@@ -169,8 +193,7 @@ abbrev pub names_point : List (PointId × Side) → PointId → Bool
 names_point ns p = list_any (λ n. n.0.0 == p.0) ns
 
 abbrev pub is_over : PointId → Option (PointId × Side) → Bool
-is_over p None = false
-is_over p (Some n) = n.0.0 == p.0
+is_over p n = some_and (λ n. n.0.0 == p.0) n
 
 unfoldable pub on_path : List Passage → PointId → Bool
 on_path path p = list_any (λ g. is_over p (used g)) path
@@ -198,8 +221,7 @@ abbrev pub before : PointId → List (PointId × Side) → ℕ
 before p ns = prefix_len (λ n. nat_lt n.0.0 p.0) ns
 
 abbrev pub is_at : PointId → Option (PointId × Side) → Bool
-is_at p None = false
-is_at p (Some n) = n.0.0 == p.0
+is_at p n = some_and (λ n. n.0.0 == p.0) n
 
 -- a required point put into a list in layout order, unless the point is there
 unfoldable pub put : List (PointId × Side) → PointId × Side → List (PointId × Side)
@@ -225,17 +247,17 @@ same_exit (exit.Border b) (exit.Border c) = b.0 == c.0
 same_exit _ _ = false
 
 abbrev pub stands_at : List Signal → SignalId → Port → Bool
-stands_at signals s p = elim (port_of signals s) [ None ↦ false | Some at ↦ is_port at p ]
+stands_at signals s p = some_and (λ at. is_port at p) (port_of signals s)
 
 abbrev pub leads_out : List Joint → Port → BorderId → Bool
-leads_out joints p b = elim (joined_to joints p) [ None ↦ false | Some beyond ↦ is_element beyond.element (element.Border b) ]
+leads_out joints p b = some_and (λ beyond. is_element beyond.element (element.Border b)) (joined_to joints p)
 
 abbrev pub is_exit : Plan → Exit → Port → Bool
 is_exit l (exit.Signal s) p = stands_at l.signals s p
 is_exit l (exit.Border b) p = leads_out l.joints p b
 
 unfoldable pub ends_at_exit : Plan → Exit → List Passage → Bool
-ends_at_exit l x path = elim (slice_get path (length path - 1)) [ None ↦ false | Some g ↦ is_exit l x g.left ]
+ends_at_exit l x path = some_and (λ g. is_exit l x g.left) (slice_get path (length path - 1))
 
 -- a signal stands at a port and isn't the exit
 unfoldable pub is_other_at : Signal → SignalId → Exit → Port → Bool
@@ -256,8 +278,7 @@ abbrev pub names_route : List RouteId → RouteId → Bool
 names_route extra b = list_any (λ c. c.0 == b.0) extra
 
 abbrev pub lists_in : RouteId → Option RouteEntry → Bool
-lists_in b None = false
-lists_in b (Some r) = names_route r.extra b
+lists_in b r = some_and (λ r. names_route r.extra b) r
 
 unfoldable pub lists : List RouteEntry → RouteId → RouteId → Bool
 lists routes a b = lists_in b (slice_get routes a.0)

@@ -20,7 +20,7 @@ use Rattle.control_table.specs.Topology.{joined_to, Joined, StandsAt, section_of
 pub record Passes (g : Passage) : Type 0 where
   pub element : g.entered.element ≡ g.left.element
   pub ports : g.entered.end ≢ g.left.end
-  pub by_tip : (p : PointId) → g.left.element ≡ of.Point p → (g.entered.end ≡ end.Tip) ⊎ (g.left.end ≡ end.Tip)
+  pub by_tip : (p : PointId) → g.entered.element ≡ of.Point p → (g.entered.end ≡ end.Tip) ⊎ (g.left.end ≡ end.Tip)
 
 -- From a port on, each joint leads to the port by which the next element is entered.
 abbrev pub Leads : List Joint → Port → List Passage → Type 0
