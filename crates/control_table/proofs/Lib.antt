@@ -3,3 +3,4 @@ pub mod Members
 pub mod Same
 pub mod PathLaws
 pub mod Judged
+pub mod SideLaws

@@ -191,3 +191,66 @@ ends-decides l x (g ∷ h ∷ path) =
     let n : length (g ∷ h ∷ path) - 1 ≡ suc (length (h ∷ path) - 1) = omega arith in
     let same : ends_at_exit l x (g ∷ h ∷ path) ≡ ends_at_exit l x (h ∷ path) = ap (λ i. some_and (λ g. is_exit l x g.left) (slice_get (g ∷ h ∷ path) i)) n in
     Decides-at (ends_at_exit l x (g ∷ h ∷ path)) (ends_at_exit l x (h ∷ path)) same (ends-decides l x (h ∷ path))
+
+-- ---- signals between
+
+stable-by : {P : Type 0} (b : Bool) → Decides b P → ((P → ⊥) → ⊥) → P
+stable-by true d h = d.0 refl
+stable-by false d h = absurd (h (λ p. false≢true (d.1 p)))
+
+exit-stable : (x y : Exit) → ((x ≡ y → ⊥) → ⊥) → x ≡ y
+exit-stable x y h = stable-by (same_exit x y) (exit-decides x y) h
+
+
+-- the signals from the n-th on: each that stands at the port is the exit
+abbrev pub NoOther : ℕ → List Signal → Exit → Port → Type 0
+NoOther n signals x p = (k : ℕ) → option_map (λ s. s.at) (slice_get signals k) ≡ Some p → x ≡ exit.Signal (record { 0 = n + k })
+
+other_at-decides : (s : Signal) (id : SignalId) (x : Exit) (p : Port) → Decides (is_other_at s id x p) ((s.at ≡ p) × (x ≡ exit.Signal id → ⊥))
+unfolding is_other_at
+other_at-decides s id x p =
+    Decides-and (is_port s.at p) (not (same_exit x (exit.Signal id))) (port-decides s.at p) (Decides-not (same_exit x (exit.Signal id)) (exit-decides x (exit.Signal id)))
+
+no_other-cons : (n : ℕ) (s : Signal) (signals : List Signal) (x : Exit) (p : Port) → NoOther n (s ∷ signals) x p → NoOther (suc n) signals x p
+no_other-cons n s signals x p h k e =
+    let m : n + suc k ≡ suc n + k = omega arith in
+    h (suc k) e ∙ ap (λ i. exit.Signal (record { 0 = i })) m
+
+no_other-join : (n : ℕ) (s : Signal) (signals : List Signal) (x : Exit) (p : Port) → (s.at ≡ p → x ≡ exit.Signal (record { 0 = n })) → NoOther (suc n) signals x p → NoOther n (s ∷ signals) x p
+no_other-join n s signals x p first rest zero e =
+    let m : n ≡ n + 0 = omega arith in
+    first (some-injective s.at p e) ∙ ap (λ i. exit.Signal (record { 0 = i })) m
+no_other-join n s signals x p first rest (suc k) e =
+    let m : suc n + k ≡ n + suc k = omega arith in
+    rest k e ∙ ap (λ i. exit.Signal (record { 0 = i })) m
+
+first_or : (other rest : Bool) (n : ℕ) (s : Signal) (signals : List Signal) (x : Exit) (p : Port) → Decides other ((s.at ≡ p) × (x ≡ exit.Signal (record { 0 = n }) → ⊥)) → Decides rest (NoOther (suc n) signals x p)
+    → Decides (if other then false else rest) (NoOther n (s ∷ signals) x p)
+first_or true rest n s signals x p d e =
+    let is : (s.at ≡ p) × (x ≡ exit.Signal (record { 0 = n }) → ⊥) = d.0 refl in
+    let m : n + 0 ≡ n = omega arith in
+    never (λ h. is.1 (h 0 (ap Some is.0) ∙ ap (λ i. exit.Signal (record { 0 = i })) m))
+first_or false rest n s signals x p d e =
+    let first : s.at ≡ p → x ≡ exit.Signal (record { 0 = n }) = λ at. exit-stable x (exit.Signal (record { 0 = n })) (λ differ. false≢true (d.1 (at, differ))) in
+    Decides-like rest (λ h. no_other-join n s signals x p first h) (λ h. no_other-cons n s signals x p h) e
+
+pub no_other-decides : (n : ℕ) (signals : List Signal) (x : Exit) (p : Port) → Decides (no_other_at n signals x p) (NoOther n signals x p)
+unfolding no_other_at
+no_other-decides n [] x p = (λ h k e. absurd (none-some p e), λ h. refl)
+no_other-decides n (s ∷ signals) x p =
+    let id : SignalId = record { 0 = n } in
+    first_or (is_other_at s id x p) (no_other_at (suc n) signals x p) n s signals x p (other_at-decides s id x p) (no_other-decides (suc n) signals x p)
+
+pub signals-decide : (l : Plan) (r : RouteEntry) (path : List Passage) → Decides (signals_placed l r path) (SignalsPlaced l r path)
+unfolding signals_placed
+signals-decide l r path =
+    let x = r.exit in
+    let P : Passage → Type 0 = λ g. NoOther 0 l.signals x g.left in
+    let every : Type 0 = (g : Passage) → Contains path g → P g in
+    let between : Type 0 = (g : Passage) (s : SignalId) → Contains path g → StandsAt l s g.left → x ≡ exit.Signal s in
+    let up : every → between = λ h g s c at. let m : 0 + s.0 ≡ s.0 = omega arith in h g c s.0 at ∙ ap (λ i. exit.Signal (record { 0 = i })) m in
+    let down : between → every = λ h g c k at. let id : SignalId = record { 0 = k } in let m : k ≡ 0 + k = omega arith in h g id c at ∙ ap (λ i. exit.Signal (record { 0 = i })) m in
+    let b : Decides (none_between l.signals x path) between = Decides-like (none_between l.signals x path) up down (all-decides (λ g. no_other_at 0 l.signals x g.left) P (λ g. no_other-decides 0 l.signals x g.left) path) in
+    let e : Decides (not (same_exit x (exit.Signal r.entry))) (x ≡ exit.Signal r.entry → ⊥) = Decides-not (same_exit x (exit.Signal r.entry)) (exit-decides x (exit.Signal r.entry)) in
+    let ends = Decides-and (ends_at_exit l x path) (not (same_exit x (exit.Signal r.entry))) (ends-decides l x path) e in
+    Decides-like (signals_placed l r path) (λ h. record { ends = h.0.0; elsewhere = h.0.1; between = h.1 }) (λ h. ((h.ends, h.elsewhere), h.between)) (Decides-and (ends_at_exit l x path && not (same_exit x (exit.Signal r.entry))) (none_between l.signals x path) ends b)
