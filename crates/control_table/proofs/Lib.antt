@@ -4,3 +4,4 @@ pub mod Same
 pub mod PathLaws
 pub mod Judged
 pub mod SideLaws
+pub mod OrderLaws
