@@ -5,3 +5,4 @@ pub mod PathLaws
 pub mod Judged
 pub mod SideLaws
 pub mod OrderLaws
+pub mod TableLaws

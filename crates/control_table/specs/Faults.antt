@@ -34,36 +34,28 @@ module _ (l : Plan) (r : RouteEntry) (path : List Passage) where
   abbrev pub BeforeNotSymmetric : Type 0
   BeforeNotSymmetric = BeforeSignalPlace × SignalsPlaced l r path
 
--- The fault of a route: its own test fails, and those before it pass.
-abbrev pub IsFaultOf : Plan → RouteId → RouteEntry → TableFault → Type 0
-IsFaultOf l a r (PathBroken at) = (path : List Passage) → Follows l r path → ⊥
-IsFaultOf l a r (PathRepeats at) = (path : List Passage) × Follows l r path × (ComesOnce l path → ⊥)
-IsFaultOf l a r (PointMissing at) = (path : List Passage) × BeforePointMissing l r path × (PointsNamed r path → ⊥)
-IsFaultOf l a r (PointWrong at) = (path : List Passage) × BeforePointWrong l r path × (WritesOnlyRequired l r path → ⊥)
-IsFaultOf l a r (FlankMissing at) = (path : List Passage) × BeforeFlankMissing l r path × (FlankNamed l r path → ⊥)
-IsFaultOf l a r (FlankOpen at) = (path : List Passage) × BeforeFlankOpen l r path × (FlanksGuarded l path → ⊥)
-IsFaultOf l a r (FlankContradicts at) = (path : List Passage) × BeforeFlankContradicts l r path × (NoneAtBothSides l path → ⊥)
-IsFaultOf l a r (SignalPlace at) = (path : List Passage) × BeforeSignalPlace l r path × (SignalsPlaced l r path → ⊥)
-IsFaultOf l a r (NotSymmetric at) = (path : List Passage) × BeforeNotSymmetric l r path × (ExtrasListed l a r → ⊥)
-IsFaultOf l a r OutOfMemory = ⊥
+-- The fault of a route, which names it: its own test fails, and those before it pass.
+abbrev pub IsFaultOf : Plan → FaultyRoute → RouteEntry → TableFault → Type 0
+IsFaultOf l at r (PathBroken told) = (told ≡ at) × ((path : List Passage) → Follows l r path → ⊥)
+IsFaultOf l at r (PathRepeats told) = (told ≡ at) × (path : List Passage) × Follows l r path × (ComesOnce l path → ⊥)
+IsFaultOf l at r (PointMissing told) = (told ≡ at) × (path : List Passage) × BeforePointMissing l r path × (PointsNamed r path → ⊥)
+IsFaultOf l at r (PointWrong told) = (told ≡ at) × (path : List Passage) × BeforePointWrong l r path × (WritesOnlyRequired l r path → ⊥)
+IsFaultOf l at r (FlankMissing told) = (told ≡ at) × (path : List Passage) × BeforeFlankMissing l r path × (FlankNamed l r path → ⊥)
+IsFaultOf l at r (FlankOpen told) = (told ≡ at) × (path : List Passage) × BeforeFlankOpen l r path × (FlanksGuarded l path → ⊥)
+IsFaultOf l at r (FlankContradicts told) = (told ≡ at) × (path : List Passage) × BeforeFlankContradicts l r path × (NoneAtBothSides l path → ⊥)
+IsFaultOf l at r (SignalPlace told) = (told ≡ at) × (path : List Passage) × BeforeSignalPlace l r path × (SignalsPlaced l r path → ⊥)
+IsFaultOf l at r (NotSymmetric told) = (told ≡ at) × (path : List Passage) × BeforeNotSymmetric l r path × (ExtrasListed l at.id r → ⊥)
+IsFaultOf l at r OutOfMemory = ⊥
 
--- A fault is told at a route: the route has it, and each route before is sound.
+-- A fault is told at a route: it is the fault of this route of the table, and each route before is sound.
 pub record ToldAt (l : Plan) (at : FaultyRoute) (f : TableFault) : Type 0 where
   pub route : RouteEntry
   pub in_table : IsRoute l at.id route
   pub named : at.name ≡ route.name
-  pub fault : IsFaultOf l at.id route f
+  pub fault : IsFaultOf l at route f
   pub first : (b : RouteId) (q : RouteEntry) → b.0 < at.id.0 → IsRoute l b q → SoundRoute l b q
 
 -- A fault is the lowest of the first faulty route. Nothing is said of want of memory.
 abbrev pub IsFirstFault : Plan → TableFault → Type 0
-IsFirstFault l (PathBroken at) = ToldAt l at (PathBroken at)
-IsFirstFault l (PathRepeats at) = ToldAt l at (PathRepeats at)
-IsFirstFault l (PointMissing at) = ToldAt l at (PointMissing at)
-IsFirstFault l (PointWrong at) = ToldAt l at (PointWrong at)
-IsFirstFault l (FlankMissing at) = ToldAt l at (FlankMissing at)
-IsFirstFault l (FlankOpen at) = ToldAt l at (FlankOpen at)
-IsFirstFault l (FlankContradicts at) = ToldAt l at (FlankContradicts at)
-IsFirstFault l (SignalPlace at) = ToldAt l at (SignalPlace at)
-IsFirstFault l (NotSymmetric at) = ToldAt l at (NotSymmetric at)
 IsFirstFault l OutOfMemory = Unit {0}
+IsFirstFault l f = (at : FaultyRoute) × ToldAt l at f
