@@ -7,6 +7,7 @@ mod fault;
 mod order;
 mod passage;
 mod row;
+mod scratch;
 mod sections;
 mod sides;
 mod signals;
