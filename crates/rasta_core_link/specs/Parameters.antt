@@ -1,5 +1,5 @@
 -- The parameters of a link. Times are in milliseconds of the end's own clock.
-use Rattle.std.specs.Prelude.{ℕ, ◌-◌, ◌^◌, min, List, [], ◌∷◌}
+use Rattle.std.specs.Prelude.{ℕ, ◌+◌, ◌-◌, ◌^◌, min, List, [], ◌∷◌}
 
 -- how long after the own stamp that the partner returned last a connection lives
 abbrev pub time_limit : ℕ
@@ -28,6 +28,10 @@ expiry = 4294000000
 -- how many PDUs an end sends in a connection before it closes it
 abbrev pub connection_limit : ℕ
 connection_limit = 2147483000
+
+-- how many PDUs an end in a connection has sent at most: a call begins below the limit, and hands out no more than 22
+abbrev pub most_sent : ℕ
+most_sent = connection_limit + 22
 
 -- the version that each end writes: the characters 0303
 abbrev pub own_version : List ℕ

@@ -33,12 +33,9 @@ refusing why link = record { link = link; pdus = []; items = []; verdict = why }
 
 -- a PDU that the state doesn't allow closes the connection
 abbrev pub violating : LinkState → Receipt
-violating link = record {
-  link = (telling reason.State link).link;
-  pdus = (telling reason.State link).pdus;
-  items = [];
-  verdict = verdict.WrongState;
-}
+violating link =
+    let told = telling reason.State link
+    in record { link = told.link; pdus = told.pdus; items = []; verdict = verdict.WrongState }
 
 abbrev pub accepting : Step → Receipt
 accepting step = record { link = step.link; pdus = step.pdus; items = []; verdict = verdict.Taken }

@@ -1,5 +1,6 @@
 -- What an end of a link keeps.
 use Rattle.std.specs.Prelude.{◌≡◌, ℕ, ◌-◌, ◌^◌, ◌<◌, ◌≤◌, Bool, true, false, List, length, IsTrue}
+use Rattle.rasta_core_link.specs.Parameters.{most_sent, window_size}
 use Rattle.rasta_core_link.specs.declared.identity.Identity.{Identity}
 use Rattle.rasta_core_link.specs.declared.identity.Role.{Role}
 use Rattle.rasta_core_link.specs.declared.identity.Role.TheVariants as role
@@ -74,7 +75,7 @@ confirmed_items link = link.given - length link.waiting
 
 -- what is true of every link, so that its counts fit: an end in a connection has sent little more than the limit
 pub record IsLink (phase : Phase) (sent capacity waiting : ℕ) : Type 0 where
-  pub in_connection : IsTrue (is_open phase) → sent ≤ 2147483022
+  pub in_connection : IsTrue (is_open phase) → sent ≤ most_sent
   pub sent_fits : sent < 2 ^ 31
-  pub room : capacity ≡ 20
-  pub few : waiting ≤ 20
+  pub room : capacity ≡ window_size
+  pub few : waiting ≤ window_size

@@ -2,6 +2,7 @@
 use Rattle.std.proofs.Common.{◌≡◌, ℕ, ◌+◌, ◌^◌, ◌<◌, ◌≤◌, true, [], ◌∷◌, length, take, ◌⊎◌, inl, inr, refl, sym, ap, subst, ◌∙◌, arith}
 use Rattle.std.specs.Prelude.{if◌then◌else◌}
 use Rattle.std.proofs.lemmas.List.{length-append, append-nil}
+use Rattle.rasta_core_link.specs.Parameters.{most_sent}
 use Rattle.rasta_core_link.specs.Sequence.{wire}
 use Rattle.rasta_core_link.specs.State.{LinkState, is_asking}
 use Rattle.rasta_core_link.specs.Sending.{Step, silent, header_of, pdu_of, sending, closed, telling, closing, reason_number, is_told}
@@ -25,7 +26,7 @@ early_plays link client server early (gone shut keeps) fits = left shut keeps
 
 -- ---- it closes and tells so
 
-module _ (client : Part) (pdu : Pdu) (early : IsEarly client) (room : sent client ≤ 2147483022) (number : pdu.sequence_number ≡ wire client.first (sent client))
+module _ (client : Part) (pdu : Pdu) (early : IsEarly client) (room : sent client ≤ most_sent) (number : pdu.sequence_number ≡ wire client.first (sent client))
     (nothing : ReturnsNothing pdu) (detail why : ℕ) (body : pdu.body ≡ DisconnectionRequest detail why) where
   counts : Counts client 1
   counts = record {

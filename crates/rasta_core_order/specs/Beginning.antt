@@ -1,5 +1,6 @@
 -- How a connection begins: the client's part before the server enters, and the server's part as it does.
-use Rattle.std.specs.Prelude.{◌≡◌, ℕ, ◌^◌, ◌<◌, ◌≤◌, true, List, [], ◌++◌, ◌⊎◌, false}
+use Rattle.std.specs.Prelude.{◌≡◌, ℕ, ◌^◌, ◌<◌, ◌≤◌, ◌+◌, true, List, [], ◌++◌, ◌⊎◌, false}
+use Rattle.rasta_core_link.specs.Parameters.{most_sent}
 use Rattle.rasta_core_link.specs.State.{LinkState, is_open, is_asking, is_client}
 use Rattle.rasta_core_link.specs.Clock.{state_at}
 use Rattle.rasta_core_link.specs.Opening.{granting}
@@ -19,7 +20,7 @@ use Rattle.rasta_pdu.specs.declared.body.Body.TheVariants.{ConnectionRequest, Re
 pub record IsEarly (client : Part) : Type 0 where
   pub first : client.first < 2 ^ 32
   pub some : 1 ≤ sent client
-  pub room : sent client ≤ 2147483023
+  pub room : sent client ≤ most_sent + 1
   pub given : client.given ≡ []
   pub taken : client.taken ≡ []
   pub waiting : client.waiting ≡ []

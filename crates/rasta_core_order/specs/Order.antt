@@ -1,5 +1,6 @@
 -- What holds at every moment between what one end gives in a connection and what the other takes.
 use Rattle.std.specs.Prelude.{◌≡◌, ℕ, ◌+◌, ◌-◌, ◌^◌, ◌<◌, ◌≤◌, Bool, true, false, List, [], ◌∷◌, ◌++◌, length, take, ◌⊎◌}
+use Rattle.rasta_core_link.specs.Parameters.{window_size}
 use Rattle.rasta_core_link.specs.Sequence.{wire}
 use Rattle.rasta_core_link.specs.Opening.{own_opening}
 use Rattle.rasta_core_order.specs.Held.{Held}
@@ -54,7 +55,7 @@ Rises low high (first ∷ others) = (low ≤ first.tag) × (first.tag < high) ×
 
 -- The items that wait are the last ones given, each under a PDU of its own.
 pub record Waits (giver : Part) : Type 0 where
-  pub few : length giver.waiting ≤ 20
+  pub few : length giver.waiting ≤ window_size
   pub rises : Rises 0 (sent giver) giver.waiting
   pub last : (before : List (List ℕ)) × (giver.given ≡ before ++ items_of giver.waiting)
 

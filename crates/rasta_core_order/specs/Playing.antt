@@ -1,6 +1,6 @@
 -- The link of an end, and the part of that end in a connection.
 use Rattle.std.specs.Prelude.{◌≡◌, ℕ, ◌^◌, ◌<◌, ◌≤◌, Bool, true, false, List, [], ◌∷◌, ◌++◌, length, ◌⊎◌, Result, is_ok, if◌then◌else◌}
-use Rattle.rasta_core_link.specs.Parameters.{stops_at_greatest}
+use Rattle.rasta_core_link.specs.Parameters.{most_sent, stops_at_greatest}
 use Rattle.rasta_core_link.specs.State.{LinkState, is_open, is_asking}
 use Rattle.rasta_core_link.specs.Clock.{open_state}
 use Rattle.rasta_core_link.specs.Sending.{Step}
@@ -34,7 +34,7 @@ pub record IsInside (link : LinkState) (part : Part) : Type 0 where
   pub connected : is_open link.phase ≡ true
   pub own_first : link.own_first ≡ part.first
   pub counted : link.sent ≡ sent part
-  pub room : sent part ≤ 2147483022
+  pub room : sent part ≤ most_sent
   pub stamped : 1 ≤ link.own_stamp
   pub reading : part.reading ≡ reads (open_state link.phase)
 

@@ -4,11 +4,12 @@ ghost use Rattle.std.specs.Prelude.{◌≡◌, ◌≤◌, ◌<◌, ◌^◌, ◌&
 ghost use Rattle.rasta_core_link.specs.Calls.{answer_to_send, closing_by, created, opening, opens, receiving, sending_item, ticking};
 ghost use Rattle.rasta_core_link.specs.Clock.{settled};
 ghost use Rattle.rasta_core_link.specs.Opening.{granting, own_opening};
-ghost use Rattle.rasta_core_link.specs.Receiving.{hearing};
+ghost use Rattle.rasta_core_link.specs.Receiving.{hearing, refusing};
 ghost use Rattle.rasta_core_link.specs.Sending.{entered, silent};
 ghost use Rattle.rasta_core_link.specs.State.{LinkState, confirmed_items, is_client, is_open};
 ghost use Rattle.rasta_core_link.specs.declared.identity.Identity.{Identity};
 ghost use Rattle.rasta_core_link.specs.declared.reason.Reason.{Reason};
+ghost use Rattle.rasta_core_link.specs.declared.verdict.Verdict.{Verdict};
 ghost use Rattle.rasta_core_order.specs.Beginning.{Asks, EarlyGoesOn, Grants, HearsOutside, IsEarly, PlaysEarly};
 ghost use Rattle.rasta_core_order.specs.Carried.{carried};
 ghost use Rattle.rasta_core_order.specs.Order.{InOrder, Way};
@@ -56,6 +57,9 @@ pub fn hearing_keeps_order()
         → (bytes : List ℕ) (pdu : Pdu) → reading link.identity.key bytes ≡ Ok pdu
         → ((pdu.receiver == link.identity.own) && (pdu.sender == link.identity.partner)) ≡ false
         → ReceiptGoesOn own other (receiving now bytes link) }
+    ensures refused { (now : ℕ) (link : LinkState) (own other : Part) → InOrder own other → Plays link own other
+        → (bytes : List ℕ) (pdu : Pdu) (why : Verdict) → reading link.identity.key bytes ≡ Ok pdu
+        → hearing pdu (entered now link).link ≡ refusing why (entered now link).link → ReceiptGoesOn own other (receiving now bytes link) }
 {}
 
 /// What one end does leaves the link of the other in its part, and a link made anew is outside.

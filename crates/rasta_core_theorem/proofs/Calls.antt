@@ -14,18 +14,16 @@ use Rattle.rasta_core_ends.specs.Run.{Ends, end_of, called}
 use Rattle.rasta_core_order.specs.Order.{InOrder}
 use Rattle.rasta_core_order.specs.Playing.{GoesOn}
 use Rattle.rasta_core_order.specs.Beginning.{EarlyGoesOn}
-use Rattle.rasta_core_order.proofs.Calls.{ticking_on, closing_on, sending_on, same_ends}
-use Rattle.rasta_core_order.proofs.EarlyCalls.{early_ticking, early_closing, early_sending, early_accepts}
-use Rattle.rasta_core_order.proofs.Outside.{opening_asks, opening_not, opening_not_early}
 use Rattle.rasta_core_time.specs.Each.{Each}
 use Rattle.rasta_core_time.specs.Standing.{IsInside, standing}
 use Rattle.rasta_core_time.specs.Invariant.{Names, Timely}
 use Rattle.rasta_core_time.specs.Events.{MayCall}
 use Rattle.rasta_core_time.proofs.Deeds.{Own, Steps, ticking_does, closing_does, sending_does, opening_does}
-use Rattle.rasta_core_time.proofs.Conversation.{WrittenIsRead}
 use Rattle.rasta_core_time.proofs.Finishing.{made_at}
 use Rattle.rasta_core_time.proofs.CallsKept.{ends_ready, ends_clock}
 use Rattle.rasta_core_theorem.specs.Ordered.{IsAlone, AreTogether, Ordered, unbegun, alone, together}
+use Rattle.rasta_core_theorem.proofs.OrderLaws.{Laws}
+use Rattle.rasta_core_theorem.proofs.Outside.{entered_identity}
 use Rattle.rasta_core_theorem.proofs.Made.{client_together, server_together, client_alone, server_rests, client_asked}
 use Rattle.rasta_core_theorem.proofs.Comes.{deed_pdus, deed_silent, server_out, nothing_yet, server_earlier}
 use Rattle.rasta_pdu.specs.Values.{IsPdu}
@@ -37,7 +35,7 @@ server_opens_not now link is = not_client (entered now link).link is
     not_client : (l : LinkState) → l.identity.role ≡ role.Server → may_open l ≡ false
     not_client l e = ap (λ (r : Role). is_client r && is_down (state_at l.clock l)) e
 
-module _ (law : WrittenIsRead) (names : Names) (ends : Ends) (timely : Timely names ends) where
+module _ (law : Laws) (names : Names) (ends : Ends) (timely : Timely names ends) where
   pub client_key : ends.client.link.identity.key ≡ names.key
   client_key = ap (λ (i : Identity). i.key) timely.client.identity
 
@@ -82,8 +80,8 @@ module _ (law : WrittenIsRead) (names : Names) (ends : Ends) (timely : Timely na
   pub ticks_client : Ordered names ends → Ordered names (called role.Client Ticks ends)
   unfolding called outcome
   ticks_client = client_call _ refl (step_pdus ends.client.link false (ticking now ends.client.link) does)
-      (λ is. ticking_on now ends.client.link is.client is.server is.order is.client_plays)
-      (λ is. (early_ticking now ends.client.link is.client is.early is.plays, refl, refl))
+      (λ is. law.ticking_on now ends.client.link is.client is.server is.order is.client_plays)
+      (λ is. (law.early_ticking now ends.client.link is.client is.early is.plays, refl, refl))
     where
       now : ℕ
       now = reading_of ends.client.clock
@@ -94,8 +92,8 @@ module _ (law : WrittenIsRead) (names : Names) (ends : Ends) (timely : Timely na
   pub closes_client : (why : Reason) → Ordered names ends → Ordered names (called role.Client (Closes why) ends)
   unfolding called outcome
   closes_client why = client_call _ refl (step_pdus ends.client.link false (closing_by now why ends.client.link) does)
-      (λ is. closing_on now ends.client.link is.client is.server is.order is.client_plays why)
-      (λ is. (early_closing now ends.client.link is.client is.early is.plays why, refl, refl))
+      (λ is. law.closing_on now ends.client.link is.client is.server is.order is.client_plays why)
+      (λ is. (law.early_closing now ends.client.link is.client is.early is.plays why, refl, refl))
     where
       now : ℕ
       now = reading_of ends.client.clock
@@ -106,8 +104,8 @@ module _ (law : WrittenIsRead) (names : Names) (ends : Ends) (timely : Timely na
   pub sends_client : (item : List ℕ) → MayCall names role.Client (Sends item) ends → Ordered names ends → Ordered names (called role.Client (Sends item) ends)
   unfolding called outcome
   sends_client item may = client_call _ refl (step_pdus ends.client.link false (sending_item now item ends.client.link) does)
-      (λ is. sending_on now ends.client.link is.client is.server is.order is.client_plays item)
-      (λ is. (early_sending now ends.client.link is.client is.early is.plays item, early_accepts now ends.client.link is.client is.early is.plays item, refl))
+      (λ is. law.sending_on now ends.client.link is.client is.server is.order is.client_plays item)
+      (λ is. (law.early_sending now ends.client.link is.client is.early is.plays item, law.early_accepts now ends.client.link is.client is.early is.plays item, refl))
     where
       now : ℕ
       now = reading_of ends.client.clock
@@ -138,17 +136,17 @@ module _ (law : WrittenIsRead) (names : Names) (ends : Ends) (timely : Timely na
           }) ends)
       go true is = alone (client_asked law names ends _ ends.moment (ap (λ (b : Bool). if b then Some ends.moment else None) is)
           (step_pdus ends.client.link (opens now ends.client.link) (opening now ends.client.link) does) client_key refl refl (server_earlier names ends timely) (nothing_yet names ends timely)
-          (opening_asks now ends.client.link is))
+          (law.opening_asks now ends.client.link is))
       go false is = client_call _ (ap (λ (b : Bool). if b then Some ends.moment else None) is) (step_pdus ends.client.link (opens now ends.client.link) (opening now ends.client.link) does)
-          (λ one. opening_not now ends.client.link one.client one.server one.order one.client_plays is)
-          (λ one. (opening_not_early now ends.client.link one.client one.early one.plays is, refl, refl)) ordered
+          (λ one. law.opening_not now ends.client.link one.client one.server one.order one.client_plays is)
+          (λ one. (law.opening_not_early now ends.client.link one.client one.early one.plays is, refl, refl)) ordered
 
   -- ---- and at the server
 
   pub ticks_server : Ordered names ends → Ordered names (called role.Server Ticks ends)
   unfolding called outcome
   ticks_server = server_call _ refl (step_pdus ends.server.link false (ticking now ends.server.link) does)
-      (λ is. ticking_on now ends.server.link is.server is.client (swap is) is.server_plays)
+      (λ is. law.ticking_on now ends.server.link is.server is.client (swap is) is.server_plays)
       (λ is. step_silent ends.server.link false (ticking now ends.server.link) does (server_out names ends timely is) refl)
     where
       now : ℕ
@@ -160,7 +158,7 @@ module _ (law : WrittenIsRead) (names : Names) (ends : Ends) (timely : Timely na
   pub closes_server : (why : Reason) → Ordered names ends → Ordered names (called role.Server (Closes why) ends)
   unfolding called outcome
   closes_server why = server_call _ refl (step_pdus ends.server.link false (closing_by now why ends.server.link) does)
-      (λ is. closing_on now ends.server.link is.server is.client (swap is) is.server_plays why)
+      (λ is. law.closing_on now ends.server.link is.server is.client (swap is) is.server_plays why)
       (λ is. step_silent ends.server.link false (closing_by now why ends.server.link) does (server_out names ends timely is) refl)
     where
       now : ℕ
@@ -172,7 +170,7 @@ module _ (law : WrittenIsRead) (names : Names) (ends : Ends) (timely : Timely na
   pub sends_server : (item : List ℕ) → MayCall names role.Server (Sends item) ends → Ordered names ends → Ordered names (called role.Server (Sends item) ends)
   unfolding called outcome
   sends_server item may = server_call _ refl (step_pdus ends.server.link false (sending_item now item ends.server.link) does)
-      (λ is. sending_on now ends.server.link is.server is.client (swap is) is.server_plays item)
+      (λ is. law.sending_on now ends.server.link is.server is.client (swap is) is.server_plays item)
       (λ is. step_silent ends.server.link false (sending_item now item ends.server.link) does (server_out names ends timely is) refl)
     where
       now : ℕ
@@ -184,7 +182,7 @@ module _ (law : WrittenIsRead) (names : Names) (ends : Ends) (timely : Timely na
   pub opens_server : Ordered names ends → Ordered names (called role.Server Opens ends)
   unfolding called outcome
   opens_server = server_call _ (ap (λ (b : Bool). if b then Some ends.moment else None) never) (step_pdus ends.server.link (opens now ends.server.link) (opening now ends.server.link) does)
-      (λ is. opening_not now ends.server.link is.server is.client (swap is) is.server_plays never)
+      (λ is. law.opening_not now ends.server.link is.server is.client (swap is) is.server_plays never)
       (λ is. step_silent ends.server.link (opens now ends.server.link) (opening now ends.server.link) does (server_out names ends timely is) never)
     where
       now : ℕ
@@ -194,7 +192,7 @@ module _ (law : WrittenIsRead) (names : Names) (ends : Ends) (timely : Timely na
       does = at_clock role.Server (λ n. opens n ends.server.link) (λ n. opening n ends.server.link) (opening_does ends.server.link (ends_ready names ends role.Server timely))
 
       its_role : (entered now ends.server.link).link.identity.role ≡ role.Server
-      its_role = ap (λ (i : Identity). i.role) (same_ends now ends.server.link ∙ timely.server.identity)
+      its_role = ap (λ (i : Identity). i.role) (entered_identity now ends.server.link ∙ timely.server.identity)
 
       never : opens now ends.server.link ≡ false
       never = server_opens_not now ends.server.link its_role

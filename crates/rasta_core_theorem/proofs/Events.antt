@@ -12,46 +12,43 @@ use Rattle.rasta_core_ends.specs.Run.{Ends, called, later, lost, restarted}
 use Rattle.rasta_core_order.specs.Part.{Part}
 use Rattle.rasta_core_order.specs.Playing.{Plays, joined, asking, left}
 use Rattle.rasta_core_order.specs.Beginning.{PlaysEarly, gone}
-use Rattle.rasta_core_order.proofs.Enters.{settled_plays}
-use Rattle.rasta_core_order.proofs.EarlyCalls.{early_settled}
-use Rattle.rasta_core_order.proofs.Safety.{beginning, confirmed, anew, swapped}
 use Rattle.rasta_core_time.specs.Each.{Each}
 use Rattle.rasta_core_time.specs.Invariant.{Names, AreNames, Timely}
 use Rattle.rasta_core_time.specs.Events.{Event, Calls, Passes, Loses, Restarts, Elsewhere, May, MayCall, happened, run, MayRun, Start, started}
-use Rattle.rasta_core_time.proofs.Conversation.{WrittenIsRead}
 use Rattle.rasta_core_time.proofs.Called.{ReadIsIntact}
 use Rattle.rasta_core_theorem.specs.Ordered.{IsSpelledIn, Ordered, unbegun, alone, together}
 use Rattle.rasta_core_theorem.specs.Safe.{IsSafe, AreSafe}
 use Rattle.rasta_core_theorem.proofs.Tests.{by_test}
+use Rattle.rasta_core_theorem.proofs.OrderLaws.{Laws, SafeLaws}
 use Rattle.rasta_core_theorem.proofs.Calls.{ticks_client, closes_client, sends_client, opens_client, ticks_server, closes_server, sends_server, opens_server}
 use Rattle.rasta_core_theorem.proofs.Receptions.{receives_client, receives_server}
 use Rattle.rasta_pdu.specs.declared.pdu.Pdu.{Pdu}
 
 -- ---- time goes on
 
-passed : (names : Names) (elapsed of_client of_server : ℕ) (ends : Ends) → Ordered names ends → Ordered names (later elapsed of_client of_server ends)
+passed : Laws → (names : Names) (elapsed of_client of_server : ℕ) (ends : Ends) → Ordered names ends → Ordered names (later elapsed of_client of_server ends)
 unfolding later end_later
-passed names elapsed of_client of_server ends (unbegun is) = unbegun is
-passed names elapsed of_client of_server ends (alone is) = alone (record {
+passed law names elapsed of_client of_server ends (unbegun is) = unbegun is
+passed law names elapsed of_client of_server ends (alone is) = alone (record {
   connection = is.connection;
   client = is.client;
   of_client = is.of_client;
   not_of_server = is.not_of_server;
   early = is.early;
-  plays = early_settled (reading_of (ends.client.clock + of_client)) ends.client.link is.client is.early is.plays;
+  plays = law.early_settled (reading_of (ends.client.clock + of_client)) ends.client.link is.client is.early is.plays;
   given = is.given;
   taken = is.taken;
   flow = is.flow;
 })
-passed names elapsed of_client of_server ends (together is) = together (record {
+passed law names elapsed of_client of_server ends (together is) = together (record {
   connection = is.connection;
   client = is.client;
   server = is.server;
   of_client = is.of_client;
   of_server = is.of_server;
   order = is.order;
-  client_plays = settled_plays (reading_of (ends.client.clock + of_client)) ends.client.link is.client is.server is.order is.client_plays;
-  server_plays = settled_plays (reading_of (ends.server.clock + of_server)) ends.server.link is.server is.client (swapped is.client is.server is.order) is.server_plays;
+  client_plays = law.settled_plays (reading_of (ends.client.clock + of_client)) ends.client.link is.client is.server is.order is.client_plays;
+  server_plays = law.settled_plays (reading_of (ends.server.clock + of_server)) ends.server.link is.server is.client (law.swapped is.client is.server is.order) is.server_plays;
   client_given = is.client_given;
   client_taken = is.client_taken;
   server_given = is.server_given;
@@ -106,11 +103,11 @@ early_anew : (identity : Identity) (first now : ℕ) (client : Part) → PlaysEa
 unfolding created
 early_anew identity first now client = gone refl (inr (record { given = refl; taken = refl }))
 
-restarted_kept : (names : Names) (who : Role) (clock first : ℕ) (ends : Ends) → Ordered names ends → Ordered names (restarted who clock first ends)
+restarted_kept : Laws → (names : Names) (who : Role) (clock first : ℕ) (ends : Ends) → Ordered names ends → Ordered names (restarted who clock first ends)
 unfolding restarted end_restarted
-restarted_kept names role.Client clock first ends (unbegun is) = unbegun is
-restarted_kept names role.Server clock first ends (unbegun is) = unbegun is
-restarted_kept names role.Client clock first ends (alone is) = alone (record {
+restarted_kept law names role.Client clock first ends (unbegun is) = unbegun is
+restarted_kept law names role.Server clock first ends (unbegun is) = unbegun is
+restarted_kept law names role.Client clock first ends (alone is) = alone (record {
   connection = is.connection;
   client = is.client;
   of_client = is.of_client;
@@ -121,7 +118,7 @@ restarted_kept names role.Client clock first ends (alone is) = alone (record {
   taken = is.taken;
   flow = is.flow;
 })
-restarted_kept names role.Server clock first ends (alone is) = alone (record {
+restarted_kept law names role.Server clock first ends (alone is) = alone (record {
   connection = is.connection;
   client = is.client;
   of_client = is.of_client;
@@ -132,14 +129,14 @@ restarted_kept names role.Server clock first ends (alone is) = alone (record {
   taken = is.taken;
   flow = is.flow;
 })
-restarted_kept names role.Client clock first ends (together is) = together (record {
+restarted_kept law names role.Client clock first ends (together is) = together (record {
   connection = is.connection;
   client = is.client;
   server = is.server;
   of_client = is.of_client;
   of_server = is.of_server;
   order = is.order;
-  client_plays = anew ends.client.link.identity first clock is.client is.server;
+  client_plays = law.anew ends.client.link.identity first clock is.client is.server;
   server_plays = is.server_plays;
   client_given = is.client_given;
   client_taken = is.client_taken;
@@ -148,7 +145,7 @@ restarted_kept names role.Client clock first ends (together is) = together (reco
   client_flow = is.client_flow;
   server_flow = is.server_flow;
 })
-restarted_kept names role.Server clock first ends (together is) = together (record {
+restarted_kept law names role.Server clock first ends (together is) = together (record {
   connection = is.connection;
   client = is.client;
   server = is.server;
@@ -156,7 +153,7 @@ restarted_kept names role.Server clock first ends (together is) = together (reco
   of_server = is.of_server;
   order = is.order;
   client_plays = is.client_plays;
-  server_plays = anew ends.server.link.identity first clock is.server is.client;
+  server_plays = law.anew ends.server.link.identity first clock is.server is.client;
   client_given = is.client_given;
   client_taken = is.client_taken;
   server_given = is.server_given;
@@ -199,7 +196,7 @@ elsewhere_kept names count ends (together is) = together (record {
 
 -- ---- every event
 
-called_kept : WrittenIsRead → ReadIsIntact → (names : Names) → AreNames names → (who : Role) (call : Call) (ends : Ends) → Timely names ends → MayCall names who call ends → Ordered names ends
+called_kept : Laws → ReadIsIntact → (names : Names) → AreNames names → (who : Role) (call : Call) (ends : Ends) → Timely names ends → MayCall names who call ends → Ordered names ends
     → Ordered names (called who call ends)
 called_kept law intact names are role.Client Ticks ends timely may ordered = ticks_client law names ends timely ordered
 called_kept law intact names are role.Client Opens ends timely may ordered = opens_client law names ends timely ordered
@@ -212,23 +209,27 @@ called_kept law intact names are role.Server (Closes why) ends timely may ordere
 called_kept law intact names are role.Server (Sends item) ends timely may ordered = sends_server law names ends timely item may ordered
 called_kept law intact names are role.Server (Receives bytes connection) ends timely may ordered = receives_server law intact names are ends timely bytes connection may ordered
 
-pub event_kept : WrittenIsRead → ReadIsIntact → (names : Names) (event : Event) (ends : Ends) → AreNames names → Timely names ends → Ordered names ends → May names event ends
+pub event_kept : Laws → ReadIsIntact → (names : Names) (event : Event) (ends : Ends) → AreNames names → Timely names ends → Ordered names ends → May names event ends
     → Ordered names (happened event ends)
 event_kept law intact names (Calls who call) ends are timely ordered may = called_kept law intact names are who call ends timely may ordered
-event_kept law intact names (Passes elapsed of_client of_server) ends are timely ordered may = passed names elapsed of_client of_server ends ordered
+event_kept law intact names (Passes elapsed of_client of_server) ends are timely ordered may = passed law names elapsed of_client of_server ends ordered
 event_kept law intact names (Loses bytes) ends are timely ordered may = lost_kept names bytes ends ordered
-event_kept law intact names (Restarts who clock first) ends are timely ordered may = restarted_kept names who clock first ends ordered
+event_kept law intact names (Restarts who clock first) ends are timely ordered may = restarted_kept law names who clock first ends ordered
 event_kept law intact names (Elsewhere count) ends are timely ordered may = elsewhere_kept names count ends ordered
 
 -- time is kept by every event: a law of time, handed in by who has it
 abbrev pub KeepsTime : Type 0
 KeepsTime = (names : Names) (event : Event) (ends : Ends) → AreNames names → Timely names ends → May names event ends → Timely names (happened event ends)
 
-pub run_kept : WrittenIsRead → ReadIsIntact → KeepsTime → (names : Names) (events : List Event) (ends : Ends) → AreNames names → Timely names ends → Ordered names ends → MayRun names events ends
+-- and so is the order
+abbrev pub KeepsOrder : Type 0
+KeepsOrder = (names : Names) (event : Event) (ends : Ends) → AreNames names → Timely names ends → Ordered names ends → May names event ends → Ordered names (happened event ends)
+
+pub run_kept : KeepsOrder → KeepsTime → (names : Names) (events : List Event) (ends : Ends) → AreNames names → Timely names ends → Ordered names ends → MayRun names events ends
     → Ordered names (run events ends)
-run_kept law intact time names [] ends are timely ordered may = ordered
-run_kept law intact time names (first ∷ others) ends are timely ordered may =
-    run_kept law intact time names others (happened first ends) are (time names first ends are timely may.0) (event_kept law intact names first ends are timely ordered may.0) may.1
+run_kept order time names [] ends are timely ordered may = ordered
+run_kept order time names (first ∷ others) ends are timely ordered may =
+    run_kept order time names others (happened first ends) are (time names first ends are timely may.0) (order names first ends are timely ordered may.0) may.1
 
 pub starts : (names : Names) (start : Start) → Ordered names (started names start)
 starts names start = unbegun refl
@@ -246,29 +247,29 @@ taken_counted link own other (joined has) inside = has.inside.keeps.taken
 taken_counted link own other (asking still) inside = still.inside.keeps.taken
 taken_counted link own other (left shut keeps) inside = absurd (cc (shut, inside))
 
-pub ordered_safe : (names : Names) (ends : Ends) → Ordered names ends → AreSafe ends
-ordered_safe names ends (unbegun is) connection of_client of_server = absurd (not_none connection (sym is ∙ of_client))
-ordered_safe names ends (alone is) connection of_client of_server =
+pub ordered_safe : SafeLaws → (names : Names) (ends : Ends) → Ordered names ends → AreSafe ends
+ordered_safe law names ends (unbegun is) connection of_client of_server = absurd (not_none connection (sym is ∙ of_client))
+ordered_safe law names ends (alone is) connection of_client of_server =
     absurd (is.not_of_server (of_server ∙ ap (λ (c : ℕ). Some c) (some_same connection is.connection (sym of_client ∙ is.of_client))))
-ordered_safe names ends (together is) connection of_client of_server = (there, back)
+ordered_safe law names ends (together is) connection of_client of_server = (there, back)
   where
     there : IsSafe ends.client ends.server
     there =
-        let first = beginning is.client is.server is.order.there
+        let first = law.beginning is.client is.server is.order.there
         in record {
           rest = first.0;
           beginning = sym is.client_given ∙ first.1 ∙ ap (λ (taken : List (List ℕ)). taken ++ first.0) is.server_taken;
-          confirmed = subst (λ (taken : List (List ℕ)). confirmed_items ends.client.link ≤ length taken) is.server_taken (confirmed ends.client.link is.client is.server is.order is.client_plays);
+          confirmed = subst (λ (taken : List (List ℕ)). confirmed_items ends.client.link ≤ length taken) is.server_taken (law.confirmed ends.client.link is.client is.server is.order is.client_plays);
           counted = λ inside. taken_counted ends.server.link is.server is.client is.server_plays inside ∙ ap (λ (taken : List (List ℕ)). stops_at_greatest (length taken)) is.server_taken;
         }
 
     back : IsSafe ends.server ends.client
     back =
-        let first = beginning is.server is.client is.order.back
+        let first = law.beginning is.server is.client is.order.back
         in record {
           rest = first.0;
           beginning = sym is.server_given ∙ first.1 ∙ ap (λ (taken : List (List ℕ)). taken ++ first.0) is.client_taken;
           confirmed = subst (λ (taken : List (List ℕ)). confirmed_items ends.server.link ≤ length taken) is.client_taken
-              (confirmed ends.server.link is.server is.client (swapped is.client is.server is.order) is.server_plays);
+              (law.confirmed ends.server.link is.server is.client (law.swapped is.client is.server is.order) is.server_plays);
           counted = λ inside. taken_counted ends.client.link is.client is.server is.client_plays inside ∙ ap (λ (taken : List (List ℕ)). stops_at_greatest (length taken)) is.client_taken;
         }

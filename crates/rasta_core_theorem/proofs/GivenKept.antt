@@ -8,7 +8,6 @@ use Rattle.rasta_core_link.specs.declared.reason.Reason.{Reason}
 use Rattle.rasta_core_ends.specs.Ends.{Sent, Outcome, Call, Ticks, Opens, Closes, Sends, Receives, outcome, reading_of, end_later, end_restarted, is_taken}
 use Rattle.rasta_core_ends.specs.Run.{Ends, end_of, called, later, lost, restarted}
 use Rattle.rasta_core_order.specs.Carried.{carried}
-use Rattle.rasta_core_order.proofs.Carries.{ticking_carries, closing_carries, opening_carries, sending_carries, receiving_carries}
 use Rattle.rasta_core_time.specs.Each.{Each}
 use Rattle.rasta_core_time.specs.Standing.{standing, times_of}
 use Rattle.rasta_core_time.specs.Invariant.{Names, AreNames, InFlight, Timely}
@@ -21,7 +20,7 @@ use Rattle.rasta_core_time.proofs.Deeds.{IsFor, ticking_does, closing_does, send
 use Rattle.rasta_core_time.proofs.Receipts.{Receives as Hears}
 use Rattle.rasta_core_time.proofs.Hearing.{read_pdu}
 use Rattle.rasta_core_time.proofs.Conclusions.{taken_opening}
-use Rattle.rasta_core_time.proofs.Conversation.{WrittenIsRead}
+use Rattle.rasta_core_theorem.proofs.OrderLaws.{CarryingLaws, Laws}
 use Rattle.rasta_core_time.proofs.Called.{ReadIsIntact, read_is, bytes_do, bytes_bring}
 use Rattle.rasta_core_time.proofs.Finishing.{made_at}
 use Rattle.rasta_pdu.specs.declared.pdu.Pdu.{Pdu}
@@ -82,14 +81,14 @@ entered_at true number connection e = (refl, some_same e)
     some_same f = cc
 entered_at false number connection e = absurd (cc (e))
 
-module _ (law : WrittenIsRead) (intact : ReadIsIntact) (names : Names) (are : AreNames names) (ends : Ends) (timely : Timely names ends) where
+module _ (law : Laws) (carry : CarryingLaws) (intact : ReadIsIntact) (names : Names) (are : AreNames names) (ends : Ends) (timely : Timely names ends) where
   abbrev NoneIn : Role → ℕ → Type 0
   NoneIn who connection = Each (λ (d : Sent). d.connection ≡ connection → d.sender ≡ who → ⊥) ends.sent
 
   made_by_client : (made : Outcome) → Each IsPdu made.pdus → carried made.pdus ≡ made.given → ((connection : ℕ) → made.enters ≡ Some connection → NoneIn role.Client connection)
       → AreGiven names ends → AreGiven names (made_at role.Client made ends)
   made_by_client made pdus carries none given = record {
-    client = client_gives law names ends made (client_key law names ends timely) pdus carries none given.client;
+    client = client_gives law.written names ends made (client_key law names ends timely) pdus carries none given.client;
     server = server_given_kept names ends made given.server;
   }
 
@@ -97,7 +96,7 @@ module _ (law : WrittenIsRead) (intact : ReadIsIntact) (names : Names) (are : Ar
       → AreGiven names ends → AreGiven names (made_at role.Server made ends)
   made_by_server made pdus carries none given = record {
     client = client_given_kept names ends made given.client;
-    server = server_gives law names ends made (server_key law names ends timely) pdus carries none given.server;
+    server = server_gives law.written names ends made (server_key law names ends timely) pdus carries none given.server;
   }
 
   now_of : Role → ℕ
@@ -155,23 +154,23 @@ module _ (law : WrittenIsRead) (intact : ReadIsIntact) (names : Names) (are : Ar
 
   called_gives : (who : Role) (call : Call) → MayCall names who call ends → AreGiven names ends → AreGiven names (called who call ends)
   unfolding called outcome
-  called_gives role.Client Ticks may = made_by_client _ (ticks_pdus role.Client) (ticking_carries (reading_of ends.client.clock) ends.client.link) (λ c e. none_from (NoneIn role.Client) c e)
-  called_gives role.Client (Closes why) may = made_by_client _ (closes_pdus role.Client why) (closing_carries (reading_of ends.client.clock) why ends.client.link) (λ c e. none_from (NoneIn role.Client) c e)
-  called_gives role.Client (Sends item) may = made_by_client _ (sends_pdus role.Client item may) (sending_carries (reading_of ends.client.clock) item ends.client.link) (λ c e. none_from (NoneIn role.Client) c e)
-  called_gives role.Client Opens may = made_by_client _ (opens_pdus role.Client) (opening_carries (reading_of ends.client.clock) ends.client.link)
+  called_gives role.Client Ticks may = made_by_client _ (ticks_pdus role.Client) (carry.ticking_carries (reading_of ends.client.clock) ends.client.link) (λ c e. none_from (NoneIn role.Client) c e)
+  called_gives role.Client (Closes why) may = made_by_client _ (closes_pdus role.Client why) (carry.closing_carries (reading_of ends.client.clock) why ends.client.link) (λ c e. none_from (NoneIn role.Client) c e)
+  called_gives role.Client (Sends item) may = made_by_client _ (sends_pdus role.Client item may) (carry.sending_carries (reading_of ends.client.clock) item ends.client.link) (λ c e. none_from (NoneIn role.Client) c e)
+  called_gives role.Client Opens may = made_by_client _ (opens_pdus role.Client) (carry.opening_carries (reading_of ends.client.clock) ends.client.link)
       (λ c e. subst (NoneIn role.Client) (opened_at (opens (reading_of ends.client.clock) ends.client.link) ends.moment c e) (nothing_at names role.Client ends timely))
-  called_gives role.Client (Receives bytes number) may = made_by_client _ (hears_pdus role.Client bytes number may) (receiving_carries (reading_of ends.client.clock) bytes ends.client.link)
+  called_gives role.Client (Receives bytes number) may = made_by_client _ (hears_pdus role.Client bytes number may) (carry.receiving_carries (reading_of ends.client.clock) bytes ends.client.link)
       (λ c e. absurd (cc (
         (entered_at (not (is_open ends.client.link.phase) && is_taken (receiving (reading_of ends.client.clock) bytes ends.client.link).verdict) number c e).0,
         client_enters_none _ _ _ _ _ _ _ _ (bytes_do names ends role.Client bytes number timely (bytes_bring intact names role.Client ends bytes number timely may)).deed
             (ap (λ (i : Identity). i.role) timely.client.identity),
       )))
-  called_gives role.Server Ticks may = made_by_server _ (ticks_pdus role.Server) (ticking_carries (reading_of ends.server.clock) ends.server.link) (λ c e. none_from (NoneIn role.Server) c e)
-  called_gives role.Server (Closes why) may = made_by_server _ (closes_pdus role.Server why) (closing_carries (reading_of ends.server.clock) why ends.server.link) (λ c e. none_from (NoneIn role.Server) c e)
-  called_gives role.Server (Sends item) may = made_by_server _ (sends_pdus role.Server item may) (sending_carries (reading_of ends.server.clock) item ends.server.link) (λ c e. none_from (NoneIn role.Server) c e)
-  called_gives role.Server Opens may = made_by_server _ (opens_pdus role.Server) (opening_carries (reading_of ends.server.clock) ends.server.link)
+  called_gives role.Server Ticks may = made_by_server _ (ticks_pdus role.Server) (carry.ticking_carries (reading_of ends.server.clock) ends.server.link) (λ c e. none_from (NoneIn role.Server) c e)
+  called_gives role.Server (Closes why) may = made_by_server _ (closes_pdus role.Server why) (carry.closing_carries (reading_of ends.server.clock) why ends.server.link) (λ c e. none_from (NoneIn role.Server) c e)
+  called_gives role.Server (Sends item) may = made_by_server _ (sends_pdus role.Server item may) (carry.sending_carries (reading_of ends.server.clock) item ends.server.link) (λ c e. none_from (NoneIn role.Server) c e)
+  called_gives role.Server Opens may = made_by_server _ (opens_pdus role.Server) (carry.opening_carries (reading_of ends.server.clock) ends.server.link)
       (λ c e. subst (NoneIn role.Server) (opened_at (opens (reading_of ends.server.clock) ends.server.link) ends.moment c e) (nothing_at names role.Server ends timely))
-  called_gives role.Server (Receives bytes number) may = made_by_server _ (hears_pdus role.Server bytes number may) (receiving_carries (reading_of ends.server.clock) bytes ends.server.link)
+  called_gives role.Server (Receives bytes number) may = made_by_server _ (hears_pdus role.Server bytes number may) (carry.receiving_carries (reading_of ends.server.clock) bytes ends.server.link)
       (λ c e. let entered = entered_at (not (is_open ends.server.link.phase) && is_taken (receiving (reading_of ends.server.clock) bytes ends.server.link).verdict) number c e
       in subst (NoneIn role.Server) entered.1 (none_of_server bytes number may entered.0))
 
@@ -182,11 +181,11 @@ module _ (law : WrittenIsRead) (intact : ReadIsIntact) (names : Names) (are : Ar
   event_gives (Restarts who clock first) may given = restarted_kept names who clock first ends given
   event_gives (Elsewhere count) may given = record { client = given.client; server = given.server }
 
-pub run_gives : WrittenIsRead → ReadIsIntact → KeepsTime → (names : Names) (events : List Event) (ends : Ends) → AreNames names → Timely names ends → AreGiven names ends → MayRun names events ends
+pub run_gives : Laws → CarryingLaws → ReadIsIntact → KeepsTime → (names : Names) (events : List Event) (ends : Ends) → AreNames names → Timely names ends → AreGiven names ends → MayRun names events ends
     → AreGiven names (run events ends)
-run_gives law intact time names [] ends are timely given may = given
-run_gives law intact time names (first ∷ others) ends are timely given may =
-    run_gives law intact time names others (happened first ends) are (time names first ends are timely may.0) (event_gives law intact names are ends timely first may.0 given) may.1
+run_gives law carry intact time names [] ends are timely given may = given
+run_gives law carry intact time names (first ∷ others) ends are timely given may =
+    run_gives law carry intact time names others (happened first ends) are (time names first ends are timely may.0) (event_gives law carry intact names are ends timely first may.0 given) may.1
 
 pub starts_given : (names : Names) (start : Start) → AreGiven names (started names start)
 starts_given names start = record { client = λ connection e. absurd (cc (e)); server = λ connection e. absurd (cc (e)) }

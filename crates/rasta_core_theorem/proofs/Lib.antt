@@ -1,3 +1,4 @@
+pub mod OrderLaws
 pub mod Flows
 pub mod Made
 pub mod Comes

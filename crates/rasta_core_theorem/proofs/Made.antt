@@ -4,28 +4,21 @@ use Rattle.rasta_core_link.specs.Outbox.{spellings}
 use Rattle.rasta_core_link.specs.declared.identity.Role.TheVariants as role
 use Rattle.rasta_core_ends.specs.Ends.{Sent, Outcome, end_after, newer, kept}
 use Rattle.rasta_core_ends.specs.Run.{Ends}
-use Rattle.rasta_core_order.specs.Part.{Part}
-use Rattle.rasta_core_order.specs.Order.{InOrder}
 use Rattle.rasta_core_order.specs.Playing.{GoesOn}
 use Rattle.rasta_core_order.specs.Beginning.{EarlyGoesOn, Asks, Grants}
-use Rattle.rasta_core_order.proofs.Enters.{partner_plays}
-use Rattle.rasta_core_order.proofs.Early.{early_plays}
 use Rattle.rasta_core_time.specs.Each.{Each}
 use Rattle.rasta_core_time.specs.Invariant.{Names}
-use Rattle.rasta_core_time.proofs.Conversation.{WrittenIsRead}
 use Rattle.rasta_core_time.proofs.Finishing.{made_at}
 use Rattle.rasta_core_theorem.specs.Ordered.{IsAlone, AreTogether}
+use Rattle.rasta_core_theorem.proofs.OrderLaws.{Laws}
 use Rattle.rasta_core_theorem.proofs.Flows.{flow_longer, flow_kept, flow_new}
 use Rattle.rasta_pdu.specs.Values.{IsPdu}
-
-swapped : (own other : Part) → InOrder own other → InOrder other own
-swapped own other order = record { there = order.back; back = order.there }
 
 -- an end that enters nothing keeps its connection and its lists
 same_lists : (enters : Option ℕ) (old new more : List (List ℕ)) (part : List (List ℕ)) → enters ≡ None → part ≡ old → new ≡ part ++ more → new ≡ kept enters old ++ more
 same_lists enters old new more part none is grown = grown ∙ ap (λ front. front ++ more) is ∙ ap (λ e. kept e old ++ more) (sym none)
 
-module _ (law : WrittenIsRead) (names : Names) (ends : Ends) (made : Outcome) (none : made.enters ≡ None) (are : Each IsPdu made.pdus) where
+module _ (law : Laws) (names : Names) (ends : Ends) (made : Outcome) (none : made.enters ≡ None) (are : Each IsPdu made.pdus) where
   pub client_together : (is : AreTogether names ends) → ends.client.link.identity.key ≡ names.key → GoesOn is.client is.server made.link made.pdus made.given made.taken
       → AreTogether names (made_at role.Client made ends)
   unfolding end_after
@@ -37,12 +30,12 @@ module _ (law : WrittenIsRead) (names : Names) (ends : Ends) (made : Outcome) (n
     of_server = is.of_server;
     order = goes.order;
     client_plays = goes.plays;
-    server_plays = partner_plays ends.server.link is.server is.client goes.part is.server_plays goes.first;
+    server_plays = law.partner_plays ends.server.link is.server is.client goes.part is.server_plays goes.first;
     client_given = same_lists made.enters ends.client.given goes.part.given made.given is.client.given none is.client_given goes.given;
     client_taken = same_lists made.enters ends.client.taken goes.part.taken made.taken is.client.taken none is.client_taken goes.taken;
     server_given = is.server_given;
     server_taken = is.server_taken;
-    client_flow = flow_longer law names role.Client is.connection ends.time (newer made.enters ends.client.connection) ends.client.link.identity.key is.client.flow goes.part.flow made.pdus ends.sent key goes.flow are is.client_flow;
+    client_flow = flow_longer law.written names role.Client is.connection ends.time (newer made.enters ends.client.connection) ends.client.link.identity.key is.client.flow goes.part.flow made.pdus ends.sent key goes.flow are is.client_flow;
     server_flow = flow_kept names role.Server is.connection ends.time role.Client (newer made.enters ends.client.connection) is.server.flow (spellings ends.client.link.identity.key made.pdus) ends.sent (λ e. cc) is.server_flow;
   }
 
@@ -55,15 +48,15 @@ module _ (law : WrittenIsRead) (names : Names) (ends : Ends) (made : Outcome) (n
     server = goes.part;
     of_client = is.of_client;
     of_server = ap (λ enters. newer enters ends.server.connection) none ∙ is.of_server;
-    order = swapped goes.part is.client goes.order;
-    client_plays = partner_plays ends.client.link is.client is.server goes.part is.client_plays goes.first;
+    order = law.swapped goes.part is.client goes.order;
+    client_plays = law.partner_plays ends.client.link is.client is.server goes.part is.client_plays goes.first;
     server_plays = goes.plays;
     client_given = is.client_given;
     client_taken = is.client_taken;
     server_given = same_lists made.enters ends.server.given goes.part.given made.given is.server.given none is.server_given goes.given;
     server_taken = same_lists made.enters ends.server.taken goes.part.taken made.taken is.server.taken none is.server_taken goes.taken;
     client_flow = flow_kept names role.Client is.connection ends.time role.Server (newer made.enters ends.server.connection) is.client.flow (spellings ends.server.link.identity.key made.pdus) ends.sent (λ e. cc) is.client_flow;
-    server_flow = flow_longer law names role.Server is.connection ends.time (newer made.enters ends.server.connection) ends.server.link.identity.key is.server.flow goes.part.flow made.pdus ends.sent key goes.flow are is.server_flow;
+    server_flow = flow_longer law.written names role.Server is.connection ends.time (newer made.enters ends.server.connection) ends.server.link.identity.key is.server.flow goes.part.flow made.pdus ends.sent key goes.flow are is.server_flow;
   }
 
   pub client_alone : (is : IsAlone names ends) → ends.client.link.identity.key ≡ names.key → made.given ≡ [] → made.taken ≡ [] → EarlyGoesOn is.client made.link made.pdus
@@ -78,7 +71,7 @@ module _ (law : WrittenIsRead) (names : Names) (ends : Ends) (made : Outcome) (n
     plays = goes.plays;
     given = nothing made.enters ends.client.given made.given none is.given no_given;
     taken = nothing made.enters ends.client.taken made.taken none is.taken no_taken;
-    flow = flow_longer law names role.Client is.connection ends.time (newer made.enters ends.client.connection) ends.client.link.identity.key is.client.flow goes.part.flow made.pdus ends.sent key goes.flow are is.flow;
+    flow = flow_longer law.written names role.Client is.connection ends.time (newer made.enters ends.client.connection) ends.client.link.identity.key is.client.flow goes.part.flow made.pdus ends.sent key goes.flow are is.flow;
   }
     where
       nothing : (enters : Option ℕ) (old more : List (List ℕ)) → enters ≡ None → old ≡ [] → more ≡ [] → kept enters old ++ more ≡ []
@@ -100,7 +93,7 @@ server_rests names ends made none silent is = record {
 }
 
 -- a client asks
-pub client_asked : WrittenIsRead → (names : Names) (ends : Ends) (made : Outcome) (connection : ℕ) → made.enters ≡ Some connection → Each IsPdu made.pdus → ends.client.link.identity.key ≡ names.key
+pub client_asked : Laws → (names : Names) (ends : Ends) (made : Outcome) (connection : ℕ) → made.enters ≡ Some connection → Each IsPdu made.pdus → ends.client.link.identity.key ≡ names.key
     → made.given ≡ [] → made.taken ≡ [] → (ends.server.connection ≡ Some connection → ⊥) → Each (λ (d : Sent). d.connection ≡ connection → d.sender ≡ role.Client → ⊥) ends.sent
     → Asks made.link made.pdus → IsAlone names (made_at role.Client made ends)
 unfolding end_after
@@ -113,14 +106,14 @@ client_asked law names ends made connection enters are key no_given no_taken not
   plays = asks.plays;
   given = nothing made.enters ends.client.given made.given enters no_given;
   taken = nothing made.enters ends.client.taken made.taken enters no_taken;
-  flow = flow_new law names role.Client connection ends.time (newer made.enters ends.client.connection) ends.client.link.identity.key asks.part.flow made.pdus ends.sent key asks.flow are none;
+  flow = flow_new law.written names role.Client connection ends.time (newer made.enters ends.client.connection) ends.client.link.identity.key asks.part.flow made.pdus ends.sent key asks.flow are none;
 }
   where
     nothing : (entered : Option ℕ) (old more : List (List ℕ)) → entered ≡ Some connection → more ≡ [] → kept entered old ++ more ≡ []
     nothing entered old more e m = ap (λ x. kept x old ++ more) e ∙ m
 
 -- a server grants
-pub server_granted : WrittenIsRead → (names : Names) (ends : Ends) (made : Outcome) (is : IsAlone names ends) → made.enters ≡ Some is.connection → Each IsPdu made.pdus
+pub server_granted : Laws → (names : Names) (ends : Ends) (made : Outcome) (is : IsAlone names ends) → made.enters ≡ Some is.connection → Each IsPdu made.pdus
     → ends.server.link.identity.key ≡ names.key → made.given ≡ [] → made.taken ≡ [] → Each (λ (d : Sent). d.connection ≡ is.connection → d.sender ≡ role.Server → ⊥) ends.sent
     → Grants is.client made.link made.pdus → AreTogether names (made_at role.Server made ends)
 unfolding end_after
@@ -130,15 +123,15 @@ server_granted law names ends made is enters are key no_given no_taken none gran
   server = grants.part;
   of_client = is.of_client;
   of_server = ap (λ entered. newer entered ends.server.connection) enters;
-  order = swapped grants.part is.client grants.order;
-  client_plays = early_plays ends.client.link is.client grants.part is.early is.plays grants.first;
+  order = law.swapped grants.part is.client grants.order;
+  client_plays = law.early_plays ends.client.link is.client grants.part is.early is.plays grants.first;
   server_plays = grants.plays;
   client_given = is.early.given ∙ sym is.given;
   client_taken = is.early.taken ∙ sym is.taken;
   server_given = grants.given ∙ sym (nothing made.enters ends.server.given made.given enters no_given);
   server_taken = grants.taken ∙ sym (nothing made.enters ends.server.taken made.taken enters no_taken);
   client_flow = flow_kept names role.Client is.connection ends.time role.Server (newer made.enters ends.server.connection) is.client.flow (spellings ends.server.link.identity.key made.pdus) ends.sent (λ e. cc) is.flow;
-  server_flow = flow_new law names role.Server is.connection ends.time (newer made.enters ends.server.connection) ends.server.link.identity.key grants.part.flow made.pdus ends.sent key grants.flow are none;
+  server_flow = flow_new law.written names role.Server is.connection ends.time (newer made.enters ends.server.connection) ends.server.link.identity.key grants.part.flow made.pdus ends.sent key grants.flow are none;
 }
   where
     nothing : (entered : Option ℕ) (old more : List (List ℕ)) → entered ≡ Some is.connection → more ≡ [] → kept entered old ++ more ≡ []

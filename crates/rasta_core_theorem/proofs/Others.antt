@@ -10,12 +10,12 @@ use Rattle.rasta_core_link.specs.declared.identity.Role.{Role}
 use Rattle.rasta_core_link.specs.declared.verdict.Verdict.TheVariants as verdict
 use Rattle.rasta_core_ends.specs.Ends.{reading_of}
 use Rattle.rasta_core_ends.specs.Run.{Ends, end_of}
-use Rattle.rasta_core_order.proofs.Calls.{same_ends}
 use Rattle.rasta_core_time.specs.Invariant.{Names, identity_of, Timely}
 use Rattle.rasta_core_time.specs.Events.{IsFor as IsMeant, AreForeign}
 use Rattle.rasta_core_time.specs.Sentences.{receipt_at}
 use Rattle.rasta_core_time.proofs.Deeds.{IsFor}
 use Rattle.rasta_core_time.proofs.Called.{ReadIsIntact, end_identity}
+use Rattle.rasta_core_theorem.proofs.Outside.{entered_identity}
 use Rattle.rasta_core_theorem.proofs.Tests.{by_test}
 use Rattle.rasta_core_theorem.proofs.Receptions.{for_me}
 use Rattle.rasta_core_theorem.specs.Safe.{IsIdle}
@@ -48,7 +48,7 @@ receiving_idle : (now : ℕ) (link : LinkState) (bytes : List ℕ)
 unfolding receiving
 receiving_idle now link bytes others =
     read_idle (entered now link).link (reading link.identity.key bytes)
-    (λ pdu read. ap (λ (i : Identity). (pdu.receiver == i.own) && (pdu.sender == i.partner)) (same_ends now link) ∙ others pdu read)
+    (λ pdu read. ap (λ (i : Identity). (pdu.receiver == i.own) && (pdu.sender == i.partner)) (entered_identity now link) ∙ others pdu read)
 
 meant_for : (names : Names) (who : Role) (pdu : Pdu) → IsFor (identity_of who names) pdu → IsMeant names who pdu
 meant_for names who pdu is = record { receiver = is.receiver; sender = is.sender }

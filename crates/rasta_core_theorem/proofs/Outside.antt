@@ -26,12 +26,12 @@ abbrev pub IsShut : LinkState → Type 0
 IsShut link = is_open link.phase ≡ false
 
 -- the laws of how a connection begins
-pub record Laws : Type 0 where
+pub record EnteringLaws : Type 0 where
   pub entering : (now : ℕ) (link : LinkState) → IsShut link → entered now link ≡ silent (record link { clock = now })
   pub hearing : (pdu : Pdu) (link : LinkState) → IsShut link → HearsOutside pdu link (hearing pdu link)
 
 -- what a call does after the clock rules
-after_clock : Laws → (now : ℕ) (link : LinkState) (call : LinkState → Step) → IsShut link → IsShut (call (record link { clock = now })).link
+after_clock : EnteringLaws → (now : ℕ) (link : LinkState) (call : LinkState → Step) → IsShut link → IsShut (call (record link { clock = now })).link
     → IsShut (then_do (entered now link) call).link
 after_clock laws now link call shut stays = subst (λ (step : Step). IsShut (then_do step call).link) (sym (laws.entering now link shut)) stays
 
@@ -66,7 +66,7 @@ no_taking connection link what shut enters = by_taking (is_taken what) refl wher
   by_taking true e = let opened = entry (is_open link.phase) (is_taken what) shut e in cc
 
 -- what it hears leaves it where it is, unless it takes it
-hearing_stays : Laws → (link : LinkState) (found : Result Pdu PduFault) → IsShut link → is_taken (hearing_bytes found link).verdict ≡ false → IsShut (hearing_bytes found link).link
+hearing_stays : EnteringLaws → (link : LinkState) (found : Result Pdu PduFault) → IsShut link → is_taken (hearing_bytes found link).verdict ≡ false → IsShut (hearing_bytes found link).link
 unfolding hearing_bytes
 hearing_stays laws link (Err fault) shut what = shut
 hearing_stays laws link (Ok pdu) shut what = choose (laws.hearing pdu link shut) where
@@ -76,7 +76,7 @@ hearing_stays laws link (Ok pdu) shut what = choose (laws.hearing pdu link shut)
       let taken : is_taken (hearing pdu link).verdict ≡ true = ap (λ (r : Receipt). is_taken r.verdict) same
       in cc
 
-pub stays_outside : Laws → (call : Call) (moment : ℕ) (end : EndState) → IsShut end.link → (outcome call moment end).enters ≡ None → IsShut (outcome call moment end).link
+pub stays_outside : EnteringLaws → (call : Call) (moment : ℕ) (end : EndState) → IsShut end.link → (outcome call moment end).enters ≡ None → IsShut (outcome call moment end).link
 unfolding outcome ticking opening opens closing_by sending_item receiving
 stays_outside laws Ticks moment end shut enters =
     after_clock laws (reading_of end.clock) end.link beating shut (beating_stays (record end.link { clock = reading_of end.clock }) shut)
@@ -106,7 +106,7 @@ limited_identity : (link : LinkState) → (limited link).link.identity ≡ link.
 unfolding limited telling sending
 limited_identity link = by_test (λ (step : Step). step.link.identity ≡ link.identity) (is_open link.phase && nat_le connection_limit link.sent) (telling reason.Sequence link) (silent link) (λ e. refl) (λ e. refl)
 
-entered_identity : (now : ℕ) (link : LinkState) → (entered now link).link.identity ≡ link.identity
+pub entered_identity : (now : ℕ) (link : LinkState) → (entered now link).link.identity ≡ link.identity
 unfolding entered
 entered_identity now link = limited_identity (settled now link) ∙ settled_identity now link
 

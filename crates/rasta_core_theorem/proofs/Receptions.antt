@@ -20,10 +20,6 @@ use Rattle.rasta_core_order.specs.Part.{Part, IsOf, IsAt}
 use Rattle.rasta_core_order.specs.Order.{Carries}
 use Rattle.rasta_core_order.specs.Playing.{GoesOn}
 use Rattle.rasta_core_order.specs.Beginning.{EarlyGoesOn, Grants, HearsOutside, refuses, grants}
-use Rattle.rasta_core_order.proofs.Calls.{hearing_on, unreadable_on, stranger_on, refusing_on, same_ends}
-use Rattle.rasta_core_order.proofs.EarlyCalls.{early_unreadable, early_stranger}
-use Rattle.rasta_core_order.proofs.Outside.{hears_outside, entered_outside}
-use Rattle.rasta_core_order.proofs.Openings.{granting_on}
 use Rattle.rasta_core_time.specs.Standing.{standing}
 use Rattle.rasta_core_time.specs.Invariant.{Names, AreNames, Timely}
 use Rattle.rasta_core_time.specs.Events.{MayCall}
@@ -32,12 +28,13 @@ use Rattle.rasta_core_time.proofs.States.{IsReady, entering, calm}
 use Rattle.rasta_core_time.proofs.Deeds.{IsFor}
 use Rattle.rasta_core_time.proofs.Receipts.{Receives as Hears}
 use Rattle.rasta_core_time.proofs.Hearing.{read_pdu}
-use Rattle.rasta_core_time.proofs.Conversation.{WrittenIsRead}
 use Rattle.rasta_core_time.proofs.Finishing.{made_at, shut_outside}
 use Rattle.rasta_core_time.proofs.CallsKept.{ends_ready, ends_clock}
 use Rattle.rasta_core_time.proofs.Called.{ReadIsIntact, read_is, bytes_do, bytes_bring}
 use Rattle.rasta_core_time.proofs.Conclusions.{taken_opening}
 use Rattle.rasta_core_theorem.specs.Ordered.{IsAlone, AreTogether, Ordered, unbegun, alone, together}
+use Rattle.rasta_core_theorem.proofs.OrderLaws.{Laws}
+use Rattle.rasta_core_theorem.proofs.Outside.{entered_identity}
 use Rattle.rasta_core_theorem.proofs.Made.{server_granted}
 use Rattle.rasta_core_theorem.proofs.Comes.{deed_pdus, deed_silent, client_enters_none, items_for, Comes, comes, of_last, in_flow, server_out, nothing_comes, nothing_sent, IsGranted, deed_grants}
 use Rattle.rasta_core_theorem.proofs.Calls.{client_call, server_call, swap, server_key}
@@ -97,7 +94,7 @@ not_down_then link ready connected shut down = elim (entering link ready) [
   | inr over ↦ cc (down, ap (λ (step : Step). state_at step.link.clock step.link) over.1, calm (telling reason.Sequence link).link refl refl (ready.early connected))
 ]
 
-module _ (law : WrittenIsRead) (intact : ReadIsIntact) (names : Names) (are : AreNames names) (ends : Ends) (timely : Timely names ends) (bytes : List ℕ) (connection : ℕ) where
+module _ (law : Laws) (intact : ReadIsIntact) (names : Names) (are : AreNames names) (ends : Ends) (timely : Timely names ends) (bytes : List ℕ) (connection : ℕ) where
   -- ---- at the client
 
   module _ (may : MayCall names role.Client (Receives bytes connection) ends) where
@@ -132,23 +129,23 @@ module _ (law : WrittenIsRead) (intact : ReadIsIntact) (names : Names) (are : Ar
 
         outside : (pdu : Pdu) → reading ends.client.link.identity.key bytes ≡ Ok pdu → (receipt : Receipt) → hearing pdu (entered now ends.client.link).link ≡ receipt
             → HearsOutside pdu (entered now ends.client.link).link receipt → Goal
-        outside pdu read receipt heard (refuses why not_taken same) = refusing_on now ends.client.link is.client is.server is.order is.client_plays bytes pdu why read (heard ∙ same)
+        outside pdu read receipt heard (refuses why not_taken same) = law.refusing_on now ends.client.link is.client is.server is.order is.client_plays bytes pdu why read (heard ∙ same)
         outside pdu read receipt heard (grants opening server body down late same) =
-            absurd (cc (server, ap (λ (i : Identity). is_client i.role) (same_ends now ends.client.link ∙ timely.client.identity)))
+            absurd (cc (server, ap (λ (i : Identity). is_client i.role) (entered_identity now ends.client.link ∙ timely.client.identity)))
 
         opened : (pdu : Pdu) → reading ends.client.link.identity.key bytes ≡ Ok pdu → IsOf pdu is.server.flow → (connected : Bool) → is_open (entered now ends.client.link).link.phase ≡ connected → Goal
-        opened pdu read of true e = hearing_on now ends.client.link is.client is.server is.order is.client_plays bytes pdu read of e
-        opened pdu read of false e = outside pdu read (hearing pdu (entered now ends.client.link).link) refl (hears_outside pdu (entered now ends.client.link).link e)
+        opened pdu read of true e = law.hearing_on now ends.client.link is.client is.server is.order is.client_plays bytes pdu read of e
+        opened pdu read of false e = outside pdu read (hearing pdu (entered now ends.client.link).link) refl (law.hears_outside pdu (entered now ends.client.link).link e)
 
         judged : (pdu : Pdu) → reading ends.client.link.identity.key bytes ≡ Ok pdu → (meant : Bool)
             → ((pdu.receiver == ends.client.link.identity.own) && (pdu.sender == ends.client.link.identity.partner)) ≡ meant → Goal
         judged pdu read true e =
             opened pdu read (in_flow names role.Client ends timely bytes connection pdu (comes_to pdu (to_names pdu read) (for_me ends.client.link.identity pdu e)) is.connection is.server.flow is.of_client is.server_flow)
             (is_open (entered now ends.client.link).link.phase) refl
-        judged pdu read false e = stranger_on now ends.client.link is.client is.server is.order is.client_plays bytes pdu read e
+        judged pdu read false e = law.stranger_on now ends.client.link is.client is.server is.order is.client_plays bytes pdu read e
 
         go : (found : Result Pdu PduFault) → reading ends.client.link.identity.key bytes ≡ found → Goal
-        go (Err fault) read = unreadable_on now ends.client.link is.client is.server is.order is.client_plays bytes fault read
+        go (Err fault) read = law.unreadable_on now ends.client.link is.client is.server is.order is.client_plays bytes fault read
         go (Ok pdu) read = judged pdu read ((pdu.receiver == ends.client.link.identity.own) && (pdu.sender == ends.client.link.identity.partner)) refl
 
     client_hears_alone : (is : IsAlone names ends)
@@ -164,10 +161,10 @@ module _ (law : WrittenIsRead) (intact : ReadIsIntact) (names : Names) (are : Ar
         judged : (pdu : Pdu) → reading ends.client.link.identity.key bytes ≡ Ok pdu → (meant : Bool)
             → ((pdu.receiver == ends.client.link.identity.own) && (pdu.sender == ends.client.link.identity.partner)) ≡ meant → Goal
         judged pdu read true e = absurd (nothing_comes names ends timely is bytes connection pdu (comes_to pdu (to_names pdu read) (for_me ends.client.link.identity pdu e)))
-        judged pdu read false e = early_stranger now ends.client.link is.client is.early is.plays bytes pdu read e
+        judged pdu read false e = law.early_stranger now ends.client.link is.client is.early is.plays bytes pdu read e
 
         go : (found : Result Pdu PduFault) → reading ends.client.link.identity.key bytes ≡ found → Goal
-        go (Err fault) read = early_unreadable now ends.client.link is.client is.early is.plays bytes fault read
+        go (Err fault) read = law.early_unreadable now ends.client.link is.client is.early is.plays bytes fault read
         go (Ok pdu) read = judged pdu read ((pdu.receiver == ends.client.link.identity.own) && (pdu.sender == ends.client.link.identity.partner)) refl
 
     pub receives_client : Ordered names ends → Ordered names (called role.Client (Receives bytes connection) ends)
@@ -239,24 +236,24 @@ module _ (law : WrittenIsRead) (intact : ReadIsIntact) (names : Names) (are : Ar
         outside : (pdu : Pdu) → reading ends.server.link.identity.key bytes ≡ Ok pdu → is_open (entered now ends.server.link).link.phase ≡ false → (receipt : Receipt)
             → hearing pdu (entered now ends.server.link).link ≡ receipt → HearsOutside pdu (entered now ends.server.link).link receipt → Goal
         outside pdu read shut receipt heard (refuses why not_taken same) =
-            refusing_on now ends.server.link is.server is.client (swap law names ends timely is) is.server_plays bytes pdu why read (heard ∙ same)
+            law.refusing_on now ends.server.link is.server is.client (swap law names ends timely is) is.server_plays bytes pdu why read (heard ∙ same)
         outside pdu read shut receipt heard (grants opening server body down late same) =
             let taken : is_taken (receiving now bytes ends.server.link).verdict ≡ true = ap is_taken (its_verdict now ends.server.link bytes pdu receipt read heard ∙ ap (λ (r : Receipt). r.verdict) same)
             in absurd (not_down (open_where_taken (is_open ends.server.link.phase) (is_taken (receiving now bytes ends.server.link).verdict) none taken) shut down)
 
         opened : (pdu : Pdu) → reading ends.server.link.identity.key bytes ≡ Ok pdu → IsOf pdu is.client.flow → (connected : Bool) → is_open (entered now ends.server.link).link.phase ≡ connected → Goal
-        opened pdu read of true e = hearing_on now ends.server.link is.server is.client (swap law names ends timely is) is.server_plays bytes pdu read of e
-        opened pdu read of false e = outside pdu read e (hearing pdu (entered now ends.server.link).link) refl (hears_outside pdu (entered now ends.server.link).link e)
+        opened pdu read of true e = law.hearing_on now ends.server.link is.server is.client (swap law names ends timely is) is.server_plays bytes pdu read of e
+        opened pdu read of false e = outside pdu read e (hearing pdu (entered now ends.server.link).link) refl (law.hears_outside pdu (entered now ends.server.link).link e)
 
         judged : (pdu : Pdu) → reading ends.server.link.identity.key bytes ≡ Ok pdu → (meant : Bool)
             → ((pdu.receiver == ends.server.link.identity.own) && (pdu.sender == ends.server.link.identity.partner)) ≡ meant → Goal
         judged pdu read true e =
             opened pdu read (in_flow names role.Server ends timely bytes connection pdu (comes_server pdu (server_reads pdu read) (for_me ends.server.link.identity pdu e)) is.connection is.client.flow is.of_client is.client_flow)
             (is_open (entered now ends.server.link).link.phase) refl
-        judged pdu read false e = stranger_on now ends.server.link is.server is.client (swap law names ends timely is) is.server_plays bytes pdu read e
+        judged pdu read false e = law.stranger_on now ends.server.link is.server is.client (swap law names ends timely is) is.server_plays bytes pdu read e
 
         go : (found : Result Pdu PduFault) → reading ends.server.link.identity.key bytes ≡ found → Goal
-        go (Err fault) read = unreadable_on now ends.server.link is.server is.client (swap law names ends timely is) is.server_plays bytes fault read
+        go (Err fault) read = law.unreadable_on now ends.server.link is.server is.client (swap law names ends timely is) is.server_plays bytes fault read
         go (Ok pdu) read = judged pdu read ((pdu.receiver == ends.server.link.identity.own) && (pdu.sender == ends.server.link.identity.partner)) refl
 
     -- it grants the request of a client that is alone
@@ -272,7 +269,7 @@ module _ (law : WrittenIsRead) (intact : ReadIsIntact) (names : Names) (are : Ar
       request_of = in_flow names role.Server ends timely bytes connection granted.pdu from is.connection is.client.flow is.of_client is.flow
 
       begun : entered (reading_of ends.server.clock) ends.server.link ≡ silent (record ends.server.link { clock = reading_of ends.server.clock })
-      begun = entered_outside (reading_of ends.server.clock) ends.server.link (shut_outside ends.server.link granted.outside)
+      begun = law.entered_outside (reading_of ends.server.clock) ends.server.link (shut_outside ends.server.link granted.outside)
 
       is_shut : is_open (entered (reading_of ends.server.clock) ends.server.link).link.phase ≡ false
       is_shut = ap (λ (step : Step). is_open step.link.phase) begun ∙ shut_outside ends.server.link granted.outside
@@ -290,14 +287,14 @@ module _ (law : WrittenIsRead) (intact : ReadIsIntact) (names : Names) (are : Ar
           granted_receipt (reading_of ends.server.clock) ends.server.link bytes granted.pdu is.client (names_read granted.pdu its_read)
           (heard ∙ same ∙ ap (λ (o : Opening). accepting (granting granted.pdu o (entered (reading_of ends.server.clock) ends.server.link).link)) carried.1)
           (ap (λ (step : Step). step.pdus) begun)
-          (granting_on is.client is.early (entered (reading_of ends.server.clock) ends.server.link).link granted.pdu server late
+          (law.granting_on is.client is.early (entered (reading_of ends.server.clock) ends.server.link).link granted.pdu server late
           (subst (λ (place : ℕ). IsAt place granted.pdu is.client.flow) carried.0.0 request_of.1))
         where
           carried : Carries is.client request_of.0 (ConnectionRequest opening)
           carried = subst (Carries is.client request_of.0) body (is.early.each request_of.0 granted.pdu request_of.1 0).carries
 
       grants_it : Grants is.client (receiving (reading_of ends.server.clock) bytes ends.server.link).link (receiving (reading_of ends.server.clock) bytes ends.server.link).pdus
-      grants_it = granted_so (hearing granted.pdu (entered (reading_of ends.server.clock) ends.server.link).link) refl (hears_outside granted.pdu (entered (reading_of ends.server.clock) ends.server.link).link is_shut)
+      grants_it = granted_so (hearing granted.pdu (entered (reading_of ends.server.clock) ends.server.link).link) refl (law.hears_outside granted.pdu (entered (reading_of ends.server.clock) ends.server.link).link is_shut)
 
     abbrev receipt_made : Outcome
     receipt_made = record {

@@ -14,7 +14,10 @@ ghost use Rattle.rasta_core_theorem.specs.Ordered.{Ordered};
 ghost use Rattle.rasta_pdu.specs.SafetyCode.{IsIntact};
 ghost use Rattle.rasta_core_theorem.specs.Safe.{AreSafe, IsIdle};
 
-use rasta_core_order::connection_begins;
+use rasta_core_order::{
+    calls_carry_what_they_accept, calls_keep_order, client_alone, connection_begins,
+    hearing_keeps_order, order_is_safe as parts_are_safe, partner_stays,
+};
 use rasta_core_time::{
     every_event_keeps_time, every_run_keeps_time, items_are_fresh, opening_is_new, own_connection,
     starts_in_time,
@@ -29,23 +32,31 @@ pub fn every_event_keeps_order()
 {
     written_is_read();
     read_was_written();
+    calls_keep_order();
+    hearing_keeps_order();
+    partner_stays();
+    client_alone();
+    connection_begins();
 }
 
 /// In a connection that is the last of both ends, what was taken is a beginning of what the partner gave, and what is
 /// held for confirmed was taken.
 pub fn order_is_safe()
     ensures { (names : Names) (ends : Ends) → Ordered names ends → AreSafe ends }
-{}
+{
+    parts_are_safe();
+    partner_stays();
+}
 
 /// The link is safe after every list of events.
 pub fn link_is_safe()
     ensures { (names : Names) (start : Start) (events : List Event) → AreNames names → MayRun names events (started names start)
         → AreSafe (run events (started names start)) }
 {
-    written_is_read();
-    read_was_written();
     starts_in_time();
     every_event_keeps_time();
+    every_event_keeps_order();
+    order_is_safe();
 }
 
 /// After every list of events, an end takes items only from a datagram that was sent less than 1802 ms of true time
@@ -85,6 +96,12 @@ pub fn given_was_sent()
 {
     written_is_read();
     read_was_written();
+    calls_keep_order();
+    hearing_keeps_order();
+    partner_stays();
+    client_alone();
+    connection_begins();
+    calls_carry_what_they_accept();
     starts_in_time();
     every_event_keeps_time();
 }

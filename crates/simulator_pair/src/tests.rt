@@ -63,26 +63,52 @@ impl Bench {
         bench
     }
 
-    fn apply(&mut self, event: &PairEvent) -> Result<PairReply, Refused> {
+    /// Applies an event; where memory is lacking nothing has changed, and the same event is given once more.
+    fn apply(&mut self, rt: &impl Abort, event: &PairEvent) -> Result<PairReply, Refused> {
+        let before = self.stored();
         match self.pair.apply(event) {
-            Err(Refused::OutOfMemory) => self.pair.apply(event),
+            Err(Refused::OutOfMemory) => {
+                assert_eq!(rt; self.stored(), before);
+                self.pair.apply(event)
+            }
             answer => answer,
         }
     }
 
+    /// How much the pair stores: true time, how many datagrams, how many items of each list, and who is up.
+    fn stored(&self) -> (u64, usize, [usize; 4], [bool; 3]) {
+        let pair = &self.pair;
+        let (client, server) = (Role::Client, Role::Server);
+        (
+            pair.time(),
+            pair.sent().len(),
+            [
+                pair.given(client).len(),
+                pair.taken(client).len(),
+                pair.given(server).len(),
+                pair.taken(server).len(),
+            ],
+            [
+                pair.is_up(client),
+                pair.is_up(server),
+                pair.shown() == Aspect::Proceed,
+            ],
+        )
+    }
+
     fn does(&mut self, rt: &impl Abort, event: &PairEvent) {
-        let answer = self.apply(event);
+        let answer = self.apply(rt, event);
         assert!(rt; matches!(answer, Ok(PairReply::Done)));
     }
 
     fn refuses(&mut self, rt: &impl Abort, event: &PairEvent, why: Refused) {
-        let answer = self.apply(event);
+        let answer = self.apply(rt, event);
         assert_eq!(rt; answer.err(), Some(why));
     }
 
     fn gives(&mut self, rt: &impl Abort, end: Role, byte: u8) {
         let item = Item::of(&[byte]).expect(rt, "one byte is an item");
-        let answer = self.apply(&PairEvent::Give(end, item));
+        let answer = self.apply(rt, &PairEvent::Give(end, item));
         assert!(rt; matches!(answer, Ok(PairReply::Given(Ok(())))));
     }
 
@@ -113,7 +139,7 @@ impl Bench {
                 _ => Role::Server,
             };
             let bytes = bytes_of(sent.bytes());
-            let _ = self.apply(&PairEvent::Deliver(receiver, bytes));
+            let _ = self.apply(rt, &PairEvent::Deliver(receiver, bytes));
         }
         self.tried = end;
     }
@@ -366,6 +392,24 @@ fn a_run_goes_on_after_refusals_and_counts_what_was_accepted(rt: HostRuntime) {
 }
 
 #[test]
+fn a_run_goes_on_where_memory_is_lacking(rt: HostRuntime) {
+    let mut bench = Bench::new(&rt, rt.alloc());
+    let events = [
+        time(1000),
+        restart(Role::Server, 0, 0),
+        time(1000),
+        restart(Role::Client, 0, 0),
+        time(1000),
+    ];
+    let first = bench.pair.run(&events);
+    let accepted = first.saturating_add(bench.pair.run(&events));
+    let passed = bench.pair.time();
+    assert!(rt; matches!((accepted, passed), (10, 6000) | (9, 5000 | 6000)));
+    bench.does(&rt, &time(7000 - passed));
+    assert_eq!(rt; bench.pair.time(), 7000);
+}
+
+#[test]
 fn events_use_the_room_that_was_reserved(rt: HostRuntime) {
     let mut bench = Bench::new(&rt, rt.alloc());
     assert_eq!(rt; bench.pair.room(), 0);
@@ -387,6 +431,10 @@ fn refusals_have_their_numbers_and_texts(rt: HostRuntime) {
         (Refused::OutOfMemory, 6, "out of memory"),
     ] {
         assert_eq!(rt; why.number(), number);
-        assert!(rt; format!(in rt.alloc(); "{why}").is_ok_and(|told| told.as_str() == text));
+        let told = match format!(in rt.alloc(); "{why}") {
+            Ok(told) => told,
+            Err(_) => format!(in rt.alloc(); "{why}").expect(&rt, "there is memory"),
+        };
+        assert_eq!(rt; told.as_str(), text);
     }
 }

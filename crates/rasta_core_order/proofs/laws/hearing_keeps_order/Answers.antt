@@ -1,4 +1,4 @@
-use Rattle.rasta_core_order.proofs.Calls.{hearing_on, unreadable_on, stranger_on}
+use Rattle.rasta_core_order.proofs.Calls.{hearing_on, refusing_on, unreadable_on, stranger_on}
 use Rattle.rasta_core_order.proofs.laws.hearing_keeps_order.Goals as goal
 
 pub returns-clause-partners : goal.returns-clause-partners
@@ -9,3 +9,6 @@ returns-clause-unreadable c = unreadable_on
 
 pub returns-clause-strangers : goal.returns-clause-strangers
 returns-clause-strangers c = stranger_on
+
+pub returns-clause-refused : goal.returns-clause-refused
+returns-clause-refused c = refusing_on
