@@ -14,7 +14,7 @@ use Rattle.rasta_core_link.specs.Calls.{answer_to_send, receiving}
 use Rattle.object_host.specs.Behaviour.{Behaviour}
 use Rattle.object_host.specs.Course.{course, commanding as to_object}
 use Rattle.object_host.specs.Host.{HostState, LinkCall, Part, Ticks, Closes, Sends, Receives, fallen, is_completed, keeping, silent, then_do}
-use Rattle.object_host.specs.Made.{ActsOn, IsMadeOf, call_made, calls_made, command_of, commands_of, items_taken, items_taken_by}
+use Rattle.object_host.specs.Made.{ActsOn, AreOwn, IsMadeOf, IsOwn, call_made, calls_made, command_of, commands_of, items_taken, items_taken_by}
 use Rattle.object_host.specs.Made as made
 use Rattle.object_host.specs.Step.{acting, acting_all, beating, beginning, commanding, following, given, goes_on, hearing, host_step, is_from_peer, most_owed, paid, paying, paying_first, posting, received, violating}
 use Rattle.object_host.specs.declared.course.Course.{Course}
@@ -26,7 +26,7 @@ use Rattle.object_host.specs.declared.stage.Stage.{Stage}
 use Rattle.object_host.specs.declared.stage.Stage.TheVariants as stage
 use Rattle.object_host.proofs.Between.{is_command, no_command}
 use Rattle.object_host.proofs.Closed.{closing_closed, closing_closes, sending_closed, ticking_closed}
-use Rattle.object_host.proofs.Made.{AreOwn, IsOwn, IsPart, acting_all_part, beating_part, begun_link, fallen_link, given_made, made_then, paying_part}
+use Rattle.object_host.proofs.Made.{IsPart, acting_all_part, beating_part, begun_link, fallen_link, given_made, made_then, paying_part}
 
 -- own calls take nothing, and leave a closed link closed
 own_takes_nothing : (now : ℕ) (calls : List LinkCall) (link : LinkState) → AreOwn calls → items_taken now calls link ≡ []
@@ -37,7 +37,7 @@ own_takes_nothing now (Closes why ∷ others) link own = own_takes_nothing now o
 own_takes_nothing now (Sends item ∷ others) link own = own_takes_nothing now others _ own.1
 own_takes_nothing now (Receives bytes ∷ others) link own = absurd own.0
 
-own_closed : (now : ℕ) (calls : List LinkCall) (link : LinkState) → AreOwn calls → is_open link.phase ≡ false →
+pub own_closed : (now : ℕ) (calls : List LinkCall) (link : LinkState) → AreOwn calls → is_open link.phase ≡ false →
     is_open (calls_made now calls link).link.phase ≡ false
 unfolding calls_made
 own_closed now [] link own closed = closed

@@ -14,7 +14,7 @@ use Rattle.rasta_core_link.specs.Calls.{answer_to_send, receiving}
 use Rattle.object_host.specs.Behaviour.{Behaviour}
 use Rattle.object_host.specs.Course.{course}
 use Rattle.object_host.specs.Host.{HostState, LinkCall, Part, Ticks, Closes, Sends, Receives, fallen, is_completed, keeping, linked, risen, said, silent, then_do}
-use Rattle.object_host.specs.Made.{IsMadeOf, call_made, calls_made}
+use Rattle.object_host.specs.Made.{AreCallsFor, AreOwn, IsMadeOf, call_made, calls_made}
 use Rattle.object_host.specs.Step.{acting, acting_all, answering, beating, beginning, commanding, ending, following, given, goes_on, hearing, host_step, initial_status, initialising, is_from_peer, most_objects, most_owed, own_version, paid, paying, paying_first, posting, posting_all, received, telling_status, violating}
 use Rattle.object_host.specs.declared.course.Course.{Course}
 use Rattle.object_host.specs.declared.course.Course.TheVariants as courses
@@ -22,17 +22,6 @@ use Rattle.object_host.specs.declared.input.Input.{Input}
 use Rattle.object_host.specs.declared.input.Input.TheVariants as inputs
 use Rattle.object_host.specs.declared.report.Report.{Report}
 use Rattle.object_host.specs.declared.stage.Stage.TheVariants as stage
-
--- a call that takes nothing from the partner
-abbrev pub IsOwn : LinkCall → Type 0
-IsOwn (Receives bytes) = ⊥
-IsOwn Ticks = Unit {0}
-IsOwn (Closes why) = Unit {0}
-IsOwn (Sends item) = Unit {0}
-
-abbrev pub AreOwn : List LinkCall → Type 0
-AreOwn [] = Unit {0}
-AreOwn (first ∷ others) = IsOwn first × AreOwn others
 
 own_joined : (first others : List LinkCall) → AreOwn first → AreOwn others → AreOwn (first ++ others)
 own_joined [] others one more = more
@@ -216,6 +205,30 @@ module _ {Object : Type 0} (does : Behaviour Object) where
   given_made now inputs.Tick host = made_silent now host
   given_made now (inputs.Datagram bytes) host = hearing_made now bytes.now host
   given_made now (inputs.Sense sense) host = made_silent now (record host { object = does.after_sense now sense host.object })
+
+  given_calls : (now : ℕ) (input : Input) (host : HostState Object) → AreCallsFor input (given does now input host).calls
+  unfolding given hearing received
+  given_calls now inputs.Tick host = tt
+  given_calls now (inputs.Datagram bytes) host =
+      let receipt = receiving now bytes.now host.link
+      in let begun = (received now bytes.now receipt host).host
+      in ((acting_all does now receipt.items begun).calls, refl, (acting_all_part now receipt.items begun).own)
+  given_calls now (inputs.Sense sense) host = tt
+
+  more_calls : (input : Input) (calls more : List LinkCall) → AreCallsFor input calls → AreOwn more → AreCallsFor input (calls ++ more)
+  more_calls inputs.Tick calls more own others = own_joined calls more own others
+  more_calls (inputs.Datagram bytes) calls more first others = (first.0 ++ more, ap (λ cs. cs ++ more) first.1, own_joined first.0 more first.2 others)
+  more_calls (inputs.Sense sense) calls more own others = own_joined calls more own others
+
+  pub step_calls : (now : ℕ) (input : Input) (host : HostState Object) → AreCallsFor input (host_step does now input host).calls
+  unfolding host_step
+  step_calls now input host =
+      let begun = beginning does now host
+      in let heard = given does now input begun
+      in let told = then_do heard (paying does now most_owed)
+      in more_calls input told.calls (beating now input told.host).calls
+      (more_calls input heard.calls (paying does now most_owed heard.host).calls (given_calls now input begun) (paying_part now most_owed heard.host).own)
+      (beating_part now input told.host).own
 
   pub begun_link : (now : ℕ) (host : HostState Object) → (beginning does now host).link ≡ settled now host.link
   unfolding beginning

@@ -8,6 +8,8 @@ use Rattle.sci_telegram.specs.declared.telegram.Telegram.{Telegram}
 use Rattle.rasta_core_link.specs.State.{LinkState, is_open}
 use Rattle.rasta_core_link.specs.Sending.{Step, silent, then_do}
 use Rattle.rasta_core_link.specs.Calls.{ticking, closing_by, sending_item, receiving}
+use Rattle.object_host.specs.declared.input.Input.{Input}
+use Rattle.object_host.specs.declared.input.Input.TheVariants as inputs
 use Rattle.object_host.specs.Host.{LinkCall, Ticks, Closes, Sends, Receives, HostState, Part}
 
 -- what a call does at a clock reading
@@ -21,6 +23,23 @@ call_made now (Receives bytes) link = record { link = (receiving now bytes link)
 unfoldable pub calls_made : ℕ → List LinkCall → LinkState → Step
 calls_made now [] link = silent link
 calls_made now (first ∷ others) link = then_do (call_made now first link) (calls_made now others)
+
+-- a call that takes nothing from the partner
+abbrev pub IsOwn : LinkCall → Type 0
+IsOwn (Receives bytes) = ⊥
+IsOwn Ticks = Unit {0}
+IsOwn (Closes why) = Unit {0}
+IsOwn (Sends item) = Unit {0}
+
+abbrev pub AreOwn : List LinkCall → Type 0
+AreOwn [] = Unit {0}
+AreOwn (first ∷ others) = IsOwn first × AreOwn others
+
+-- a datagram is received first, and all other calls are own ones
+abbrev pub AreCallsFor : Input → List LinkCall → Type 0
+AreCallsFor inputs.Tick calls = AreOwn calls
+AreCallsFor (inputs.Datagram bytes) calls = (others : List LinkCall) × (calls ≡ Receives bytes.now ∷ others) × AreOwn others
+AreCallsFor (inputs.Sense sense) calls = AreOwn calls
 
 -- the items that calls take
 abbrev pub items_taken_by : ℕ → LinkCall → LinkState → List (List ℕ)

@@ -113,7 +113,7 @@ impl Controller for Signal {
 
     fn lost(&mut self) {
         self.lamp.lost();
-        self.owes = false;
+        self.paid();
     }
 
     fn restrictive(&self, now: Millis) -> bool {

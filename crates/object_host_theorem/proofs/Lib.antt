@@ -1,0 +1,3 @@
+pub mod Hearing
+pub mod Server
+pub mod Told

@@ -1,0 +1,27 @@
+//! What an object is told, for every lawful object.
+
+ghost use Rattle.std.specs.Prelude.{◌≡◌, ℕ, List};
+ghost use Rattle.rasta_core_time.specs.Events.{Start};
+ghost use Rattle.rasta_core_time.specs.Invariant.{AreNames, Names};
+ghost use Rattle.object_host_theorem.specs.World.{Event, IsToldInConnection, MayRun, begun, run};
+
+use object_host::{Controller, own_calls_open_nothing, step_is_calls, step_tells_what_was_taken};
+use rasta_core_theorem::{every_event_keeps_order, order_is_safe};
+use rasta_core_time::{every_event_keeps_time, links_are_settled, starts_in_time};
+
+/// After every list of events, in a connection that is the last of both ends, the object was told what a beginning of
+/// the items commands that the client's `send` accepted there, in order and each once.
+pub fn told_is_given<C: Controller>()
+    ensures { (names : Names) (start : Start) (own_name peer_name : List ℕ) (object : C) (events : List (Event C)) → AreNames names
+        → MayRun C.behaviour names events (begun C.behaviour names start own_name peer_name object)
+        → IsToldInConnection (run C.behaviour events (begun C.behaviour names start own_name peer_name object)) }
+{
+    starts_in_time();
+    links_are_settled();
+    every_event_keeps_time();
+    every_event_keeps_order();
+    order_is_safe();
+    own_calls_open_nothing();
+    step_is_calls::<C>();
+    step_tells_what_was_taken::<C>();
+}

@@ -1,0 +1,7 @@
+//! The theorem of a commanded object: what an object was told over a link is a beginning of what was commanded, for
+//! every lawful object and after every list of what can happen to a client, a host and their datagrams.
+#![tactic(auto)]
+
+mod laws;
+
+pub use laws::told_is_given;
