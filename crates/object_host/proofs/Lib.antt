@@ -1,3 +1,9 @@
 pub mod Posting
 pub mod UnderWay
 pub mod Status
+pub mod Acting
+pub mod Paying
+pub mod Closed
+pub mod Between
+pub mod Made
+pub mod Acts

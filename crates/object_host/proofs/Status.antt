@@ -1,6 +1,6 @@
 -- Telling the initial status, report by report.
 use Rattle.std.proofs.Common.{◌≡◌, ℕ, ◌+◌, ◌-◌, ◌<◌, suc, List, [], ◌∷◌, arith, refl, ap, sym, ◌∙◌, subst}
-use Rattle.std.specs.Prelude.{Option, Some, None}
+use Rattle.std.specs.Prelude.{Some, None}
 use Rattle.rasta_core_link.specs.Outbox.{OutboxState}
 use Rattle.object_host.specs.Behaviour.{Behaviour}
 use Rattle.object_host.specs.Host.{HostState, Part}
@@ -14,7 +14,7 @@ module _ {Object : Type 0} (does : Behaviour Object) where
   status_from place object = initial_status does (most_objects - place) place object
 
   status_next : (place : ℕ) (object : Object) → place < most_objects →
-    status_from place object ≡ report_then (does.status place object) (status_from (place + 1) object)
+      status_from place object ≡ report_then (does.status place object) (status_from (place + 1) object)
   unfolding initial_status
   status_next place object within =
       let e : most_objects - place ≡ suc (most_objects - (place + 1)) = omega (arith, within) in rw e refl
@@ -42,19 +42,19 @@ module _ {Object : Type 0} (does : Behaviour Object) where
   nothing_at_end now place host last = nothing now host _ (ap (λ p. status_from p host.object) last)
 
   pub first_at : (now place : ℕ) (host : HostState Object) (report : Report) → place < most_objects → does.status place host.object ≡ Some report →
-    IsFirst (left_at now place host) (posting now report host) (left_at now (place + 1) (posting now report host).host)
+      IsFirst (left_at now place host) (posting now report host) (left_at now (place + 1) (posting now report host).host)
   unfolding posting_all posting
   first_at now place host report within found =
       let reports : status_from place host.object ≡ report ∷ status_from (place + 1) host.object =
-          status_next place host.object within ∙ ap (λ o. report_then o (status_from (place + 1) host.object)) found
+      status_next place host.object within ∙ ap (λ o. report_then o (status_from (place + 1) host.object)) found
       in record {
         ends_same = ap (λ rs. (posting_all now rs host).host) reports;
         pdus_joined = ap (λ rs. (posting_all now rs host).pdus) reports;
       }
 
   pub telling_next : (now : ℕ) (start : HostState Object) (box : OutboxState) (place : ℕ) (host : HostState Object) (outbox : OutboxState) (report : Report) (new : HostState Object) (out : OutboxState) →
-    IsTelling now start box place host outbox → place < most_objects → does.status place host.object ≡ Some report →
-    WasMade now 1 host outbox (posting now report host) new out → IsTelling now start box (place + 1) new out
+      IsTelling now start box place host outbox → place < most_objects → does.status place host.object ≡ Some report →
+      WasMade now 1 host outbox (posting now report host) new out → IsTelling now start box (place + 1) new out
   telling_next now start box place host outbox report new out telling within found made =
       let next = goes_on now start box _ place 1 host outbox _ _ _ new out telling.way (first_at now place host report within found) made
       in record {

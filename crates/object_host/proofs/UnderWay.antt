@@ -1,5 +1,5 @@
 -- A loop that does part after part: what is left to do from here does what all of it does from the start.
-use Rattle.std.proofs.Common.{◌≡◌, ℕ, ◌+◌, ◌≤◌, List, [], ◌++◌, length, arith, refl, ap, sym, ◌∙◌}
+use Rattle.std.proofs.Common.{◌≡◌, ℕ, ◌+◌, ◌≤◌, [], ◌++◌, length, arith, refl, ap, sym, ◌∙◌}
 use Rattle.rasta_core_link.specs.Calls.{IsAt}
 use Rattle.rasta_core_link.specs.Outbox.{OutboxState, posted}
 use Rattle.object_host.specs.Host.{HostState, Part}
@@ -50,12 +50,12 @@ module _ {Object : Type 0} where
   }
 
   pub goes_on : (now : ℕ) (start : HostState Object) (box : OutboxState) (all : Part Object) (most more : ℕ) (host : HostState Object) (outbox : OutboxState) (left first next : Part Object) (new : HostState Object) (out : OutboxState) →
-    IsUnderWay now start box all most host outbox left → IsFirst left first next → WasMade now more host outbox first new out →
-    IsUnderWay now start box all (most + more) new out next
+      IsUnderWay now start box all most host outbox left → IsFirst left first next → WasMade now more host outbox first new out →
+      IsUnderWay now start box all (most + more) new out next
   goes_on now start box all most more host outbox left first next new out way split made =
       let key_is : host.link.identity.key ≡ start.link.identity.key = ap (λ i. i.key) way.identity
       in let count : length out.datagrams ≡ length outbox.datagrams + length first.pdus =
-          ap (λ (b : OutboxState). length b.datagrams) made.posts ∙ length-posted _ _ outbox
+      ap (λ (b : OutboxState). length b.datagrams) made.posts ∙ length-posted _ _ outbox
       in record {
         identity = ap (λ (h : HostState Object). h.link.identity) made.host ∙ made.kept.identity ∙ way.identity;
         clock = ap (λ (h : HostState Object). h.link.clock) made.host ∙ made.kept.clock;
@@ -63,20 +63,20 @@ module _ {Object : Type 0} where
         few = omega (arith, count, way.few, made.few);
         ends_same = sym split.ends_same ∙ way.ends_same;
         posts_same =
-          ap (λ b. posted start.link.identity.key next.pdus b) (made.posts ∙ ap (λ k. posted k first.pdus outbox) key_is)
-          ∙ posted_more start.link.identity.key next.pdus first.pdus outbox
-          ∙ ap (λ pdus. posted start.link.identity.key pdus outbox) (sym split.pdus_joined) ∙ way.posts_same;
+            ap (λ b. posted start.link.identity.key next.pdus b) (made.posts ∙ ap (λ k. posted k first.pdus outbox) key_is)
+            ∙ posted_more start.link.identity.key next.pdus first.pdus outbox
+            ∙ ap (λ pdus. posted start.link.identity.key pdus outbox) (sym split.pdus_joined) ∙ way.posts_same;
       }
 
   pub comes_to_end : (now : ℕ) (start : HostState Object) (box : OutboxState) (all : Part Object) (most : ℕ) (host : HostState Object) (outbox : OutboxState) (left : Part Object) →
-    IsUnderWay now start box all most host outbox left → IsNothing host left → IsDone now start box all most host outbox
+      IsUnderWay now start box all most host outbox left → IsNothing host left → IsDone now start box all most host outbox
   comes_to_end now start box all most host outbox left way nothing =
       let reached : host ≡ all.host = sym nothing.stays ∙ way.ends_same
       in let out : outbox ≡ posted start.link.identity.key all.pdus box =
-          sym (posted_nothing start.link.identity.key outbox)
-          ∙ ap (λ pdus. posted start.link.identity.key pdus outbox) (sym nothing.posts_none) ∙ way.posts_same
+      sym (posted_nothing start.link.identity.key outbox)
+      ∙ ap (λ pdus. posted start.link.identity.key pdus outbox) (sym nothing.posts_none) ∙ way.posts_same
       in let counted : length outbox.datagrams ≡ length box.datagrams + length all.pdus =
-          ap (λ (b : OutboxState). length b.datagrams) out ∙ length-posted _ _ box
+      ap (λ (b : OutboxState). length b.datagrams) out ∙ length-posted _ _ box
       in record {
         ends = reached;
         kept = record {

@@ -1,6 +1,5 @@
 -- The order of a connection: version check and answer, initialisation request, the states of all objects, and then
 -- commands. The protocol is this project's own, in the manner of EULYNX.
-use Rattle.std.specs.Prelude.{ℕ}
 use Rattle.sci_telegram.specs.declared.message.Initialisation.TheVariants.{InitialisationRequest, VersionCheck}
 use Rattle.sci_telegram.specs.declared.message.Message.{Message}
 use Rattle.sci_telegram.specs.declared.message.Message.TheVariants.{Initialisation, Point, Signal, Detection}

@@ -1,8 +1,8 @@
 -- A step of a host, in its order: the clock with the object's tick, the input, the owed reports, the link's tick, and
 -- what the object is told of its link at the end.
-use Rattle.std.specs.Prelude.{ℕ, zero, suc, ◌+◌, ◌==◌, ◌&&◌, Bool, true, false, List, [], ◌∷◌, ◌++◌, Option, Some, None, Result, Ok, Err, is_ok, if◌then◌else◌}
+use Rattle.std.specs.Prelude.{ℕ, zero, suc, ◌+◌, ◌==◌, ◌&&◌, ◌||◌, not, Bool, true, false, List, [], ◌∷◌, Option, Some, None, Result, Ok, Err, is_ok, if◌then◌else◌}
 use Rattle.std.specs.Str.{bytes_eq}
-use Rattle.sci_telegram.specs.Messages.{protocol_of, protocol_byte}
+use Rattle.sci_telegram.specs.Messages.{protocol_of}
 use Rattle.sci_telegram.specs.Reading.{reading}
 use Rattle.sci_telegram.specs.Telegrams.{writing}
 use Rattle.sci_telegram.specs.declared.fault.SciFault.{SciFault}
@@ -22,7 +22,6 @@ use Rattle.object_host.specs.Host.{HostState, Part, Ticks, Closes, Sends, Receiv
 use Rattle.object_host.specs.declared.course.Course.{Course}
 use Rattle.object_host.specs.declared.course.Course.TheVariants as courses
 use Rattle.object_host.specs.declared.report.Report.{Report}
-use Rattle.object_host.specs.declared.sense.Sense.{Sense}
 use Rattle.object_host.specs.declared.stage.Stage.TheVariants as stage
 use Rattle.object_host.specs.declared.input.Input.{Input}
 use Rattle.object_host.specs.declared.input.Input.TheVariants as inputs
@@ -140,22 +139,26 @@ module _ {Object : Type 0} where
   abbrev pub paid : Behaviour Object → HostState Object → HostState Object
   paid does host = record host { object = does.after_paid host.object }
 
-  -- an owed report is sent once the initialisation was completed, and stays owed where the link refuses it; before,
-  -- nothing is owed
-  abbrev pub paying_then : Behaviour Object → ℕ → Option Report → (HostState Object → Part Object) → HostState Object → Part Object
-  paying_then does now None next host = silent host
-  paying_then does now (Some report) next host =
-      if is_completed host.stage
-      then (
-        let sent = posting now report host
-        in if is_ok (answer_to_send now host.link) then then_do (record sent { host = paid does sent.host }) next else sent
-      )
-      else next (paid does host)
+  -- The first owed report: it is sent once the initialisation was completed, and stays owed where the link refuses it;
+  -- before, nothing is owed.
+  abbrev pub paying_first : Behaviour Object → ℕ → Option Report → HostState Object → Part Object
+  paying_first does now None host = silent host
+  paying_first does now (Some report) host =
+      if not (is_completed host.stage) then silent (paid does host) else
+      let sent = posting now report host
+      in if is_ok (answer_to_send now host.link) then record sent { host = paid does sent.host } else sent
 
-  -- the owed reports, in the object's order
+  -- whether it was there and is owed no longer
+  abbrev pub goes_on : ℕ → Option Report → HostState Object → Bool
+  goes_on now None host = false
+  goes_on now (Some report) host = not (is_completed host.stage) || is_ok (answer_to_send now host.link)
+
+  -- the owed reports, in the object's order, at most so many
   unfoldable pub paying : Behaviour Object → ℕ → ℕ → HostState Object → Part Object
   paying does now zero host = silent host
-  paying does now (suc more) host = paying_then does now (does.owed host.object) (paying does now more) host
+  paying does now (suc more) host =
+      let first = paying_first does now (does.owed host.object) host
+      in if goes_on now (does.owed host.object) host then then_do first (paying does now more) else first
 
   -- how a step begins: the clock rules of the link, a loss that they bring, and the object's tick
   unfoldable pub beginning : Behaviour Object → ℕ → HostState Object → HostState Object

@@ -3,16 +3,17 @@
 ghost use Rattle.std.specs.Prelude.{◌≡◌, ◌≤◌, ℕ, List, length};
 ghost use Rattle.rasta_core_link.specs.Calls.{MayStep, IsAt, answer_to_send};
 ghost use Rattle.rasta_core_link.specs.Outbox.{HasRoomFor, posted};
-ghost use Rattle.object_host.specs.Host.{said};
+ghost use Rattle.object_host.specs.Host.{fallen, risen, said};
 ghost use Rattle.object_host.specs.Course.{course};
-ghost use Rattle.object_host.specs.Step.{acting, answering, commanding, following, initialising, is_from_peer, is_same_protocol, posting, telling_status, violating};
+ghost use Rattle.object_host.specs.Step.{acting, acting_all, answering, beating, beginning, commanding, ending, following, given, hearing, host_step, initialising, is_from_peer, goes_on, is_same_protocol, most_owed, paying, paying_first, posting, telling_status, violating};
 ghost use Rattle.sci_telegram.specs.Reading.{reading};
 
 use crate::controller::Controller;
 use crate::course::Course;
+use crate::input::Input;
 use crate::report::Report;
 use crate::stage::Stage;
-use rasta_core_link::{Link, Millis, Outbox, Reason, SendFault};
+use rasta_core_link::{Inbox, Link, Millis, Outbox, Reason, SendFault};
 use rasta_pdu::Item;
 use sci_telegram::{Agreement, Initialisation, Message, Name, Protocol, Telegram};
 use std::marker::Model;
@@ -22,6 +23,9 @@ const OWN_VERSION: u8 = 1;
 
 /// How many objects a controller has at most.
 const MOST_OBJECTS: usize = 16;
+
+/// How many owed reports a step sends at most: the window of a link.
+const MOST_OWED: usize = 20;
 
 /// The link of an object controller, the stage of its connection, and its object.
 #[derive(Drop)]
@@ -56,12 +60,7 @@ impl<C: Controller> Host<C> {
 
     /// A report goes to the peer, where the link accepts it.
     #[tactic(auto, unfolding(crate::specs::Step::posting))]
-    fn post(
-        &mut self,
-        now: Millis,
-        report: &Report,
-        outbox: &mut Outbox,
-    ) -> Result<(), SendFault>
+    fn post(&mut self, now: Millis, report: &Report, outbox: &mut Outbox) -> Result<(), SendFault>
         requires clock { MayStep now self.old.link }
         requires room { HasRoomFor 24 outbox.old }
         ensures host { self.new ≡ (posting now report.now self.old).host }
@@ -215,6 +214,170 @@ impl<C: Controller> Host<C> {
             Ok(telegram) if self.is_from_peer(&telegram) => self.follow(now, &telegram, outbox),
             _ => self.violate(now, outbox),
         }
+    }
+
+    /// The items of a datagram. Those behind one that closed the link are dropped.
+    #[tactic(auto, using(crate::proofs::Posting::posting))]
+    fn act_all(&mut self, now: Millis, items: &[Item], outbox: &mut Outbox)
+        requires at { self.old.link.clock ≡ now }
+        requires items { length items.now ≤ 3 }
+        requires room { HasRoomFor 96 outbox.old }
+        ensures host { self.new ≡ (acting_all C.behaviour now items.now self.old).host }
+        ensures kept { IsAt now self.old.link (acting_all C.behaviour now items.now self.old).host.link }
+        ensures posted { outbox.new ≡ posted self.old.link.identity.key (acting_all C.behaviour now items.now self.old).pdus outbox.old }
+        ensures few { length (acting_all C.behaviour now items.now self.old).pdus ≤ 54 }
+    {
+        for item in items {
+            if !self.link.is_open() {
+                return;
+            }
+            self.act(now, item, outbox);
+        }
+    }
+
+    /// The first owed report is sent, once the initialisation was completed. Before, nothing is owed. Answers whether
+    /// there was one that is owed no longer.
+    #[tactic(auto, using(crate::proofs::Posting::posting))]
+    fn pay_first(&mut self, now: Millis, outbox: &mut Outbox) -> bool
+        requires at { self.old.link.clock ≡ now }
+        requires room { HasRoomFor 24 outbox.old }
+        ensures host { self.new ≡ (paying_first C.behaviour now (C.behaviour.owed self.old.object) self.old).host }
+        ensures kept { IsAt now self.old.link (paying_first C.behaviour now (C.behaviour.owed self.old.object) self.old).host.link }
+        ensures posted { outbox.new ≡ posted self.old.link.identity.key (paying_first C.behaviour now (C.behaviour.owed self.old.object) self.old).pdus outbox.old }
+        ensures few { length (paying_first C.behaviour now (C.behaviour.owed self.old.object) self.old).pdus ≤ 1 }
+        ensures answer { result ≡ goes_on now (C.behaviour.owed self.old.object) self.old }
+    {
+        let Some(report) = self.object.owed() else {
+            return false;
+        };
+        if self.stage.is_completed() && self.post(now, &report, outbox).is_err() {
+            return false;
+        }
+        self.object.paid();
+        true
+    }
+
+    /// The owed reports, as far as the link accepts them.
+    #[tactic(auto, using(crate::proofs::Posting::posting))]
+    pub(crate) fn pay(&mut self, now: Millis, outbox: &mut Outbox)
+        requires at { self.old.link.clock ≡ now }
+        requires room { HasRoomFor 44 outbox.old }
+        ensures host { self.new ≡ (paying C.behaviour now most_owed self.old).host }
+        ensures kept { IsAt now self.old.link (paying C.behaviour now most_owed self.old).host.link }
+        ensures posted { outbox.new ≡ posted self.old.link.identity.key (paying C.behaviour now most_owed self.old).pdus outbox.old }
+        ensures few { length (paying C.behaviour now most_owed self.old).pdus ≤ 20 }
+    {
+        for _round in 0..MOST_OWED {
+            if !self.pay_first(now, outbox) {
+                return;
+            }
+        }
+    }
+
+    /// A connection that has opened begins with the version check.
+    #[tactic(auto, unfolding(crate::specs::Host::risen))]
+    fn rise(&mut self)
+        ensures host { self.new ≡ risen self.old }
+        ensures link { self.new.link ≡ self.old.link }
+    {
+        if self.stage.is_outside() && self.link.is_open() {
+            self.stage = Stage::AwaitsCheck;
+        }
+    }
+
+    /// Where the link has closed, the object is told of the loss.
+    #[tactic(auto, unfolding(crate::specs::Host::fallen))]
+    fn fall(&mut self)
+        ensures host { self.new ≡ fallen C.behaviour self.old }
+        ensures link { self.new.link ≡ self.old.link }
+    {
+        if !self.stage.is_outside() && !self.link.is_open() {
+            self.stage = Stage::Outside;
+            self.object.lost();
+        }
+    }
+
+    /// A datagram has come.
+    #[tactic(auto, using(crate::proofs::Posting::posting), unfolding(crate::specs::Step::hearing, crate::specs::Step::received))]
+    fn hear(&mut self, now: Millis, datagram: &[u8], outbox: &mut Outbox)
+        requires at { self.old.link.clock ≡ now }
+        requires room { HasRoomFor 120 outbox.old }
+        ensures host { self.new ≡ (hearing C.behaviour now datagram.now self.old).host }
+        ensures kept { IsAt now self.old.link (hearing C.behaviour now datagram.now self.old).host.link }
+        ensures posted { outbox.new ≡ posted self.old.link.identity.key (hearing C.behaviour now datagram.now self.old).pdus outbox.old }
+        ensures few { length (hearing C.behaviour now datagram.now self.old).pdus ≤ 76 }
+    {
+        let mut inbox = Inbox::new();
+        self.link.receive(now, datagram, outbox, &mut inbox);
+        self.rise();
+        self.act_all(now, inbox.as_slice(), outbox);
+    }
+
+    /// How a step begins: the clock rules of the link, a loss that they bring, and the object's tick.
+    #[tactic(auto, unfolding(crate::specs::Step::beginning))]
+    fn begin(&mut self, now: Millis)
+        requires { MayStep now self.old.link }
+        ensures host { self.new ≡ beginning C.behaviour now self.old }
+        ensures kept { IsAt now self.old.link (beginning C.behaviour now self.old).link }
+    {
+        self.link.settle(now);
+        self.fall();
+        self.object.tick(now);
+    }
+
+    /// What the step is made for.
+    #[tactic(auto, using(crate::proofs::Posting::posting), unfolding(crate::specs::Step::given))]
+    fn give(&mut self, now: Millis, input: &Input, outbox: &mut Outbox)
+        requires at { self.old.link.clock ≡ now }
+        requires room { HasRoomFor 120 outbox.old }
+        ensures host { self.new ≡ (given C.behaviour now input.now self.old).host }
+        ensures kept { IsAt now self.old.link (given C.behaviour now input.now self.old).host.link }
+        ensures posted { outbox.new ≡ posted self.old.link.identity.key (given C.behaviour now input.now self.old).pdus outbox.old }
+        ensures few { length (given C.behaviour now input.now self.old).pdus ≤ 76 }
+    {
+        match input {
+            Input::Tick => {}
+            Input::Datagram(datagram) => self.hear(now, datagram, outbox),
+            Input::Sense(sense) => self.object.sense(now, *sense),
+        }
+    }
+
+    /// A tick is the link's too.
+    #[tactic(auto, using(crate::proofs::Posting::posting), unfolding(crate::specs::Step::beating))]
+    fn beat(&mut self, now: Millis, input: &Input, outbox: &mut Outbox)
+        requires at { self.old.link.clock ≡ now }
+        requires room { HasRoomFor 24 outbox.old }
+        ensures host { self.new ≡ (beating now input.now self.old).host }
+        ensures kept { IsAt now self.old.link (beating now input.now self.old).host.link }
+        ensures posted { outbox.new ≡ posted self.old.link.identity.key (beating now input.now self.old).pdus outbox.old }
+    {
+        if matches!(input, Input::Tick) {
+            self.link.tick(now, outbox);
+        }
+    }
+
+    /// How a step ends: a loss in the step itself, and the moment at which the link dies.
+    #[tactic(auto, unfolding(crate::specs::Host::keeping))]
+    fn end(&mut self)
+        ensures { self.new ≡ ending C.behaviour self.old }
+    {
+        self.fall();
+        self.object.keep(self.link.alive_until());
+    }
+
+    /// A step at a clock reading that hasn't fallen, with an empty outbox for two links.
+    #[tactic(auto, using(crate::proofs::Posting::posting), unfolding(crate::specs::Step::host_step))]
+    pub(crate) fn step(&mut self, now: Millis, input: &Input, outbox: &mut Outbox)
+        requires clock { MayStep now self.old.link }
+        requires room { HasRoomFor 128 outbox.old }
+        ensures host { self.new ≡ (host_step C.behaviour now input.now self.old).host }
+        ensures posted { outbox.new ≡ posted self.old.link.identity.key (host_step C.behaviour now input.now self.old).pdus outbox.old }
+    {
+        self.begin(now);
+        self.give(now, input, outbox);
+        self.pay(now, outbox);
+        self.beat(now, input, outbox);
+        self.end();
     }
 }
 

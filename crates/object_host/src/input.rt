@@ -3,7 +3,7 @@
 use crate::sense::Sense;
 
 /// What a step of a host is made for.
-#[derive(Debug)]
+#[derive(Clone, Copy, Debug)]
 pub enum Input<'a> {
     /// The clock goes on.
     Tick,

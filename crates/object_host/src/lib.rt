@@ -5,12 +5,16 @@
 mod controller;
 mod course;
 mod host;
+mod hosted;
 mod input;
+mod laws;
 mod report;
 mod sense;
 mod stage;
 
 pub use controller::Controller;
+pub use hosted::Hosted;
 pub use input::Input;
+pub use laws::{own_calls_open_nothing, step_is_calls, step_tells_what_was_taken};
 pub use report::Report;
 pub use sense::Sense;

@@ -1,5 +1,5 @@
--- A signal as its contracts see it. The rules are this project's own.
-use Rattle.std.specs.Prelude.{ℕ, nat_lt, Bool, true, false, Option, Some, None, if◌then◌else◌}
+-- The lamp of a signal as its contracts see it. The rules are this project's own.
+use Rattle.std.specs.Prelude.{ℕ, nat_lt, if◌then◌else◌}
 use Rattle.sci_telegram.specs.declared.message.Aspect.{Aspect}
 use Rattle.sci_telegram.specs.declared.message.Aspect.TheVariants.{Stop, Proceed}
 
@@ -8,8 +8,6 @@ use Rattle.sci_telegram.specs.declared.message.Aspect.TheVariants.{Stop, Proceed
 pub record Lamp : Type 0 where
   pub indicated : Aspect
   pub until : ℕ
-  -- whether it owes a report of the aspect indicated
-  pub owes : Bool
 
 -- an aspect as it is shown at a clock reading: any aspect but stop is shown before the moment alone
 abbrev pub standing : Aspect → ℕ → ℕ → Aspect
@@ -19,3 +17,6 @@ standing Proceed until now = if nat_lt now until then Proceed else Stop
 -- what a signal shows at a clock reading: a function of the clock, not of the steps made until then
 abbrev pub aspect_shown : Lamp → ℕ → Aspect
 aspect_shown lamp now = standing lamp.indicated lamp.until now
+
+abbrev pub new_lamp : Lamp
+new_lamp = record { indicated = Stop; until = 0 }

@@ -6,8 +6,8 @@ use Rattle.std.proofs.lemmas.Bool.{le-ltb, false≢true}
 use Rattle.sci_telegram.specs.declared.message.Aspect.{Aspect}
 use Rattle.sci_telegram.specs.declared.message.Aspect.TheVariants.{Stop, Proceed}
 use Rattle.object_host.specs.Lawful.{IsLawful}
-use Rattle.signal_ctl.specs.Lamp.{Lamp, standing}
-use Rattle.signal_ctl.specs.Controlled.{signal_behaviour, is_stop, told}
+use Rattle.signal_ctl.specs.Lamp.{standing}
+use Rattle.signal_ctl.specs.Signal.{SignalState, signal_behaviour, is_stop, told}
 
 stops : (aspect : Aspect) (until now : ℕ) → until ≤ now → is_stop (standing aspect until now) ≡ true
 stops Stop until now past = refl
@@ -17,14 +17,14 @@ idles : (aspect : Aspect) (until now : ℕ) → is_stop aspect ≡ true → is_s
 idles Stop until now idle = refl
 idles Proceed until now idle = absurd (false≢true idle)
 
-leaves : (aspect : Option Aspect) (lamp : Lamp) → (told aspect lamp).until ≡ lamp.until
-leaves None lamp = refl
-leaves (Some aspect) lamp = refl
+leaves : (aspect : Option Aspect) (signal : SignalState) → (told aspect signal).lamp.until ≡ signal.lamp.until
+leaves None signal = refl
+leaves (Some aspect) signal = refl
 
 pub signal_is_lawful : IsLawful signal_behaviour
 signal_is_lawful = record {
-  dies = λ now lamp past. stops lamp.indicated lamp.until now past;
-  idle_is_restrictive = λ now lamp idle. idles lamp.indicated lamp.until now idle;
+  dies = λ now signal past. stops signal.lamp.indicated signal.lamp.until now past;
+  idle_is_restrictive = λ now signal idle. idles signal.lamp.indicated signal.lamp.until now idle;
   loss_idles = λ lamp. refl;
   loss_forgets = λ lamp. refl;
   tick_idles = λ now lamp idle. idle;
@@ -32,7 +32,7 @@ signal_is_lawful = record {
   keep_idles = λ moment lamp idle. idle;
   paid_idles = λ lamp idle. idle;
   keeps = λ moment lamp. le_refl moment;
-  take_keeps = λ now telegram lamp. leaves _ lamp;
+  take_keeps = λ now telegram signal. leaves _ signal;
   tick_keeps = λ now lamp. refl;
   sense_keeps = λ now sense lamp. refl;
   paid_keeps = λ lamp. refl;

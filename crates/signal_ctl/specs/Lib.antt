@@ -1,3 +1,3 @@
 pub mod Lamp
-pub mod Controlled
+pub mod Signal
 pub mod Law

@@ -2,6 +2,11 @@
 #![tactic(auto)]
 
 mod lamp;
+mod signal;
 
-pub use lamp::Signal;
+pub use lamp::Lamp;
 pub use sci_telegram::Aspect;
+pub use signal::Signal;
+
+#[cfg(test)]
+mod tests;

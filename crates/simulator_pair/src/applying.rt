@@ -19,7 +19,7 @@ use crate::node::{Call, Node};
 use crate::parts::Parts;
 use rasta_core_link::{Millis, Role};
 use rasta_pdu::is_intact;
-use signal_ctl::Signal;
+use signal_ctl::Lamp;
 use std::alloc::AllocError;
 
 /// The greatest true time and the greatest clock, in microseconds.
@@ -208,7 +208,7 @@ impl Parts {
             Role::Client => self.client.restart(link, clock, moment),
             Role::Server => {
                 self.server.restart(link, clock, moment);
-                self.lamp = Signal::new();
+                self.lamp = Lamp::new();
             }
         }
         Ok(())

@@ -5,7 +5,7 @@ ghost use Rattle.simulator_pair.specs.Pair.{indicated_by, indicated_after, unles
 
 use rasta_core_link::Link;
 use rasta_pdu::Item;
-use signal_ctl::{Aspect, Signal};
+use signal_ctl::{Aspect, Lamp};
 
 /// The item that indicates proceed, and the one that indicates stop; others leave the lamp as it is.
 const PROCEED: [u8; 1] = [0x04];
@@ -13,7 +13,7 @@ const PROCEED: [u8; 1] = [0x04];
 const STOP: [u8; 1] = [0x01];
 
 /// Indicates what an item says.
-fn indicate(lamp: &mut Signal, item: &Item)
+fn indicate(lamp: &mut Lamp, item: &Item)
     ensures { lamp.new ≡ record lamp.old { indicated = indicated_by item.now lamp.old.indicated } }
 {
     let bytes = item.bytes();
@@ -25,7 +25,7 @@ fn indicate(lamp: &mut Signal, item: &Item)
 }
 
 /// Indicates what items say, one after the other.
-pub(crate) fn indicate_all(lamp: &mut Signal, items: &[Item])
+pub(crate) fn indicate_all(lamp: &mut Lamp, items: &[Item])
     ensures { lamp.new ≡ record lamp.old { indicated = indicated_after items.now lamp.old.indicated } }
 {
     for item in items {
@@ -34,7 +34,7 @@ pub(crate) fn indicate_all(lamp: &mut Signal, items: &[Item])
 }
 
 /// The lamp is told of a loss where the link is closed.
-pub(crate) fn lose_if_closed(lamp: &mut Signal, link: &Link)
+pub(crate) fn lose_if_closed(lamp: &mut Lamp, link: &Link)
     ensures { lamp.new ≡ record lamp.old { indicated = unless_closed link.now lamp.old.indicated } }
 {
     if !link.is_open() {

@@ -18,7 +18,7 @@ use rasta_core_time::{
     every_event_keeps_time, items_are_fresh, opening_is_new, own_connection, starts_in_time,
 };
 use rasta_pdu::{Item, Key, intact_is_tested};
-use signal_ctl::{Aspect, Signal};
+use signal_ctl::{Aspect, Lamp};
 use std::alloc::{AllocError, Global};
 use std::marker::Model;
 
@@ -80,7 +80,7 @@ fn new_parts(alloc: Global) -> Result<Parts, AllocError>
         client: new_node(alloc, client),
         server: new_node(alloc, server),
         sent: Vec::new(alloc),
-        lamp: Signal::new(),
+        lamp: Lamp::new(),
         outbox,
         inbox: Inbox::new(),
         room: 0,

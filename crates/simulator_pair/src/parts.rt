@@ -10,7 +10,7 @@ use crate::node::{Call, Node};
 use crate::{bag, lamp};
 use rasta_core_ends::Sent;
 use rasta_core_link::{Inbox, Outbox, Role, SendFault};
-use signal_ctl::Signal;
+use signal_ctl::Lamp;
 use std::alloc::Global;
 
 /// All that a pair consists of.
@@ -22,7 +22,7 @@ pub(crate) struct Parts {
     pub(crate) server: Node,
     /// Every datagram sent, oldest first; those not lost are the bag.
     pub(crate) sent: Vec<Sent>,
-    pub(crate) lamp: Signal,
+    pub(crate) lamp: Lamp,
     /// What the present call hands out, and the items that it took; both empty between calls.
     pub(crate) outbox: Outbox,
     pub(crate) inbox: Inbox,

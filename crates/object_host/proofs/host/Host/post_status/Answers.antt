@@ -1,5 +1,5 @@
 -- each round tells one report, and the first place without one ends the loop
-use Rattle.std.proofs.Common.{◌≡◌, ap, sym, ◌∙◌, arith}
+use Rattle.std.proofs.Common.{ap, sym, ◌∙◌, arith}
 use Rattle.object_host.specs.Step.{telling_status}
 use Rattle.object_host.proofs.Status.{nothing_at, nothing_at_end, telling_next}
 use Rattle.object_host.proofs.UnderWay.{IsDone, begins, comes_to_end}
@@ -12,13 +12,13 @@ loop-place-init g c = record { way = begins _ _ _ _ c.requires.at }
 pub loop-place-preserved : goal.loop-place-preserved
 loop-place-preserved g c =
     telling_next g.C.Controller.behaviour _ _ _ _ _ _ c.in-Some.report _ _ c.loop-place.invariant c.loop-place-test.true
-      (ap (λ h. g.C.Controller.behaviour.status c.loop-place.place h.object) (sym c.self.view_is) ∙ sym c.status.ensures ∙ c.in-Some.is)
-      (record { host = c.post.ensures.host; kept = c.post.ensures.kept; posts = c.post.ensures.posted; few = c.post.ensures.few })
+    (ap (λ h. g.C.Controller.behaviour.status c.loop-place.place h.object) (sym c.self.view_is) ∙ sym c.status.ensures ∙ c.in-Some.is)
+    (record { host = c.post.ensures.host; kept = c.post.ensures.kept; posts = c.post.ensures.posted; few = c.post.ensures.few })
 
 told_before : (g : Over) (c : goal.In-None g) → IsDone c.args.now c.args.self.now c.args.outbox.now (telling_status g.C.Controller.behaviour c.args.now c.args.self.now) c.loop-place.place c.loop-place.self c.loop-place.outbox
 told_before g c = comes_to_end _ _ _ _ _ _ _ _ c.loop-place.invariant.way
     (nothing_at g.C.Controller.behaviour _ _ _ c.loop-place-test.true
-      (ap (λ h. g.C.Controller.behaviour.status c.loop-place.place h.object) (sym c.self.view_is) ∙ sym c.status.ensures ∙ c.in-None.is))
+    (ap (λ h. g.C.Controller.behaviour.status c.loop-place.place h.object) (sym c.self.view_is) ∙ sym c.status.ensures ∙ c.in-None.is))
 
 pub returns-in-None-clause-host : goal.returns-in-None-clause-host
 returns-in-None-clause-host g c = (told_before g c).ends

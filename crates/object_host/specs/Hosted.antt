@@ -1,0 +1,38 @@
+-- What is always true of a host between its steps, and how it is made.
+use Rattle.std.specs.Prelude.{◌≡◌, ℕ, ◌≤◌, not, true, false, List, []}
+use Rattle.rasta_core_link.specs.State.{is_open}
+use Rattle.rasta_core_link.specs.Clock.{alive_until}
+use Rattle.rasta_core_link.specs.Calls.{created}
+use Rattle.rasta_core_link.specs.Outbox.{OutboxState}
+use Rattle.rasta_core_link.specs.declared.identity.Identity.{Identity}
+use Rattle.object_host.specs.Behaviour.{Behaviour}
+use Rattle.object_host.specs.Host.{HostState, is_completed, is_outside, keeping}
+use Rattle.object_host.specs.declared.stage.Stage.TheVariants as stage
+
+pub record IsHosted {Object : Type 0} (does : Behaviour Object) (host : HostState Object) : Type 0 where
+  -- it is outside exactly where its link is in no connection
+  pub outside : is_outside host.stage ≡ not (is_open host.link.phase)
+  -- the object doesn't outlive the link
+  pub kept : does.until host.object ≤ alive_until host.link
+  -- outside, in Start and in the initialisation the object is idle
+  pub idle : is_completed host.stage ≡ false → does.is_idle host.object ≡ true
+
+-- a host of a new link: its object is as after a loss
+unfoldable pub new_host : {Object : Type 0} → Behaviour Object → Identity → List ℕ → List ℕ → ℕ → ℕ → Object → HostState Object
+new_host does identity own_name peer_name first_sequence_number now object =
+    keeping does (record {
+      link = created identity first_sequence_number now;
+      stage = stage.Outside;
+      object = does.after_loss object;
+      own_name = own_name;
+      peer_name = peer_name;
+    })
+
+-- a host as its callers see it, with the datagrams that its last step handed out
+pub record HostedState (Object : Type 0) : Type 0 where
+  pub host : HostState Object
+  pub outbox : OutboxState
+
+-- an outbox for two links: no step of a host hands out more
+abbrev pub empty_outbox : OutboxState
+empty_outbox = record { datagrams = []; capacity = 128 }

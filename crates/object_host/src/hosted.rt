@@ -1,0 +1,137 @@
+//! A link, the initialisation and one field object.
+
+ghost use Rattle.std.specs.Prelude.{◌≡◌, ◌≤◌, ◌↔◌, ℕ, true, false, [], drop, slice_get, IsTrue, IfOk};
+ghost use Rattle.std.specs.Option.{option_map};
+ghost use Rattle.rasta_core_link.specs.Calls.{MayStep};
+ghost use Rattle.rasta_core_link.specs.Clock.{alive_until};
+ghost use Rattle.rasta_core_link.specs.Outbox.{posted};
+ghost use Rattle.rasta_core_link.specs.declared.identity.Role.TheVariants.{Server};
+
+use crate::controller::Controller;
+use crate::host::Host;
+use crate::input::Input;
+use crate::stage::Stage;
+use rasta_core_link::{Link, Millis, Outbox};
+use rasta_pdu::{Datagram, Key};
+use sci_telegram::Name;
+use std::alloc::{AllocError, Global};
+use std::marker::Model;
+
+/// An object controller: the server of a link, the initialisation after each opening, and one field object. The
+/// object is restrictive at and past the moment at which the link dies, and as long as the initialisation of a
+/// connection isn't completed, whatever its own program does.
+#[derive(Drop)]
+pub struct Hosted<C: Controller> {
+    host: Host<C>,
+    outbox: Outbox,
+}
+
+impl<C: Controller> Model for Hosted<C> {
+    ghost use Rattle.std.specs.Prelude.{◌≡◌};
+    ghost use Rattle.object_host.specs.Hosted.{HostedState, IsHosted};
+
+    ghost Value = { HostedState C };
+
+    ghost view = { λ h. record { host = h.host; outbox = h.outbox } };
+
+    ghost invariant = { λ h. IsHosted C.behaviour h.host × (h.outbox.capacity ≡ 128) };
+}
+
+/// Takes out all datagrams.
+fn empty(outbox: &mut Outbox)
+    ensures { outbox.new ≡ record outbox.old { datagrams = [] } }
+{
+    while let Some(_datagram) = outbox.take_first() {}
+}
+
+impl<C: Controller> Hosted<C> {
+    ghost use Rattle.object_host.specs.Host.{is_completed};
+    ghost use Rattle.object_host.specs.Step.{host_step};
+    ghost use Rattle.object_host.specs.Hosted.{empty_outbox, new_host};
+
+    /// A controller of these names and identities, with a link that isn't in a connection. Its PDUs are numbered
+    /// from `first_sequence_number` on, and `now` is its clock. The object is as after a loss.
+    #[tactic(auto, unfolding(crate::specs::Hosted::new_host, crate::specs::Host::keeping))]
+    pub fn new(
+        alloc: Global,
+        own: u32,
+        partner: u32,
+        own_name: Name,
+        peer_name: Name,
+        key: Key,
+        first_sequence_number: u32,
+        now: Millis,
+        object: C,
+    ) -> Result<Hosted<C>, AllocError>
+        ensures { IfOk result (λ hosted. hosted ≡ record { host = new_host C.behaviour (record { role = Server; own = own; partner = partner; key = key }) own_name peer_name first_sequence_number now object; outbox = empty_outbox }) }
+    {
+        let link = Link::server(alloc, own, partner, key, first_sequence_number, now)?;
+        let outbox = Outbox::for_links(alloc, OWN_LINKS)?;
+        let mut object = object;
+        object.lost();
+        object.keep(link.alive_until());
+        let host = Host {
+            link,
+            stage: Stage::Outside,
+            object,
+            own_name,
+            peer_name,
+        };
+        Ok(Hosted { host, outbox })
+    }
+
+    /// Whether a step at this clock reading may be made: the clock hasn't fallen.
+    pub fn may_step(&self, now: Millis) -> bool
+        ensures { IsTrue result ↔ MayStep now self.now.host.link }
+    {
+        self.host.link.may_step(now)
+    }
+
+    /// The field object. At and past the moment at which the link dies it is restrictive, stepped or not, and as
+    /// long as the initialisation isn't completed at every clock reading.
+    pub fn object(&self) -> &C
+        ensures object { result.now ≡ self.now.host.object }
+        ensures dies { (now : ℕ) → alive_until self.now.host.link ≤ now → C.behaviour.is_restrictive now self.now.host.object ≡ true }
+        ensures uninitialised { (now : ℕ) → is_completed self.now.host.stage ≡ false → C.behaviour.is_restrictive now self.now.host.object ≡ true }
+    {
+        &self.host.object
+    }
+
+    /// The link, to be read.
+    pub fn link(&self) -> &Link
+        ensures { result.now ≡ self.now.host.link }
+    {
+        &self.host.link
+    }
+
+    /// A step at a clock reading: the clock with the object's tick, the input, the owed reports, and on a tick the
+    /// link's. The outbox then has the datagrams of this step alone.
+    #[tactic(auto, using(crate::proofs::Posting::posting))]
+    pub fn step(&mut self, now: Millis, input: Input)
+        requires { MayStep now self.old.host.link }
+        ensures host { self.new.host ≡ (host_step C.behaviour now input.entry self.old.host).host }
+        ensures posted { self.new.outbox ≡ posted self.old.host.link.identity.key (host_step C.behaviour now input.entry self.old.host).pdus empty_outbox }
+    {
+        empty(&mut self.outbox);
+        self.host.step(now, &input, &mut self.outbox);
+    }
+
+    /// The datagrams that the last step handed out and that weren't taken out since.
+    pub fn outbox(&self) -> &Outbox
+        ensures { result.now ≡ self.now.outbox }
+    {
+        &self.outbox
+    }
+
+    /// Takes the oldest of them out.
+    pub fn take_first(&mut self) -> Option<Datagram>
+        ensures value { option_map (λ d. d.items) result ≡ slice_get self.old.outbox.datagrams 0 }
+        ensures host { self.new.host ≡ self.old.host }
+        ensures rest { self.new.outbox ≡ record self.old.outbox { datagrams = drop 1 self.old.outbox.datagrams } }
+    {
+        self.outbox.take_first()
+    }
+}
+
+/// For how many links the outbox has room: a step hands out fewer than two links may.
+const OWN_LINKS: usize = 2;
