@@ -8,7 +8,6 @@ mod fault;
 mod order;
 mod passage;
 mod row;
-mod scratch;
 mod sections;
 mod sides;
 mod signals;
