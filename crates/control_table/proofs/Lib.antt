@@ -6,3 +6,4 @@ pub mod Judged
 pub mod SideLaws
 pub mod OrderLaws
 pub mod TableLaws
+pub mod ConflictLaws

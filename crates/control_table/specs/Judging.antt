@@ -310,3 +310,32 @@ rows_from l n (r ∷ routes) = do
 
 unfoldable pub rows_of : Plan → Result (List TableRow) TableFault
 rows_of l = rows_from l 0 l.routes
+
+-- The row of a route in the table of a layout.
+abbrev pub IsRowAt : Plan → RouteId → TableRow → Type 0
+IsRowAt l a row = (rows : List TableRow) × (rows_of l ≡ Ok rows) × (slice_get rows a.0 ≡ Some row)
+
+-- ---- conflicts
+
+abbrev pub entry_of : List RouteEntry → RouteId → Option SignalId
+entry_of routes a = option_map (λ r. r.entry) (slice_get routes a.0)
+
+abbrev pub enters_at : List RouteEntry → RouteId → SignalId → Bool
+enters_at routes b s = some_and (λ t. t.0 == s.0) (entry_of routes b)
+
+abbrev pub same_entry : List RouteEntry → RouteId → RouteId → Bool
+same_entry routes a b = some_and (λ s. enters_at routes b s) (entry_of routes a)
+
+abbrev pub has_section : List SectionId → SectionId → Bool
+has_section ss s = list_any (λ t. same_section t s) ss
+
+abbrev pub share_section : List SectionId → List SectionId → Bool
+share_section ss ts = list_any (λ s. has_section ts s) ss
+
+abbrev pub require_differently : List (PointId × Side) → List (PointId × Side) → Bool
+require_differently ms ns = list_any (λ n. has_need ns (n.0, other n.1)) ms
+
+-- two routes of these rows conflict
+unfoldable pub conflicts : List RouteEntry → RouteId → RouteId → TableRow → TableRow → Bool
+conflicts routes a b first second =
+    not (a.0 == b.0) && (same_entry routes a b || (share_section first.sections second.sections || (require_differently first.required second.required || (lists routes a b || lists routes b a))))

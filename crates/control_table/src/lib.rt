@@ -3,11 +3,11 @@
 #![tactic(auto)]
 
 mod checked;
+mod conflicts;
 mod fault;
 mod order;
 mod passage;
 mod row;
-mod scratch;
 mod sections;
 mod sides;
 mod signals;

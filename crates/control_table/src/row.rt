@@ -43,6 +43,17 @@ impl Row {
     }
 }
 
+/// Equal rows.
+pub(crate) fn copy_rows(alloc: Global, rows: &[Row]) -> Result<Vec<Row>, AllocError>
+    ensures { IfOk result (λ v. v.items ≡ rows.now) }
+{
+    let mut copies = Vec::new(alloc);
+    for row in rows {
+        copies.push(row.copy(alloc)?)?;
+    }
+    Ok(copies)
+}
+
 /// The path of a route, unless it is broken.
 #[tactic(auto, unfolding(crate::specs::Judging::path_of))]
 fn path_of(
