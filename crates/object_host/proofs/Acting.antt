@@ -19,18 +19,18 @@ module _ {Object : Type 0} (does : Behaviour Object) where
 
   pub no_items : (now : ℕ) (host : HostState Object) → IsNothing host (acting_all does now [] host)
   unfolding acting_all
-  no_items now host = record { stays = refl; posts_none = refl }
+  no_items now host = record { stays = refl; posts_none = refl; calls_none = refl }
 
   -- a closed link drops what is left
   pub closed_drops : (now : ℕ) (items : List (List ℕ)) (host : HostState Object) → is_open host.link.phase ≡ false → IsNothing host (acting_all does now items host)
   unfolding acting_all
-  closed_drops now [] host closed = record { stays = refl; posts_none = refl }
-  closed_drops now (item ∷ others) host closed = rw closed (record { stays = refl; posts_none = refl })
+  closed_drops now [] host closed = record { stays = refl; posts_none = refl; calls_none = refl }
+  closed_drops now (item ∷ others) host closed = rw closed (record { stays = refl; posts_none = refl; calls_none = refl })
 
   first_item : (now : ℕ) (item : List ℕ) (others : List (List ℕ)) (host : HostState Object) → is_open host.link.phase ≡ true →
       IsFirst (acting_all does now (item ∷ others) host) (acting does now item (reading item) host) (acting_all does now others (acting does now item (reading item) host).host)
   unfolding acting_all
-  first_item now item others host opened = rw opened (record { ends_same = refl; pdus_joined = refl })
+  first_item now item others host opened = rw opened (record { ends_same = refl; pdus_joined = refl; calls_joined = refl })
 
   pub nothing_at_end : (now place : ℕ) (items : List (List ℕ)) (host : HostState Object) → length items ≤ place → IsNothing host (left_at now items place host)
   nothing_at_end now place items host past =

@@ -25,16 +25,16 @@ module _ {Object : Type 0} (does : Behaviour Object) where
   going : (now : ℕ) (rounds : ℕ) (host : HostState Object) → goes_on now (does.owed host.object) host ≡ true →
       IsFirst (paying does now (suc rounds) host) (first_of now host) (paying does now rounds (first_of now host).host)
   unfolding paying
-  going now rounds host on = rw on (record { ends_same = refl; pdus_joined = refl })
+  going now rounds host on = rw on (record { ends_same = refl; pdus_joined = refl; calls_joined = refl })
 
   stopping : (now : ℕ) (rounds : ℕ) (host : HostState Object) → goes_on now (does.owed host.object) host ≡ false →
       IsFirst (paying does now (suc rounds) host) (first_of now host) (silent (first_of now host).host)
   unfolding paying
-  stopping now rounds host off = rw off (record { ends_same = refl; pdus_joined = sym (append-nil (first_of now host).pdus) })
+  stopping now rounds host off = rw off (record { ends_same = refl; pdus_joined = sym (append-nil (first_of now host).pdus); calls_joined = sym (append-nil (first_of now host).calls) })
 
   pub nothing_at_end : (now round : ℕ) (host : HostState Object) → round ≡ most_owed → IsNothing host (left_at now round host)
   unfolding paying
-  nothing_at_end now round host last = subst (λ r. IsNothing host (left_at now r host)) (sym last) (record { stays = refl; posts_none = refl })
+  nothing_at_end now round host last = subst (λ r. IsNothing host (left_at now r host)) (sym last) (record { stays = refl; posts_none = refl; calls_none = refl })
 
   pub paying_next : (now round : ℕ) (start : HostState Object) (box : OutboxState) (host : HostState Object) (outbox : OutboxState) (new : HostState Object) (out : OutboxState) →
       IsPaying now start box round host outbox → round < most_owed → goes_on now (does.owed host.object) host ≡ true →
@@ -50,4 +50,4 @@ module _ {Object : Type 0} (does : Behaviour Object) where
   paying_stops now round start box host outbox new out state within off made =
       let split = subst (λ n. IsFirst (paying does now n host) (first_of now host) (silent (first_of now host).host)) (sym (more round within)) (stopping now (most_owed - (round + 1)) host off)
       in let next = loops.goes_on now start box _ round 1 host outbox _ _ _ new out state.way split made
-      in loops.comes_to_end now start box _ (round + 1) new out _ next (record { stays = sym made.host; posts_none = refl })
+      in loops.comes_to_end now start box _ (round + 1) new out _ next (record { stays = sym made.host; posts_none = refl; calls_none = refl })

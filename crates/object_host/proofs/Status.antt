@@ -31,6 +31,7 @@ module _ {Object : Type 0} (does : Behaviour Object) where
   nothing now host reports none = record {
     stays = ap (λ rs. (posting_all now rs host).host) none;
     posts_none = ap (λ rs. (posting_all now rs host).pdus) none;
+    calls_none = ap (λ rs. (posting_all now rs host).calls) none;
   }
 
   pub nothing_at : (now place : ℕ) (host : HostState Object) → place < most_objects → does.status place host.object ≡ None → IsNothing host (left_at now place host)
@@ -50,6 +51,7 @@ module _ {Object : Type 0} (does : Behaviour Object) where
       in record {
         ends_same = ap (λ rs. (posting_all now rs host).host) reports;
         pdus_joined = ap (λ rs. (posting_all now rs host).pdus) reports;
+        calls_joined = ap (λ rs. (posting_all now rs host).calls) reports;
       }
 
   pub telling_next : (now : ℕ) (start : HostState Object) (box : OutboxState) (place : ℕ) (host : HostState Object) (outbox : OutboxState) (report : Report) (new : HostState Object) (out : OutboxState) →

@@ -1,9 +1,18 @@
 -- A loop that does part after part: what is left to do from here does what all of it does from the start.
-use Rattle.std.proofs.Common.{◌≡◌, ℕ, ◌+◌, ◌≤◌, [], ◌++◌, length, arith, refl, ap, sym, ◌∙◌}
+use Rattle.std.proofs.Common.{◌≡◌, ℕ, ◌+◌, ◌≤◌, List, [], ◌∷◌, ◌++◌, length, arith, refl, ap, sym, ◌∙◌, subst}
 use Rattle.rasta_core_link.specs.Calls.{IsAt}
 use Rattle.rasta_core_link.specs.Outbox.{OutboxState, posted}
-use Rattle.object_host.specs.Host.{HostState, Part}
+use Rattle.object_host.specs.Host.{HostState, LinkCall, Part, Ticks, Closes, Sends, Receives}
+use Rattle.object_host.specs.Made.{AreItems}
 use Rattle.object_host.proofs.Posting.{posted_nothing, posted_more, length-posted, capacity-posted}
+
+-- two lists of calls that send items
+pub items_joined : (first others : List LinkCall) → AreItems first → AreItems others → AreItems (first ++ others)
+items_joined [] others one more = more
+items_joined (Ticks ∷ calls) others one more = items_joined calls others one more
+items_joined (Closes why ∷ calls) others one more = items_joined calls others one more
+items_joined (Sends item ∷ calls) others one more = (one.0, items_joined calls others one.1 more)
+items_joined (Receives bytes ∷ calls) others one more = items_joined calls others one more
 
 module _ {Object : Type 0} where
   -- so far at most so many PDUs were handed out
@@ -14,6 +23,7 @@ module _ {Object : Type 0} where
     pub few : length outbox.datagrams ≤ length box.datagrams + most
     pub ends_same : left.host ≡ all.host
     pub posts_same : posted start.link.identity.key left.pdus outbox ≡ posted start.link.identity.key all.pdus box
+    pub items_kept : AreItems left.calls → AreItems all.calls
 
   -- all was done
   pub record IsDone (now : ℕ) (start : HostState Object) (box : OutboxState) (all : Part Object) (most : ℕ) (host : HostState Object) (outbox : OutboxState) : Type 0 where
@@ -21,16 +31,19 @@ module _ {Object : Type 0} where
     pub kept : IsAt now start.link all.host.link
     pub posts : outbox ≡ posted start.link.identity.key all.pdus box
     pub few : length all.pdus ≤ most
+    pub items : AreItems all.calls
 
   -- a part that leaves nothing to do
   pub record IsNothing (host : HostState Object) (left : Part Object) : Type 0 where
     pub stays : left.host ≡ host
     pub posts_none : left.pdus ≡ []
+    pub calls_none : left.calls ≡ []
 
   -- a part of what is left, and what is left behind it
   pub record IsFirst (left first next : Part Object) : Type 0 where
     pub ends_same : left.host ≡ next.host
     pub pdus_joined : left.pdus ≡ first.pdus ++ next.pdus
+    pub calls_joined : left.calls ≡ first.calls ++ next.calls
 
   -- a part was done: how a function's clauses say it
   pub record WasMade (now most : ℕ) (old : HostState Object) (box : OutboxState) (part : Part Object) (new : HostState Object) (outbox : OutboxState) : Type 0 where
@@ -38,6 +51,7 @@ module _ {Object : Type 0} where
     pub kept : IsAt now old.link part.host.link
     pub posts : outbox ≡ posted old.link.identity.key part.pdus box
     pub few : length part.pdus ≤ most
+    pub items : AreItems part.calls
 
   pub begins : (now : ℕ) (start : HostState Object) (box : OutboxState) (all : Part Object) → start.link.clock ≡ now → IsUnderWay now start box all 0 start box all
   begins now start box all at = record {
@@ -47,6 +61,7 @@ module _ {Object : Type 0} where
     few = omega arith;
     ends_same = refl;
     posts_same = refl;
+    items_kept = λ items. items;
   }
 
   pub goes_on : (now : ℕ) (start : HostState Object) (box : OutboxState) (all : Part Object) (most more : ℕ) (host : HostState Object) (outbox : OutboxState) (left first next : Part Object) (new : HostState Object) (out : OutboxState) →
@@ -66,6 +81,7 @@ module _ {Object : Type 0} where
             ap (λ b. posted start.link.identity.key next.pdus b) (made.posts ∙ ap (λ k. posted k first.pdus outbox) key_is)
             ∙ posted_more start.link.identity.key next.pdus first.pdus outbox
             ∙ ap (λ pdus. posted start.link.identity.key pdus outbox) (sym split.pdus_joined) ∙ way.posts_same;
+        items_kept = λ items. way.items_kept (subst AreItems (sym split.calls_joined) (items_joined first.calls next.calls made.items items));
       }
 
   pub comes_to_end : (now : ℕ) (start : HostState Object) (box : OutboxState) (all : Part Object) (most : ℕ) (host : HostState Object) (outbox : OutboxState) (left : Part Object) →
@@ -85,4 +101,5 @@ module _ {Object : Type 0} where
         };
         posts = out;
         few = omega (arith, counted, way.few);
+        items = way.items_kept (subst AreItems (sym nothing.calls_none) tt);
       }

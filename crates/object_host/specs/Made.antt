@@ -1,5 +1,6 @@
 -- What the calls that a host makes of its link do, one after another, and what the items taken in them say.
 use Rattle.std.specs.Prelude.{◌≡◌, ℕ, Bool, true, false, List, [], ◌∷◌, ◌++◌, Result, Ok, Err, if◌then◌else◌}
+use Rattle.rasta_pdu.specs.Items.{IsItem}
 use Rattle.sci_telegram.specs.Reading.{reading}
 use Rattle.sci_telegram.specs.declared.fault.SciFault.{SciFault}
 use Rattle.sci_telegram.specs.declared.message.Message.{Message}
@@ -40,6 +41,14 @@ abbrev pub AreCallsFor : Input → List LinkCall → Type 0
 AreCallsFor inputs.Tick calls = AreOwn calls
 AreCallsFor (inputs.Datagram bytes) calls = (others : List LinkCall) × (calls ≡ Receives bytes.now ∷ others) × AreOwn others
 AreCallsFor (inputs.Sense sense) calls = AreOwn calls
+
+-- what is sent are items, which a link can carry
+abbrev pub AreItems : List LinkCall → Type 0
+AreItems [] = Unit {0}
+AreItems (Ticks ∷ others) = AreItems others
+AreItems (Closes why ∷ others) = AreItems others
+AreItems (Sends item ∷ others) = IsItem item × AreItems others
+AreItems (Receives bytes ∷ others) = AreItems others
 
 -- the items that calls take
 abbrev pub items_taken_by : ℕ → LinkCall → LinkState → List (List ℕ)

@@ -5,6 +5,7 @@ ghost use Rattle.rasta_core_link.specs.Calls.{MayStep, IsAt, answer_to_send};
 ghost use Rattle.rasta_core_link.specs.Outbox.{HasRoomFor, posted};
 ghost use Rattle.object_host.specs.Host.{fallen, risen, said};
 ghost use Rattle.object_host.specs.Course.{course};
+ghost use Rattle.object_host.specs.Made.{AreItems};
 ghost use Rattle.object_host.specs.Step.{acting, acting_all, answering, beating, beginning, commanding, ending, following, given, hearing, host_step, initialising, is_from_peer, goes_on, is_same_protocol, most_owed, paying, paying_first, posting, telling_status, violating};
 ghost use Rattle.sci_telegram.specs.Reading.{reading};
 
@@ -68,6 +69,7 @@ impl<C: Controller> Host<C> {
         ensures posted { outbox.new ≡ posted self.old.link.identity.key (posting now report.now self.old).pdus outbox.old }
         ensures answer { result ≡ answer_to_send now self.old.link }
         ensures few { length (posting now report.now self.old).pdus ≤ 1 }
+        ensures items { AreItems (posting now report.now self.old).calls }
     {
         let item = sci_telegram::write(&self.telegram(report));
         self.link.send(now, &item, outbox)
@@ -82,6 +84,7 @@ impl<C: Controller> Host<C> {
         ensures kept { IsAt now self.old.link (violating now self.old).host.link }
         ensures posted { outbox.new ≡ posted self.old.link.identity.key (violating now self.old).pdus outbox.old }
         ensures few { length (violating now self.old).pdus ≤ 1 }
+        ensures items { AreItems (violating now self.old).calls }
     {
         self.link.close(now, Reason::State, outbox);
     }
@@ -105,6 +108,7 @@ impl<C: Controller> Host<C> {
         ensures kept { IsAt now self.old.link (answering C.behaviour now version self.old).host.link }
         ensures posted { outbox.new ≡ posted self.old.link.identity.key (answering C.behaviour now version self.old).pdus outbox.old }
         ensures few { length (answering C.behaviour now version self.old).pdus ≤ 1 }
+        ensures items { AreItems (answering C.behaviour now version self.old).calls }
     {
         let (agreement, stage) = if version == OWN_VERSION {
             (Agreement::Match, Stage::AwaitsRequest)
@@ -120,7 +124,7 @@ impl<C: Controller> Host<C> {
     }
 
     /// The object is told a telegram. One that doesn't fit closes the link.
-    #[tactic(auto, using(crate::proofs::Posting::posting), unfolding(crate::specs::Step::commanding))]
+    #[tactic(auto, using(crate::proofs::Posting::posting, crate::proofs::UnderWay::items_joined), unfolding(crate::specs::Step::commanding))]
     fn command(&mut self, now: Millis, telegram: &Telegram, outbox: &mut Outbox)
         requires clock { MayStep now self.old.link }
         requires at { self.old.link.clock ≡ now }
@@ -129,6 +133,7 @@ impl<C: Controller> Host<C> {
         ensures kept { IsAt now self.old.link (commanding C.behaviour now telegram.now self.old).host.link }
         ensures posted { outbox.new ≡ posted self.old.link.identity.key (commanding C.behaviour now telegram.now self.old).pdus outbox.old }
         ensures few { length (commanding C.behaviour now telegram.now self.old).pdus ≤ 1 }
+        ensures items { AreItems (commanding C.behaviour now telegram.now self.old).calls }
     {
         if !self.object.take(now, telegram) {
             self.violate(now, outbox);
@@ -136,7 +141,7 @@ impl<C: Controller> Host<C> {
     }
 
     /// The initial status: the report of each object, in the controller's order.
-    #[tactic(auto, using(crate::proofs::Posting::posting))]
+    #[tactic(auto, using(crate::proofs::Posting::posting, crate::proofs::UnderWay::items_joined))]
     fn post_status(&mut self, now: Millis, outbox: &mut Outbox)
         requires at { self.old.link.clock ≡ now }
         requires room { HasRoomFor 40 outbox.old }
@@ -144,6 +149,7 @@ impl<C: Controller> Host<C> {
         ensures kept { IsAt now self.old.link (telling_status C.behaviour now self.old).host.link }
         ensures posted { outbox.new ≡ posted self.old.link.identity.key (telling_status C.behaviour now self.old).pdus outbox.old }
         ensures few { length (telling_status C.behaviour now self.old).pdus ≤ 16 }
+        ensures items { AreItems (telling_status C.behaviour now self.old).calls }
     {
         for place in 0..MOST_OBJECTS {
             match self.object.status(place) {
@@ -156,7 +162,7 @@ impl<C: Controller> Host<C> {
     }
 
     /// The initialisation: start, the state of each object, completed.
-    #[tactic(auto, using(crate::proofs::Posting::posting), unfolding(crate::specs::Step::initialising))]
+    #[tactic(auto, using(crate::proofs::Posting::posting, crate::proofs::UnderWay::items_joined), unfolding(crate::specs::Step::initialising))]
     fn initialise(&mut self, now: Millis, outbox: &mut Outbox)
         requires at { self.old.link.clock ≡ now }
         requires room { HasRoomFor 42 outbox.old }
@@ -164,6 +170,7 @@ impl<C: Controller> Host<C> {
         ensures kept { IsAt now self.old.link (initialising C.behaviour now self.old).host.link }
         ensures posted { outbox.new ≡ posted self.old.link.identity.key (initialising C.behaviour now self.old).pdus outbox.old }
         ensures few { length (initialising C.behaviour now self.old).pdus ≤ 18 }
+        ensures items { AreItems (initialising C.behaviour now self.old).calls }
     {
         let start = self.say(Initialisation::StartInitialisation);
         let _ = self.post(now, &start, outbox);
@@ -182,6 +189,7 @@ impl<C: Controller> Host<C> {
         ensures kept { (item : List ℕ) → IsAt now self.old.link (following C.behaviour now item telegram.now (course telegram.now.message self.old.stage) self.old).host.link }
         ensures posted { (item : List ℕ) → outbox.new ≡ posted self.old.link.identity.key (following C.behaviour now item telegram.now (course telegram.now.message self.old.stage) self.old).pdus outbox.old }
         ensures few { (item : List ℕ) → length (following C.behaviour now item telegram.now (course telegram.now.message self.old.stage) self.old).pdus ≤ 18 }
+        ensures items { (item : List ℕ) → AreItems (following C.behaviour now item telegram.now (course telegram.now.message self.old.stage) self.old).calls }
     {
         match Course::of(&telegram.message, self.stage) {
             Course::Checks(version) => self.answer(now, version, outbox),
@@ -209,6 +217,7 @@ impl<C: Controller> Host<C> {
         ensures kept { IsAt now self.old.link (acting C.behaviour now item.now (reading item.now) self.old).host.link }
         ensures posted { outbox.new ≡ posted self.old.link.identity.key (acting C.behaviour now item.now (reading item.now) self.old).pdus outbox.old }
         ensures few { length (acting C.behaviour now item.now (reading item.now) self.old).pdus ≤ 18 }
+        ensures items { AreItems (acting C.behaviour now item.now (reading item.now) self.old).calls }
     {
         match sci_telegram::read(item.bytes()) {
             Ok(telegram) if self.is_from_peer(&telegram) => self.follow(now, &telegram, outbox),
@@ -217,7 +226,7 @@ impl<C: Controller> Host<C> {
     }
 
     /// The items of a datagram. Those behind one that closed the link are dropped.
-    #[tactic(auto, using(crate::proofs::Posting::posting))]
+    #[tactic(auto, using(crate::proofs::Posting::posting, crate::proofs::UnderWay::items_joined))]
     fn act_all(&mut self, now: Millis, items: &[Item], outbox: &mut Outbox)
         requires at { self.old.link.clock ≡ now }
         requires items { length items.now ≤ 3 }
@@ -226,6 +235,7 @@ impl<C: Controller> Host<C> {
         ensures kept { IsAt now self.old.link (acting_all C.behaviour now items.now self.old).host.link }
         ensures posted { outbox.new ≡ posted self.old.link.identity.key (acting_all C.behaviour now items.now self.old).pdus outbox.old }
         ensures few { length (acting_all C.behaviour now items.now self.old).pdus ≤ 54 }
+        ensures items { AreItems (acting_all C.behaviour now items.now self.old).calls }
     {
         for item in items {
             if !self.link.is_open() {
@@ -237,7 +247,7 @@ impl<C: Controller> Host<C> {
 
     /// The first owed report is sent, once the initialisation was completed. Before, nothing is owed. Answers whether
     /// there was one that is owed no longer.
-    #[tactic(auto, using(crate::proofs::Posting::posting))]
+    #[tactic(auto, using(crate::proofs::Posting::posting, crate::proofs::UnderWay::items_joined))]
     fn pay_first(&mut self, now: Millis, outbox: &mut Outbox) -> bool
         requires at { self.old.link.clock ≡ now }
         requires room { HasRoomFor 24 outbox.old }
@@ -245,6 +255,7 @@ impl<C: Controller> Host<C> {
         ensures kept { IsAt now self.old.link (paying_first C.behaviour now (C.behaviour.owed self.old.object) self.old).host.link }
         ensures posted { outbox.new ≡ posted self.old.link.identity.key (paying_first C.behaviour now (C.behaviour.owed self.old.object) self.old).pdus outbox.old }
         ensures few { length (paying_first C.behaviour now (C.behaviour.owed self.old.object) self.old).pdus ≤ 1 }
+        ensures items { AreItems (paying_first C.behaviour now (C.behaviour.owed self.old.object) self.old).calls }
         ensures answer { result ≡ goes_on now (C.behaviour.owed self.old.object) self.old }
     {
         let Some(report) = self.object.owed() else {
@@ -258,7 +269,7 @@ impl<C: Controller> Host<C> {
     }
 
     /// The owed reports, as far as the link accepts them.
-    #[tactic(auto, using(crate::proofs::Posting::posting))]
+    #[tactic(auto, using(crate::proofs::Posting::posting, crate::proofs::UnderWay::items_joined))]
     pub(crate) fn pay(&mut self, now: Millis, outbox: &mut Outbox)
         requires at { self.old.link.clock ≡ now }
         requires room { HasRoomFor 44 outbox.old }
@@ -266,6 +277,7 @@ impl<C: Controller> Host<C> {
         ensures kept { IsAt now self.old.link (paying C.behaviour now most_owed self.old).host.link }
         ensures posted { outbox.new ≡ posted self.old.link.identity.key (paying C.behaviour now most_owed self.old).pdus outbox.old }
         ensures few { length (paying C.behaviour now most_owed self.old).pdus ≤ 20 }
+        ensures items { AreItems (paying C.behaviour now most_owed self.old).calls }
     {
         for _round in 0..MOST_OWED {
             if !self.pay_first(now, outbox) {
@@ -298,7 +310,7 @@ impl<C: Controller> Host<C> {
     }
 
     /// A datagram has come.
-    #[tactic(auto, using(crate::proofs::Posting::posting), unfolding(crate::specs::Step::hearing, crate::specs::Step::received))]
+    #[tactic(auto, using(crate::proofs::Posting::posting, crate::proofs::UnderWay::items_joined), unfolding(crate::specs::Step::hearing, crate::specs::Step::received))]
     fn hear(&mut self, now: Millis, datagram: &[u8], outbox: &mut Outbox)
         requires at { self.old.link.clock ≡ now }
         requires room { HasRoomFor 120 outbox.old }
@@ -306,6 +318,7 @@ impl<C: Controller> Host<C> {
         ensures kept { IsAt now self.old.link (hearing C.behaviour now datagram.now self.old).host.link }
         ensures posted { outbox.new ≡ posted self.old.link.identity.key (hearing C.behaviour now datagram.now self.old).pdus outbox.old }
         ensures few { length (hearing C.behaviour now datagram.now self.old).pdus ≤ 76 }
+        ensures items { AreItems (hearing C.behaviour now datagram.now self.old).calls }
     {
         let mut inbox = Inbox::new();
         self.link.receive(now, datagram, outbox, &mut inbox);
@@ -326,7 +339,7 @@ impl<C: Controller> Host<C> {
     }
 
     /// What the step is made for.
-    #[tactic(auto, using(crate::proofs::Posting::posting), unfolding(crate::specs::Step::given))]
+    #[tactic(auto, using(crate::proofs::Posting::posting, crate::proofs::UnderWay::items_joined), unfolding(crate::specs::Step::given))]
     fn give(&mut self, now: Millis, input: &Input, outbox: &mut Outbox)
         requires at { self.old.link.clock ≡ now }
         requires room { HasRoomFor 120 outbox.old }
@@ -334,6 +347,7 @@ impl<C: Controller> Host<C> {
         ensures kept { IsAt now self.old.link (given C.behaviour now input.now self.old).host.link }
         ensures posted { outbox.new ≡ posted self.old.link.identity.key (given C.behaviour now input.now self.old).pdus outbox.old }
         ensures few { length (given C.behaviour now input.now self.old).pdus ≤ 76 }
+        ensures items { AreItems (given C.behaviour now input.now self.old).calls }
     {
         match input {
             Input::Tick => {}
@@ -343,13 +357,14 @@ impl<C: Controller> Host<C> {
     }
 
     /// A tick is the link's too.
-    #[tactic(auto, using(crate::proofs::Posting::posting), unfolding(crate::specs::Step::beating))]
+    #[tactic(auto, using(crate::proofs::Posting::posting, crate::proofs::UnderWay::items_joined), unfolding(crate::specs::Step::beating))]
     fn beat(&mut self, now: Millis, input: &Input, outbox: &mut Outbox)
         requires at { self.old.link.clock ≡ now }
         requires room { HasRoomFor 24 outbox.old }
         ensures host { self.new ≡ (beating now input.now self.old).host }
         ensures kept { IsAt now self.old.link (beating now input.now self.old).host.link }
         ensures posted { outbox.new ≡ posted self.old.link.identity.key (beating now input.now self.old).pdus outbox.old }
+        ensures items { AreItems (beating now input.now self.old).calls }
     {
         if matches!(input, Input::Tick) {
             self.link.tick(now, outbox);
@@ -366,12 +381,13 @@ impl<C: Controller> Host<C> {
     }
 
     /// A step at a clock reading that hasn't fallen, with an empty outbox for two links.
-    #[tactic(auto, using(crate::proofs::Posting::posting), unfolding(crate::specs::Step::host_step))]
+    #[tactic(auto, using(crate::proofs::Posting::posting, crate::proofs::UnderWay::items_joined), unfolding(crate::specs::Step::host_step))]
     pub(crate) fn step(&mut self, now: Millis, input: &Input, outbox: &mut Outbox)
         requires clock { MayStep now self.old.link }
         requires room { HasRoomFor 128 outbox.old }
         ensures host { self.new ≡ (host_step C.behaviour now input.now self.old).host }
         ensures posted { outbox.new ≡ posted self.old.link.identity.key (host_step C.behaviour now input.now self.old).pdus outbox.old }
+        ensures items { AreItems (host_step C.behaviour now input.now self.old).calls }
     {
         self.begin(now);
         self.give(now, input, outbox);

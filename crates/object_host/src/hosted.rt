@@ -46,6 +46,7 @@ fn empty(outbox: &mut Outbox)
 
 impl<C: Controller> Hosted<C> {
     ghost use Rattle.object_host.specs.Host.{is_completed};
+    ghost use Rattle.object_host.specs.Made.{AreItems};
     ghost use Rattle.object_host.specs.Step.{host_step};
     ghost use Rattle.object_host.specs.Hosted.{empty_outbox, new_host};
 
@@ -111,6 +112,8 @@ impl<C: Controller> Hosted<C> {
         requires { MayStep now self.old.host.link }
         ensures host { self.new.host ≡ (host_step C.behaviour now input.entry self.old.host).host }
         ensures posted { self.new.outbox ≡ posted self.old.host.link.identity.key (host_step C.behaviour now input.entry self.old.host).pdus empty_outbox }
+        // What it sends are items, so each call of the link is one that may be made.
+        ensures items { AreItems (host_step C.behaviour now input.entry self.old.host).calls }
     {
         empty(&mut self.outbox);
         self.host.step(now, &input, &mut self.outbox);

@@ -20,11 +20,11 @@ use Rattle.rasta_core_theorem.specs.Ordered.{Ordered}
 use Rattle.rasta_core_theorem.specs.Safe.{AreSafe}
 use Rattle.object_host.specs.Behaviour.{Behaviour}
 use Rattle.object_host.specs.Host.{HostState, LinkCall, Part, Ticks, Closes, Sends, Receives}
-use Rattle.object_host.specs.Made.{ActsOn, AreCallsFor, AreOwn, IsMadeOf, calls_made, command_of, commands_of, items_taken}
+use Rattle.object_host.specs.Made.{ActsOn, AreCallsFor, AreItems, AreOwn, IsMadeOf, calls_made, command_of, commands_of, items_taken}
 use Rattle.object_host.specs.Step.{host_step}
 use Rattle.object_host.specs.declared.input.Input.{Input}
 use Rattle.object_host.specs.declared.input.Input.TheVariants as inputs
-use Rattle.object_host_theorem.specs.World.{AreItems, Commands, ClientRestarts, Elsewhere, Event, HostRestarts, IsTold, Loses, May, MayHear, MayRun, Passes, Steps, World, as_call, begun, called_all, entering, happened, host_of, host_restarted, run, step_of, stepped, told_since}
+use Rattle.object_host_theorem.specs.World.{Commands, ClientRestarts, Elsewhere, Event, HostRestarts, IsTold, Loses, May, MayHear, MayRun, Passes, Steps, World, as_call, begun, called_all, entering, happened, host_of, host_restarted, run, step_of, stepped, told_since}
 use Rattle.object_host_theorem.proofs.Hearing.{settled_is}
 use Rattle.object_host_theorem.proofs.Server.{OpensNothing, links_after, now_of, stays_out, taken_after}
 

@@ -1,7 +1,6 @@
 -- A commanding client, the host that is the server of its link, and the datagrams between them.
 use Rattle.std.specs.Prelude.{◌≡◌, ℕ, ◌+◌, List, [], ◌∷◌, ◌++◌, Option, Some, None}
 use Rattle.sci_telegram.specs.declared.telegram.Telegram.{Telegram}
-use Rattle.rasta_pdu.specs.Items.{IsItem}
 use Rattle.rasta_core_link.specs.State.{LinkState, is_open}
 use Rattle.rasta_core_link.specs.declared.identity.Role.{Role}
 use Rattle.rasta_core_link.specs.declared.identity.Role.TheVariants as role
@@ -13,7 +12,7 @@ use Rattle.rasta_core_time.specs.Invariant.{Names, identity_of}
 use Rattle.object_host.specs.Behaviour.{Behaviour}
 use Rattle.object_host.specs.Host.{HostState, LinkCall, Part, Ticks, Closes, Sends, Receives}
 use Rattle.object_host.specs.Hosted.{new_host}
-use Rattle.object_host.specs.Made.{commands_of}
+use Rattle.object_host.specs.Made.{AreItems, commands_of}
 use Rattle.object_host.specs.Step.{host_step}
 use Rattle.object_host.specs.declared.input.Input.{Input}
 use Rattle.object_host.specs.declared.input.Input.TheVariants as inputs
@@ -68,14 +67,6 @@ entering _ connection ends = None
 abbrev pub told_since : Option ℕ → List Telegram → List Telegram
 told_since None told = told
 told_since (Some entered) told = []
-
--- what a host sends are items
-abbrev pub AreItems : List LinkCall → Type 0
-AreItems [] = Unit {0}
-AreItems (Ticks ∷ others) = AreItems others
-AreItems (Closes why ∷ others) = AreItems others
-AreItems (Sends item ∷ others) = IsItem item × AreItems others
-AreItems (Receives bytes ∷ others) = AreItems others
 
 abbrev pub MayHear : Names → Input → ℕ → Ends → Type 0
 MayHear names (inputs.Datagram bytes) connection ends = MayCall names role.Server (calls.Receives bytes.now connection) ends

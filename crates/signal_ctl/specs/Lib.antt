@@ -1,3 +1,4 @@
 pub mod Lamp
 pub mod Signal
 pub mod Law
+pub mod History

@@ -2,9 +2,11 @@
 #![tactic(auto)]
 
 mod lamp;
+mod laws;
 mod signal;
 
 pub use lamp::Lamp;
+pub use laws::shows_the_last_aspect_taken;
 pub use sci_telegram::Aspect;
 pub use signal::Signal;
 

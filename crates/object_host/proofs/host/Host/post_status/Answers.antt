@@ -13,7 +13,7 @@ pub loop-place-preserved : goal.loop-place-preserved
 loop-place-preserved g c =
     telling_next g.C.Controller.behaviour _ _ _ _ _ _ c.in-Some.report _ _ c.loop-place.invariant c.loop-place-test.true
     (ap (λ h. g.C.Controller.behaviour.status c.loop-place.place h.object) (sym c.self.view_is) ∙ sym c.status.ensures ∙ c.in-Some.is)
-    (record { host = c.post.ensures.host; kept = c.post.ensures.kept; posts = c.post.ensures.posted; few = c.post.ensures.few })
+    (record { host = c.post.ensures.host; kept = c.post.ensures.kept; posts = c.post.ensures.posted; few = c.post.ensures.few; items = c.post.ensures.items })
 
 told_before : (g : Over) (c : goal.In-None g) → IsDone c.args.now c.args.self.now c.args.outbox.now (telling_status g.C.Controller.behaviour c.args.now c.args.self.now) c.loop-place.place c.loop-place.self c.loop-place.outbox
 told_before g c = comes_to_end _ _ _ _ _ _ _ _ c.loop-place.invariant.way
@@ -32,6 +32,9 @@ returns-in-None-clause-posted g c = (told_before g c).posts
 pub returns-in-None-clause-few : goal.returns-in-None-clause-few
 returns-in-None-clause-few g c = omega (arith, (told_before g c).few, c.loop-place-test.true)
 
+pub returns-in-None-clause-items : goal.returns-in-None-clause-items
+returns-in-None-clause-items g c = (told_before g c).items
+
 told_all : (g : Over) (c : goal.After-loop-place g) → IsDone c.args.now c.args.self.now c.args.outbox.now (telling_status g.C.Controller.behaviour c.args.now c.args.self.now) c.loop-place.place c.loop-place.self c.loop-place.outbox
 told_all g c = comes_to_end _ _ _ _ _ _ _ _ c.loop-place.invariant.way
     (nothing_at_end g.C.Controller.behaviour _ _ _ (omega (arith, c.loop-place-test.false, c.loop-place.auto.place-end)))
@@ -47,3 +50,6 @@ returns-clause-posted g c = (told_all g c).posts
 
 pub returns-clause-few : goal.returns-clause-few
 returns-clause-few g c = omega (arith, (told_all g c).few, c.loop-place.auto.place-end)
+
+pub returns-clause-items : goal.returns-clause-items
+returns-clause-items g c = (told_all g c).items
