@@ -71,11 +71,11 @@ impl Point {
     pub fn drives(&self, now: Millis) -> Option<Side>
         ensures { result ≡ drives now self.now }
     {
-        match self.progress {
-            Progress::Driving { side, since }
-                if now < since.saturating_add(DRIVE_LIMIT) && now < self.until => { Some(side) }
-            _ => None,
-        }
+        let Progress::Driving { side, since } = self.progress else {
+            return None;
+        };
+        let is_in_time = now < since.saturating_add(DRIVE_LIMIT) && now < self.until;
+        is_in_time.then_some(side)
     }
 
     /// What the point tells of where it lies.
