@@ -6,7 +6,7 @@ use Rattle.layout.specs.declared.ids.PointId.{PointId}
 use Rattle.layout.specs.declared.ids.SignalId.{SignalId}
 use Rattle.layout.specs.declared.port.Port.{Port}
 use Rattle.layout.specs.declared.port.Element.{Element}
-use Rattle.layout.specs.declared.port.Element.TheVariants as element
+use Rattle.layout.specs.declared.port.Element.TheVariants as of
 use Rattle.layout.specs.declared.port.End.TheVariants as end
 use Rattle.layout.specs.declared.entries.Joint.{Joint}
 use Rattle.layout.specs.declared.entries.Exit.{Exit}
@@ -20,7 +20,7 @@ use Rattle.control_table.specs.Topology.{joined_to, Joined, StandsAt, section_of
 pub record Passes (g : Passage) : Type 0 where
   pub element : g.entered.element ≡ g.left.element
   pub ports : g.entered.end ≢ g.left.end
-  pub by_tip : (p : PointId) → g.left.element ≡ element.Point p → (g.entered.end ≡ end.Tip) ⊎ (g.left.end ≡ end.Tip)
+  pub by_tip : (p : PointId) → g.entered.element ≡ of.Point p → (g.entered.end ≡ end.Tip) ⊎ (g.left.end ≡ end.Tip)
 
 -- From a port on, each joint leads to the port by which the next element is entered.
 abbrev pub Leads : List Joint → Port → List Passage → Type 0
@@ -43,11 +43,15 @@ AllDifferent (x ∷ xs) = (Contains xs x → ⊥) × AllDifferent xs
 abbrev pub elements : List Passage → List Element
 elements path = map (λ g. g.left.element) path
 
+-- Whether a section is the one that was counted last.
+abbrev pub is_last : Option SectionId → SectionId → Bool
+is_last None s = false
+is_last (Some last) s = last.0 == s.0
+
 -- Sections, of which neighbours that are equal are counted once: those behind one that was counted last.
 abbrev pub counted_behind : Option SectionId → List SectionId → List SectionId
 counted_behind last [] = []
-counted_behind None (s ∷ ss) = s ∷ counted_behind (Some s) ss
-counted_behind (Some last) (s ∷ ss) = if last.0 == s.0 then counted_behind (Some last) ss else s ∷ counted_behind (Some s) ss
+counted_behind last (s ∷ ss) = if is_last last s then counted_behind last ss else s ∷ counted_behind (Some s) ss
 
 -- The sections of a path: those of its elements in order, neighbours that are equal counted once.
 abbrev pub sections : Plan → List Passage → List SectionId
@@ -61,7 +65,7 @@ pub record ComesOnce (l : Plan) (path : List Passage) : Type 0 where
 -- The exit is at a port: the signal stands there, or the border is joined to it.
 abbrev pub ExitAt : Plan → Exit → Port → Type 0
 ExitAt l (exit.Signal s) p = StandsAt l s p
-ExitAt l (exit.Border b) p = (beyond : Port) × Joined l p beyond × (beyond.element ≡ element.Border b)
+ExitAt l (exit.Border b) p = (beyond : Port) × Joined l p beyond × (beyond.element ≡ of.Border b)
 
 -- The exit is at the port by which the last element of the path is left.
 abbrev pub EndsAt : Plan → Exit → List Passage → Type 0

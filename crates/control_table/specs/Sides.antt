@@ -60,6 +60,20 @@ FlanksGuarded l path = (g : Passage) (p : PointId) (s : Side) → Contains path 
 abbrev pub NoneAtBothSides : Plan → List Passage → Type 0
 NoneAtBothSides l path = (p : PointId) → Requires l path p side.Left → Requires l path p side.Right → ⊥
 
+-- Each point on the path is written under `points`.
+abbrev pub PointsNamed : RouteEntry → List Passage → Type 0
+PointsNamed r path = (p : PointId) → OnPath path p → (s : Side) × Contains r.points (p, s)
+
+-- Each point that is written is required at this side. It lies on the path where it stands under `points`, and off
+-- the path where it stands under `flank`.
+pub record WritesOnlyRequired (l : Plan) (r : RouteEntry) (path : List Passage) : Type 0 where
+  pub points : (p : PointId) (s : Side) → Contains r.points (p, s) → Requires l path p s × OnPath path p
+  pub flank : (p : PointId) (s : Side) → Contains r.flank (p, s) → Requires l path p s × (OnPath path p → ⊥)
+
+-- Each required point off the path is written under `flank`.
+abbrev pub FlankNamed : Plan → RouteEntry → List Passage → Type 0
+FlankNamed l r path = (p : PointId) (s : Side) → Requires l path p s → (OnPath path p → ⊥) → (t : Side) × Contains r.flank (p, t)
+
 -- What a route writes is what its path requires: the points on the path under `points`, the others under `flank`.
 pub record WritesRequired (l : Plan) (r : RouteEntry) (path : List Passage) : Type 0 where
   pub points : (p : PointId) (s : Side) → Contains r.points (p, s) ↔ (Requires l path p s × OnPath path p)

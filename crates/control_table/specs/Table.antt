@@ -1,5 +1,5 @@
 -- Which tables are sound, and which routes conflict.
-use Rattle.std.specs.Prelude.{◌≡◌, ◌≢◌, ◌⊎◌, List}
+use Rattle.std.specs.Prelude.{◌≡◌, ◌≢◌, ◌⊎◌, ◌↔◌, ◌<◌, List, [], ◌∷◌}
 use Rattle.std.specs.List.{Contains}
 use Rattle.sci_telegram.specs.declared.message.Side.{Side}
 use Rattle.layout.specs.declared.ids.SectionId.{SectionId}
@@ -39,6 +39,20 @@ LeadsOver l a s = (r : RouteEntry) × (path : List Passage) × IsRoute l a r × 
 -- A route requires a point at a side.
 abbrev pub RouteRequires : Plan → RouteId → PointId → Side → Type 0
 RouteRequires l a p s = (r : RouteEntry) × (path : List Passage) × IsRoute l a r × Path l r path × Requires l path p s
+
+-- Required points in layout order, each once: each stands before all that follow.
+abbrev pub InLayoutOrder : List (PointId × Side) → Type 0
+InLayoutOrder [] = Unit {0}
+InLayoutOrder (m ∷ ns) = ((n : PointId × Side) → Contains ns n → m.0.0 < n.0.0) × InLayoutOrder ns
+
+-- The sections of a route, in path order.
+abbrev pub AreSections : Plan → RouteId → List SectionId → Type 0
+AreSections l a ss = (r : RouteEntry) × (path : List Passage) × IsRoute l a r × Path l r path × (ss ≡ sections l path)
+
+-- The points that a route requires, in layout order.
+pub record AreRequired (l : Plan) (a : RouteId) (ns : List (PointId × Side)) : Type 0 where
+  pub points : (p : PointId) (s : Side) → Contains ns (p, s) ↔ RouteRequires l a p s
+  pub order : InLayoutOrder ns
 
 -- Two routes have the same entry signal.
 abbrev pub SameEntry : Plan → RouteId → RouteId → Type 0

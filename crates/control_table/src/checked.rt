@@ -1,70 +1,110 @@
 //! A control table that was found sound.
 
+ghost use Rattle.std.specs.Prelude.{◌≡◌, ◌↔◌, ◌<◌, length, IsTrue, IfOk, IfErr};
+ghost use Rattle.control_table.specs.Table.{Sound, AreSections, AreRequired, Conflict};
+ghost use Rattle.control_table.specs.Faults.{IsFirstFault};
+ghost use Rattle.control_table.specs.Judging.{IsRowAt};
+ghost use Rattle.control_table.specs.declared.fault.TableFault.TheVariants.{OutOfMemory};
+
+use crate::conflicts::conflicts;
 use crate::fault::TableFault;
-use crate::row::{Row, rows};
-use crate::signals::lists;
+use crate::row::{Row, copy_rows, rows};
 use layout::{Layout, PointId, RouteId, SectionId};
 use sci_telegram::Side;
 use std::alloc::{AllocError, Global};
+use std::marker::Model;
 
-/// A layout whose control table is sound, with what each of its routes needs.
+/// A layout whose control table is sound, with what each of its routes needs. It is seen as the layout.
 #[derive(Debug, Drop)]
 pub struct Checked {
     layout: Layout,
     rows: Vec<Row>,
 }
 
-/// Checks the control table of a layout.
-pub fn check(alloc: Global, layout: Layout) -> Result<Checked, TableFault> {
-    let rows = rows(alloc, &layout)?;
-    Ok(Checked { layout, rows })
+impl Model for Checked {
+    ghost use Rattle.std.specs.Prelude.{◌≡◌, Ok};
+    ghost use Rattle.layout.specs.Entries.{Plan};
+    ghost use Rattle.control_table.specs.Judging.{rows_of};
+
+    ghost Value = { Plan };
+
+    ghost view = { λ c. c.layout };
+
+    ghost invariant = { λ c. rows_of c.layout ≡ Ok c.rows.items };
 }
 
-/// Whether two lists of sections have one in common.
-fn share_section(first: &[SectionId], second: &[SectionId]) -> bool {
-    first.iter().any(|section| second.contains(section))
-}
-
-/// Whether a point stands at one side in the first list and at the other in the second.
-fn require_differently(first: &[(PointId, Side)], second: &[(PointId, Side)]) -> bool {
-    first.iter().any(|pair| second.contains(&(pair.0, crate::sides::other(pair.1))))
+/// Checks the control table of a layout: accepts exactly the sound ones, and keeps the layout.
+///
+/// The fault is the lowest of the first faulty route. `OutOfMemory` comes only where memory was refused.
+pub fn check(alloc: Global, layout: Layout) -> Result<Checked, TableFault>
+    ensures kept { IfOk result (λ c. c ≡ layout) }
+    ensures accepts { IfOk result (λ _. Sound layout) }
+    ensures refuses { IfErr result (IsFirstFault layout) }
+    ensures complete { Sound layout → IfErr result (λ f. f ≡ OutOfMemory) }
+{
+    match rows(alloc, &layout) {
+        Ok(rows) => Ok(Checked { layout, rows }),
+        Err(fault) => Err(fault),
+    }
 }
 
 impl Checked {
-    /// The layout, with all its entries.
-    pub fn layout(&self) -> &Layout {
+    /// The layout, which lends all entries: names, identities, the key, what detectors report and what
+    /// routes write.
+    pub fn layout(&self) -> &Layout
+        ensures entries { result.now ≡ self.now }
+        ensures sound { Sound self.now }
+    {
         &self.layout
     }
 
-    /// The sections of a route, in the order of its path.
-    pub fn sections(&self, route: RouteId) -> &[SectionId] {
-        &self.rows[route.0].sections
+    /// The row of a route.
+    fn row_at(&self, route: RouteId) -> &Row
+        requires { route.0 < length self.now.routes }
+        ensures { IsRowAt self.now route result.now }
+    {
+        &self.rows[route.0]
+    }
+
+    /// The sections of a route, in the order of its path, of which neighbours that are equal count once.
+    pub fn sections(&self, route: RouteId) -> &[SectionId]
+        requires { route.0 < length self.now.routes }
+        ensures { AreSections self.now route result.now }
+    {
+        &self.row_at(route).sections
     }
 
     /// The points that a route requires, each with its side, in layout order: those on its path, and
-    /// those that protect its flank.
-    pub fn required(&self, route: RouteId) -> &[(PointId, Side)] {
-        &self.rows[route.0].required
+    /// those that guard its flank.
+    pub fn required(&self, route: RouteId) -> &[(PointId, Side)]
+        requires { route.0 < length self.now.routes }
+        ensures { AreRequired self.now route result.now }
+    {
+        &self.row_at(route).required
     }
 
-    /// Whether two routes conflict.
-    pub fn conflict(&self, a: RouteId, b: RouteId) -> bool {
-        let routes = self.layout.routes();
-        a != b
-            && (routes[a.0].entry() == routes[b.0].entry()
-                || share_section(self.sections(a), self.sections(b))
-                || require_differently(self.required(a), self.required(b))
-                || lists(routes, a, b)
-                || lists(routes, b, a))
+    /// Whether two routes conflict: they aren't one, and have the same entry signal, share a section,
+    /// require a point at different sides, or one lists the other as an extra conflict.
+    pub fn conflict(&self, a: RouteId, b: RouteId) -> bool
+        requires first { a.0 < length self.now.routes }
+        requires second { b.0 < length self.now.routes }
+        ensures { IsTrue result ↔ Conflict self.now a b }
+    {
+        conflicts(
+            self.layout.routes(),
+            a,
+            b,
+            self.row_at(a),
+            self.row_at(b),
+        )
     }
 
     /// An equal table.
-    pub fn copy(&self, alloc: Global) -> Result<Checked, AllocError> {
+    pub fn copy(&self, alloc: Global) -> Result<Checked, AllocError>
+        ensures { IfOk result (λ c. c ≡ self.now) }
+    {
         let layout = self.layout.copy(alloc)?;
-        let mut rows = Vec::new(alloc);
-        for row in &self.rows {
-            rows.push(row.copy(alloc)?)?;
-        }
+        let rows = copy_rows(alloc, &self.rows)?;
         Ok(Checked { layout, rows })
     }
 }

@@ -3,6 +3,7 @@
 #![tactic(auto)]
 
 mod checked;
+mod conflicts;
 mod fault;
 mod order;
 mod passage;

@@ -1,20 +1,52 @@
 //! What stands at a port, and where a joint leads from it.
 
-use layout::{Element, Joint, Layout, Port, SectionId, Signal};
+ghost use Rattle.std.specs.Prelude.{◌≡◌};
+ghost use Rattle.control_table.specs.Topology.{is_port, is_element, is_end, other_port, joined_to, section_of};
+ghost use Rattle.control_table.specs.Judging.{has_signal};
+
+use layout::{Element, End, Joint, Layout, Port, SectionId, Signal};
+
+/// Whether two ports are the same.
+#[tactic(auto, unfolding(crate::specs::Topology::is_port))]
+pub(crate) fn is_port(one: Port, other: Port) -> bool
+    ensures { result ≡ is_port one other }
+{
+    one == other
+}
+
+/// Whether two elements are the same.
+#[tactic(auto, unfolding(crate::specs::Topology::is_element))]
+pub(crate) fn is_element(one: Element, other: Element) -> bool
+    ensures { result ≡ is_element one other }
+{
+    one == other
+}
+
+/// Whether two ends of elements have the same word.
+#[tactic(auto, unfolding(crate::specs::Topology::is_end))]
+pub(crate) fn is_end(one: End, other: End) -> bool
+    ensures { result ≡ is_end one other }
+{
+    one == other
+}
 
 /// The other port of a joint, if this one stands in it.
-fn other_port(joint: Joint, port: Port) -> Option<Port> {
-    if joint.first == port {
+fn other_port(joint: Joint, port: Port) -> Option<Port>
+    ensures { result ≡ other_port joint port }
+{
+    if is_port(joint.first, port) {
         return Some(joint.second);
     }
-    if joint.second == port {
+    if is_port(joint.second, port) {
         return Some(joint.first);
     }
     None
 }
 
 /// The port to which a port is joined.
-pub(crate) fn joined_to(joints: &[Joint], port: Port) -> Option<Port> {
+pub(crate) fn joined_to(joints: &[Joint], port: Port) -> Option<Port>
+    ensures { result ≡ joined_to joints.now port }
+{
     for joint in joints {
         if let Some(other) = other_port(*joint, port) {
             return Some(other);
@@ -24,12 +56,16 @@ pub(crate) fn joined_to(joints: &[Joint], port: Port) -> Option<Port> {
 }
 
 /// Whether a signal stands at a port.
-pub(crate) fn has_signal(signals: &[Signal], port: Port) -> bool {
-    signals.iter().any(|signal| signal.at == port)
+pub(crate) fn has_signal(signals: &[Signal], port: Port) -> bool
+    ensures { result ≡ has_signal signals.now port }
+{
+    signals.iter().any(|signal| is_port(signal.at, port))
 }
 
 /// The section in which an element lies. A border lies in none.
-pub(crate) fn section_of(layout: &Layout, element: Element) -> Option<SectionId> {
+pub(crate) fn section_of(layout: &Layout, element: Element) -> Option<SectionId>
+    ensures { result ≡ section_of layout.now element }
+{
     match element {
         Element::Track(track) => layout.tracks().get(track.0).map(|entry| entry.section),
         Element::Point(point) => layout.points().get(point.0).map(|entry| entry.section),

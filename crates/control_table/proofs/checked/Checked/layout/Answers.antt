@@ -1,0 +1,7 @@
+use Rattle.std.proofs.Common.{subst}
+use Rattle.control_table.specs.Table.{Sound}
+use Rattle.control_table.proofs.TableLaws.{table-sound}
+use Rattle.control_table.proofs.checked.Checked.layout.Goals as goal
+
+pub returns-clause-sound : goal.returns-clause-sound
+returns-clause-sound c = subst Sound c.self.view_is (table-sound c.self.inside.layout c.self.inside.rows.items c.self.invariant)
