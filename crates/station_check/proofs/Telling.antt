@@ -1,7 +1,6 @@
 -- A report grows with each pair of routes and with each route.
-use Rattle.std.proofs.Common.{◌≡◌, ℕ, zero, suc, ◌+◌, ◌-◌, ◌≤◌, ◌<◌, Bool, true, false, List, [], ◌++◌, length, Option, inl, inr, refl, sym, ap, ◌∙◌, arith, rules}
+use Rattle.std.proofs.Common.{◌≡◌, ℕ, zero, suc, ◌+◌, ◌-◌, ◌≤◌, ◌<◌, Bool, true, false, List, [], ◌++◌, length, Option, inl, inr, IsTrue, ◌↔◌, refl, sym, ap, ◌∙◌, arith, rules}
 use Rattle.std.proofs.lemmas.Bool.{false≢true}
-use Rattle.std.specs.Bool.{Decides}
 use Rattle.std.proofs.KnownBytes.{Appends-nil, Appends-trans, Keeps-trans}
 use Rattle.std.specs.Io.KnownBytes.{Appends, Keeps}
 use Rattle.layout.specs.Entries.{Plan}
@@ -9,10 +8,10 @@ use Rattle.control_table.specs.Table.{Conflict}
 use Rattle.station_check.specs.Report.{conflict_line, TellsPair, TellsBehind, TellsRoutes, ToldPair, ToldBehind, ToldRoutes, summary_line}
 
 module _ (l : Plan) where
-  pub pair_free : (a b : ℕ) (c : Option (List ℕ)) (r : Bool) → Decides r (Conflict l (record { 0 = a }) (record { 0 = b })) → r ≡ false → ToldPair l a b c c
+  pub pair_free : (a b : ℕ) (c : Option (List ℕ)) (r : Bool) → IsTrue r ↔ Conflict l (record { 0 = a }) (record { 0 = b }) → r ≡ false → ToldPair l a b c c
   pair_free a b c r decides h = ([], inr ((λ conflict. false≢true (sym h ∙ decides.1 conflict)), refl), Appends-nil c)
 
-  pub pair_told : (a b : ℕ) (c d : Option (List ℕ)) (r : Bool) → Decides r (Conflict l (record { 0 = a }) (record { 0 = b })) → r ≡ true → Appends c d (conflict_line l a b) → ToldPair l a b c d
+  pub pair_told : (a b : ℕ) (c d : Option (List ℕ)) (r : Bool) → IsTrue r ↔ Conflict l (record { 0 = a }) (record { 0 = b }) → r ≡ true → Appends c d (conflict_line l a b) → ToldPair l a b c d
   pair_told a b c d r decides h told = (conflict_line l a b, inl (decides.0 h, refl), told)
 
   pub behind_begins : (a : ℕ) (c : Option (List ℕ)) → ToldBehind l a 0 c c

@@ -6,7 +6,11 @@ use Rattle.std.specs.Io.KnownBytes.{Appends}
 use Rattle.layout.specs.declared.ids.RouteId.{RouteId}
 use Rattle.layout.specs.Entries.{Plan}
 use Rattle.layout.specs.Resolving.{layout_in}
+use Rattle.layout.specs.Reading.{Fails}
 use Rattle.control_table.specs.Table.{Sound, Conflict}
+use Rattle.control_table.specs.Faults.{IsFirstFault}
+use Rattle.station_check.specs.declared.check.Failure.{Failure}
+use Rattle.station_check.specs.declared.check.Failure.TheVariants.{Layout, Table, NotWritten}
 
 -- how many signals, points, sections and routes a station has
 abbrev pub summary_text : ℕ → ℕ → ℕ → ℕ → List ℕ
@@ -66,3 +70,10 @@ ToldRoutes l k old new = (text : List ℕ) × TellsRoutes l k text × Appends ol
 -- The report was written.
 abbrev pub Reported : Plan → Option (List ℕ) → Option (List ℕ) → Type 0
 Reported l old new = (text : List ℕ) × IsReport l text × Appends old new text
+
+-- Why there is no report on a text: it is no layout, by its first fault; or its table isn't sound, by the lowest fault of
+-- its first faulty route; or the report couldn't be written.
+abbrev pub Explains : List ℕ → Failure → Type 0
+Explains text (Layout fault) = Fails fault (layout_in text)
+Explains text (Table fault) = (plan : Plan) × (layout_in text ≡ Ok plan) × IsFirstFault plan fault
+Explains text NotWritten = Unit {0}

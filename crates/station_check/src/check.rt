@@ -1,8 +1,8 @@
 //! The check of a text, with what it finds written.
 
-ghost use Rattle.std.specs.Prelude.{◌≡◌, ◌≤◌, IsErr, OnOk};
+ghost use Rattle.std.specs.Prelude.{◌≡◌, ◌≤◌, IsErr, IfErr, OnOk};
 ghost use Rattle.layout.specs.Entries.{Plan};
-ghost use Rattle.station_check.specs.Report.{IsSound, Reported};
+ghost use Rattle.station_check.specs.Report.{IsSound, Reported, Explains};
 
 use crate::report::write_report;
 use control_table::{TableFault, check};
@@ -74,6 +74,7 @@ pub fn check_text<W: Write, E: Write>(alloc: Global, layout: &str, out: &mut W, 
 fn report<W: Write>(alloc: Global, text: &str, out: &mut W) -> Result<(), Failure>
     ensures done { OnOk result ((plan : Plan) × IsSound text.now plan × Reported plan (W.contents out.old) (W.contents out.new)) }
     ensures faulty { ((plan : Plan) → IsSound text.now plan → ⊥) → IsErr result × (out.new ≡ out.old) }
+    ensures explains { IfErr result (Explains text.now) }
 {
     let layout = Layout::read(alloc, text)?;
     let table = check(alloc, layout)?;
