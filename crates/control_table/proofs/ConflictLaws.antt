@@ -61,9 +61,10 @@ sections-are l a r row at h = (r, h.path, at, h.is_path, h.sections)
 pub requires-is : (l : Plan) (a : RouteId) (r : RouteEntry) (row : TableRow) → IsRoute l a r → RowFacts l a r row → (p : PointId) (s : Side) → Contains row.required (p, s) ↔ RouteRequires l a p s
 requires-is l a r row at h p s =
     let C : List (PointId × Side) → Type 0 = λ ns. Contains ns (p, s) in
-    let R : List Passage → Type 0 = λ path. Requires l path p s in
-    (λ c. (r, h.path, at, h.is_path, ordered-from l h.path p s (subst C h.required c)),
-    λ k. subst C (sym h.required) (ordered-to l h.path h.protected.consistent p s (subst R (same-path l a r k.0 row h k.1 at k.2 k.3) k.4)))
+    let R : List Passage → Type 0 = λ path. Requires l path p s in (
+      λ c. (r, h.path, at, h.is_path, ordered-from l h.path p s (subst C h.required c)),
+      λ k. subst C (sym h.required) (ordered-to l h.path h.protected.consistent p s (subst R (same-path l a r k.0 row h k.1 at k.2 k.3) k.4)),
+    )
 
 pub required-are : (l : Plan) (a : RouteId) (r : RouteEntry) (row : TableRow) → IsRoute l a r → RowFacts l a r row → AreRequired l a row.required
 required-are l a r row at h = record { points = requires-is l a r row at h; order = subst InLayoutOrder (sym h.required) (ordered (needs l h.path)) }
@@ -81,11 +82,11 @@ entry-decides l a b =
     let T : SignalId → SignalId → Type 0 = λ s t. t ≡ s in
     let B : SignalId → Type 0 = λ s. (t : SignalId) × (entry_of l.routes b ≡ Some t) × (t ≡ s) in
     let up : ((s : SignalId) × (entry_of l.routes a ≡ Some s) × B s) → SameEntry l a b = λ h.
-        let first = option_map-some (λ (r : RouteEntry). r.entry) (slice_get l.routes a.0) h.0 h.1 in
-        let second = option_map-some (λ (r : RouteEntry). r.entry) (slice_get l.routes b.0) h.2.0 h.2.1 in
-        (first.0, second.0, first.1, second.1, first.2 ∙ sym (second.2 ∙ h.2.2)) in
+    let first = option_map-some (λ (r : RouteEntry). r.entry) (slice_get l.routes a.0) h.0 h.1 in
+    let second = option_map-some (λ (r : RouteEntry). r.entry) (slice_get l.routes b.0) h.2.0 h.2.1 in
+    (first.0, second.0, first.1, second.1, first.2 ∙ sym (second.2 ∙ h.2.2)) in
     let down : SameEntry l a b → (s : SignalId) × (entry_of l.routes a ≡ Some s) × B s = λ h.
-        (h.0.entry, ap (option_map (λ (r : RouteEntry). r.entry)) h.2, (h.1.entry, ap (option_map (λ (r : RouteEntry). r.entry)) h.3, sym h.4)) in
+    (h.0.entry, ap (option_map (λ (r : RouteEntry). r.entry)) h.2, (h.1.entry, ap (option_map (λ (r : RouteEntry). r.entry)) h.3, sym h.4)) in
     Decides-like (same_entry l.routes a b) up down
     (some_and-decides (λ s. enters_at l.routes b s) B (λ s. some_and-decides (λ t. t.0 == s.0) (T s) (λ t. signal-decides t s) (entry_of l.routes b)) (entry_of l.routes a))
 
@@ -101,10 +102,10 @@ differ-decides : (l : Plan) (a b : RouteId) (r q : RouteEntry) (first second : T
 differ-decides l a b r q first second at also h k =
     let P : PointId × Side → Type 0 = λ n. Contains second.required (n.0, other n.1) in
     let up : ((n : PointId × Side) × Contains first.required n × P n) → RequireDifferently l a b = λ c.
-        (c.0.0, c.0.1, other c.0.1, (λ e. other-differs c.0.1 (sym e)), (requires-is l a r first at h c.0.0 c.0.1).0 c.1, (requires-is l b q second also k c.0.0 (other c.0.1)).0 c.2) in
+    (c.0.0, c.0.1, other c.0.1, (λ e. other-differs c.0.1 (sym e)), (requires-is l a r first at h c.0.0 c.0.1).0 c.1, (requires-is l b q second also k c.0.0 (other c.0.1)).0 c.2) in
     let down : RequireDifferently l a b → (n : PointId × Side) × Contains first.required n × P n = λ c.
-        let S : Side → Type 0 = λ t. Contains second.required (c.0, t) in
-        ((c.0, c.1), (requires-is l a r first at h c.0 c.1).1 c.4, subst S (differ-other c.1 c.2 c.3) ((requires-is l b q second also k c.0 c.2).1 c.5)) in
+    let S : Side → Type 0 = λ t. Contains second.required (c.0, t) in
+    ((c.0, c.1), (requires-is l a r first at h c.0 c.1).1 c.4, subst S (differ-other c.1 c.2 c.3) ((requires-is l b q second also k c.0 c.2).1 c.5)) in
     Decides-like (require_differently first.required second.required) up down
     (any-decides (λ n. has_need second.required (n.0, other n.1)) P (λ n. has_need-decides second.required (n.0, other n.1)) first.required)
 

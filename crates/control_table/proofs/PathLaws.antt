@@ -50,7 +50,7 @@ passes-decides entered left =
     let by_tip : Type 0 = (p : PointId) → entered.element ≡ of.Point p → tip in
     let tips : Decides (is_end entered.end end.Tip || is_end left.end end.Tip) tip = Decides-or (is_end entered.end end.Tip) (is_end left.end end.Tip) (end-decides entered.end end.Tip) (end-decides left.end end.Tip) in
     let through : Decides ((not (is_point entered.element) || is_end entered.end end.Tip) || is_end left.end end.Tip) by_tip =
-        Decides-at ((not (is_point entered.element) || is_end entered.end end.Tip) || is_end left.end end.Tip) (not (is_point entered.element) || (is_end entered.end end.Tip || is_end left.end end.Tip)) (or-assoc (not (is_point entered.element)) (is_end entered.end end.Tip) (is_end left.end end.Tip)) (point-cases entered.element tip (is_end entered.end end.Tip || is_end left.end end.Tip) tips) in
+    Decides-at ((not (is_point entered.element) || is_end entered.end end.Tip) || is_end left.end end.Tip) (not (is_point entered.element) || (is_end entered.end end.Tip || is_end left.end end.Tip)) (or-assoc (not (is_point entered.element)) (is_end entered.end end.Tip) (is_end left.end end.Tip)) (point-cases entered.element tip (is_end entered.end end.Tip || is_end left.end end.Tip) tips) in
     let apart = Decides-not (is_end entered.end left.end) (end-decides entered.end left.end) in
     let both = Decides-and (is_element entered.element left.element) (not (is_end entered.end left.end)) (element-decides entered.element left.element) apart in
     Decides-like (may_pass entered left) (λ h. record { element = h.0.0; ports = h.0.1; by_tip = h.1 }) (λ h. ((h.element, h.ports), h.by_tip)) (Decides-and (is_element entered.element left.element && not (is_end entered.end left.end)) ((not (is_point entered.element) || is_end entered.end end.Tip) || is_end left.end end.Tip) both through)
@@ -142,9 +142,9 @@ unfolding path_of
 path-broken place l r f e =
     let rest = ok_or (port_of l.signals r.entry) (PathBroken place) >>= λ start. passages place l.joints start r.path in
     let which : PathBroken place ≡ f =
-        ⊎_elim (λ h. h.1) (λ h. ⊎_elim (λ no_signal. (err-none (port_of l.signals r.entry) (PathBroken place) f no_signal).1) (λ later. passages-broken place l.joints later.0 r.path f later.2)
-        (err-from (ok_or (port_of l.signals r.entry) (PathBroken place)) (λ start. passages place l.joints start r.path) f h.1))
-        (stopped_or_not (length r.path == 0) (PathBroken place) f rest e) in
+    ⊎_elim (λ h. h.1) (λ h. ⊎_elim (λ no_signal. (err-none (port_of l.signals r.entry) (PathBroken place) f no_signal).1) (λ later. passages-broken place l.joints later.0 r.path f later.2)
+    (err-from (ok_or (port_of l.signals r.entry) (PathBroken place)) (λ start. passages place l.joints start r.path) f h.1))
+    (stopped_or_not (length r.path == 0) (PathBroken place) f rest e) in
     (which, λ path h. err-ok f path (sym e ∙ following-found place l r path h))
 
 -- a route has one path at most
@@ -200,7 +200,6 @@ stable-by false d h = absurd (h (λ p. false≢true (d.1 p)))
 
 exit-stable : (x y : Exit) → ((x ≡ y → ⊥) → ⊥) → x ≡ y
 exit-stable x y h = stable-by (same_exit x y) (exit-decides x y) h
-
 
 -- the signals from the n-th on: each that stands at the port is the exit
 abbrev pub NoOther : ℕ → List Signal → Exit → Port → Type 0

@@ -74,10 +74,10 @@ pub uses-used : (g : Passage) (p : PointId) (s : Side) → Uses g p s → used g
 unfolding used
 uses-used g p s h =
     let leaves : g.left.end ≡ leg_at s → leg_used g ≡ Some s = λ e.
-        let no_tip : is_end g.left.end end.Tip ≡ false = false-from (is_end g.left.end end.Tip) (λ t. leg-tip s (sym e ∙ (end-decides g.left.end end.Tip).0 t)) in
-        ap (λ b. if b then side_of g.entered.end else side_of g.left.end) no_tip ∙ ap side_of e ∙ side_of-leg s in
+    let no_tip : is_end g.left.end end.Tip ≡ false = false-from (is_end g.left.end end.Tip) (λ t. leg-tip s (sym e ∙ (end-decides g.left.end end.Tip).0 t)) in
+    ap (λ b. if b then side_of g.entered.end else side_of g.left.end) no_tip ∙ ap side_of e ∙ side_of-leg s in
     let enters : (g.left.end ≡ end.Tip) × (g.entered.end ≡ leg_at s) → leg_used g ≡ Some s = λ e.
-        ap (λ b. if b then side_of g.entered.end else side_of g.left.end) ((end-decides g.left.end end.Tip).1 e.0) ∙ ap side_of e.1 ∙ side_of-leg s in
+    ap (λ b. if b then side_of g.entered.end else side_of g.left.end) ((end-decides g.left.end end.Tip).1 e.0) ∙ ap side_of e.1 ∙ side_of-leg s in
     let leg_is : leg_used g ≡ Some s = ⊎_elim leaves enters h.1 in
     ap (λ e. used_of g (point_of e)) h.0 ∙ ap (option_map (λ s. (p, s))) leg_is
 
@@ -179,7 +179,7 @@ pub flank-to : (l : Plan) (p : PointId) (s : Side) (q : PointId) (t : Side) → 
 unfolding protection_of protection_from
 flank-to l p s q t h =
     let is : protection_of l p s ≡ protection.By q t =
-        ap (protection_behind l p) h.1 ∙ ap (protection_by (has_signal l.signals (leg q (other t)))) (leg_of_another-is p q (other t) h.0) ∙ ap (protection.By q) (other-other t) in
+    ap (protection_behind l p) h.1 ∙ ap (protection_by (has_signal l.signals (leg q (other t)))) (leg_of_another-is p q (other t) h.0) ∙ ap (protection.By q) (other-other t) in
     let C : Protection → Type 0 = λ x. Contains (flank_need x) (q, t) in
     subst C (sym is) (contains-here (q, t) [])
 
@@ -205,7 +205,7 @@ needs-to l path q t h =
     let C : Option (PointId × Side) → Type 0 = λ o. Contains (needs_at l o) (q, t) in
     let own : Uses g q t → Contains (needs_at l (used g)) (q, t) = λ u. subst C (sym (uses-used g q t u)) (contains-here (q, t) (flank_need (protection_of l q t))) in
     let flank : ((p : PointId) × (s : Side) × Uses g p s × Guards l q t p s) → Contains (needs_at l (used g)) (q, t) = λ u.
-        subst C (sym (uses-used g u.0 u.1 u.2)) (contains-there (u.0, u.1) (q, t) (flank_need (protection_of l u.0 u.1)) (flank-to l u.0 u.1 q t u.3)) in
+    subst C (sym (uses-used g u.0 u.1 u.2)) (contains-there (u.0, u.1) (q, t) (flank_need (protection_of l u.0 u.1)) (flank-to l u.0 u.1 q t u.3)) in
     flat_map-to (λ g. needs_at l (used g)) path g (q, t) h.1 (⊎_elim own flank h.2)
 
 pub has_need-decides : (ns : List (PointId × Side)) (n : PointId × Side) → Decides (has_need ns n) (Contains ns n)
@@ -234,23 +234,23 @@ pub has_signal-decides : (l : Plan) (p : Port) → Decides (has_signal l.signals
 has_signal-decides l p =
     let P : Signal → Type 0 = λ s. s.at ≡ p in
     let up : ((s : Signal) × Contains l.signals s × P s) → (s : SignalId) × StandsAt l s p = λ h.
-        let at = contains-get l.signals h.0 h.1 in
-        let id : SignalId = record { 0 = at.0 } in
-        (id, ap (option_map (λ (s : Signal). s.at)) at.1 ∙ ap Some h.2) in
+    let at = contains-get l.signals h.0 h.1 in
+    let id : SignalId = record { 0 = at.0 } in
+    (id, ap (option_map (λ (s : Signal). s.at)) at.1 ∙ ap Some h.2) in
     let down : ((s : SignalId) × StandsAt l s p) → (s : Signal) × Contains l.signals s × P s = λ h.
-        let a = option_map-some (λ (s : Signal). s.at) (slice_get l.signals h.0.0) p h.1 in
-        (a.0, get-contains l.signals h.0.0 a.0 a.1, a.2) in
+    let a = option_map-some (λ (s : Signal). s.at) (slice_get l.signals h.0.0) p h.1 in
+    (a.0, get-contains l.signals h.0.0 a.0 a.1, a.2) in
     Decides-like (has_signal l.signals p) up down (any-decides (λ s. is_port s.at p) P (λ s. port-decides s.at p) l.signals)
 
 guarded-none : (l : Plan) (p : PointId) (s : Side) (from : Port) → Joined l (leg p (other s)) from → leg_of_another p from ≡ None → Decides (has_signal l.signals from) (IsGuarded l p s)
 guarded-none l p s from joined no_leg =
     let signal : Type 0 = (i : SignalId) × StandsAt l i from in
     let up : signal → IsGuarded l p s = λ h at j.
-        let same : from ≡ at = some-injective from at (sym joined ∙ j) in
-        let S : Port → Type 0 = λ port. (i : SignalId) × StandsAt l i port in
-        inr (subst S same h) in
+    let same : from ≡ at = some-injective from at (sym joined ∙ j) in
+    let S : Port → Type 0 = λ port. (i : SignalId) × StandsAt l i port in
+    inr (subst S same h) in
     let down : IsGuarded l p s → signal = λ h.
-        ⊎_elim (λ another. absurd (none-some (another.0, another.1) (sym no_leg ∙ ap (leg_of_another p) another.3 ∙ leg_of_another-is p another.0 another.1 another.2))) (λ is. is) (h from joined) in
+    ⊎_elim (λ another. absurd (none-some (another.0, another.1) (sym no_leg ∙ ap (leg_of_another p) another.3 ∙ leg_of_another-is p another.0 another.1 another.2))) (λ is. is) (h from joined) in
     Decides-like (has_signal l.signals from) up down (has_signal-decides l from)
 
 closed : (b : Bool) → not (is_open_leg (guarded_by b)) ≡ b

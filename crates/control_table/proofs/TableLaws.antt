@@ -50,7 +50,8 @@ writes-all l r path points only flank none =
     let F : PointId → Side → Type 0 = λ p s. Contains r.flank (p, s) in
     record {
       points = λ p s. (only.points p s, λ h. let named = points p h.1 in subst (P p) (one-side l path none p named.0 s (only.points p named.0 named.1).0 h.0) named.1);
-      flank = λ p s. (only.flank p s, λ h. let named = flank p s h.0 h.1 in subst (F p) (one-side l path none p named.0 s (only.flank p named.0 named.1).0 h.0) named.1) }
+      flank = λ p s. (only.flank p s, λ h. let named = flank p s h.0 h.1 in subst (F p) (one-side l path none p named.0 s (only.flank p named.0 named.1).0 h.0) named.1);
+    }
 
 pub all-named : (l : Plan) (r : RouteEntry) (path : List Passage) → WritesRequired l r path → PointsNamed r path
 all-named l r path h p on = (on.1, (h.points p on.1).1 ((on.0, on.2, inl on.3), on))
@@ -94,14 +95,16 @@ required-found place l r path ns e =
     let t4 = passed (points_right r path (needs l path) && flank_right r path (needs l path)) (PointWrong place) e5 ns t3.1 in
     let t5 = passed (flank_written r path (needs l path)) (FlankMissing place) e6 ns t4.1 in
     let t6 = passed (flanks_guarded l path) (FlankOpen place) e7 ns t5.1 in
-    let t7 = passed (consistent (needs l path)) (FlankContradicts place) last ns t6.1 in
-    (record {
-      points = (points_written-decides r path).0 t3.0;
-      only = (right-decides l r path).0 t4.0;
-      flank = (flank_written-decides l r path).0 t5.0;
-      guarded = (flanks-decide l path).0 t6.0;
-      consistent = (consistent-decides l path).0 t7.0 },
-    ok-injective (in_layout_order (needs l path)) ns t7.1)
+    let t7 = passed (consistent (needs l path)) (FlankContradicts place) last ns t6.1 in (
+      record {
+        points = (points_written-decides r path).0 t3.0;
+        only = (right-decides l r path).0 t4.0;
+        flank = (flank_written-decides l r path).0 t5.0;
+        guarded = (flanks-decide l path).0 t6.0;
+        consistent = (consistent-decides l path).0 t7.0;
+      },
+      ok-injective (in_layout_order (needs l path)) ns t7.1,
+    )
 
 -- a fault of the points and flanks of a path that comes once
 pub required-fault : (place : FaultyRoute) (l : Plan) (r : RouteEntry) (path : List Passage) (f : TableFault) (C : TableFault → Type 0) → required_of place l r path ≡ Err f → BeforePointMissing l r path
@@ -169,7 +172,8 @@ row-found place l r row e =
       protected = kept.0;
       listed = (extras-decide l place.id r).0 listed.0;
       sections = ap (λ (x : TableRow). x.sections) (sym same) ∙ sym once.1;
-      required = ap (λ (x : TableRow). x.required) (sym same) ∙ sym kept.1 }
+      required = ap (λ (x : TableRow). x.required) (sym same) ∙ sym kept.1;
+    }
 
 pub row-fault : (place : FaultyRoute) (l : Plan) (r : RouteEntry) (f : TableFault) (C : TableFault → Type 0) → row_of place l r ≡ Err f → ((g : TableFault) → IsFaultOf l place r g → C g) → C f
 unfolding row_of sections_of
@@ -264,12 +268,12 @@ unfolding rows_from
 first-without l n [] f e = absurd (err-ok f [] (sym e))
 first-without l n (q ∷ routes) f e =
     let here : row_of (place_at n q.name) l q ≡ Err f → FirstWithout l n (q ∷ routes) f = λ h.
-        let m : n ≡ n + 0 = omega arith in
-        let R : ℕ → Type 0 = λ i. row_of (place_at i q.name) l q ≡ Err f in
-        record { at = 0; route = q; there = refl; fault = subst R m h; before = λ k x lt there. absurd (omega (arith, lt)) } in
+    let m : n ≡ n + 0 = omega arith in
+    let R : ℕ → Type 0 = λ i. row_of (place_at i q.name) l q ≡ Err f in
+    record { at = 0; route = q; there = refl; fault = subst R m h; before = λ k x lt there. absurd (omega (arith, lt)) } in
     let later : ((row : TableRow) × (row_of (place_at n q.name) l q ≡ Ok row) × (rows_after l n routes row ≡ Err f)) → FirstWithout l n (q ∷ routes) f = λ h.
-        ⊎_elim (λ on. without_later l n q routes f h.0 h.1 (first-without l (suc n) routes f on)) (λ done. absurd (err-ok f (h.0 ∷ done.0) (sym done.2)))
-        (err-from (rows_from l (suc n) routes) (λ rest. Ok (h.0 ∷ rest)) f h.2) in
+    ⊎_elim (λ on. without_later l n q routes f h.0 h.1 (first-without l (suc n) routes f on)) (λ done. absurd (err-ok f (h.0 ∷ done.0) (sym done.2)))
+    (err-from (rows_from l (suc n) routes) (λ rest. Ok (h.0 ∷ rest)) f h.2) in
     ⊎_elim here later (err-from (row_of (place_at n q.name) l q) (rows_after l n routes) f e)
 
 -- ---- the table
@@ -287,12 +291,17 @@ table-sound l rows e a r at = let h = table-row l rows e a r at in row-sound l a
 
 first-told : (l : Plan) (f g : TableFault) (w : FirstWithout l 0 l.routes f) → IsFaultOf l (place_at w.at w.route.name) w.route g → ToldAt l (place_at w.at w.route.name) g
 first-told l f g w h =
-    record { route = w.route; in_table = w.there; named = refl; fault = h;
+    record {
+      route = w.route;
+      in_table = w.there;
+      named = refl;
+      fault = h;
       first = λ b q lt at.
-        let k = w.before b.0 q lt at in
-        let m : 0 + b.0 ≡ b.0 = omega arith in
-        let R : ℕ → Type 0 = λ i. row_of (place_at i q.name) l q ≡ Ok k.0 in
-        row-sound l b q k.0 (row-found (place_at b.0 q.name) l q k.0 (subst R m k.1)) }
+          let k = w.before b.0 q lt at in
+          let m : 0 + b.0 ≡ b.0 = omega arith in
+          let R : ℕ → Type 0 = λ i. row_of (place_at i q.name) l q ≡ Ok k.0 in
+          row-sound l b q k.0 (row-found (place_at b.0 q.name) l q k.0 (subst R m k.1));
+    }
 
 is-first : (l : Plan) (f : TableFault) → ((at : FaultyRoute) × ToldAt l at f) → IsFirstFault l f
 is-first l (PathBroken told) h = h

@@ -90,13 +90,7 @@ impl Checked {
         requires second { b.0 < length self.now.routes }
         ensures { IsTrue result ↔ Conflict self.now a b }
     {
-        conflicts(
-            self.layout.routes(),
-            a,
-            b,
-            self.row_at(a),
-            self.row_at(b),
-        )
+        conflicts(self.layout.routes(), a, b, self.row_at(a), self.row_at(b))
     }
 
     /// An equal table.

@@ -61,13 +61,7 @@ fn require_differently(first: &[(PointId, Side)], second: &[(PointId, Side)]) ->
 
 /// Whether two routes, which have these rows, conflict.
 #[tactic(auto, unfolding(crate::specs::Judging::conflicts))]
-pub(crate) fn conflicts(
-    routes: &[Route],
-    a: RouteId,
-    b: RouteId,
-    first: &Row,
-    second: &Row,
-) -> bool
+pub(crate) fn conflicts(routes: &[Route], a: RouteId, b: RouteId, first: &Row, second: &Row) -> bool
     ensures { result ≡ conflicts routes.now a b first.now second.now }
 {
     a.0 != b.0

@@ -7,7 +7,7 @@ use crate::fault::{FaultyRoute, TableFault};
 use crate::order::in_layout_order;
 use crate::passage::{Passage, passages};
 use crate::sections::{elements, elements_differ, sections, sections_differ};
-use crate::sides::{flanks_guarded, needs, consistent};
+use crate::sides::{consistent, flanks_guarded, needs};
 use crate::signals::{extras_listed, port_of, signals_placed};
 use crate::written::{flank_written, points_written, written_right};
 use layout::{Layout, PointId, Route, RouteId, SectionId};

@@ -51,20 +51,44 @@ fn table(alloc: Global, text: &str) -> Result<Checked, Fail> {
     Ok(check(alloc, layout)?)
 }
 
+/// Whether two routes of the table conflict.
+fn conflict(checked: &Checked, a: usize, b: usize) -> bool {
+    let routes = checked.layout().routes().len();
+    a < routes && b < routes && checked.conflict(RouteId(a), RouteId(b))
+}
+
+/// Whether a route requires exactly these points.
+fn requires_these(checked: &Checked, route: usize, points: &[(usize, Side)]) -> bool {
+    if route >= checked.layout().routes().len() {
+        return false;
+    }
+    let required = checked.required(RouteId(route));
+    required.len() == points.len()
+        && required
+            .iter()
+            .zip(points)
+            .all(|(have, want)| have.0.0 == want.0 && have.1 == want.1)
+}
+
+/// How many sections a route has.
+fn section_count(checked: &Checked, route: usize) -> usize {
+    if route >= checked.layout().routes().len() {
+        return 0;
+    }
+    checked.sections(RouteId(route)).len()
+}
+
 #[test]
 fn checks_the_small_station(rt: HostRuntime) -> Result<(), Fail> {
     let alloc = rt.alloc();
     let text = changed(alloc, "", "")?;
     let checked = table(alloc, text.as_str())?;
     assert_eq!(rt; checked.layout().routes().len(), 3);
-    assert!(rt; checked.conflict(RouteId(0), RouteId(1)));
-    assert!(rt; checked.conflict(RouteId(0), RouteId(2)));
-    assert!(rt; checked.conflict(RouteId(1), RouteId(2)));
-    assert!(rt; !checked.conflict(RouteId(0), RouteId(0)));
-    let required = checked.required(RouteId(0));
-    assert_eq!(rt; required.len(), 1);
-    assert!(rt; required[0].0.0 == 0 && required[0].1 == Side::Right);
-    assert_eq!(rt; checked.sections(RouteId(0)).len(), 2);
+    assert!(rt; conflict(&checked, 0, 1) && conflict(&checked, 0, 2) && conflict(&checked, 1, 2));
+    assert!(rt; !conflict(&checked, 0, 0));
+    assert!(rt; requires_these(&checked, 0, &[(0, Side::Right)]));
+    assert!(rt; requires_these(&checked, 2, &[(0, Side::Left)]));
+    assert_eq!(rt; section_count(&checked, 0), 2);
     Ok(())
 }
 
@@ -214,14 +238,15 @@ fn leaves_a_leg_without_a_joint_alone(rt: HostRuntime) -> Result<(), Fail> {
     let alloc = rt.alloc();
     let cut =
         "joint = [[\"W.end\",\"A1.a\"], [\"A1.b\",\"P1.tip\"], [\"P1.left\",\"T1.a\"], [\"T1.b\",\"E1.end\"], [\"T2.b\",\"E2.end\"]]\nsignal = [{name=\"S1\",id=2,at=\"A1.b\"}, {name=\"S3\",id=3,at=\"T1.a\"}]\nroute = [{name=\"R2\",entry=\"S1\",exit=\"E1\",path=[\"P1.left\",\"T1.b\"],points={P1=\"left\"}}]\n";
-    let kept = [0, 1, 2, 4, 5, 7];
     let mut other = String::new(alloc);
     other.push_str(cut)?;
-    for place in kept {
-        other.push_str(SMALL[place].1)?;
+    for (word, written) in &SMALL {
+        if *word != "joint" && *word != "signal" && *word != "route" {
+            other.push_str(*written)?;
+        }
     }
     let checked = table(alloc, other.as_str())?;
-    assert_eq!(rt; checked.required(RouteId(0)).len(), 1);
+    assert!(rt; requires_these(&checked, 0, &[(0, Side::Left)]));
     Ok(())
 }
 
@@ -244,15 +269,10 @@ fn routes_that_need_a_flank_point_differently_conflict(rt: HostRuntime) -> Resul
         "route = [{name=\"a\",entry=\"S1\",exit=\"E1\",path=[\"P1.right\",\"T1.b\"],points={P1=\"right\"},flank={Q=\"right\"}}, {name=\"b\",entry=\"S2\",exit=\"E2\",path=[\"P2.right\",\"T2.b\"],points={P2=\"right\"},flank={Q=\"left\"}}]\n";
     let text = format!(in alloc; "{BETWEEN}{routes}")?;
     let checked = table(alloc, text.as_str())?;
-    assert!(rt; checked.conflict(RouteId(0), RouteId(1)));
-    assert!(rt; checked.conflict(RouteId(1), RouteId(0)));
-    assert_eq!(rt; checked.sections(RouteId(0)).len(), 1);
-    let a = checked.required(RouteId(0));
-    assert_eq!(rt; a.len(), 2);
-    assert!(rt; a[0].0.0 == 0 && a[0].1 == Side::Right && a[1].0.0 == 1 && a[1].1 == Side::Right);
-    let b = checked.required(RouteId(1));
-    assert_eq!(rt; b.len(), 2);
-    assert!(rt; b[0].0.0 == 1 && b[0].1 == Side::Left && b[1].0.0 == 2 && b[1].1 == Side::Right);
+    assert!(rt; conflict(&checked, 0, 1) && conflict(&checked, 1, 0));
+    assert_eq!(rt; section_count(&checked, 0), 1);
+    assert!(rt; requires_these(&checked, 0, &[(0, Side::Right), (1, Side::Right)]));
+    assert!(rt; requires_these(&checked, 1, &[(1, Side::Left), (2, Side::Right)]));
     Ok(())
 }
 
@@ -285,8 +305,8 @@ fn a_flank_point_on_the_path_is_written_under_points_alone(rt: HostRuntime) -> R
         "route = [{name=\"a\",entry=\"S1\",exit=\"E\",path=[\"P1.right\",\"P2.tip\"],points={P1=\"right\",P2=\"left\"}}]\n";
     let text = format!(in alloc; "{FACING}{sound}")?;
     let checked = table(alloc, text.as_str())?;
-    assert_eq!(rt; checked.required(RouteId(0)).len(), 2);
-    assert_eq!(rt; checked.sections(RouteId(0)).len(), 1);
+    assert!(rt; requires_these(&checked, 0, &[(0, Side::Right), (1, Side::Left)]));
+    assert_eq!(rt; section_count(&checked, 0), 1);
     let twice =
         "route = [{name=\"a\",entry=\"S1\",exit=\"E\",path=[\"P1.right\",\"P2.tip\"],points={P1=\"right\",P2=\"left\"},flank={P2=\"left\"}}]\n";
     let text = format!(in alloc; "{FACING}{twice}")?;
@@ -354,8 +374,8 @@ fn copies_an_equal_table(rt: HostRuntime) -> Result<(), Fail> {
     let checked = table(alloc, text.as_str())?;
     let copy = checked.copy(alloc)?;
     assert_eq!(rt; copy.layout().signals().len(), 3);
-    assert!(rt; copy.conflict(RouteId(0), RouteId(2)));
-    assert_eq!(rt; copy.required(RouteId(2)).len(), 1);
-    assert_eq!(rt; copy.sections(RouteId(2)).len(), 2);
+    assert!(rt; conflict(&copy, 0, 2));
+    assert!(rt; requires_these(&copy, 2, &[(0, Side::Left)]));
+    assert_eq!(rt; section_count(&copy, 2), 2);
     Ok(())
 }

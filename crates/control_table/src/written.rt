@@ -48,8 +48,7 @@ fn is_named(points: &[(PointId, Side)], passage: &Passage) -> bool
 pub(crate) fn points_written(route: &Route, path: &[Passage]) -> bool
     ensures { result ≡ points_written route.now path.now }
 {
-    path.iter()
-        .all(|passage| is_named(route.points(), passage))
+    path.iter().all(|passage| is_named(route.points(), passage))
 }
 
 /// Whether each point under `points` is required so and on the path.
@@ -57,10 +56,7 @@ pub(crate) fn points_written(route: &Route, path: &[Passage]) -> bool
 fn points_right(route: &Route, path: &[Passage], needs: &[(PointId, Side)]) -> bool
     ensures { result ≡ points_right route.now path.now needs.now }
 {
-    route
-        .points()
-        .iter()
-        .all(|pair| has_need(needs, pair.0, pair.1) && on_path(path, pair.0))
+    route.points().iter().all(|pair| has_need(needs, pair.0, pair.1) && on_path(path, pair.0))
 }
 
 /// Whether each point under `flank` is required so and off the path.
@@ -68,10 +64,7 @@ fn points_right(route: &Route, path: &[Passage], needs: &[(PointId, Side)]) -> b
 fn flank_right(route: &Route, path: &[Passage], needs: &[(PointId, Side)]) -> bool
     ensures { result ≡ flank_right route.now path.now needs.now }
 {
-    route
-        .flank()
-        .iter()
-        .all(|pair| has_need(needs, pair.0, pair.1) && !on_path(path, pair.0))
+    route.flank().iter().all(|pair| has_need(needs, pair.0, pair.1) && !on_path(path, pair.0))
 }
 
 /// Whether all that is written is required, and stands where it belongs.
