@@ -19,7 +19,6 @@ use Rattle.rasta_core_time.proofs.CallsKept.{ends_ready}
 use Rattle.rasta_core_time.proofs.Deeds.{IsFor, ticking_does, closing_does, sending_does, opening_does}
 use Rattle.rasta_core_time.proofs.Receipts.{Receives as Hears}
 use Rattle.rasta_core_time.proofs.Hearing.{read_pdu}
-use Rattle.rasta_core_time.proofs.Conclusions.{taken_opening}
 use Rattle.rasta_core_theorem.proofs.OrderLaws.{CarryingLaws, Laws}
 use Rattle.rasta_core_time.proofs.Called.{ReadIsIntact, read_is, bytes_do, bytes_bring}
 use Rattle.rasta_core_time.proofs.Finishing.{made_at}
@@ -138,7 +137,7 @@ module _ (law : Laws) (carry : CarryingLaws) (intact : ReadIsIntact) (names : Na
           first = in_newest names role.Server ends timely bytes number pdu from
 
           opening_is : IsOpening names role.Server ends from.datagram
-          opening_is = taken_opening names ends role.Server bytes number from.datagram are timely from.delivered (not_true (is_open ends.server.link.phase) both.0) both.1
+          opening_is = law.taken_opening names ends role.Server bytes number from.datagram are timely from.delivered (not_true (is_open ends.server.link.phase) both.0) both.1
 
           later : (sent : Sent) → InFlight names (times_of ends timely.of_client timely.of_server timely.newest) sent → sent.connection ≡ number → sent.sender ≡ role.Server → ⊥
           later sent flies same its =

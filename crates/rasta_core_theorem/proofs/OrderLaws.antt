@@ -15,6 +15,12 @@ use Rattle.rasta_core_order.specs.Carried.{carried}
 use Rattle.rasta_core_order.specs.Order.{InOrder, Way}
 use Rattle.rasta_core_order.specs.Part.{IsAt, IsOf, Part}
 use Rattle.rasta_core_order.specs.Playing.{accepted, Plays, ReceiptGoesOn, StepGoesOn}
+use Rattle.rasta_core_link.specs.declared.identity.Role.{Role}
+use Rattle.rasta_core_ends.specs.Ends.{Sent, is_taken}
+use Rattle.rasta_core_ends.specs.Run.{Ends}
+use Rattle.rasta_core_time.specs.Events.{IsDelivered}
+use Rattle.rasta_core_time.specs.Invariant.{AreNames, Names, Timely}
+use Rattle.rasta_core_time.specs.Sentences.{IsOpening, IsOut, receipt_at}
 use Rattle.rasta_core_time.proofs.Conversation.{WrittenIsRead}
 use Rattle.rasta_pdu.specs.Reading.{reading}
 use Rattle.rasta_pdu.specs.declared.fault.PduFault.{PduFault}
@@ -23,6 +29,9 @@ use Rattle.rasta_pdu.specs.declared.pdu.Pdu.{Pdu}
 pub record Laws : Type 0 where
   -- what is written is read
   pub written : WrittenIsRead
+  -- what an end outside takes is an opening
+  pub taken_opening : (names : Names) (ends : Ends) (who : Role) (bytes : List ℕ) (connection : ℕ) (datagram : Sent) → AreNames names → Timely names ends
+      → IsDelivered ends bytes connection datagram → IsOut who ends → is_taken (receipt_at who bytes ends).verdict ≡ true → IsOpening names who ends datagram
   -- each call keeps the order
   pub settled_plays : (now : ℕ) (link : LinkState) (own other : Part) → InOrder own other → Plays link own other → Plays (settled now link) own other
   pub ticking_on : (now : ℕ) (link : LinkState) (own other : Part) → InOrder own other → Plays link own other → StepGoesOn own other (ticking now link) []

@@ -31,7 +31,6 @@ use Rattle.rasta_core_time.proofs.Hearing.{read_pdu}
 use Rattle.rasta_core_time.proofs.Finishing.{made_at, shut_outside}
 use Rattle.rasta_core_time.proofs.CallsKept.{ends_ready, ends_clock}
 use Rattle.rasta_core_time.proofs.Called.{ReadIsIntact, read_is, bytes_do, bytes_bring}
-use Rattle.rasta_core_time.proofs.Conclusions.{taken_opening}
 use Rattle.rasta_core_theorem.specs.Ordered.{IsAlone, AreTogether, Ordered, unbegun, alone, together}
 use Rattle.rasta_core_theorem.proofs.OrderLaws.{Laws}
 use Rattle.rasta_core_theorem.proofs.Outside.{entered_identity}
@@ -210,7 +209,7 @@ module _ (law : Laws) (intact : ReadIsIntact) (names : Names) (are : AreNames na
         later : (pdu : Pdu) → Comes names role.Server ends timely bytes connection pdu → ⊥
         later pdu from =
             let opening : IsOpening names role.Server ends from.datagram
-            = taken_opening names ends role.Server bytes connection from.datagram are timely from.delivered (not_true (is_open ends.server.link.phase) both.0) both.1
+            = law.taken_opening names ends role.Server bytes connection from.datagram are timely from.delivered (not_true (is_open ends.server.link.phase) both.0) both.1
             in omega (arith, opening.is_new is.connection is.of_server, of_last names role.Server ends timely bytes connection pdu from is.connection is.of_client)
 
         again : IsGranted ends.server.link.identity (reading names.key bytes) (standing ends.server.link) (receiving (reading_of ends.server.clock) bytes ends.server.link).items → ⊥

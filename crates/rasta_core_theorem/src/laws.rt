@@ -32,6 +32,7 @@ pub fn every_event_keeps_order()
 {
     written_is_read();
     read_was_written();
+    opening_is_new();
     calls_keep_order();
     hearing_keeps_order();
     partner_stays();
@@ -96,6 +97,7 @@ pub fn given_was_sent()
 {
     written_is_read();
     read_was_written();
+    opening_is_new();
     calls_keep_order();
     hearing_keeps_order();
     partner_stays();

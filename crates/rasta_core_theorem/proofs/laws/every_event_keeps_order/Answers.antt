@@ -9,6 +9,7 @@ pub returns-clause-kept : goal.returns-clause-kept
 returns-clause-kept c =
     let laws : Laws = record {
       written = c.written_is_read.ensures.read;
+      taken_opening = c.opening_is_new.ensures;
       settled_plays = c.calls_keep_order.ensures.settling;
       ticking_on = c.calls_keep_order.ensures.ticking;
       closing_on = c.calls_keep_order.ensures.closing;
