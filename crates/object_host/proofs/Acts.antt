@@ -1,5 +1,5 @@
 -- What the object is told in a step.
-use Rattle.std.proofs.Common.{rules, ◌≡◌, ℕ, suc, zero, Bool, true, false, not, if◌then◌else◌, List, [], ◌∷◌, ◌++◌, append_assoc, refl, ap, sym, ◌∙◌, subst}
+use Rattle.std.proofs.Common.{◌≡◌, ℕ, suc, zero, Bool, true, false, not, if◌then◌else◌, List, [], ◌∷◌, ◌++◌, append_assoc, refl, ap, sym, ◌∙◌, subst}
 use Rattle.std.specs.Prelude.{Option, Some, None, Result, Ok, Err, is_ok}
 use Rattle.std.proofs.lemmas.Bool.{true≢false, false≢true}
 use Rattle.std.proofs.lemmas.List.{append-nil}
@@ -13,10 +13,10 @@ use Rattle.rasta_core_link.specs.Clock.{settled}
 use Rattle.rasta_core_link.specs.Calls.{answer_to_send, receiving}
 use Rattle.object_host.specs.Behaviour.{Behaviour}
 use Rattle.object_host.specs.Course.{course, commanding as to_object}
-use Rattle.object_host.specs.Host.{HostState, LinkCall, Part, Ticks, Closes, Sends, Receives, fallen, is_completed, keeping, silent, then_do}
+use Rattle.object_host.specs.Host.{HostState, LinkCall, Part, Ticks, Closes, Sends, Receives, is_completed, keeping, silent, then_do}
 use Rattle.object_host.specs.Made.{ActsOn, AreOwn, IsMadeOf, IsOwn, call_made, calls_made, command_of, commands_of, items_taken, items_taken_by}
 use Rattle.object_host.specs.Made as made
-use Rattle.object_host.specs.Step.{acting, acting_all, beating, beginning, commanding, following, given, goes_on, hearing, host_step, is_from_peer, most_owed, paid, paying, paying_first, posting, received, violating}
+use Rattle.object_host.specs.Step.{acting, acting_all, beating, beginning, following, given, goes_on, hearing, host_step, is_from_peer, most_owed, paid, paying, paying_first, posting, received, violating}
 use Rattle.object_host.specs.declared.course.Course.{Course}
 use Rattle.object_host.specs.declared.course.Course.TheVariants as courses
 use Rattle.object_host.specs.declared.input.Input.{Input}

@@ -6,22 +6,19 @@ use Rattle.sci_telegram.specs.Reading.{reading}
 use Rattle.sci_telegram.specs.declared.fault.SciFault.{SciFault}
 use Rattle.sci_telegram.specs.declared.telegram.Telegram.{Telegram}
 use Rattle.sci_telegram.specs.declared.message.Initialisation.TheVariants.{StartInitialisation, InitialisationCompleted}
-use Rattle.rasta_pdu.specs.declared.pdu.Pdu.{Pdu}
 use Rattle.rasta_core_link.specs.State.{LinkState, is_open}
 use Rattle.rasta_core_link.specs.Clock.{settled}
-use Rattle.rasta_core_link.specs.Sending.{Step}
 use Rattle.rasta_core_link.specs.Calls.{answer_to_send, receiving}
 use Rattle.object_host.specs.Behaviour.{Behaviour}
 use Rattle.object_host.specs.Course.{course}
-use Rattle.object_host.specs.Host.{HostState, LinkCall, Part, Ticks, Closes, Sends, Receives, fallen, is_completed, keeping, linked, risen, said, silent, then_do}
+use Rattle.object_host.specs.Host.{HostState, LinkCall, Part, Ticks, fallen, is_completed, keeping, linked, risen, said, silent, then_do}
 use Rattle.object_host.specs.Made.{AreCallsFor, AreOwn, IsMadeOf, call_made, calls_made}
-use Rattle.object_host.specs.Step.{acting, acting_all, answering, beating, beginning, commanding, ending, following, given, goes_on, hearing, host_step, initial_status, initialising, is_from_peer, most_objects, most_owed, own_version, paid, paying, paying_first, posting, posting_all, received, telling_status, violating}
+use Rattle.object_host.specs.Step.{acting, acting_all, answering, beating, beginning, commanding, following, given, goes_on, hearing, host_step, initialising, is_from_peer, most_owed, own_version, paid, paying, paying_first, posting, posting_all, received, telling_status, violating}
 use Rattle.object_host.specs.declared.course.Course.{Course}
 use Rattle.object_host.specs.declared.course.Course.TheVariants as courses
 use Rattle.object_host.specs.declared.input.Input.{Input}
 use Rattle.object_host.specs.declared.input.Input.TheVariants as inputs
 use Rattle.object_host.specs.declared.report.Report.{Report}
-use Rattle.object_host.specs.declared.stage.Stage.TheVariants as stage
 
 own_joined : (first others : List LinkCall) → AreOwn first → AreOwn others → AreOwn (first ++ others)
 own_joined [] others one more = more

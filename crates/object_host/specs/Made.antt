@@ -11,7 +11,7 @@ use Rattle.rasta_core_link.specs.Sending.{Step, silent, then_do}
 use Rattle.rasta_core_link.specs.Calls.{ticking, closing_by, sending_item, receiving}
 use Rattle.object_host.specs.declared.input.Input.{Input}
 use Rattle.object_host.specs.declared.input.Input.TheVariants as inputs
-use Rattle.object_host.specs.Host.{LinkCall, Ticks, Closes, Sends, Receives, HostState, Part}
+use Rattle.object_host.specs.Host.{LinkCall, Ticks, Closes, Sends, Receives, Part}
 
 -- what a call does at a clock reading
 abbrev pub call_made : ℕ → LinkCall → LinkState → Step

@@ -2,15 +2,19 @@
 //! answers, and the law that makes it restrictive whatever its own program does.
 #![tactic(auto)]
 
+mod commands;
 mod controller;
 mod course;
 mod host;
 mod hosted;
+mod initialisation;
 mod input;
 mod laws;
 mod report;
+mod reports;
 mod sense;
 mod stage;
+mod stepping;
 
 pub use controller::Controller;
 pub use hosted::Hosted;

@@ -1,4 +1,5 @@
-//! A signal S1 in its host, commanded through the link of IXL1. Both ends are made at 0 and open at 6000.
+//! A signal S1 in its host, commanded through the link of IXL1. Both ends are made at 0 and open at 6000. What takes
+//! memory is done again where it is lacking, so the tests also hold with any one allocation refused.
 
 use super::*;
 use object_host::{Controller, Hosted, Input, Sense};
@@ -46,23 +47,32 @@ fn initialisation(what: Initialisation) -> Message {
     Message::Initialisation(Protocol::LightSignal, what)
 }
 
+/// S1 in its host, none where memory is lacking.
+fn hosted(alloc: Global) -> Result<Option<Hosted<Signal>>, Fail> {
+    let own = name(b"S1")?;
+    let peer = name(b"IXL1")?;
+    Ok(Hosted::new(alloc, 2, 1, own, peer, KEY, 7, 0, Signal::new()).ok())
+}
+
 impl Bench {
     fn new(alloc: Global) -> Result<Bench, Fail> {
+        let client = match Link::client(alloc, 1, 2, KEY, 0, 0) {
+            Ok(client) => client,
+            Err(_) => Link::client(alloc, 1, 2, KEY, 0, 0)?,
+        };
+        let outbox = match Outbox::for_links(alloc, 1) {
+            Ok(outbox) => outbox,
+            Err(_) => Outbox::for_links(alloc, 1)?,
+        };
+        let signal = match hosted(alloc)? {
+            Some(signal) => signal,
+            None => hosted(alloc)?.ok_or("there is memory")?,
+        };
         Ok(Bench {
-            client: Link::client(alloc, 1, 2, KEY, 0, 0)?,
-            outbox: Outbox::for_links(alloc, 1)?,
+            client,
+            outbox,
             inbox: Inbox::new(),
-            signal: Hosted::new(
-                alloc,
-                2,
-                1,
-                name(b"S1")?,
-                name(b"IXL1")?,
-                KEY,
-                7,
-                0,
-                Signal::new(),
-            )?,
+            signal,
             heard: Vec::new(alloc),
             last: None,
         })
@@ -111,7 +121,9 @@ impl Bench {
                 .receive(now, bytes, &mut self.outbox, &mut self.inbox);
             for item in self.inbox.as_slice() {
                 let telegram = sci_telegram::read(item.bytes()).ok().ok_or("a telegram")?;
-                self.heard.push(telegram)?;
+                if self.heard.push(telegram).is_err() {
+                    self.heard.push(telegram)?;
+                }
             }
             self.last = Some(datagram);
         }

@@ -1,0 +1,111 @@
+//! What becomes of the items that the link hands out.
+
+ghost use Rattle.std.specs.Prelude.{◌≡◌, ◌≤◌, ℕ, List, length};
+ghost use Rattle.rasta_core_link.specs.Calls.{MayStep, IsAt};
+ghost use Rattle.rasta_core_link.specs.Outbox.{HasRoomFor, posted};
+ghost use Rattle.object_host.specs.Course.{course};
+ghost use Rattle.object_host.specs.Made.{AreItems};
+ghost use Rattle.object_host.specs.Step.{acting, acting_all, commanding, following, is_from_peer, is_same_protocol, posting};
+ghost use Rattle.sci_telegram.specs.Reading.{reading};
+
+use crate::controller::Controller;
+use crate::course::Course;
+use crate::host::Host;
+use rasta_core_link::{Millis, Outbox};
+use rasta_pdu::Item;
+use sci_telegram::{Protocol, Telegram};
+
+impl<C: Controller> Host<C> {
+    /// The object is told a telegram. One that doesn't fit closes the link.
+    #[tactic(auto, using(crate::proofs::Posting::posting, crate::proofs::UnderWay::items_joined), unfolding(crate::specs::Step::commanding))]
+    fn command(&mut self, now: Millis, telegram: &Telegram, outbox: &mut Outbox)
+        requires clock { MayStep now self.old.link }
+        requires at { self.old.link.clock ≡ now }
+        requires room { HasRoomFor 24 outbox.old }
+        ensures host { self.new ≡ (commanding C.behaviour now telegram.now self.old).host }
+        ensures kept { IsAt now self.old.link (commanding C.behaviour now telegram.now self.old).host.link }
+        ensures posted { outbox.new ≡ posted self.old.link.identity.key (commanding C.behaviour now telegram.now self.old).pdus outbox.old }
+        ensures few { length (commanding C.behaviour now telegram.now self.old).pdus ≤ 1 }
+        ensures items { AreItems (commanding C.behaviour now telegram.now self.old).calls }
+    {
+        if !self.object.take(now, telegram) {
+            self.violate(now, outbox);
+        }
+    }
+
+    /// A telegram of the peer, in its order.
+    #[tactic(auto, unfolding(crate::specs::Step::following))]
+    fn follow(&mut self, now: Millis, telegram: &Telegram, outbox: &mut Outbox)
+        requires at { self.old.link.clock ≡ now }
+        requires room { HasRoomFor 42 outbox.old }
+        ensures host { (item : List ℕ) → self.new ≡ (following C.behaviour now item telegram.now (course telegram.now.message self.old.stage) self.old).host }
+        ensures kept { (item : List ℕ) → IsAt now self.old.link (following C.behaviour now item telegram.now (course telegram.now.message self.old.stage) self.old).host.link }
+        ensures posted { (item : List ℕ) → outbox.new ≡ posted self.old.link.identity.key (following C.behaviour now item telegram.now (course telegram.now.message self.old.stage) self.old).pdus outbox.old }
+        ensures few { (item : List ℕ) → length (following C.behaviour now item telegram.now (course telegram.now.message self.old.stage) self.old).pdus ≤ 18 }
+        ensures items { (item : List ℕ) → AreItems (following C.behaviour now item telegram.now (course telegram.now.message self.old.stage) self.old).calls }
+    {
+        match Course::of(&telegram.message, self.stage) {
+            Course::Checks(version) => self.answer(now, version, outbox),
+            Course::Initialises => self.initialise(now, outbox),
+            Course::Commands => self.command(now, telegram, outbox),
+            Course::Violates => self.violate(now, outbox),
+        }
+    }
+
+    /// Whether a telegram is in the object's protocol, of the peer, and for this controller.
+    fn is_from_peer(&self, telegram: &Telegram) -> bool
+        ensures { result ≡ is_from_peer C.behaviour telegram.now self.now }
+    {
+        is_same(telegram.message.protocol(), self.object.protocol())
+            && telegram.sender.bytes() == self.peer_name.bytes()
+            && telegram.receiver.bytes() == self.own_name.bytes()
+    }
+
+    /// An item that was taken.
+    #[tactic(auto, unfolding(crate::specs::Step::acting))]
+    fn act(&mut self, now: Millis, item: &Item, outbox: &mut Outbox)
+        requires at { self.old.link.clock ≡ now }
+        requires room { HasRoomFor 42 outbox.old }
+        ensures host { self.new ≡ (acting C.behaviour now item.now (reading item.now) self.old).host }
+        ensures kept { IsAt now self.old.link (acting C.behaviour now item.now (reading item.now) self.old).host.link }
+        ensures posted { outbox.new ≡ posted self.old.link.identity.key (acting C.behaviour now item.now (reading item.now) self.old).pdus outbox.old }
+        ensures few { length (acting C.behaviour now item.now (reading item.now) self.old).pdus ≤ 18 }
+        ensures items { AreItems (acting C.behaviour now item.now (reading item.now) self.old).calls }
+    {
+        match sci_telegram::read(item.bytes()) {
+            Ok(telegram) if self.is_from_peer(&telegram) => self.follow(now, &telegram, outbox),
+            _ => self.violate(now, outbox),
+        }
+    }
+
+    /// The items of a datagram. Those behind one that closed the link are dropped.
+    #[tactic(auto, using(crate::proofs::Posting::posting, crate::proofs::UnderWay::items_joined))]
+    pub(crate) fn act_all(&mut self, now: Millis, items: &[Item], outbox: &mut Outbox)
+        requires at { self.old.link.clock ≡ now }
+        requires items { length items.now ≤ 3 }
+        requires room { HasRoomFor 96 outbox.old }
+        ensures host { self.new ≡ (acting_all C.behaviour now items.now self.old).host }
+        ensures kept { IsAt now self.old.link (acting_all C.behaviour now items.now self.old).host.link }
+        ensures posted { outbox.new ≡ posted self.old.link.identity.key (acting_all C.behaviour now items.now self.old).pdus outbox.old }
+        ensures few { length (acting_all C.behaviour now items.now self.old).pdus ≤ 54 }
+        ensures items { AreItems (acting_all C.behaviour now items.now self.old).calls }
+    {
+        for item in items {
+            if !self.link.is_open() {
+                return;
+            }
+            self.act(now, item, outbox);
+        }
+    }
+}
+
+fn is_same(protocol: Protocol, other: Protocol) -> bool
+    ensures { result ≡ is_same_protocol protocol other }
+{
+    matches!(
+        (protocol, other),
+        (Protocol::TrainDetection, Protocol::TrainDetection)
+            | (Protocol::LightSignal, Protocol::LightSignal)
+            | (Protocol::Point, Protocol::Point)
+    )
+}

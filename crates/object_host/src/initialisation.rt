@@ -1,0 +1,85 @@
+//! The telegrams that begin a connection.
+
+ghost use Rattle.std.specs.Prelude.{◌≡◌, ◌≤◌, length};
+ghost use Rattle.rasta_core_link.specs.Calls.{MayStep, IsAt};
+ghost use Rattle.rasta_core_link.specs.Outbox.{HasRoomFor, posted};
+ghost use Rattle.object_host.specs.Made.{AreItems};
+ghost use Rattle.object_host.specs.Step.{answering, initialising, posting, telling_status};
+
+use crate::controller::Controller;
+use crate::host::Host;
+use crate::stage::Stage;
+use rasta_core_link::{Millis, Outbox};
+use sci_telegram::{Agreement, Initialisation};
+
+/// The version of the telegrams, which both ends tell.
+const OWN_VERSION: u8 = 1;
+
+/// How many objects a controller has at most.
+const MOST_OBJECTS: usize = 16;
+
+impl<C: Controller> Host<C> {
+    /// The peer's version is answered. After another version nothing more is taken.
+    #[tactic(auto, unfolding(crate::specs::Step::answering))]
+    pub(crate) fn answer(&mut self, now: Millis, version: u8, outbox: &mut Outbox)
+        requires clock { MayStep now self.old.link }
+        requires room { HasRoomFor 24 outbox.old }
+        ensures host { self.new ≡ (answering C.behaviour now version self.old).host }
+        ensures kept { IsAt now self.old.link (answering C.behaviour now version self.old).host.link }
+        ensures posted { outbox.new ≡ posted self.old.link.identity.key (answering C.behaviour now version self.old).pdus outbox.old }
+        ensures few { length (answering C.behaviour now version self.old).pdus ≤ 1 }
+        ensures items { AreItems (answering C.behaviour now version self.old).calls }
+    {
+        let (agreement, stage) = if version == OWN_VERSION {
+            (Agreement::Match, Stage::AwaitsRequest)
+        } else {
+            (Agreement::NoMatch, Stage::Refused)
+        };
+        let answer = self.say(Initialisation::VersionAnswer {
+            agreement,
+            version: OWN_VERSION,
+        });
+        let _ = self.post(now, &answer, outbox);
+        self.stage = stage;
+    }
+
+    /// The initial status: the report of each object, in the controller's order.
+    #[tactic(auto, using(crate::proofs::Posting::posting, crate::proofs::UnderWay::items_joined))]
+    fn post_status(&mut self, now: Millis, outbox: &mut Outbox)
+        requires at { self.old.link.clock ≡ now }
+        requires room { HasRoomFor 40 outbox.old }
+        ensures host { self.new ≡ (telling_status C.behaviour now self.old).host }
+        ensures kept { IsAt now self.old.link (telling_status C.behaviour now self.old).host.link }
+        ensures posted { outbox.new ≡ posted self.old.link.identity.key (telling_status C.behaviour now self.old).pdus outbox.old }
+        ensures few { length (telling_status C.behaviour now self.old).pdus ≤ 16 }
+        ensures items { AreItems (telling_status C.behaviour now self.old).calls }
+    {
+        for place in 0..MOST_OBJECTS {
+            match self.object.status(place) {
+                Some(report) => {
+                    let _ = self.post(now, &report, outbox);
+                }
+                None => return,
+            }
+        }
+    }
+
+    /// The initialisation: start, the state of each object, completed.
+    #[tactic(auto, using(crate::proofs::Posting::posting, crate::proofs::UnderWay::items_joined), unfolding(crate::specs::Step::initialising))]
+    pub(crate) fn initialise(&mut self, now: Millis, outbox: &mut Outbox)
+        requires at { self.old.link.clock ≡ now }
+        requires room { HasRoomFor 42 outbox.old }
+        ensures host { self.new ≡ (initialising C.behaviour now self.old).host }
+        ensures kept { IsAt now self.old.link (initialising C.behaviour now self.old).host.link }
+        ensures posted { outbox.new ≡ posted self.old.link.identity.key (initialising C.behaviour now self.old).pdus outbox.old }
+        ensures few { length (initialising C.behaviour now self.old).pdus ≤ 18 }
+        ensures items { AreItems (initialising C.behaviour now self.old).calls }
+    {
+        let start = self.say(Initialisation::StartInitialisation);
+        let _ = self.post(now, &start, outbox);
+        self.post_status(now, outbox);
+        let completed = self.say(Initialisation::InitialisationCompleted);
+        let _ = self.post(now, &completed, outbox);
+        self.stage = Stage::Completed;
+    }
+}

@@ -1,0 +1,57 @@
+//! The reports that the object owes.
+
+ghost use Rattle.std.specs.Prelude.{◌≡◌, ◌≤◌, length};
+ghost use Rattle.rasta_core_link.specs.Calls.{IsAt};
+ghost use Rattle.rasta_core_link.specs.Outbox.{HasRoomFor, posted};
+ghost use Rattle.object_host.specs.Made.{AreItems};
+ghost use Rattle.object_host.specs.Step.{goes_on, most_owed, paying, paying_first, posting};
+
+use crate::controller::Controller;
+use crate::host::Host;
+use rasta_core_link::{Millis, Outbox};
+
+/// How many owed reports a step sends at most: the window of a link.
+const MOST_OWED: usize = 20;
+
+impl<C: Controller> Host<C> {
+    /// The first owed report is sent, once the initialisation was completed. Before, nothing is owed. Answers whether
+    /// there was one that is owed no longer.
+    #[tactic(auto, using(crate::proofs::Posting::posting, crate::proofs::UnderWay::items_joined))]
+    fn pay_first(&mut self, now: Millis, outbox: &mut Outbox) -> bool
+        requires at { self.old.link.clock ≡ now }
+        requires room { HasRoomFor 24 outbox.old }
+        ensures host { self.new ≡ (paying_first C.behaviour now (C.behaviour.owed self.old.object) self.old).host }
+        ensures kept { IsAt now self.old.link (paying_first C.behaviour now (C.behaviour.owed self.old.object) self.old).host.link }
+        ensures posted { outbox.new ≡ posted self.old.link.identity.key (paying_first C.behaviour now (C.behaviour.owed self.old.object) self.old).pdus outbox.old }
+        ensures few { length (paying_first C.behaviour now (C.behaviour.owed self.old.object) self.old).pdus ≤ 1 }
+        ensures items { AreItems (paying_first C.behaviour now (C.behaviour.owed self.old.object) self.old).calls }
+        ensures answer { result ≡ goes_on now (C.behaviour.owed self.old.object) self.old }
+    {
+        let Some(report) = self.object.owed() else {
+            return false;
+        };
+        if self.stage.is_completed() && self.post(now, &report, outbox).is_err() {
+            return false;
+        }
+        self.object.paid();
+        true
+    }
+
+    /// The owed reports, as far as the link accepts them.
+    #[tactic(auto, using(crate::proofs::Posting::posting, crate::proofs::UnderWay::items_joined))]
+    pub(crate) fn pay(&mut self, now: Millis, outbox: &mut Outbox)
+        requires at { self.old.link.clock ≡ now }
+        requires room { HasRoomFor 44 outbox.old }
+        ensures host { self.new ≡ (paying C.behaviour now most_owed self.old).host }
+        ensures kept { IsAt now self.old.link (paying C.behaviour now most_owed self.old).host.link }
+        ensures posted { outbox.new ≡ posted self.old.link.identity.key (paying C.behaviour now most_owed self.old).pdus outbox.old }
+        ensures few { length (paying C.behaviour now most_owed self.old).pdus ≤ 20 }
+        ensures items { AreItems (paying C.behaviour now most_owed self.old).calls }
+    {
+        for _round in 0..MOST_OWED {
+            if !self.pay_first(now, outbox) {
+                return;
+            }
+        }
+    }
+}

@@ -1,0 +1,127 @@
+//! A step of a host, in its order.
+
+ghost use Rattle.std.specs.Prelude.{◌≡◌, ◌≤◌, length};
+ghost use Rattle.rasta_core_link.specs.Calls.{MayStep, IsAt};
+ghost use Rattle.rasta_core_link.specs.Outbox.{HasRoomFor, posted};
+ghost use Rattle.object_host.specs.Host.{fallen, risen};
+ghost use Rattle.object_host.specs.Made.{AreItems};
+ghost use Rattle.object_host.specs.Step.{beating, beginning, ending, given, hearing, host_step, posting};
+ghost use Rattle.sci_telegram.specs.Reading.{reading};
+
+use crate::controller::Controller;
+use crate::host::Host;
+use crate::input::Input;
+use crate::stage::Stage;
+use rasta_core_link::{Inbox, Millis, Outbox};
+
+impl<C: Controller> Host<C> {
+    /// A connection that has opened begins with the version check.
+    #[tactic(auto, unfolding(crate::specs::Host::risen))]
+    fn rise(&mut self)
+        ensures host { self.new ≡ risen self.old }
+        ensures link { self.new.link ≡ self.old.link }
+    {
+        if self.stage.is_outside() && self.link.is_open() {
+            self.stage = Stage::AwaitsCheck;
+        }
+    }
+
+    /// Where the link has closed, the object is told of the loss.
+    #[tactic(auto, unfolding(crate::specs::Host::fallen))]
+    fn fall(&mut self)
+        ensures host { self.new ≡ fallen C.behaviour self.old }
+        ensures link { self.new.link ≡ self.old.link }
+    {
+        if !self.stage.is_outside() && !self.link.is_open() {
+            self.stage = Stage::Outside;
+            self.object.lost();
+        }
+    }
+
+    /// A datagram has come.
+    #[tactic(auto, using(crate::proofs::Posting::posting, crate::proofs::UnderWay::items_joined), unfolding(crate::specs::Step::hearing, crate::specs::Step::received))]
+    fn hear(&mut self, now: Millis, datagram: &[u8], outbox: &mut Outbox)
+        requires at { self.old.link.clock ≡ now }
+        requires room { HasRoomFor 120 outbox.old }
+        ensures host { self.new ≡ (hearing C.behaviour now datagram.now self.old).host }
+        ensures kept { IsAt now self.old.link (hearing C.behaviour now datagram.now self.old).host.link }
+        ensures posted { outbox.new ≡ posted self.old.link.identity.key (hearing C.behaviour now datagram.now self.old).pdus outbox.old }
+        ensures few { length (hearing C.behaviour now datagram.now self.old).pdus ≤ 76 }
+        ensures items { AreItems (hearing C.behaviour now datagram.now self.old).calls }
+    {
+        let mut inbox = Inbox::new();
+        self.link.receive(now, datagram, outbox, &mut inbox);
+        self.rise();
+        self.act_all(now, inbox.as_slice(), outbox);
+    }
+
+    /// How a step begins: the clock rules of the link, a loss that they bring, and the object's tick.
+    #[tactic(auto, unfolding(crate::specs::Step::beginning))]
+    fn begin(&mut self, now: Millis)
+        requires { MayStep now self.old.link }
+        ensures host { self.new ≡ beginning C.behaviour now self.old }
+        ensures kept { IsAt now self.old.link (beginning C.behaviour now self.old).link }
+    {
+        self.link.settle(now);
+        self.fall();
+        self.object.tick(now);
+    }
+
+    /// What the step is made for.
+    #[tactic(auto, using(crate::proofs::Posting::posting, crate::proofs::UnderWay::items_joined), unfolding(crate::specs::Step::given))]
+    fn give(&mut self, now: Millis, input: &Input, outbox: &mut Outbox)
+        requires at { self.old.link.clock ≡ now }
+        requires room { HasRoomFor 120 outbox.old }
+        ensures host { self.new ≡ (given C.behaviour now input.now self.old).host }
+        ensures kept { IsAt now self.old.link (given C.behaviour now input.now self.old).host.link }
+        ensures posted { outbox.new ≡ posted self.old.link.identity.key (given C.behaviour now input.now self.old).pdus outbox.old }
+        ensures few { length (given C.behaviour now input.now self.old).pdus ≤ 76 }
+        ensures items { AreItems (given C.behaviour now input.now self.old).calls }
+    {
+        match input {
+            Input::Tick => {}
+            Input::Datagram(datagram) => self.hear(now, datagram, outbox),
+            Input::Sense(sense) => self.object.sense(now, *sense),
+        }
+    }
+
+    /// A tick is the link's too.
+    #[tactic(auto, using(crate::proofs::Posting::posting, crate::proofs::UnderWay::items_joined), unfolding(crate::specs::Step::beating))]
+    fn beat(&mut self, now: Millis, input: &Input, outbox: &mut Outbox)
+        requires at { self.old.link.clock ≡ now }
+        requires room { HasRoomFor 24 outbox.old }
+        ensures host { self.new ≡ (beating now input.now self.old).host }
+        ensures kept { IsAt now self.old.link (beating now input.now self.old).host.link }
+        ensures posted { outbox.new ≡ posted self.old.link.identity.key (beating now input.now self.old).pdus outbox.old }
+        ensures items { AreItems (beating now input.now self.old).calls }
+    {
+        if matches!(input, Input::Tick) {
+            self.link.tick(now, outbox);
+        }
+    }
+
+    /// How a step ends: a loss in the step itself, and the moment at which the link dies.
+    #[tactic(auto, unfolding(crate::specs::Host::keeping))]
+    fn end(&mut self)
+        ensures { self.new ≡ ending C.behaviour self.old }
+    {
+        self.fall();
+        self.object.keep(self.link.alive_until());
+    }
+
+    /// A step at a clock reading that hasn't fallen, with an empty outbox for two links.
+    #[tactic(auto, using(crate::proofs::Posting::posting, crate::proofs::UnderWay::items_joined), unfolding(crate::specs::Step::host_step))]
+    pub(crate) fn step(&mut self, now: Millis, input: &Input, outbox: &mut Outbox)
+        requires clock { MayStep now self.old.link }
+        requires room { HasRoomFor 128 outbox.old }
+        ensures host { self.new ≡ (host_step C.behaviour now input.now self.old).host }
+        ensures posted { outbox.new ≡ posted self.old.link.identity.key (host_step C.behaviour now input.now self.old).pdus outbox.old }
+        ensures items { AreItems (host_step C.behaviour now input.now self.old).calls }
+    {
+        self.begin(now);
+        self.give(now, input, outbox);
+        self.pay(now, outbox);
+        self.beat(now, input, outbox);
+        self.end();
+    }
+}
