@@ -1,5 +1,5 @@
 -- Each final report answers its move, where contacts tell of a change only while the point is driven.
-use Rattle.std.proofs.Common.{◌≡◌, ℕ, ◌+◌, zero, suc, nat_le, nat_lt, ◌&&◌, ◌⊎◌, inl, inr, Bool, true, false, List, [], ◌∷◌, length, Option, Some, None, is_some, refl, ap, sym, ◌∙◌, subst, arith, if◌then◌else◌}
+use Rattle.std.proofs.Common.{◌≡◌, ℕ, nat_le, inl, inr, Bool, true, false, List, [], ◌∷◌, Option, Some, None, is_some, refl, ap, sym, ◌∙◌, subst, if◌then◌else◌}
 use Rattle.std.proofs.lemmas.Bool.{false≢true}
 use Rattle.sci_telegram.specs.declared.message.Side.{Side}
 use Rattle.sci_telegram.specs.declared.message.Side.TheVariants as side
@@ -13,7 +13,7 @@ use Rattle.object_host.specs.declared.sense.Sense.{Sense}
 use Rattle.object_host.specs.declared.sense.Sense.TheVariants as sense
 use Rattle.point_ctl.specs.declared.progress.Progress.{Progress}
 use Rattle.point_ctl.specs.declared.progress.Progress.TheVariants.{Answered, Driving, Arrived, TimedOut}
-use Rattle.point_ctl.specs.Drive.{PointState, is_at, drive_end, commanded_by, begun, limited, reached, driven, own_report}
+use Rattle.point_ctl.specs.Drive.{is_at, drive_end, commanded_by, begun, limited, reached, driven, own_report}
 use Rattle.point_ctl.specs.History.{Call, Takes, Ticks, Senses, Keeps, Pays, Loses, History, AnswerEach, Reported, IsReported, IsMovedByItsDrive, AreMovedByTheDrive, position_of, one_more, next, told}
 use Rattle.point_ctl.proofs.Once.{of}
 

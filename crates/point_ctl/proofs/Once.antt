@@ -1,5 +1,5 @@
 -- Each move that was taken has one final report, or waits for it.
-use Rattle.std.proofs.Common.{◌≡◌, ℕ, ◌+◌, zero, suc, nat_le, Bool, true, false, List, [], ◌∷◌, length, Option, Some, None, refl, ap, sym, ◌∙◌, arith, if◌then◌else◌}
+use Rattle.std.proofs.Common.{◌≡◌, ℕ, ◌+◌, nat_le, Bool, true, false, List, [], ◌∷◌, length, Option, Some, None, refl, arith, if◌then◌else◌}
 use Rattle.sci_telegram.specs.declared.message.Side.{Side}
 use Rattle.sci_telegram.specs.declared.message.Position.{Position}
 use Rattle.sci_telegram.specs.declared.telegram.Telegram.{Telegram}
@@ -8,8 +8,8 @@ use Rattle.object_host.specs.declared.sense.Sense.{Sense}
 use Rattle.object_host.specs.declared.sense.Sense.TheVariants as sense
 use Rattle.point_ctl.specs.declared.progress.Progress.{Progress}
 use Rattle.point_ctl.specs.declared.progress.Progress.TheVariants.{Answered, Driving, Arrived, TimedOut}
-use Rattle.point_ctl.specs.Drive.{PointState, is_at, drive_end, commanded_by, begun, limited, reached, answered, final_report}
-use Rattle.point_ctl.specs.History.{Call, Takes, Ticks, Senses, Keeps, Pays, Loses, History, IsAnsweredOnce, IsLastMove, unanswered, one_more, next, told}
+use Rattle.point_ctl.specs.Drive.{is_at, drive_end, commanded_by, begun, limited, reached}
+use Rattle.point_ctl.specs.History.{Call, Takes, Ticks, Senses, Keeps, Pays, Loses, History, IsAnsweredOnce, one_more, next, told}
 
 -- a history of these parts
 abbrev pub of : Progress → Position → ℕ → List Side → List Report → History

@@ -1,5 +1,5 @@
 -- A point as the object of a host.
-use Rattle.std.specs.Prelude.{Option, is_some, is_none}
+use Rattle.std.specs.Prelude.{is_some, is_none}
 use Rattle.sci_telegram.specs.declared.message.Protocol.TheVariants as protocols
 use Rattle.object_host.specs.Behaviour.{Behaviour}
 use Rattle.point_ctl.specs.Drive.{PointState, move_taken, taking, ticking, sensing, keeping, owing, paying, losing, status_at, move_in, drives}

@@ -1,16 +1,15 @@
 -- A point keeps the law of field objects.
-use Rattle.std.specs.Prelude.{◌≡◌, ℕ, ◌≤◌, nat_le, nat_lt, ◌&&◌, Bool, true, false, Option, Some, None, is_none, refl, if◌then◌else◌}
+use Rattle.std.specs.Prelude.{◌≡◌, ℕ, ◌≤◌, nat_lt, ◌&&◌, Bool, true, false, Some, None, is_none, refl, if◌then◌else◌}
 use Rattle.std.proofs.Common.{ap, ◌∙◌}
 use Rattle.std.proofs.Math.Nat.{le_refl}
 use Rattle.std.proofs.lemmas.Bool.{le-ltb, false≢true}
-use Rattle.sci_telegram.specs.declared.message.Side.{Side}
 use Rattle.sci_telegram.specs.declared.message.Position.{Position}
 use Rattle.object_host.specs.declared.sense.Sense.{Sense}
 use Rattle.object_host.specs.declared.sense.Sense.TheVariants as sense
 use Rattle.object_host.specs.Lawful.{IsLawful}
 use Rattle.point_ctl.specs.declared.progress.Progress.{Progress}
 use Rattle.point_ctl.specs.declared.progress.Progress.TheVariants.{Answered, Driving, Arrived, TimedOut}
-use Rattle.point_ctl.specs.Drive.{PointState, drive_end, limited, reached, answered, sensing, taking, move_in, driven}
+use Rattle.point_ctl.specs.Drive.{PointState, drive_end, limited, reached, answered, sensing, move_in, driven}
 use Rattle.point_ctl.specs.Controlled.{point_behaviour}
 
 and_false : (b : Bool) → (b && false) ≡ false

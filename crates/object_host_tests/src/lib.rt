@@ -1,0 +1,9 @@
+//! Tests of the object controllers, each through a link that commands it.
+#![tactic(auto)]
+
+#[cfg(test)]
+mod bench;
+#[cfg(test)]
+mod detection;
+#[cfg(test)]
+mod point;
