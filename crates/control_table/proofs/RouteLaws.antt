@@ -1,5 +1,5 @@
 -- Two routes of a table: conflicts go both ways, and no route requires a point at both sides.
-use Rattle.std.proofs.Common.{◌≡◌, ◌≢◌, ◌⊎◌, inl, inr, sym, subst, ◌∙◌}
+use Rattle.std.proofs.Common.{◌≡◌, ◌≢◌, ◌⊎◌, List, inl, inr, sym, subst, ◌∙◌}
 use Rattle.sci_telegram.specs.declared.message.Side.TheVariants as side
 use Rattle.layout.specs.declared.ids.PointId.{PointId}
 use Rattle.layout.specs.declared.ids.RouteId.{RouteId}
