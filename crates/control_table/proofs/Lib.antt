@@ -7,3 +7,4 @@ pub mod SideLaws
 pub mod OrderLaws
 pub mod TableLaws
 pub mod ConflictLaws
+pub mod RouteLaws

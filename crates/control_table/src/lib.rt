@@ -5,6 +5,7 @@
 mod checked;
 mod conflicts;
 mod fault;
+mod laws;
 mod order;
 mod passage;
 mod row;
@@ -18,3 +19,6 @@ mod written;
 
 pub use checked::{Checked, check};
 pub use fault::{FaultyRoute, TableFault};
+pub use laws::{
+    conflicts_go_both_ways, points_are_required_at_one_side, routes_of_one_entry_conflict,
+};
