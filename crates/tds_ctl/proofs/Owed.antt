@@ -1,12 +1,11 @@
 -- What sections owe, and what was told of them.
-use Rattle.std.proofs.Common.{◌≡◌, ℕ, zero, suc, Bool, true, false, not, List, [], ◌∷◌, map, refl, ap, sym, ◌∙◌, if◌then◌else◌, Some, option_map, find, slice_get}
+use Rattle.std.proofs.Common.{◌≡◌, ℕ, zero, suc, Bool, true, false, not, List, [], ◌∷◌, refl, ap, sym, ◌∙◌, if◌then◌else◌, Some, option_map, find}
 use Rattle.std.proofs.lemmas.Bool.{false≢true}
 use Rattle.sci_telegram.specs.declared.message.Occupancy.{Occupancy}
-use Rattle.object_host.specs.declared.sense.Sense.{Sense}
 use Rattle.object_host.specs.declared.sense.Sense.TheVariants as sense
 use Rattle.tds_ctl.specs.declared.section.Section.{Section}
-use Rattle.tds_ctl.specs.Sections.{is_same, changed, settled, with_section, sensing, owing, paying, losing, status_at, status_of, owes}
-use Rattle.tds_ctl.specs.History.{Call, Senses, Pays, Loses, History, AreTold, IsChange, IsKnown, StaysOwed, after, after_all, begun_at, changes_at, changing, is_first, is_settled, next, occupancies, owes_at, telling, told_by}
+use Rattle.tds_ctl.specs.Sections.{is_same, changed, settled, with_section, owing, paying, losing, status_at, status_of, owes}
+use Rattle.tds_ctl.specs.History.{Call, Senses, Pays, Loses, IsChange, StaysOwed, after, after_all, changes_at, is_first, is_settled, owes_at}
 
 true≢false : {A : Type 0} → true ≡ false → A
 true≢false h = absurd (false≢true (sym h))

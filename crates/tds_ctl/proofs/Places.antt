@@ -1,5 +1,5 @@
 -- The sections of a detector, one place after the other.
-use Rattle.std.proofs.Common.{◌≡◌, ℕ, zero, suc, ◌+◌, ◌<◌, ◌≤◌, Bool, true, false, List, [], ◌∷◌, ◌++◌, map, length, get_or, take, drop, slice_set, refl, ap, sym, ◌∙◌, arith, add-one}
+use Rattle.std.proofs.Common.{◌≡◌, ℕ, zero, suc, ◌<◌, ◌≤◌, true, List, [], ◌∷◌, ◌++◌, length, get_or, take, drop, slice_set, refl, ap, sym, ◌∙◌, arith}
 use Rattle.tds_ctl.specs.declared.section.Section.{Section}
 use Rattle.tds_ctl.specs.Sections.{with_section, settled, paying}
 

@@ -1,11 +1,10 @@
 -- What sections don't owe was told.
-use Rattle.std.proofs.Common.{◌≡◌, ℕ, zero, suc, Bool, true, false, List, [], ◌∷◌, map, refl, ap, sym, ◌∙◌, if◌then◌else◌}
+use Rattle.std.proofs.Common.{◌≡◌, ℕ, zero, suc, Bool, true, false, List, [], ◌∷◌, refl, sym, ◌∙◌, if◌then◌else◌}
 use Rattle.std.proofs.lemmas.Bool.{false≢true}
 use Rattle.sci_telegram.specs.declared.message.Occupancy.{Occupancy}
-use Rattle.object_host.specs.declared.sense.Sense.{Sense}
 use Rattle.object_host.specs.declared.sense.Sense.TheVariants as sense
 use Rattle.tds_ctl.specs.declared.section.Section.{Section}
-use Rattle.tds_ctl.specs.Sections.{is_same, changed, settled, with_section, sensing, paying, losing}
+use Rattle.tds_ctl.specs.Sections.{is_same, changed, settled, with_section, paying, losing}
 use Rattle.tds_ctl.specs.History.{Call, Senses, Pays, Loses, History, AreTold, IsKnown, begun_at, next, occupancies, telling, told_by}
 
 told_as_they_are : (sections : List Section) → AreTold sections (occupancies sections)

@@ -1,5 +1,5 @@
 -- A detector as the object of a host.
-use Rattle.std.specs.Prelude.{ℕ, true, false, List}
+use Rattle.std.specs.Prelude.{true, false, List}
 use Rattle.sci_telegram.specs.declared.message.Protocol.TheVariants as protocols
 use Rattle.object_host.specs.Behaviour.{Behaviour}
 use Rattle.tds_ctl.specs.declared.section.Section.{Section}

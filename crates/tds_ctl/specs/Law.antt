@@ -1,5 +1,5 @@
 -- A detector keeps the law of field objects.
-use Rattle.std.specs.Prelude.{◌≡◌, ℕ, ◌≤◌, true, List, [], ◌∷◌, None, refl}
+use Rattle.std.specs.Prelude.{◌≡◌, List, [], ◌∷◌, None, refl}
 use Rattle.std.proofs.Common.{zero-le}
 use Rattle.object_host.specs.Lawful.{IsLawful}
 use Rattle.tds_ctl.specs.declared.section.Section.{Section}

@@ -1,5 +1,5 @@
 -- The sections of a detector: what each call of its controller does. The rules are this project's own.
-use Rattle.std.specs.Prelude.{ℕ, zero, suc, Bool, true, false, List, [], ◌∷◌, map, find, position, slice_get, Option, Some, None, option_map, if◌then◌else◌}
+use Rattle.std.specs.Prelude.{ℕ, zero, suc, Bool, true, false, List, [], ◌∷◌, map, find, position, slice_get, Option, Some, option_map, if◌then◌else◌}
 use Rattle.sci_telegram.specs.declared.message.Occupancy.{Occupancy}
 use Rattle.sci_telegram.specs.declared.message.Occupancy.TheVariants.{Clear, Occupied}
 use Rattle.sci_telegram.specs.declared.message.DetectionMessage.TheVariants.{OccupancyStatus}
