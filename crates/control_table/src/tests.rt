@@ -101,10 +101,7 @@ fn told(alloc: Global, key: &str, line: &str) -> Result<Option<TableFault>, Fail
 /// The fault of a text that is a layout.
 fn fault(alloc: Global, text: &str) -> Result<Option<TableFault>, Fail> {
     let layout = Layout::read(alloc, text)?;
-    match check(alloc, layout) {
-        Ok(_) => Ok(None),
-        Err(fault) => Ok(Some(fault)),
-    }
+    Ok(check(alloc, layout).err())
 }
 
 /// Whether a fault prints as this text.
