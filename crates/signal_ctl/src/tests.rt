@@ -17,6 +17,9 @@ const KEY: Key = Key([1, 2, 3, 4]);
 /// When both ends open.
 const OPENING: Millis = 6000;
 
+/// More datagrams than one step hands out.
+const MANY: usize = 64;
+
 const PROCEED: Message = Message::Signal(SignalMessage::IndicateAspect(Aspect::Proceed));
 
 const STOP: Message = Message::Signal(SignalMessage::IndicateAspect(Aspect::Stop));
@@ -64,6 +67,10 @@ impl Bench {
             Ok(outbox) => outbox,
             Err(_) => Outbox::for_links(alloc, 1)?,
         };
+        let mut heard = Vec::new(alloc);
+        if heard.reserve(MANY).is_err() {
+            heard.reserve(MANY)?;
+        }
         let signal = match hosted(alloc)? {
             Some(signal) => signal,
             None => hosted(alloc)?.ok_or("there is memory")?,
@@ -73,7 +80,7 @@ impl Bench {
             outbox,
             inbox: Inbox::new(),
             signal,
-            heard: Vec::new(alloc),
+            heard,
             last: None,
         })
     }
@@ -106,14 +113,20 @@ impl Bench {
 
     /// What the client handed out goes to the signal.
     fn to_signal(&mut self, rt: &impl Abort, now: Millis) {
-        while let Some(datagram) = self.outbox.take_first() {
+        for _ in 0..MANY {
+            let Some(datagram) = self.outbox.take_first() else {
+                return;
+            };
             self.step(rt, now, Input::Datagram(datagram.as_slice()));
         }
     }
 
     /// What the signal handed out in its last step goes to the client.
     fn to_client(&mut self, rt: &impl Abort, now: Millis) -> Result<(), Fail> {
-        while let Some(datagram) = self.signal.take_first() {
+        for _ in 0..MANY {
+            let Some(datagram) = self.signal.take_first() else {
+                return Ok(());
+            };
             assert!(rt; self.client.may_step(now));
             assert!(rt; self.outbox.has_room());
             let bytes = datagram.as_slice();
@@ -121,9 +134,7 @@ impl Bench {
                 .receive(now, bytes, &mut self.outbox, &mut self.inbox);
             for item in self.inbox.as_slice() {
                 let telegram = sci_telegram::read(item.bytes()).ok().ok_or("a telegram")?;
-                if self.heard.push(telegram).is_err() {
-                    self.heard.push(telegram)?;
-                }
+                self.heard.push(telegram)?;
             }
             self.last = Some(datagram);
         }
@@ -133,7 +144,10 @@ impl Bench {
     /// Both hand over what they handed out, until nothing is left.
     fn exchange(&mut self, rt: &impl Abort, now: Millis) -> Result<(), Fail> {
         for _round in 0..4 {
-            while let Some(datagram) = self.outbox.take_first() {
+            for _ in 0..MANY {
+                let Some(datagram) = self.outbox.take_first() else {
+                    break;
+                };
                 self.step(rt, now, Input::Datagram(datagram.as_slice()));
                 self.to_client(rt, now)?;
             }
