@@ -309,17 +309,15 @@ fn bytes_that_are_no_telegram_close(rt: HostRuntime) -> Result<(), Fail> {
 fn report_waits_for_the_window(rt: HostRuntime) -> Result<(), Fail> {
     let mut bench = Bench::up(&rt, rt.alloc())?;
     let request = initialisation(Initialisation::InitialisationRequest);
-    let mut handed_out = 0;
-    for message in [version_check(1), request] {
+    // With one answer, three telegrams of the initialisation and 16 reports the window of 20 is full.
+    for (message, items) in [(version_check(1), 1), (request, 3)] {
         bench.say(&rt, 6010, message)?;
-        handed_out += bench.signal.outbox().len();
+        assert_eq!(rt; bench.signal.outbox().len(), items);
     }
-    assert_eq!(rt; handed_out, 4);
     for _ in 0..16 {
         bench.say(&rt, 6010, STOP)?;
-        handed_out += bench.signal.outbox().len();
+        assert_eq!(rt; bench.signal.outbox().len(), 1);
     }
-    assert_eq!(rt; handed_out, 20);
     bench.say(&rt, 6010, STOP)?;
     assert!(rt; bench.signal.outbox().is_empty());
     bench.say(&rt, 6010, PROCEED)?;
