@@ -54,7 +54,7 @@ fn grounds(alloc: Global, text: &mut String, size: &Size) -> Result<(), AllocErr
     }
     text.push_str("]\npoint = [")?;
     for n in 0..size.points {
-        let id = 1000 + n;
+        let id = n.saturating_add(1000);
         text.push_str(format!(in alloc; "{{name=\"P{n}\",id={id},section=\"G0\"}},")?.as_str())?;
     }
     text.push_str("]\n")
@@ -64,7 +64,7 @@ fn grounds(alloc: Global, text: &mut String, size: &Size) -> Result<(), AllocErr
 fn nodes(alloc: Global, text: &mut String, size: &Size) -> Result<(), AllocError> {
     text.push_str("signal = [")?;
     for n in 0..size.signals {
-        let id = 2000 + n;
+        let id = n.saturating_add(2000);
         text.push_str(format!(in alloc; "{{name=\"S{n}\",id={id},at=\"T{n}.a\"}},")?.as_str())?;
     }
     text.push_str("]\ndetector = [")?;
@@ -80,7 +80,7 @@ fn nodes(alloc: Global, text: &mut String, size: &Size) -> Result<(), AllocError
 
 /// A detector, and each section whose number leaves its own when it is divided by how many there are.
 fn detector(alloc: Global, text: &mut String, size: &Size, n: usize) -> Result<(), AllocError> {
-    let id = 3000 + n;
+    let id = n.saturating_add(3000);
     text.push_str(format!(in alloc; "{{name=\"D{n}\",id={id},sections=[")?.as_str())?;
     for section in (n..size.sections).step_by(size.detectors.max(1)) {
         text.push_str(format!(in alloc; "\"G{section}\",")?.as_str())?;
