@@ -53,8 +53,9 @@ impl From<io::Error> for Failure {
 }
 
 /// Checks the text of a layout. Where its control table is sound, the size of the station and its
-/// conflicting routes are written to `out`, and the status is 0. Otherwise `out` stays as it is, `err` is
-/// told the first fault, and the status is 1. It is 1 also where the report couldn't be written.
+/// conflicting routes are written to `out`, and the status is 0. Where it isn't sound, or the text is no
+/// layout, `out` stays as it is, `err` is told the first fault, and the status is 1. It is 1 also where the
+/// report couldn't be written to its end.
 pub fn check_text<W: Write, E: Write>(alloc: Global, layout: &str, out: &mut W, err: &mut E) -> u8
     ensures status { result ≤ 1 }
     ensures done { result ≡ 0 → (plan : Plan) × IsSound layout.now plan × Reported plan (W.contents out.old) (W.contents out.new) }
