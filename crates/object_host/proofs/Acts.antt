@@ -187,9 +187,9 @@ module _ {Object : Type 0} (does : Behaviour Object) where
   given_acts now (inputs.Sense sense) host = acts_none (record host { object = does.after_sense now sense host.object })
 
   -- a part that tells the object nothing
-  record IsQuiet (part : Part Object) : Type 0 where
-    acts_on_none : part.acted ≡ []
-    tells_none : part.told ≡ []
+  pub record IsQuiet (part : Part Object) : Type 0 where
+    pub acts_on_none : part.acted ≡ []
+    pub tells_none : part.told ≡ []
 
   paying_first_quiet : (now : ℕ) (report : Option Report) (host : HostState Object) → IsQuiet (paying_first does now report host)
   unfolding posting
@@ -209,7 +209,7 @@ module _ {Object : Type 0} (does : Behaviour Object) where
     tells_none = ap (λ xs. xs ++ (next first.host).told) one.tells_none ∙ more.tells_none;
   }
 
-  paying_quiet : (now : ℕ) (more : ℕ) (host : HostState Object) → IsQuiet (paying does now more host)
+  pub paying_quiet : (now : ℕ) (more : ℕ) (host : HostState Object) → IsQuiet (paying does now more host)
   unfolding paying
   paying_quiet now zero host = record { acts_on_none = refl; tells_none = refl }
   paying_quiet now (suc more) host =
@@ -222,7 +222,7 @@ module _ {Object : Type 0} (does : Behaviour Object) where
       cases true next = quiet_then first (paying does now more) (paying_first_quiet now (does.owed host.object) host) next
       cases false next = paying_first_quiet now (does.owed host.object) host
 
-  beating_quiet : (now : ℕ) (input : Input) (host : HostState Object) → IsQuiet (beating now input host)
+  pub beating_quiet : (now : ℕ) (input : Input) (host : HostState Object) → IsQuiet (beating now input host)
   unfolding beating
   beating_quiet now inputs.Tick host = record { acts_on_none = refl; tells_none = refl }
   beating_quiet now (inputs.Datagram bytes) host = record { acts_on_none = refl; tells_none = refl }

@@ -7,3 +7,4 @@ pub mod Closed
 pub mod Between
 pub mod Made
 pub mod Acts
+pub mod Told

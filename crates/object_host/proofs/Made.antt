@@ -151,7 +151,7 @@ module _ {Object : Type 0} (does : Behaviour Object) where
       cases true next = part_then now host.link _ (acting_all does now others) (acting_part now item (reading item) host) next
       cases false next = part_silent now host
 
-  paying_first_part : (now : ℕ) (report : Option Report) (host : HostState Object) → IsPart now host.link (paying_first does now report host)
+  pub paying_first_part : (now : ℕ) (report : Option Report) (host : HostState Object) → IsPart now host.link (paying_first does now report host)
   paying_first_part now None host = part_silent now host
   paying_first_part now (Some report) host = cases (is_completed host.stage) (is_ok (answer_to_send now host.link)) where
     sent : Part Object

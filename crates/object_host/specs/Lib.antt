@@ -2,6 +2,8 @@ pub mod Behaviour
 pub mod Lawful
 pub mod Course
 pub mod Host
+pub mod Object
 pub mod Step
 pub mod Hosted
 pub mod Made
+pub mod Told

@@ -1,5 +1,5 @@
 -- What the calls that a host makes of its link do, one after another, and what the items taken in them say.
-use Rattle.std.specs.Prelude.{◌≡◌, ℕ, Bool, true, false, List, [], ◌∷◌, ◌++◌, Result, Ok, Err, if◌then◌else◌}
+use Rattle.std.specs.Prelude.{◌≡◌, ℕ, Bool, true, false, List, [], ◌∷◌, ◌++◌, Result, Ok, Err, is_ok, if◌then◌else◌}
 use Rattle.rasta_pdu.specs.Items.{IsItem}
 use Rattle.sci_telegram.specs.Reading.{reading}
 use Rattle.sci_telegram.specs.declared.fault.SciFault.{SciFault}
@@ -8,7 +8,7 @@ use Rattle.sci_telegram.specs.declared.message.Message.TheVariants.{Initialisati
 use Rattle.sci_telegram.specs.declared.telegram.Telegram.{Telegram}
 use Rattle.rasta_core_link.specs.State.{LinkState, is_open}
 use Rattle.rasta_core_link.specs.Sending.{Step, silent, then_do}
-use Rattle.rasta_core_link.specs.Calls.{ticking, closing_by, sending_item, receiving}
+use Rattle.rasta_core_link.specs.Calls.{ticking, closing_by, answer_to_send, sending_item, receiving}
 use Rattle.object_host.specs.declared.input.Input.{Input}
 use Rattle.object_host.specs.declared.input.Input.TheVariants as inputs
 use Rattle.object_host.specs.Host.{LinkCall, Ticks, Closes, Sends, Receives, Part}
@@ -58,6 +58,15 @@ items_taken_by now _ link = []
 unfoldable pub items_taken : ℕ → List LinkCall → LinkState → List (List ℕ)
 items_taken now [] link = []
 items_taken now (first ∷ others) link = items_taken_by now first link ++ items_taken now others (call_made now first link).link
+
+-- the items that a call gives: one that is sent, where the link accepts it
+abbrev pub items_given_by : ℕ → LinkCall → LinkState → List (List ℕ)
+items_given_by now (Sends item) link = if is_ok (answer_to_send now link) then item ∷ [] else []
+items_given_by now _ link = []
+
+unfoldable pub items_given : ℕ → List LinkCall → LinkState → List (List ℕ)
+items_given now [] link = []
+items_given now (first ∷ others) link = items_given_by now first link ++ items_given now others (call_made now first link).link
 
 -- a telegram for an object: all but those of the initialisation
 abbrev pub is_command : Message → Bool

@@ -6,6 +6,7 @@ ghost use Rattle.rasta_core_link.specs.State.{LinkState, is_open};
 ghost use Rattle.object_host.specs.Host.{HostState, LinkCall};
 ghost use Rattle.object_host.specs.Made.{ActsOn, AreCallsFor, AreOwn, IsMadeOf, calls_made, items_taken};
 ghost use Rattle.object_host.specs.Step.{host_step};
+ghost use Rattle.object_host.specs.Told.{IsToldIn};
 ghost use Rattle.object_host.specs.declared.input.Input.{Input};
 
 use crate::controller::Controller;
@@ -22,6 +23,13 @@ pub fn step_is_calls<C: Controller>()
 #[tactic(auto, using(crate::proofs::Acts::step_acts))]
 pub fn step_tells_what_was_taken<C: Controller>()
     ensures { (now : ℕ) (input : Input) (host : HostState C) → ActsOn (items_taken now (host_step C.behaviour now input host).calls (settled now host.link)) (host_step C.behaviour now input host) }
+{}
+
+/// What a step does to its object is a list of the object's calls, in the order of a step and at its clock reading. What
+/// is sent are first the telegrams of the initialisation, and then the reports that are paid, each as it was owed then.
+#[tactic(auto, using(crate::proofs::Told::step_told))]
+pub fn step_is_told_to_the_object<C: Controller>()
+    ensures { (now : ℕ) (input : Input) (host : HostState C) → IsToldIn C.behaviour now host (host_step C.behaviour now input host) }
 {}
 
 /// Own calls leave a link that is in no connection where it is.

@@ -19,6 +19,8 @@ mod stepping;
 pub use controller::Controller;
 pub use hosted::Hosted;
 pub use input::Input;
-pub use laws::{own_calls_open_nothing, step_is_calls, step_tells_what_was_taken};
+pub use laws::{
+    own_calls_open_nothing, step_is_calls, step_is_told_to_the_object, step_tells_what_was_taken,
+};
 pub use report::Report;
 pub use sense::Sense;

@@ -1,5 +1,5 @@
 -- What the calls of a host do at its end of the link.
-use Rattle.std.proofs.Common.{◌≡◌, ℕ, Bool, true, false, not, ◌&&◌, if◌then◌else◌, List, [], ◌∷◌, ◌++◌, refl, ap, sym, ◌∙◌, subst}
+use Rattle.std.proofs.Common.{◌≡◌, ℕ, Bool, true, false, not, ◌&&◌, if◌then◌else◌, List, [], ◌∷◌, ◌++◌, append_assoc, refl, ap, sym, ◌∙◌, subst}
 use Rattle.std.specs.Prelude.{Option, Some, None}
 use Rattle.std.proofs.lemmas.Bool.{true≢false, false≢true}
 use Rattle.std.proofs.lemmas.List.{append-nil}
@@ -11,7 +11,7 @@ use Rattle.rasta_core_ends.specs.Ends as calls
 use Rattle.rasta_core_ends.specs.Ends.{end_after, entered_by, is_taken, kept, outcome, reading_of}
 use Rattle.rasta_core_ends.specs.Run.{Ends, called}
 use Rattle.object_host.specs.Host.{LinkCall, Ticks, Closes, Sends, Receives}
-use Rattle.object_host.specs.Made.{AreCallsFor, AreOwn, call_made, calls_made, items_taken}
+use Rattle.object_host.specs.Made.{AreCallsFor, AreOwn, call_made, calls_made, items_given, items_given_by, items_taken}
 use Rattle.object_host.specs.declared.input.Input.{Input}
 use Rattle.object_host.specs.declared.input.Input.TheVariants as inputs
 use Rattle.object_host_theorem.specs.World.{as_call, called_all, entering}
@@ -70,6 +70,40 @@ taken_after connection (inputs.Datagram bytes) made ends first =
     (received_taken connection bytes.now first.0 ends first.2)
 taken_after connection (inputs.Sense sense) made ends own =
     own_taken connection made ends own ∙ sym (ap (λ rest. ends.server.taken ++ rest) (own_takes_nothing (now_of ends) made _ own) ∙ append-nil ends.server.taken)
+
+-- the items that the end has given after own calls, and after a step
+own_given : (connection : ℕ) (made : List LinkCall) (ends : Ends) → AreOwn made →
+    (called_all connection made ends).server.given ≡ ends.server.given ++ items_given (now_of ends) made ends.server.link
+unfolding called_all called outcome end_after items_given
+own_given connection [] ends own = sym (append-nil ends.server.given)
+own_given connection (Ticks ∷ others) ends own =
+    own_given connection others (called role.Server (as_call connection Ticks) ends) own.1
+    ∙ append_assoc ends.server.given (items_given_by (now_of ends) Ticks ends.server.link) _
+own_given connection (Closes why ∷ others) ends own =
+    own_given connection others (called role.Server (as_call connection (Closes why)) ends) own.1
+    ∙ append_assoc ends.server.given (items_given_by (now_of ends) (Closes why) ends.server.link) _
+own_given connection (Sends item ∷ others) ends own =
+    own_given connection others (called role.Server (as_call connection (Sends item)) ends) own.1
+    ∙ append_assoc ends.server.given (items_given_by (now_of ends) (Sends item) ends.server.link) _
+own_given connection (Receives bytes ∷ others) ends own = absurd own.0
+
+received_given : (connection : ℕ) (bytes : List ℕ) (others : List LinkCall) (ends : Ends) → AreOwn others →
+    (called_all connection (Receives bytes ∷ others) ends).server.given
+    ≡ kept (outcome (calls.Receives bytes connection) ends.moment ends.server).enters ends.server.given ++ items_given (now_of ends) (Receives bytes ∷ others) ends.server.link
+unfolding called_all called outcome end_after items_given
+received_given connection bytes others ends own =
+    let old = kept (entered_by ends.server.link (receiving (now_of ends) bytes ends.server.link).verdict connection) ends.server.given
+    in own_given connection others (called role.Server (as_call connection (Receives bytes)) ends) own
+    ∙ ap (λ given. given ++ items_given (now_of ends) others (receiving (now_of ends) bytes ends.server.link).link) (append-nil old)
+
+pub given_after : (connection : ℕ) (input : Input) (made : List LinkCall) (ends : Ends) → AreCallsFor input made →
+    (called_all connection made ends).server.given ≡ kept (entering input connection ends) ends.server.given ++ items_given (now_of ends) made ends.server.link
+given_after connection inputs.Tick made ends own = own_given connection made ends own
+given_after connection (inputs.Datagram bytes) made ends first =
+    subst (λ cs. (called_all connection cs ends).server.given
+    ≡ kept (entering (inputs.Datagram bytes) connection ends) ends.server.given ++ items_given (now_of ends) cs ends.server.link) (sym first.1)
+    (received_given connection bytes.now first.0 ends first.2)
+given_after connection (inputs.Sense sense) made ends own = own_given connection made ends own
 
 -- an end that stays outside in a step: it takes nothing
 pub record StaysOut (made : List LinkCall) (ends : Ends) : Type 0 where

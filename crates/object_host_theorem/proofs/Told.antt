@@ -20,13 +20,13 @@ use Rattle.rasta_core_theorem.specs.Ordered.{Ordered}
 use Rattle.rasta_core_theorem.specs.Safe.{AreSafe}
 use Rattle.object_host.specs.Behaviour.{Behaviour}
 use Rattle.object_host.specs.Host.{HostState, LinkCall, Part, Ticks, Closes, Sends, Receives}
-use Rattle.object_host.specs.Made.{ActsOn, AreCallsFor, AreItems, AreOwn, IsMadeOf, calls_made, command_of, commands_of, items_taken}
+use Rattle.object_host.specs.Made.{ActsOn, AreCallsFor, AreItems, AreOwn, IsMadeOf, calls_made, command_of, commands_of, items_given, items_taken}
 use Rattle.object_host.specs.Step.{host_step}
 use Rattle.object_host.specs.declared.input.Input.{Input}
 use Rattle.object_host.specs.declared.input.Input.TheVariants as inputs
 use Rattle.object_host_theorem.specs.World.{Commands, ClientRestarts, Elsewhere, Event, HostRestarts, IsTold, Loses, May, MayHear, MayRun, Passes, Steps, World, as_call, begun, called_all, entering, happened, host_of, host_restarted, run, step_of, stepped, told_since}
 use Rattle.object_host_theorem.proofs.Hearing.{settled_is}
-use Rattle.object_host_theorem.proofs.Server.{OpensNothing, links_after, now_of, stays_out, taken_after}
+use Rattle.object_host_theorem.proofs.Server.{OpensNothing, given_after, links_after, now_of, stays_out, taken_after}
 
 commands_joined : (first others : List (List ℕ)) → commands_of (first ++ others) ≡ commands_of first ++ commands_of others
 unfolding commands_of
@@ -49,6 +49,19 @@ joined_empty : {X : Type 0} (first others : List X) → first ++ others ≡ [] �
 unfolding is_empty
 joined_empty [] others none = (refl, none)
 joined_empty (x ∷ xs) others none = absurd (false≢true (ap is_empty none))
+
+-- what a step takes and gives is what the end has taken and given by it
+pub step_taken : {Object : Type 0} (does : Behaviour Object) (input : Input) (connection : ℕ) (world : World Object) → AreCallsFor input (step_of does input world).calls →
+    (stepped does input connection world).ends.server.taken
+    ≡ kept (entering input connection world.ends) world.ends.server.taken ++ items_taken (now_of world.ends) (step_of does input world).calls world.ends.server.link
+unfolding stepped
+step_taken does input connection world first = taken_after connection input (step_of does input world).calls world.ends first
+
+pub step_given : {Object : Type 0} (does : Behaviour Object) (input : Input) (connection : ℕ) (world : World Object) → AreCallsFor input (step_of does input world).calls →
+    (stepped does input connection world).ends.server.given
+    ≡ kept (entering input connection world.ends) world.ends.server.given ++ items_given (now_of world.ends) (step_of does input world).calls world.ends.server.link
+unfolding stepped
+step_given does input connection world first = given_after connection input (step_of does input world).calls world.ends first
 
 module _ {Object : Type 0} (does : Behaviour Object) (names : Names)
     -- the laws of the link and of the steps of a host

@@ -1,9 +1,12 @@
 //! What an object is told, for every lawful object.
 
-ghost use Rattle.std.specs.Prelude.{◌≡◌, ℕ, List};
+ghost use Rattle.std.specs.Prelude.{◌≡◌, ℕ, ◌++◌, List};
+ghost use Rattle.rasta_core_ends.specs.Ends.{kept, reading_of};
 ghost use Rattle.rasta_core_time.specs.Events.{Start};
 ghost use Rattle.rasta_core_time.specs.Invariant.{AreNames, Names};
-ghost use Rattle.object_host_theorem.specs.World.{Event, IsToldInConnection, MayRun, begun, run};
+ghost use Rattle.object_host.specs.Made.{items_given, items_taken};
+ghost use Rattle.object_host.specs.declared.input.Input.{Input};
+ghost use Rattle.object_host_theorem.specs.World.{Event, IsToldInConnection, MayRun, World, begun, entering, run, step_of, stepped};
 
 use object_host::{Controller, own_calls_open_nothing, step_is_calls, step_tells_what_was_taken};
 use rasta_core_theorem::{every_event_keeps_order, order_is_safe};
@@ -24,4 +27,15 @@ pub fn told_is_given<C: Controller>()
     own_calls_open_nothing();
     step_is_calls::<C>();
     step_tells_what_was_taken::<C>();
+}
+
+/// What a step takes and gives is what the host's end of the link has taken and given by it, in the connection that it is
+/// in or that the step enters.
+pub fn step_takes_and_gives<C: Controller>()
+    ensures taken { (input : Input) (connection : ℕ) (world : World C) → (stepped C.behaviour input connection world).ends.server.taken
+        ≡ kept (entering input connection world.ends) world.ends.server.taken ++ items_taken (reading_of world.ends.server.clock) (step_of C.behaviour input world).calls world.ends.server.link }
+    ensures given { (input : Input) (connection : ℕ) (world : World C) → (stepped C.behaviour input connection world).ends.server.given
+        ≡ kept (entering input connection world.ends) world.ends.server.given ++ items_given (reading_of world.ends.server.clock) (step_of C.behaviour input world).calls world.ends.server.link }
+{
+    step_is_calls::<C>();
 }

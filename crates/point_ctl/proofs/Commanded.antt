@@ -14,7 +14,8 @@ use Rattle.object_host.specs.declared.sense.Sense.TheVariants as sense
 use Rattle.point_ctl.specs.declared.progress.Progress.{Progress}
 use Rattle.point_ctl.specs.declared.progress.Progress.TheVariants.{Answered, Driving, Arrived, TimedOut}
 use Rattle.point_ctl.specs.Drive.{is_at, drive_end, commanded_by, begun, limited, reached, driven, own_report}
-use Rattle.point_ctl.specs.History.{Call, Takes, Ticks, Senses, Keeps, Pays, Loses, History, AnswerEach, Reported, IsReported, IsMovedByItsDrive, AreMovedByTheDrive, position_of, one_more, next, told}
+use Rattle.object_host.specs.Object.{ObjectCall, Takes, Ticks, Senses, Keeps, Pays, Loses}
+use Rattle.point_ctl.specs.History.{History, AnswerEach, Reported, IsReported, IsMovedByItsDrive, AreMovedByTheDrive, position_of, one_more, next, told}
 use Rattle.point_ctl.proofs.Once.{of}
 
 -- a position at a side is the one that is commanded there
@@ -129,7 +130,7 @@ pays (Driving side since) sensed until moves reports each = record { reported = 
 pays Arrived sensed until moves reports each = record { reported = pays_arrived moves sensed reports each }
 pays TimedOut sensed until moves reports each = record { reported = pays_late moves sensed reports each }
 
-pub call_answers : (call : Call) (history : History) → IsMovedByItsDrive call history.point → IsReported history → IsReported (next call history)
+pub call_answers : (call : ObjectCall) (history : History) → IsMovedByItsDrive call history.point → IsReported history → IsReported (next call history)
 call_answers (Takes now telegram) history moved each =
     takes history.point.progress now telegram history.point.sensed history.point.until history.moves history.reports each.reported
 call_answers (Ticks now) history moved each =
@@ -140,7 +141,7 @@ call_answers Pays history moved each =
     pays history.point.progress history.point.sensed history.point.until history.moves history.reports each.reported
 call_answers Loses history moved each = record { reported = tt }
 
-pub answers_commanded : (calls : List Call) (history : History) → AreMovedByTheDrive calls history → IsReported history → IsReported (told calls history)
+pub answers_commanded : (calls : List ObjectCall) (history : History) → AreMovedByTheDrive calls history → IsReported history → IsReported (told calls history)
 answers_commanded [] history moved each = each
 answers_commanded (call ∷ calls) history moved each =
     answers_commanded calls (next call history) moved.1 (call_answers call history moved.0 each)

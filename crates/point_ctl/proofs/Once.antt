@@ -9,7 +9,8 @@ use Rattle.object_host.specs.declared.sense.Sense.TheVariants as sense
 use Rattle.point_ctl.specs.declared.progress.Progress.{Progress}
 use Rattle.point_ctl.specs.declared.progress.Progress.TheVariants.{Answered, Driving, Arrived, TimedOut}
 use Rattle.point_ctl.specs.Drive.{is_at, drive_end, commanded_by, begun, limited, reached}
-use Rattle.point_ctl.specs.History.{Call, Takes, Ticks, Senses, Keeps, Pays, Loses, History, IsAnsweredOnce, one_more, next, told}
+use Rattle.object_host.specs.Object.{ObjectCall, Takes, Ticks, Senses, Keeps, Pays, Loses}
+use Rattle.point_ctl.specs.History.{History, IsAnsweredOnce, one_more, next, told}
 
 -- a history of these parts
 abbrev pub of : Progress → Position → ℕ → List Side → List Report → History
@@ -73,7 +74,7 @@ senses (sense.Position position) now history once =
     (limits history.point.progress now history.point.sensed history.point.until history.moves history.reports once)
 senses (sense.Section place occupancy) now history once = once
 
-pub call_answers_once : (call : Call) (history : History) → IsAnsweredOnce history → IsAnsweredOnce (next call history)
+pub call_answers_once : (call : ObjectCall) (history : History) → IsAnsweredOnce history → IsAnsweredOnce (next call history)
 call_answers_once (Takes now telegram) history once =
     takes history.point.progress now telegram history.point.sensed history.point.until history.moves history.reports once
 call_answers_once (Ticks now) history once =
@@ -84,6 +85,6 @@ call_answers_once Pays history once =
     pays history.point.progress history.point.sensed history.point.until history.moves history.reports once
 call_answers_once Loses history once = record { each = refl; last = tt }
 
-pub answers_once : (calls : List Call) (history : History) → IsAnsweredOnce history → IsAnsweredOnce (told calls history)
+pub answers_once : (calls : List ObjectCall) (history : History) → IsAnsweredOnce history → IsAnsweredOnce (told calls history)
 answers_once [] history once = once
 answers_once (call ∷ calls) history once = answers_once calls (next call history) (call_answers_once call history once)

@@ -6,30 +6,13 @@ use Rattle.sci_telegram.specs.declared.message.Position.{Position}
 use Rattle.sci_telegram.specs.declared.message.Position.TheVariants as position
 use Rattle.sci_telegram.specs.declared.message.PointMessage.TheVariants.{PointPosition, Timeout}
 use Rattle.sci_telegram.specs.declared.message.Message.TheVariants.{Point}
-use Rattle.sci_telegram.specs.declared.telegram.Telegram.{Telegram}
 use Rattle.object_host.specs.declared.report.Report.{Report}
-use Rattle.object_host.specs.declared.sense.Sense.{Sense}
+use Rattle.object_host.specs.Object.{ObjectCall, Takes, Senses, Pays, Loses, object_after}
 use Rattle.object_host.specs.declared.sense.Sense.TheVariants as sense
 use Rattle.point_ctl.specs.declared.progress.Progress.{Progress}
 use Rattle.point_ctl.specs.declared.progress.Progress.TheVariants.{Answered, Driving, Arrived, TimedOut}
-use Rattle.point_ctl.specs.Drive.{PointState, move_taken, taking, ticking, sensing, keeping, own_report, owing, paying, losing, drives}
-
--- a call of a point, with its clock reading where it has one
-pub data Call : Type 0 where
-  Takes : ℕ → Telegram → Call
-  Ticks : ℕ → Call
-  Senses : ℕ → Sense → Call
-  Keeps : ℕ → Call
-  Pays : Call
-  Loses : Call
-
-abbrev pub after : Call → PointState → PointState
-after (Takes now telegram) point = taking now telegram point
-after (Ticks now) point = ticking now point
-after (Senses now sense) point = sensing now sense point
-after (Keeps until) point = keeping until point
-after Pays point = paying point
-after Loses point = losing point
+use Rattle.point_ctl.specs.Controlled.{point_behaviour}
+use Rattle.point_ctl.specs.Drive.{PointState, move_taken, taking, own_report, owing, paying, losing, drives}
 
 -- a point, the moves that were taken since the last loss of the link, and the final reports that were sent since,
 -- both with the newest first
@@ -43,7 +26,7 @@ one_more None rest = rest
 one_more (Some newest) rest = newest ∷ rest
 
 -- the next call
-abbrev pub next : Call → History → History
+abbrev pub next : ObjectCall → History → History
 next (Takes now telegram) old = record {
   point = taking now telegram old.point;
   moves = one_more (move_taken telegram old.point) old.moves;
@@ -55,10 +38,10 @@ next Pays old = record {
   reports = one_more (owing old.point) old.reports;
 }
 next Loses old = record { point = losing old.point; moves = []; reports = [] }
-next call old = record old { point = after call old.point }
+next call old = record old { point = object_after point_behaviour call old.point }
 
 -- a list of calls, one after the other
-abbrev pub told : List Call → History → History
+abbrev pub told : List ObjectCall → History → History
 told [] old = old
 told (call ∷ calls) old = told calls (next call old)
 
@@ -109,17 +92,17 @@ pub record IsReported (history : History) : Type 0 where
   pub reported : Reported history.point.progress history.point.sensed history.moves history.reports
 
 -- the contacts of a point tell of a change only while it is driven
-abbrev pub IsMovedByItsDrive : Call → PointState → Type 0
+abbrev pub IsMovedByItsDrive : ObjectCall → PointState → Type 0
 IsMovedByItsDrive (Senses now (sense.Position position)) point =
     (position ≡ point.sensed) ⊎ (is_some (drives now point) ≡ true)
 IsMovedByItsDrive _ point = Unit {0}
 
-abbrev pub AreMovedByTheDrive : List Call → History → Type 0
+abbrev pub AreMovedByTheDrive : List ObjectCall → History → Type 0
 AreMovedByTheDrive [] history = Unit {0}
 AreMovedByTheDrive (call ∷ calls) history =
     IsMovedByItsDrive call history.point × AreMovedByTheDrive calls (next call history)
 
 -- a move of this side that fits, at this clock reading
-abbrev pub IsMove : Side → ℕ → Call → PointState → Type 0
+abbrev pub IsMove : Side → ℕ → ObjectCall → PointState → Type 0
 IsMove side since (Takes now telegram) point = (move_taken telegram point ≡ Some side) × (now ≡ since)
 IsMove side since _ point = ⊥

@@ -6,7 +6,9 @@ ghost use Rattle.sci_telegram.specs.declared.message.Position.{Position};
 ghost use Rattle.object_host.specs.declared.report.Report.{Report};
 ghost use Rattle.point_ctl.specs.declared.progress.Progress.TheVariants.{Driving};
 ghost use Rattle.point_ctl.specs.Drive.{PointState, drive_end, made, owing, losing, drives, own_report};
-ghost use Rattle.point_ctl.specs.History.{Call, History, AreMovedByTheDrive, IsAnsweredOnce, IsMove, IsReported, after, begun_at, told};
+ghost use Rattle.object_host.specs.Object.{ObjectCall, object_after};
+ghost use Rattle.point_ctl.specs.Controlled.{point_behaviour};
+ghost use Rattle.point_ctl.specs.History.{History, AreMovedByTheDrive, IsAnsweredOnce, IsMove, IsReported, begun_at, told};
 ghost use Rattle.sci_telegram.specs.declared.message.PointMessage.TheVariants.{PointPosition};
 ghost use Rattle.sci_telegram.specs.declared.message.Message.TheVariants.{Point};
 
@@ -22,7 +24,7 @@ pub fn stands_still()
 
 /// A drive is that of a move that was taken: it was begun by this call, or was there before.
 pub fn drives_for_a_move()
-    ensures { (call : Call) (point : PointState) (side : Side) (since : ℕ) → (after call point).progress ≡ Driving side since
+    ensures { (call : ObjectCall) (point : PointState) (side : Side) (since : ℕ) → (object_after point_behaviour call point).progress ≡ Driving side since
         → (point.progress ≡ Driving side since) ⊎ IsMove side since call point }
 {}
 
@@ -36,15 +38,15 @@ pub fn reports_standing_still()
 /// After every list of calls each move that was taken since the last loss has one final report, or waits for it;
 /// the move in progress is the last one.
 pub fn answers_each_move_once()
-    ensures every { (calls : List Call) (sensed : Position) → IsAnsweredOnce (told calls (begun_at (made sensed))) }
-    ensures kept { (calls : List Call) (history : History) → IsAnsweredOnce history → IsAnsweredOnce (told calls history) }
+    ensures every { (calls : List ObjectCall) (sensed : Position) → IsAnsweredOnce (told calls (begun_at (made sensed))) }
+    ensures kept { (calls : List ObjectCall) (history : History) → IsAnsweredOnce history → IsAnsweredOnce (told calls history) }
 {}
 
 /// After every list of calls in which contacts tell of a change only while the point is driven, each final report
 /// answers its move, in order: the position commanded, or a timeout.
 pub fn answers_what_was_commanded()
-    ensures every { (calls : List Call) (sensed : Position) → AreMovedByTheDrive calls (begun_at (made sensed))
+    ensures every { (calls : List ObjectCall) (sensed : Position) → AreMovedByTheDrive calls (begun_at (made sensed))
         → IsReported (told calls (begun_at (made sensed))) }
-    ensures kept { (calls : List Call) (history : History) → AreMovedByTheDrive calls history → IsReported history
+    ensures kept { (calls : List ObjectCall) (history : History) → AreMovedByTheDrive calls history → IsReported history
         → IsReported (told calls history) }
 {}

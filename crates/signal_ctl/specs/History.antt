@@ -2,45 +2,22 @@
 use Rattle.std.specs.Prelude.{ℕ, Bool, true, false, List, [], ◌∷◌, Option, Some, None}
 use Rattle.sci_telegram.specs.declared.message.Aspect.{Aspect}
 use Rattle.sci_telegram.specs.declared.message.Aspect.TheVariants.{Stop, Proceed}
-use Rattle.sci_telegram.specs.declared.telegram.Telegram.{Telegram}
-use Rattle.object_host.specs.declared.sense.Sense.{Sense}
-use Rattle.signal_ctl.specs.Signal.{SignalState, indicates, signal_behaviour}
-
--- a call of the signal as the object of a host
-pub data Call : Type 0 where
-  Takes : ℕ → Telegram → Call
-  Ticks : ℕ → Call
-  Senses : ℕ → Sense → Call
-  Keeps : ℕ → Call
-  IsPaid : Call
-  IsLost : Call
-
-abbrev pub after : Call → SignalState → SignalState
-after (Takes now telegram) signal = signal_behaviour.after_take now telegram signal
-after (Ticks now) signal = signal_behaviour.after_tick now signal
-after (Senses now sense) signal = signal_behaviour.after_sense now sense signal
-after (Keeps moment) signal = signal_behaviour.after_keep moment signal
-after IsPaid signal = signal_behaviour.after_paid signal
-after IsLost signal = signal_behaviour.after_loss signal
-
--- calls one after another
-unfoldable pub after_all : List Call → SignalState → SignalState
-after_all [] signal = signal
-after_all (first ∷ others) signal = after_all others (after first signal)
+use Rattle.object_host.specs.Object.{ObjectCall, Takes, Keeps, Pays, Loses}
+use Rattle.signal_ctl.specs.Signal.{indicates}
 
 abbrev pub or_else : Option Aspect → Aspect → Aspect
 or_else None last = last
 or_else (Some aspect) last = aspect
 
 -- the last aspect taken since the last loss, where before the calls it was this one
-unfoldable pub last_aspect : List Call → Aspect → Aspect
+unfoldable pub last_aspect : List ObjectCall → Aspect → Aspect
 last_aspect [] last = last
 last_aspect (Takes now telegram ∷ others) last = last_aspect others (or_else (indicates telegram.message) last)
-last_aspect (IsLost ∷ others) last = last_aspect others Stop
+last_aspect (Loses ∷ others) last = last_aspect others Stop
 last_aspect (_ ∷ others) last = last_aspect others last
 
 -- the moment last told
-unfoldable pub last_kept : List Call → ℕ → ℕ
+unfoldable pub last_kept : List ObjectCall → ℕ → ℕ
 last_kept [] last = last
 last_kept (Keeps moment ∷ others) last = last_kept others moment
 last_kept (_ ∷ others) last = last_kept others last
@@ -50,9 +27,9 @@ or_still None owes = owes
 or_still (Some aspect) owes = true
 
 -- whether an aspect was taken since the last report was sent and since the last loss
-unfoldable pub awaits_report : List Call → Bool → Bool
+unfoldable pub awaits_report : List ObjectCall → Bool → Bool
 awaits_report [] owes = owes
 awaits_report (Takes now telegram ∷ others) owes = awaits_report others (or_still (indicates telegram.message) owes)
-awaits_report (IsPaid ∷ others) owes = awaits_report others false
-awaits_report (IsLost ∷ others) owes = awaits_report others false
+awaits_report (Pays ∷ others) owes = awaits_report others false
+awaits_report (Loses ∷ others) owes = awaits_report others false
 awaits_report (_ ∷ others) owes = awaits_report others owes

@@ -5,7 +5,9 @@ use Rattle.sci_telegram.specs.declared.message.Occupancy.{Occupancy}
 use Rattle.object_host.specs.declared.sense.Sense.TheVariants as sense
 use Rattle.tds_ctl.specs.declared.section.Section.{Section}
 use Rattle.tds_ctl.specs.Sections.{is_same, changed, settled, with_section, owing, paying, losing, status_at, status_of, owes}
-use Rattle.tds_ctl.specs.History.{Call, Senses, Pays, Loses, IsChange, StaysOwed, after, after_all, changes_at, is_first, is_settled, owes_at}
+use Rattle.object_host.specs.Object.{ObjectCall, Takes, Ticks, Senses, Keeps, Pays, Loses, object_after, object_after_all}
+use Rattle.tds_ctl.specs.Controlled.{detection_behaviour}
+use Rattle.tds_ctl.specs.History.{IsChange, StaysOwed, changes_at, is_first, is_settled, owes_at}
 
 true≢false : {A : Type 0} → true ≡ false → A
 true≢false h = absurd (false≢true (sym h))
@@ -50,15 +52,22 @@ paying_keeps zero (section ∷ rest) owed first = true≢false (sym owed ∙ fir
 paying_keeps (suc place) (section ∷ rest) owed first =
     paying_behind section.owes place section rest refl owed (λ h. paying_keeps place rest owed h) first
 
-call_keeps : (call : Call) (place : ℕ) (sections : List Section) → owes_at place sections ≡ true → is_settled place call sections ≡ false
+abbrev after : ObjectCall → List Section → List Section
+after call sections = object_after detection_behaviour call sections
+
+call_keeps : (call : ObjectCall) (place : ℕ) (sections : List Section) → owes_at place sections ≡ true → is_settled place call sections ≡ false
     → owes_at place (after call sections) ≡ true
-call_keeps (Senses (sense.Section at occupancy)) place sections owed stays = sensing_keeps at place occupancy sections owed
-call_keeps (Senses (sense.Position position)) place sections owed stays = owed
+call_keeps (Takes now telegram) place sections owed stays = owed
+call_keeps (Ticks now) place sections owed stays = owed
+call_keeps (Senses now (sense.Section at occupancy)) place sections owed stays = sensing_keeps at place occupancy sections owed
+call_keeps (Senses now (sense.Position position)) place sections owed stays = owed
+call_keeps (Keeps moment) place sections owed stays = owed
 call_keeps Pays place sections owed stays = paying_keeps place sections owed stays
 call_keeps Loses place sections owed stays = true≢false stays
 
-pub calls_keep : (place : ℕ) (calls : List Call) (sections : List Section) → owes_at place sections ≡ true → StaysOwed place calls sections
-    → owes_at place (after_all calls sections) ≡ true
+pub calls_keep : (place : ℕ) (calls : List ObjectCall) (sections : List Section) → owes_at place sections ≡ true → StaysOwed place calls sections
+    → owes_at place (object_after_all detection_behaviour calls sections) ≡ true
+unfolding object_after_all
 calls_keep place [] sections owed stays = owed
 calls_keep place (call ∷ calls) sections owed stays =
     calls_keep place calls (after call sections) (call_keeps call place sections owed stays.0) stays.1
@@ -93,10 +102,13 @@ losing_settles place [] = refl
 losing_settles zero (section ∷ rest) = refl
 losing_settles (suc place) (section ∷ rest) = losing_settles place rest
 
-pub owed_after_change : (call : Call) (place : ℕ) (sections : List Section) → owes_at place (after call sections) ≡ true
+pub owed_after_change : (call : ObjectCall) (place : ℕ) (sections : List Section) → owes_at place (object_after detection_behaviour call sections) ≡ true
     → owes_at place sections ≡ false → IsChange place call sections
-owed_after_change (Senses (sense.Section at occupancy)) place sections owed free = sensing_changes at place occupancy sections owed free
-owed_after_change (Senses (sense.Position position)) place sections owed free = true≢false (sym owed ∙ free)
+owed_after_change (Takes now telegram) place sections owed free = true≢false (sym owed ∙ free)
+owed_after_change (Ticks now) place sections owed free = true≢false (sym owed ∙ free)
+owed_after_change (Senses now (sense.Section at occupancy)) place sections owed free = sensing_changes at place occupancy sections owed free
+owed_after_change (Senses now (sense.Position position)) place sections owed free = true≢false (sym owed ∙ free)
+owed_after_change (Keeps moment) place sections owed free = true≢false (sym owed ∙ free)
 owed_after_change Pays place sections owed free = true≢false (sym owed ∙ paying_settles place sections free)
 owed_after_change Loses place sections owed free = true≢false (sym owed ∙ losing_settles place sections)
 

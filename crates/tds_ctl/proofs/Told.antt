@@ -5,7 +5,8 @@ use Rattle.sci_telegram.specs.declared.message.Occupancy.{Occupancy}
 use Rattle.object_host.specs.declared.sense.Sense.TheVariants as sense
 use Rattle.tds_ctl.specs.declared.section.Section.{Section}
 use Rattle.tds_ctl.specs.Sections.{is_same, changed, settled, with_section, paying, losing}
-use Rattle.tds_ctl.specs.History.{Call, Senses, Pays, Loses, History, AreTold, IsKnown, begun_at, next, occupancies, telling, told_by}
+use Rattle.object_host.specs.Object.{ObjectCall, Takes, Ticks, Senses, Keeps, Pays, Loses}
+use Rattle.tds_ctl.specs.History.{History, AreTold, IsKnown, begun_at, next, occupancies, telling, told_by}
 
 told_as_they_are : (sections : List Section) → AreTold sections (occupancies sections)
 told_as_they_are [] = tt
@@ -40,14 +41,17 @@ losing_tells : (sections : List Section) → AreTold (losing sections) (occupanc
 losing_tells [] = tt
 losing_tells (section ∷ rest) = (λ free. refl, losing_tells rest)
 
-call_tells : (call : Call) (history : History) → IsKnown history → IsKnown (next call history)
-call_tells (Senses (sense.Section place occupancy)) history known =
+call_tells : (call : ObjectCall) (history : History) → IsKnown history → IsKnown (next call history)
+call_tells (Takes now telegram) history known = record { known = known.known }
+call_tells (Ticks now) history known = record { known = known.known }
+call_tells (Keeps moment) history known = record { known = known.known }
+call_tells (Senses now (sense.Section place occupancy)) history known =
     record { known = sensing_tells place occupancy history.sections history.told known.known }
-call_tells (Senses (sense.Position position)) history known = record { known = known.known }
+call_tells (Senses now (sense.Position position)) history known = record { known = known.known }
 call_tells Pays history known = record { known = paying_tells history.sections history.told known.known }
 call_tells Loses history known = record { known = losing_tells history.sections }
 
-pub calls_tell : (calls : List Call) (history : History) → IsKnown history → IsKnown (told_by calls history)
+pub calls_tell : (calls : List ObjectCall) (history : History) → IsKnown history → IsKnown (told_by calls history)
 calls_tell [] history known = known
 calls_tell (call ∷ calls) history known = calls_tell calls (next call history) (call_tells call history known)
 

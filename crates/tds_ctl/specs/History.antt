@@ -1,25 +1,11 @@
 -- What a detector has been told by its contacts, and what it has reported.
 use Rattle.std.specs.Prelude.{◌≡◌, ℕ, zero, suc, Bool, true, false, not, List, [], ◌∷◌, map, if◌then◌else◌}
 use Rattle.sci_telegram.specs.declared.message.Occupancy.{Occupancy}
-use Rattle.object_host.specs.declared.sense.Sense.{Sense}
 use Rattle.object_host.specs.declared.sense.Sense.TheVariants as sense
 use Rattle.tds_ctl.specs.declared.section.Section.{Section}
+use Rattle.object_host.specs.Object.{ObjectCall, Senses, Pays, Loses, object_after}
+use Rattle.tds_ctl.specs.Controlled.{detection_behaviour}
 use Rattle.tds_ctl.specs.Sections.{is_same, sensing, paying, losing}
-
--- a call that changes a detector
-pub data Call : Type 0 where
-  Senses : Sense → Call
-  Pays : Call
-  Loses : Call
-
-abbrev pub after : Call → List Section → List Section
-after (Senses sense) sections = sensing sense sections
-after Pays sections = paying sections
-after Loses sections = losing sections
-
-abbrev pub after_all : List Call → List Section → List Section
-after_all [] sections = sections
-after_all (call ∷ calls) sections = after_all calls (after call sections)
 
 -- whether the section at a place owes its status; there is none beyond the last
 abbrev pub owes_at : ℕ → List Section → Bool
@@ -38,11 +24,9 @@ abbrev pub changing : ℕ → Occupancy → List Section → List Section
 changing place occupancy sections = sensing (sense.Section place occupancy) sections
 
 -- a call that changes the section at a place
-abbrev pub IsChange : ℕ → Call → List Section → Type 0
-IsChange place (Senses (sense.Section at occupancy)) sections = (at ≡ place) × (changes_at place occupancy sections ≡ true)
-IsChange place (Senses (sense.Position position)) sections = ⊥
-IsChange place Pays sections = ⊥
-IsChange place Loses sections = ⊥
+abbrev pub IsChange : ℕ → ObjectCall → List Section → Type 0
+IsChange place (Senses now (sense.Section at occupancy)) sections = (at ≡ place) × (changes_at place occupancy sections ≡ true)
+IsChange place _ sections = ⊥
 
 -- the section at a place is the first that owes
 abbrev pub is_first : ℕ → List Section → Bool
@@ -51,16 +35,16 @@ is_first zero (section ∷ rest) = section.owes
 is_first (suc place) (section ∷ rest) = if section.owes then false else is_first place rest
 
 -- the status of the section at a place is sent or dropped by a call
-abbrev pub is_settled : ℕ → Call → List Section → Bool
-is_settled place (Senses sense) sections = false
+abbrev pub is_settled : ℕ → ObjectCall → List Section → Bool
 is_settled place Pays sections = is_first place sections
 is_settled place Loses sections = true
+is_settled place _ sections = false
 
 -- none of these calls sends or drops the status of the section at a place
-abbrev pub StaysOwed : ℕ → List Call → List Section → Type 0
+abbrev pub StaysOwed : ℕ → List ObjectCall → List Section → Type 0
 StaysOwed place [] sections = Unit {0}
 StaysOwed place (call ∷ calls) sections =
-    (is_settled place call sections ≡ false) × StaysOwed place calls (after call sections)
+    (is_settled place call sections ≡ false) × StaysOwed place calls (object_after detection_behaviour call sections)
 
 -- the sections, and the state of each that was told last: by a status of its own, or by the initial status, which
 -- tells the states as they are after a loss
@@ -78,12 +62,12 @@ telling (section ∷ rest) [] = []
 telling (section ∷ rest) (last ∷ told) =
     if section.owes then section.occupancy ∷ told else last ∷ telling rest told
 
-abbrev pub next : Call → History → History
-next (Senses sense) old = record old { sections = sensing sense old.sections }
+abbrev pub next : ObjectCall → History → History
 next Pays old = record { sections = paying old.sections; told = telling old.sections old.told }
 next Loses old = record { sections = losing old.sections; told = occupancies old.sections }
+next call old = record old { sections = object_after detection_behaviour call old.sections }
 
-abbrev pub told_by : List Call → History → History
+abbrev pub told_by : List ObjectCall → History → History
 told_by [] old = old
 told_by (call ∷ calls) old = told_by calls (next call old)
 

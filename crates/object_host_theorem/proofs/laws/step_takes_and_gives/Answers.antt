@@ -1,0 +1,13 @@
+use Rattle.object_host.specs.Host.{HostState}
+use Rattle.object_host_theorem.specs.World.{host_of}
+use Rattle.object_host_theorem.proofs.Server.{now_of}
+use Rattle.object_host_theorem.proofs.Told.{step_given, step_taken}
+use Rattle.object_host_theorem.proofs.laws.step_takes_and_gives.Goals as goal
+
+pub returns-clause-taken : goal.returns-clause-taken
+returns-clause-taken g c = λ input connection world.
+    step_taken g.C.Controller.behaviour input connection world (c.step_is_calls.ensures.first (now_of world.ends) input (host_of world))
+
+pub returns-clause-given : goal.returns-clause-given
+returns-clause-given g c = λ input connection world.
+    step_given g.C.Controller.behaviour input connection world (c.step_is_calls.ensures.first (now_of world.ends) input (host_of world))
