@@ -628,8 +628,8 @@ module _ {Object : Type 0} (does : Behaviour Object) where
         takes = telegrams_joined comes.calls payment.calls
             ∙ ap (λ ts. ts ++ telegrams_in payment.calls) comes.takes ∙ ap (λ ts. heard.told ++ ts) payment.takes_none
             ∙ sym (ap (λ ts. (heard.told ++ ts) ++ (beating now input told.host).told) (paying_quiet does now most_owed heard.host).tells_none
-              ∙ ap (λ ts. (heard.told ++ []) ++ ts) (beating_quiet does now input told.host).tells_none
-              ∙ append-nil (heard.told ++ []));
+            ∙ ap (λ ts. (heard.told ++ []) ++ ts) (beating_quiet does now input told.host).tells_none
+            ∙ append-nil (heard.told ++ []));
         stays = stays_open done.host;
         falls = λ inside closed. falls_closed done.host (ap is_outside (beat.stage_is ∙ payment.stage_is) ∙ given_inside now input begun inside) closed;
         own = items_given now heard.calls begun.link;
