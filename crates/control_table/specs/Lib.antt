@@ -4,3 +4,4 @@ pub mod Sides
 pub mod Table
 pub mod Faults
 pub mod Judging
+pub mod Messages

@@ -1,11 +1,11 @@
 //! What is wrong with the text of a layout.
 
-ghost use Rattle.std.specs.Prelude.{◌≡◌};
+ghost use Rattle.std.specs.Prelude.{◌≡◌, Some};
 ghost use Rattle.layout.specs.declared.fault.LayoutFault.TheVariants.{OutOfMemory};
 
 use std::alloc::{AllocError, AllocFailed};
+use std::error::Error;
 use std::fmt;
-use thiserror::Error;
 
 /// The keys of a layout's text, in the order in which they are read.
 #[derive(Clone, Copy, Debug, PartialEq, Eq)]
@@ -31,6 +31,10 @@ pub enum TableName {
 }
 
 impl fmt::Display for TableName {
+    ghost use Rattle.layout.specs.Messages.{table_text};
+
+    ghost output = { λ table. Some (table_text table) };
+
     fn fmt<W: fmt::Write>(&self, f: &mut fmt::Formatter<W>) -> fmt::Result {
         let word = match self {
             TableName::Station => "station",
@@ -57,6 +61,10 @@ pub struct Place {
 }
 
 impl fmt::Display for Place {
+    ghost use Rattle.layout.specs.Messages.{place_text};
+
+    ghost output = { λ place. Some (place_text place) };
+
     fn fmt<W: fmt::Write>(&self, f: &mut fmt::Formatter<W>) -> fmt::Result {
         let table = self.table;
         let entry = self.entry;
@@ -66,33 +74,46 @@ impl fmt::Display for Place {
 
 /// Why a text is no layout. The tests are made in the order 1, then 2 and 3 as the text is read,
 /// then 7, 5, 4 and 6.
-#[derive(Clone, Copy, Debug, PartialEq, Eq, Error)]
+#[derive(Clone, Copy, Debug, PartialEq, Eq)]
 pub enum LayoutFault {
     /// The text is no TOML.
-    #[error("1 Toml")]
     Toml,
     /// A key isn't there.
-    #[error("2 MissingKey at {0}")]
     MissingKey(Place),
     /// A value has the wrong kind or form.
-    #[error("3 WrongKind at {0}")]
     WrongKind(Place),
     /// A name or a port isn't there, or isn't of the kind that is wanted; or a section has no detector.
-    #[error("4 UnknownName at {0}")]
     UnknownName(Place),
     /// A name or an id is used twice, or a section stands in two detectors or twice in one.
-    #[error("5 DoubleName at {0}")]
     DoubleName(Place),
     /// A port is joined twice, or two signals stand at one port.
-    #[error("6 DoubleJoint at {0}")]
     DoubleJoint(Place),
     /// There are more entries than a station may have.
-    #[error("7 Limit at {0}")]
     Limit(Place),
     /// Memory ran out.
-    #[error("8 OutOfMemory")]
     OutOfMemory,
 }
+
+impl fmt::Display for LayoutFault {
+    ghost use Rattle.layout.specs.Messages.{fault_text};
+
+    ghost output = { λ fault. Some (fault_text fault) };
+
+    fn fmt<W: fmt::Write>(&self, f: &mut fmt::Formatter<W>) -> fmt::Result {
+        match self {
+            LayoutFault::Toml => write!(f, "1 Toml"),
+            LayoutFault::MissingKey(place) => write!(f, "2 MissingKey at {place}"),
+            LayoutFault::WrongKind(place) => write!(f, "3 WrongKind at {place}"),
+            LayoutFault::UnknownName(place) => write!(f, "4 UnknownName at {place}"),
+            LayoutFault::DoubleName(place) => write!(f, "5 DoubleName at {place}"),
+            LayoutFault::DoubleJoint(place) => write!(f, "6 DoubleJoint at {place}"),
+            LayoutFault::Limit(place) => write!(f, "7 Limit at {place}"),
+            LayoutFault::OutOfMemory => write!(f, "8 OutOfMemory"),
+        }
+    }
+}
+
+impl Error for LayoutFault {}
 
 impl From<AllocError> for LayoutFault {
     ghost from_gives = { λ _ e. e ≡ OutOfMemory };

@@ -1,4 +1,4 @@
-//! Small stations, each with a change that is told. Every text is read again where memory is lacking, so that the
+//! Small stations, each with a change that is told. What takes memory is done again where it is lacking, so that the
 //! answers also hold with any one allocation refused.
 
 use super::{Element, End, Exit, Layout, LayoutFault, Place, TableName};
@@ -33,8 +33,15 @@ const SMALL: [(&str, &str); 9] = [
     ),
 ];
 
-/// The text of the small station, with another line for a key.
+/// The text of the small station, with another line for a key; where memory is lacking it is made once more.
 fn changed(alloc: Global, key: &str, line: &str) -> Result<String, AllocError> {
+    match written(alloc, key, line) {
+        Ok(text) => Ok(text),
+        Err(_) => written(alloc, key, line),
+    }
+}
+
+fn written(alloc: Global, key: &str, line: &str) -> Result<String, AllocError> {
     let mut text = String::new(alloc);
     for (word, written) in &SMALL {
         if *word == key {
@@ -505,5 +512,22 @@ fn reads_toml_1_1_and_passes_over_other_keys(rt: HostRuntime) -> Result<(), Fail
     let line =
         "point = [{ # one\n  name = \"P1\", id = 0xA, colour = \"red\",\n  section = \"G\\x50\",\n}]\nplatform = []\n";
     assert_eq!(rt; told(alloc, "point", line)?, None);
+    Ok(())
+}
+
+#[test]
+fn copies_an_equal_layout(rt: HostRuntime) -> Result<(), Fail> {
+    let alloc = rt.alloc();
+    let text = changed(alloc, "", "")?;
+    let layout = read(alloc, text.as_str())?;
+    let copy = match layout.copy(alloc) {
+        Ok(copy) => copy,
+        Err(_) => layout.copy(alloc)?,
+    };
+    assert_eq!(rt; copy.joints(), layout.joints());
+    assert_eq!(rt; copy.routes().len(), 3);
+    let route = copy.routes().last().ok_or("a route")?;
+    assert_eq!(rt; route.path().len(), 2);
+    assert_eq!(rt; route.approach().len(), 1);
     Ok(())
 }

@@ -1,7 +1,8 @@
 -- A report grows with each pair of routes and with each route.
-use Rattle.std.proofs.Common.{◌≡◌, ℕ, zero, suc, ◌+◌, ◌-◌, ◌≤◌, ◌<◌, Bool, true, false, List, [], ◌++◌, length, Option, inl, inr, IsTrue, ◌↔◌, refl, sym, ap, ◌∙◌, arith, rules}
+use Rattle.std.proofs.Common.{◌≡◌, ℕ, zero, suc, ◌+◌, ◌-◌, ◌≤◌, ◌<◌, Bool, true, false, List, [], ◌++◌, length, take, drop, Option, inl, inr, IsTrue, ◌↔◌, refl, sym, ap, ◌∙◌, arith, rules}
 use Rattle.std.proofs.lemmas.Bool.{false≢true}
-use Rattle.std.proofs.KnownBytes.{Appends-nil, Appends-trans, Keeps-trans}
+use Rattle.std.proofs.KnownBytes.{Appends-nil, Appends-trans, Appends-kept}
+use Rattle.std.proofs.Math.Seq.{take-add}
 use Rattle.std.specs.Io.KnownBytes.{Appends, Keeps}
 use Rattle.layout.specs.Entries.{Plan}
 use Rattle.control_table.specs.Table.{Conflict}
@@ -38,3 +39,10 @@ module _ (l : Plan) where
   next_route k c d e told behind =
       let n : k + 1 ≡ suc k = omega arith in
       rw n (told.0 ++ behind.0, (told.0, behind.0, told.1, behind.1, refl), Appends-trans c d e told.0 behind.0 told.2 behind.2)
+
+-- A text that a writer takes in parts.
+pub more_taken : (text : List ℕ) (n m : ℕ) (c d e : Option (List ℕ)) → Appends c d (take n text) → Appends d e (take m (drop n text)) → Appends c e (take (n + m) text)
+more_taken text n m c d e first then = rw (take-add n m text) (Appends-trans c d e (take n text) (take m (drop n text)) first then)
+
+pub none_taken : (text : List ℕ) (c d e : Option (List ℕ)) → Appends c d text → Keeps d e → Appends c e text
+none_taken text c d e taken kept = Appends-kept c d e text taken kept

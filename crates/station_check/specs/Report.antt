@@ -1,5 +1,5 @@
 -- The report on a layout whose control table is sound.
-use Rattle.std.specs.Prelude.{◌≡◌, ℕ, zero, suc, ◌+◌, ◌-◌, ◌⊎◌, List, [], ◌∷◌, ◌++◌, length, map, codes, Result, Ok, slice_get, Option}
+use Rattle.std.specs.Prelude.{◌≡◌, ℕ, zero, suc, ◌+◌, ◌-◌, ◌⊎◌, List, [], ◌∷◌, ◌++◌, length, map, codes, Result, Ok, slice_get, Option, take}
 use Rattle.std.specs.Fmt.{decimal}
 use Rattle.std.specs.Option.{option_map, unwrap_or}
 use Rattle.std.specs.Io.KnownBytes.{Appends}
@@ -7,10 +7,12 @@ use Rattle.layout.specs.declared.ids.RouteId.{RouteId}
 use Rattle.layout.specs.Entries.{Plan}
 use Rattle.layout.specs.Resolving.{layout_in}
 use Rattle.layout.specs.Reading.{Fails}
+use Rattle.layout.specs.Messages.{fault_text as layout_fault_text}
 use Rattle.control_table.specs.Table.{Sound, Conflict}
 use Rattle.control_table.specs.Faults.{IsFirstFault}
-use Rattle.station_check.specs.declared.check.Failure.{Failure}
-use Rattle.station_check.specs.declared.check.Failure.TheVariants.{Layout, Table, NotWritten}
+use Rattle.control_table.specs.Messages.{fault_text as table_fault_text}
+use Rattle.station_check.specs.declared.failure.Failure.{Failure}
+use Rattle.station_check.specs.declared.failure.Failure.TheVariants.{Layout, Table, NotWritten}
 
 -- how many signals, points, sections and routes a station has
 abbrev pub summary_text : ℕ → ℕ → ℕ → ℕ → List ℕ
@@ -72,8 +74,27 @@ abbrev pub Reported : Plan → Option (List ℕ) → Option (List ℕ) → Type 
 Reported l old new = (text : List ℕ) × IsReport l text × Appends old new text
 
 -- Why there is no report on a text: it is no layout, by its first fault; or its table isn't sound, by the lowest fault of
--- its first faulty route; or the report couldn't be written.
+-- its first faulty route; or the table is sound, and the report couldn't be written.
 abbrev pub Explains : List ℕ → Failure → Type 0
 Explains text (Layout fault) = Fails fault (layout_in text)
 Explains text (Table fault) = (plan : Plan) × (layout_in text ≡ Ok plan) × IsFirstFault plan fault
-Explains text NotWritten = Unit {0}
+Explains text NotWritten = (plan : Plan) × IsSound text plan
+
+-- The writer of the report stays as it is, unless the report was begun.
+abbrev pub Leaves : {W : Type 0} → Failure → W → W → Type 0
+Leaves NotWritten old new = Unit {0}
+Leaves failure old new = new ≡ old
+
+-- the line that tells why there is no report
+abbrev pub told_line : Failure → List ℕ
+told_line (Layout fault) = codes "layout fault " ++ (layout_fault_text fault ++ codes "\n")
+told_line (Table fault) = codes "table fault " ++ (table_fault_text fault ++ codes "\n")
+told_line NotWritten = []
+
+-- This line was told, as far as the writer took it, and nothing else.
+abbrev pub Tells : Failure → Option (List ℕ) → Option (List ℕ) → Type 0
+Tells failure old new = (told : ℕ) × Appends old new (take told (told_line failure))
+
+-- Why there is no report was told.
+abbrev pub Explained : {W : Type 0} → List ℕ → W → W → Option (List ℕ) → Option (List ℕ) → Type 0
+Explained text out_old out_new old new = (failure : Failure) × Explains text failure × Leaves failure out_old out_new × Tells failure old new

@@ -3,6 +3,7 @@
 #![tactic(auto)]
 
 mod check;
+mod failure;
 mod report;
 
 pub use check::check_text;

@@ -1,0 +1,109 @@
+//! Why there is no report on a text, and how that is told.
+
+ghost use Rattle.std.specs.Prelude.{◌≡◌, ◌≤◌, length, take, IfOk, Some};
+ghost use Rattle.std.specs.Io.KnownBytes.{Appends};
+ghost use Rattle.station_check.specs.Report.{Tells, told_line};
+
+use arrayvec::ArrayString;
+use control_table::TableFault;
+use layout::LayoutFault;
+use std::fmt;
+use std::io;
+use std::io::{ErrorKind, Write};
+
+/// More bytes than any line of a failure has: the longest one tells the name of a route, and has 61.
+const LINE_LENGTH: usize = 80;
+
+/// Why there is no report.
+#[derive(Debug, Drop)]
+pub(crate) enum Failure {
+    /// The text is no layout.
+    Layout(LayoutFault),
+    /// The table isn't sound.
+    Table(TableFault),
+    /// The report couldn't be written.
+    NotWritten,
+}
+
+impl From<LayoutFault> for Failure {
+    ghost use Rattle.station_check.specs.declared.failure.Failure.TheVariants.{Layout};
+
+    ghost from_gives = { λ fault failure. failure ≡ Layout fault };
+
+    fn from(fault: LayoutFault) -> Failure {
+        Failure::Layout(fault)
+    }
+}
+
+impl From<TableFault> for Failure {
+    ghost use Rattle.station_check.specs.declared.failure.Failure.TheVariants.{Table};
+
+    ghost from_gives = { λ fault failure. failure ≡ Table fault };
+
+    fn from(fault: TableFault) -> Failure {
+        Failure::Table(fault)
+    }
+}
+
+impl From<io::Error> for Failure {
+    ghost use Rattle.station_check.specs.declared.failure.Failure.TheVariants.{NotWritten};
+
+    ghost from_gives = { λ _ failure. failure ≡ NotWritten };
+
+    fn from(_error: io::Error) -> Failure {
+        Failure::NotWritten
+    }
+}
+
+impl fmt::Display for Failure {
+    ghost output = { λ failure. Some (told_line failure) };
+
+    fn fmt<W: fmt::Write>(&self, f: &mut fmt::Formatter<W>) -> fmt::Result {
+        match self {
+            Failure::Layout(fault) => write!(f, "layout fault {fault}\n"),
+            Failure::Table(fault) => write!(f, "table fault {fault}\n"),
+            Failure::NotWritten => Ok(()),
+        }
+    }
+}
+
+/// The line that tells a failure, in a place of its own: it takes no memory, which may be what is lacking.
+fn line(failure: &Failure) -> Result<ArrayString<LINE_LENGTH>, fmt::Error>
+    ensures { IfOk result (λ line. line.bytes ≡ told_line failure.now) }
+{
+    use std::fmt::Write;
+    let mut line = ArrayString::new();
+    write!(line, "{failure}")?;
+    Ok(line)
+}
+
+/// Writes the line of a failure, or as much of it as the writer takes.
+pub(crate) fn tell<E: Write>(failure: &Failure, err: &mut E)
+    ensures { Tells failure.now (E.contents err.old) (E.contents err.new) }
+{
+    if let Ok(line) = line(failure) {
+        write_as_taken(line.as_str().as_bytes(), err);
+    }
+}
+
+/// Writes a text to its end, or as far as the writer takes it, and answers how far that is.
+#[tactic(auto, using(crate::proofs::Telling::more_taken, crate::proofs::Telling::none_taken))]
+fn write_as_taken<E: Write>(text: &[u8], err: &mut E) -> usize
+    ensures bound { result ≤ length text.now }
+    ensures bytes { Appends (E.contents err.old) (E.contents err.new) (take result text.now) }
+{
+    let mut taken = 0;
+    for _ in 0..u64::MAX {
+        let (_, rest) = text.split_at(taken);
+        if rest.is_empty() {
+            break;
+        }
+        match err.write(rest) {
+            Ok(0) => break,
+            Ok(more) => taken += more,
+            Err(error) if error.kind() == ErrorKind::Interrupted => {}
+            Err(_) => break,
+        }
+    }
+    taken
+}
