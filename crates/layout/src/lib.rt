@@ -1,6 +1,7 @@
 //! The engineering data of one station, read from a TOML text.
 #![tactic(auto)]
 
+mod detector;
 mod doubles;
 mod each;
 mod entries;
@@ -20,7 +21,8 @@ mod text;
 mod values;
 mod written;
 
-pub use entries::{Detector, Exit, Joint, Point, Route, Signal, Station, Track};
+pub use detector::Detector;
+pub use entries::{Exit, Joint, Point, Route, Signal, Station, Track};
 pub use fault::{LayoutFault, Place, TableName};
 pub use ids::{BorderId, DetectorId, PointId, RouteId, SectionId, SignalId, TrackId};
 pub use plan::Layout;

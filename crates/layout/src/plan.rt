@@ -8,9 +8,10 @@ ghost use Rattle.layout.specs.Once.{Once};
 ghost use Rattle.layout.specs.Resolving.{names_of, entries_of, ports_once, layout_of, layout_in, section_reported};
 ghost use Rattle.layout.specs.declared.fault.TableName.TheVariants as named;
 
+use crate::detector::Detector;
 use crate::doubles::{directory, ids, joined, reported, signalled};
 use crate::each::{Step, each};
-use crate::entries::{Detector, Joint, Point, Route, Signal, Station, Track};
+use crate::entries::{Joint, Point, Route, Signal, Station, Track};
 use crate::fault::{LayoutFault, Place, TableName};
 use crate::limits::within_limits;
 use crate::resolving::plan;

@@ -5,8 +5,9 @@ ghost use Rattle.layout.specs.Reading.{Gives, each_of, all_of};
 ghost use Rattle.layout.specs.declared.fault.TableName.TheVariants as named;
 ghost use Rattle.layout.specs.Resolving.{number_named, element_of, exit_of, element_named, exit_named, port_named, section_named, signal_named, side_named, route_named, track_named, point_named, joint_named, signal_entry, detector_entry, route_entry, has_port, plan_of};
 
+use crate::detector::Detector;
 use crate::each::{Step, all, each};
-use crate::entries::{Detector, Exit, Joint, Point, Route, Signal, Track};
+use crate::entries::{Exit, Joint, Point, Route, Signal, Track};
 use crate::fault::{LayoutFault, Place, TableName};
 use crate::ids::{BorderId, PointId, RouteId, SectionId, SignalId, TrackId};
 use crate::plan::Draft;
