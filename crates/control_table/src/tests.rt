@@ -1,5 +1,8 @@
+//! Small stations, each with a change that is told. What takes memory is done again where it is lacking, so that the
+//! answers also hold with any one allocation refused.
+
 use super::{Checked, TableFault, check};
-use layout::{Layout, RouteId};
+use layout::{Layout, LayoutFault, RouteId};
 use sci_telegram::Side;
 use std::alloc::{AllocError, Global};
 use std::test::Fail;
@@ -32,8 +35,15 @@ const SMALL: [(&str, &str); 9] = [
     ),
 ];
 
-/// The text of the small station, with another line for a key.
+/// The text of the small station, with another line for a key; where memory is lacking it is made once more.
 fn changed(alloc: Global, key: &str, line: &str) -> Result<String, AllocError> {
+    match written(alloc, key, line) {
+        Ok(text) => Ok(text),
+        Err(_) => written(alloc, key, line),
+    }
+}
+
+fn written(alloc: Global, key: &str, line: &str) -> Result<String, AllocError> {
     let mut text = String::new(alloc);
     for (word, written) in &SMALL {
         if *word == key {
@@ -45,10 +55,38 @@ fn changed(alloc: Global, key: &str, line: &str) -> Result<String, AllocError> {
     Ok(text)
 }
 
+/// Two texts in one; where memory is lacking it is made once more.
+fn joined(alloc: Global, front: &str, back: &str) -> Result<String, AllocError> {
+    match format!(in alloc; "{front}{back}") {
+        Ok(text) => Ok(text),
+        Err(_) => format!(in alloc; "{front}{back}"),
+    }
+}
+
+/// Reads a text; where memory is lacking it is read once more.
+fn read(alloc: Global, text: &str) -> Result<Layout, LayoutFault> {
+    match Layout::read(alloc, text) {
+        Err(LayoutFault::OutOfMemory) => Layout::read(alloc, text),
+        answer => answer,
+    }
+}
+
+/// The control table of a text that is a layout, or its fault; where memory is lacking it is checked once more.
+fn judged(alloc: Global, text: &str) -> Result<Result<Checked, TableFault>, Fail> {
+    let layout = read(alloc, text)?;
+    match check(alloc, layout) {
+        Err(TableFault::OutOfMemory) => {
+            let again = read(alloc, text)?;
+            Ok(check(alloc, again))
+        }
+        answer => Ok(answer),
+    }
+}
+
 /// The control table of a text.
 fn table(alloc: Global, text: &str) -> Result<Checked, Fail> {
-    let layout = Layout::read(alloc, text)?;
-    Ok(check(alloc, layout)?)
+    let checked = judged(alloc, text)?;
+    Ok(checked?)
 }
 
 /// Whether two routes of the table conflict.
@@ -100,8 +138,8 @@ fn told(alloc: Global, key: &str, line: &str) -> Result<Option<TableFault>, Fail
 
 /// The fault of a text that is a layout.
 fn fault(alloc: Global, text: &str) -> Result<Option<TableFault>, Fail> {
-    let layout = Layout::read(alloc, text)?;
-    Ok(check(alloc, layout).err())
+    let checked = judged(alloc, text)?;
+    Ok(checked.err())
 }
 
 /// Whether a fault prints as this text.
@@ -109,7 +147,10 @@ fn prints(alloc: Global, fault: Option<TableFault>, text: &str) -> Result<bool, 
     let Some(fault) = fault else {
         return Ok(false);
     };
-    let printed = format!(in alloc; "{fault}")?;
+    let printed = match format!(in alloc; "{fault}") {
+        Ok(printed) => printed,
+        Err(_) => format!(in alloc; "{fault}")?,
+    };
     Ok(printed.as_str() == text)
 }
 
@@ -129,7 +170,10 @@ fn routes_told(
     second: &str,
     third: &str,
 ) -> Result<Option<TableFault>, Fail> {
-    let line = format!(in alloc; "route = [{first}, {second}, {third}]\n")?;
+    let line = match format!(in alloc; "route = [{first}, {second}, {third}]\n") {
+        Ok(line) => line,
+        Err(_) => format!(in alloc; "route = [{first}, {second}, {third}]\n")?,
+    };
     told(alloc, "route", line.as_str())
 }
 
@@ -230,19 +274,28 @@ fn tells_an_open_flank(rt: HostRuntime) -> Result<(), Fail> {
     Ok(())
 }
 
+/// The text of the small station without joints, signals and routes.
+fn without_ways(alloc: Global) -> Result<String, AllocError> {
+    let mut text = String::new(alloc);
+    for (word, written) in &SMALL {
+        if *word != "joint" && *word != "signal" && *word != "route" {
+            text.push_str(*written)?;
+        }
+    }
+    Ok(text)
+}
+
 #[test]
 fn leaves_a_leg_without_a_joint_alone(rt: HostRuntime) -> Result<(), Fail> {
     let alloc = rt.alloc();
     let cut =
         "joint = [[\"W.end\",\"A1.a\"], [\"A1.b\",\"P1.tip\"], [\"P1.left\",\"T1.a\"], [\"T1.b\",\"E1.end\"], [\"T2.b\",\"E2.end\"]]\nsignal = [{name=\"S1\",id=2,at=\"A1.b\"}, {name=\"S3\",id=3,at=\"T1.a\"}]\nroute = [{name=\"R2\",entry=\"S1\",exit=\"E1\",path=[\"P1.left\",\"T1.b\"],points={P1=\"left\"}}]\n";
-    let mut other = String::new(alloc);
-    other.push_str(cut)?;
-    for (word, written) in &SMALL {
-        if *word != "joint" && *word != "signal" && *word != "route" {
-            other.push_str(*written)?;
-        }
-    }
-    let checked = table(alloc, other.as_str())?;
+    let others = match without_ways(alloc) {
+        Ok(others) => others,
+        Err(_) => without_ways(alloc)?,
+    };
+    let text = joined(alloc, cut, others.as_str())?;
+    let checked = table(alloc, text.as_str())?;
     assert!(rt; requires_these(&checked, 0, &[(0, Side::Left)]));
     Ok(())
 }
@@ -264,7 +317,7 @@ fn routes_that_need_a_flank_point_differently_conflict(rt: HostRuntime) -> Resul
     let alloc = rt.alloc();
     let routes =
         "route = [{name=\"a\",entry=\"S1\",exit=\"E1\",path=[\"P1.right\",\"T1.b\"],points={P1=\"right\"},flank={Q=\"right\"}}, {name=\"b\",entry=\"S2\",exit=\"E2\",path=[\"P2.right\",\"T2.b\"],points={P2=\"right\"},flank={Q=\"left\"}}]\n";
-    let text = format!(in alloc; "{BETWEEN}{routes}")?;
+    let text = joined(alloc, BETWEEN, routes)?;
     let checked = table(alloc, text.as_str())?;
     assert!(rt; conflict(&checked, 0, 1) && conflict(&checked, 1, 0));
     assert_eq!(rt; section_count(&checked, 0), 1);
@@ -278,7 +331,7 @@ fn tells_a_flank_point_that_is_not_written(rt: HostRuntime) -> Result<(), Fail> 
     let alloc = rt.alloc();
     let missing =
         "route = [{name=\"a\",entry=\"S1\",exit=\"E1\",path=[\"P1.right\",\"T1.b\"],points={P1=\"right\"}}]\n";
-    let text = format!(in alloc; "{BETWEEN}{missing}")?;
+    let text = joined(alloc, BETWEEN, missing)?;
     let fault = fault(alloc, text.as_str())?;
     assert!(rt; prints(alloc, fault, "5 FlankMissing at route a")?);
     Ok(())
@@ -300,13 +353,13 @@ fn a_flank_point_on_the_path_is_written_under_points_alone(rt: HostRuntime) -> R
     let alloc = rt.alloc();
     let sound =
         "route = [{name=\"a\",entry=\"S1\",exit=\"E\",path=[\"P1.right\",\"P2.tip\"],points={P1=\"right\",P2=\"left\"}}]\n";
-    let text = format!(in alloc; "{FACING}{sound}")?;
+    let text = joined(alloc, FACING, sound)?;
     let checked = table(alloc, text.as_str())?;
     assert!(rt; requires_these(&checked, 0, &[(0, Side::Right), (1, Side::Left)]));
     assert_eq!(rt; section_count(&checked, 0), 1);
     let twice =
         "route = [{name=\"a\",entry=\"S1\",exit=\"E\",path=[\"P1.right\",\"P2.tip\"],points={P1=\"right\",P2=\"left\"},flank={P2=\"left\"}}]\n";
-    let text = format!(in alloc; "{FACING}{twice}")?;
+    let text = joined(alloc, FACING, twice)?;
     let fault = fault(alloc, text.as_str())?;
     assert!(rt; prints(alloc, fault, "4 PointWrong at route a")?);
     Ok(())
@@ -328,7 +381,7 @@ fn tells_a_section_that_comes_again(rt: HostRuntime) -> Result<(), Fail> {
     let alloc = rt.alloc();
     let again =
         "route = [{name=\"a\",entry=\"S1\",exit=\"E\",path=[\"P1.right\",\"T1.b\",\"P2.tip\"],points={P1=\"right\",P2=\"left\"}}]\n";
-    let text = format!(in alloc; "{CROSSED}{again}")?;
+    let text = joined(alloc, CROSSED, again)?;
     let fault = fault(alloc, text.as_str())?;
     assert!(rt; prints(alloc, fault, "2 PathRepeats at route a")?);
     Ok(())
@@ -369,7 +422,10 @@ fn copies_an_equal_table(rt: HostRuntime) -> Result<(), Fail> {
     let alloc = rt.alloc();
     let text = changed(alloc, "", "")?;
     let checked = table(alloc, text.as_str())?;
-    let copy = checked.copy(alloc)?;
+    let copy = match checked.copy(alloc) {
+        Ok(copy) => copy,
+        Err(_) => checked.copy(alloc)?,
+    };
     assert_eq!(rt; copy.layout().signals().len(), 3);
     assert!(rt; conflict(&copy, 0, 2));
     assert!(rt; requires_these(&copy, 2, &[(0, Side::Left)]));
