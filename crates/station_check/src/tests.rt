@@ -1,8 +1,9 @@
-//! What is printed for stations and for changes of them. Every text is checked again where memory is lacking, so that
+//! What is printed for stations and for changes of them. What takes memory is done again where it is lacking, so that
 //! the runs also hold with any one allocation refused.
 
 use super::check_text;
-use std::alloc::Global;
+use arrayvec::ArrayVec;
+use std::alloc::{AllocError, Global};
 use std::io;
 use std::io::Write;
 use std::process::Abort;
@@ -55,11 +56,30 @@ id = 1
 /// A change of a text: what stands in it once, and what stands there instead.
 type Change = (&'static str, &'static str);
 
+// A text between two others; where memory is lacking it is made once more.
+fn between(alloc: Global, before: &str, text: &str, after: &str) -> Result<String, AllocError> {
+    match format!(in alloc; "{before}{text}{after}") {
+        Ok(whole) => Ok(whole),
+        Err(_) => format!(in alloc; "{before}{text}{after}"),
+    }
+}
+
 // A text with a change.
 fn changed(alloc: Global, text: &str, change: &Change) -> Result<String, Fail> {
     let (before, after) = text.split_once(change.0).ok_or("nothing to change")?;
-    let new = change.1;
-    Ok(format!(in alloc; "{before}{new}{after}")?)
+    Ok(between(alloc, before, change.1, after)?)
+}
+
+/// More bytes than any test writes.
+const MANY: usize = 256;
+
+// A place for what is written; where memory is lacking it is made once more.
+fn page(alloc: Global) -> Result<Vec<u8>, AllocError> {
+    let mut page = Vec::new(alloc);
+    if page.reserve(MANY).is_err() {
+        page.reserve(MANY)?;
+    }
+    Ok(page)
 }
 
 // Whether memory was lacking.
@@ -69,9 +89,16 @@ fn was_lacking(told: &[u8]) -> bool {
 }
 
 // Checks a text, and compares all that comes out of it.
-fn expect_check(rt: &impl Abort, alloc: Global, text: &str, status: u8, report: &str, fault: &str) {
-    let mut out = Vec::new(alloc);
-    let mut err = Vec::new(alloc);
+fn expect_check(
+    rt: &impl Abort,
+    alloc: Global,
+    text: &str,
+    status: u8,
+    report: &str,
+    fault: &str,
+) -> Result<(), Fail> {
+    let mut out = page(alloc)?;
+    let mut err = page(alloc)?;
     let mut ended = check_text(alloc, text, &mut out, &mut err);
     if was_lacking(err.as_slice()) {
         assert!(rt; out.is_empty() && ended == 1);
@@ -81,6 +108,7 @@ fn expect_check(rt: &impl Abort, alloc: Global, text: &str, status: u8, report: 
     assert!(rt; out.as_slice() == report.as_bytes(), "report on {text}");
     assert!(rt; err.as_slice() == fault.as_bytes(), "fault of {text}");
     assert_eq!(rt; ended, status, "status of {text}");
+    Ok(())
 }
 
 // Checks a text with one change after the other, of which all come to naught but for the fault that is told.
@@ -91,24 +119,23 @@ fn expect_fault(
     changes: &[Change],
     fault: &str,
 ) -> Result<(), Fail> {
-    let mut other = String::from_str(alloc, text)?;
+    let mut other = between(alloc, "", text, "")?;
     for change in changes {
         other = changed(alloc, other.as_str(), change)?;
     }
-    let told = format!(in alloc; "{fault}\n")?;
-    expect_check(rt, alloc, other.as_str(), 1, "", told.as_str());
-    Ok(())
+    let told = between(alloc, "", fault, "\n")?;
+    expect_check(rt, alloc, other.as_str(), 1, "", told.as_str())
 }
 
 #[test]
-fn the_small_station_is_sound(rt: HostRuntime) {
-    expect_check(&rt, rt.alloc(), SMALL, 0, SMALL_REPORT, "");
+fn the_small_station_is_sound(rt: HostRuntime) -> Result<(), Fail> {
+    expect_check(&rt, rt.alloc(), SMALL, 0, SMALL_REPORT, "")
 }
 
 #[test]
-fn routes_that_need_a_point_at_different_sides_conflict(rt: HostRuntime) {
+fn routes_that_need_a_point_at_different_sides_conflict(rt: HostRuntime) -> Result<(), Fail> {
     let report = "ok: 2 signals, 3 points, 5 sections, 2 routes\nconflict a b\n";
-    expect_check(&rt, rt.alloc(), BETWEEN, 0, report, "");
+    expect_check(&rt, rt.alloc(), BETWEEN, 0, report, "")
 }
 
 /// The point Q isn't a flank point of `b`, whose unused leg ends nowhere.
@@ -120,8 +147,7 @@ fn routes_with_nothing_in_common_don_t_conflict(rt: HostRuntime) -> Result<(), F
     let text = changed(alloc, BETWEEN, &ALONE)?;
     let text = changed(alloc, text.as_str(), &(",flank={Q=\"left\"}", ""))?;
     let report = "ok: 2 signals, 3 points, 5 sections, 2 routes\n";
-    expect_check(&rt, alloc, text.as_str(), 0, report, "");
-    Ok(())
+    expect_check(&rt, alloc, text.as_str(), 0, report, "")
 }
 
 #[test]
@@ -139,8 +165,7 @@ fn an_extra_conflict_is_a_conflict(rt: HostRuntime) -> Result<(), Fail> {
         &("flank={Q=\"left\"}", "extra=[\"a\"]"),
     )?;
     let report = "ok: 2 signals, 3 points, 5 sections, 2 routes\nconflict a b\n";
-    expect_check(&rt, alloc, text.as_str(), 0, report, "");
-    Ok(())
+    expect_check(&rt, alloc, text.as_str(), 0, report, "")
 }
 
 #[test]
@@ -271,6 +296,16 @@ fn faults_of_flank_points_are_told(rt: HostRuntime) -> Result<(), Fail> {
         BETWEEN,
         &both,
         "table fault 7 FlankContradicts at route a",
+    )?;
+    // No line is longer than this one.
+    let named = ("name=\"a\"", "name=\"A-name-of-20-letters\"");
+    let [first, second, third] = both;
+    expect_fault(
+        &rt,
+        alloc,
+        BETWEEN,
+        &[first, second, third, named],
+        "table fault 7 FlankContradicts at route A-name-of-20-letters",
     )
 }
 
@@ -296,13 +331,71 @@ impl Write for Failing {
 }
 
 #[test]
-fn a_failed_write_ends_with_status_1(rt: HostRuntime) {
-    let mut err = Vec::new(rt.alloc());
+fn a_failed_write_ends_with_status_1(rt: HostRuntime) -> Result<(), Fail> {
+    let mut err = page(rt.alloc())?;
     for left in [0, 1, 40, 60, SMALL_REPORT.len() - 1] {
         let status = check_text(rt.alloc(), SMALL, &mut Failing { left }, &mut err);
         assert_eq!(rt; status, 1, "after {left} bytes");
+        if was_lacking(err.as_slice()) {
+            err.clear();
+        }
     }
     assert!(rt; err.is_empty());
     let status = check_text(rt.alloc(), "section =", &mut err, &mut Failing { left: 3 });
     assert_eq!(rt; status, 1, "of a fault that can't be told");
+    assert!(rt; err.is_empty());
+    Ok(())
+}
+
+#[test]
+fn a_fault_is_told_as_far_as_there_is_room(rt: HostRuntime) {
+    let mut out = Vec::new(rt.alloc());
+    let mut err: ArrayVec<u8, 14> = ArrayVec::new();
+    let mut status = check_text(rt.alloc(), "section =", &mut out, &mut err);
+    if err.as_slice() == b"layout fault 8".as_slice() {
+        err.clear();
+        status = check_text(rt.alloc(), "section =", &mut out, &mut err);
+    }
+    assert_eq!(rt; err.as_slice(), b"layout fault 1".as_slice());
+    assert!(rt; out.is_empty() && status == 1);
+}
+
+/// A writer that takes a byte at a time, and is interrupted before each.
+#[derive(Drop)]
+struct Slow {
+    told: ArrayVec<u8, 40>,
+    is_interrupted: bool,
+}
+
+impl Write for Slow {
+    fn write(&mut self, buf: &[u8]) -> io::Result<usize> {
+        self.is_interrupted = !self.is_interrupted;
+        if self.is_interrupted {
+            return Err(io::Error::from(io::ErrorKind::Interrupted));
+        }
+        match buf.split_first() {
+            Some((first, _)) if self.told.try_push(*first).is_ok() => Ok(1),
+            _ => Ok(0),
+        }
+    }
+
+    fn flush(&mut self) -> io::Result<()> {
+        Ok(())
+    }
+}
+
+#[test]
+fn a_slow_writer_is_told_the_whole_fault(rt: HostRuntime) {
+    let mut out = Vec::new(rt.alloc());
+    let mut err = Slow {
+        told: ArrayVec::new(),
+        is_interrupted: false,
+    };
+    let mut status = check_text(rt.alloc(), "section =", &mut out, &mut err);
+    if was_lacking(err.told.as_slice()) {
+        err.told.clear();
+        status = check_text(rt.alloc(), "section =", &mut out, &mut err);
+    }
+    assert_eq!(rt; err.told.as_slice(), b"layout fault 1 Toml\n".as_slice());
+    assert!(rt; out.is_empty() && status == 1);
 }
