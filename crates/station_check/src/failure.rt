@@ -7,9 +7,8 @@ ghost use Rattle.station_check.specs.Report.{Tells, told_line};
 use arrayvec::ArrayString;
 use control_table::TableFault;
 use layout::LayoutFault;
-use std::fmt;
-use std::io;
 use std::io::{ErrorKind, Write};
+use std::{fmt, io};
 
 /// More bytes than any line of a failure has: the longest one tells the name of a route, and has 61.
 const LINE_LENGTH: usize = 80;
