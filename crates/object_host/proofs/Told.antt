@@ -547,18 +547,17 @@ module _ {Object : Type 0} (does : Behaviour Object) where
   beating_gives now (inputs.Datagram bytes) host = refl
   beating_gives now (inputs.Sense sense) host = refl
 
-  -- a loss leaves the names, and no initialisation is completed by it
-  record IsFallen (old new : HostState Object) : Type 0 where
-    early : is_completed old.stage ≡ false → is_completed new.stage ≡ false
+  -- the end leaves the names
+  record HasNames (old new : HostState Object) : Type 0 where
     own_name_is : new.own_name ≡ old.own_name
     peer_name_is : new.peer_name ≡ old.peer_name
 
-  ending_fallen : (host : HostState Object) → IsFallen host (ending does host)
+  ending_names : (host : HostState Object) → HasNames host (ending does host)
   unfolding keeping fallen
-  ending_fallen host = cases (not (is_outside host.stage) && not (is_open host.link.phase)) where
-    cases : (b : Bool) → IsFallen host (keeping does (if b then record host { stage = stage.Outside; object = does.after_loss host.object } else host))
-    cases true = record { early = λ _. refl; own_name_is = refl; peer_name_is = refl }
-    cases false = record { early = λ early. early; own_name_is = refl; peer_name_is = refl }
+  ending_names host = cases (not (is_outside host.stage) && not (is_open host.link.phase)) where
+    cases : (b : Bool) → HasNames host (keeping does (if b then record host { stage = stage.Outside; object = does.after_loss host.object } else host))
+    cases true = record { own_name_is = refl; peer_name_is = refl }
+    cases false = record { own_name_is = refl; peer_name_is = refl }
 
   stays_open : (host : HostState Object) → is_open (ending does host).link.phase ≡ true → has_lost host ≡ false
   unfolding keeping
@@ -574,7 +573,7 @@ module _ {Object : Type 0} (does : Behaviour Object) where
   falls_closed host inside closed = rw (inside, sym (ap (λ (l : LinkState). is_open l.phase) (fallen_link does host)) ∙ closed) refl
 
   -- a step: what comes, what is paid and what ends it
-  pub step_told : (now : ℕ) (input : Input) (host : HostState Object) → IsToldIn does now host (host_step does now input host)
+  pub step_told : (now : ℕ) (input : Input) (host : HostState Object) → IsToldIn does now input host (host_step does now input host)
   unfolding host_step
   step_told now input host =
       let clocked : HostState Object = record host { link = settled now host.link }
@@ -588,9 +587,9 @@ module _ {Object : Type 0} (does : Behaviour Object) where
       in let payment = pays_all now most_owed heard.host
       in let during : List ObjectCall = comes.calls ++ payment.calls
       in let beat = beating_same now input told.host
-      in let fell = ending_fallen done.host
-      in let own_name_is = fell.own_name_is ∙ beat.own_name_is ∙ payment.own_name_is
-      in let peer_name_is = fell.peer_name_is ∙ beat.peer_name_is ∙ payment.peer_name_is
+      in let names = ending_names done.host
+      in let own_name_is = names.own_name_is ∙ beat.own_name_is ∙ payment.own_name_is
+      in let peer_name_is = names.peer_name_is ∙ beat.peer_name_is ∙ payment.peer_name_is
       in let middle : told.host.object ≡ object_after_all does during begun.object =
       payment.object_is ∙ ap (object_after_all does payment.calls) comes.object_is ∙ sym (after_joined comes.calls payment.calls begun.object)
       in let paid_during : reports_paid does during begun.object ≡ reports_paid does payment.calls heard.host.object =
@@ -637,11 +636,11 @@ module _ {Object : Type 0} (does : Behaviour Object) where
         gives = ap (items_given now done.calls) (sym (begun_link does now host)) ∙ given_in_all
             ∙ ap (λ xs. items_given now heard.calls begun.link ++ xs) (sym (items_same payment.reports heard.host (ending does done.host) own_name_is peer_name_is));
         own_is_early = λ completed. given_says now input begun completed;
-        paid = cases payment (beat.stage_is ∙ payment.stage_is) fell paid_in_all (is_completed heard.host.stage) refl;
+        paid = cases payment paid_in_all (is_completed heard.host.stage) refl;
       }
     where
-      cases : {all : List Report} {heard done last : HostState Object} (payment : IsPaying now heard (paying does now most_owed heard)) → done.stage ≡ heard.stage → IsFallen done last →
+      cases : {all : List Report} {heard : HostState Object} (payment : IsPaying now heard (paying does now most_owed heard)) →
           all ≡ reports_paid does payment.calls heard.object → (b : Bool) → is_completed heard.stage ≡ b →
-          (payment.reports ≡ all) ⊎ ((payment.reports ≡ []) × (is_completed last.stage ≡ false))
-      cases payment same fell all_is true is = inl (payment.sent is ∙ sym all_is)
-      cases payment same fell all_is false is = inr (payment.dropped is, fell.early (ap is_completed same ∙ is))
+          (payment.reports ≡ all) ⊎ ((payment.reports ≡ []) × (is_completed heard.stage ≡ false))
+      cases payment all_is true is = inl (payment.sent is ∙ sym all_is)
+      cases payment all_is false is = inr (payment.dropped is, is)

@@ -7,7 +7,8 @@ use Rattle.object_host.specs.Behaviour.{Behaviour}
 use Rattle.object_host.specs.Host.{HostState, Part, is_completed, is_outside, telegram_of}
 use Rattle.object_host.specs.Made.{items_given}
 use Rattle.object_host.specs.Object.{ObjectCall, Takes, Ticks, Senses, Keeps, Pays, Loses, object_after_all, reports_paid, telegrams_in}
-use Rattle.object_host.specs.Step.{beginning}
+use Rattle.object_host.specs.Step.{beginning, given}
+use Rattle.object_host.specs.declared.input.Input.{Input}
 use Rattle.object_host.specs.declared.report.Report.{Report}
 
 -- a report as the item in which a host sends it
@@ -38,7 +39,7 @@ module _ {Object : Type 0} where
       (loss_where (has_lost (record old { link = settled now old.link })) ++ Ticks now ∷ [])
       ++ (during ++ (loss_where is_lost ++ Keeps (alive_until new.link) ∷ []))
 
-  pub record IsToldIn (does : Behaviour Object) (now : ℕ) (host : HostState Object) (part : Part Object) : Type 0 where
+  pub record IsToldIn (does : Behaviour Object) (now : ℕ) (input : Input) (host : HostState Object) (part : Part Object) : Type 0 where
     -- the object after the step is that before it after these calls
     pub during : List ObjectCall
     pub are_in_step : AreInStep now during
@@ -55,6 +56,6 @@ module _ {Object : Type 0} where
     pub gives : items_given now part.calls (settled now host.link) ≡ own ++ map (item_of part.host) reports
     -- the host says nothing itself where the initialisation was completed before, and the clock rules have left it so
     pub own_is_early : is_completed (beginning does now host).stage ≡ true → own ≡ []
-    -- each report that was paid was sent, or all were dropped since the initialisation wasn't completed
+    -- each report that was paid was sent; or the initialisation wasn't completed by what came, and all were dropped
     pub paid : (reports ≡ reports_paid does (calls_in_step now host during is_lost part.host) host.object)
-        ⊎ ((reports ≡ []) × (is_completed part.host.stage ≡ false))
+        ⊎ ((reports ≡ []) × (is_completed (given does now input (beginning does now host)).host.stage ≡ false))

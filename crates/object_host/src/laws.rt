@@ -29,7 +29,7 @@ pub fn step_tells_what_was_taken<C: Controller>()
 /// is sent are first the telegrams of the initialisation, and then the reports that are paid, each as it was owed then.
 #[tactic(auto, using(crate::proofs::Told::step_told))]
 pub fn step_is_told_to_the_object<C: Controller>()
-    ensures { (now : ℕ) (input : Input) (host : HostState C) → IsToldIn C.behaviour now host (host_step C.behaviour now input host) }
+    ensures { (now : ℕ) (input : Input) (host : HostState C) → IsToldIn C.behaviour now input host (host_step C.behaviour now input host) }
 {}
 
 /// Own calls leave a link that is in no connection where it is.

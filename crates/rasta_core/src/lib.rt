@@ -13,6 +13,7 @@ pub use rasta_core_theorem::{
     what_is_taken,
 };
 pub use rasta_core_time::{
-    alone_after_quiet, alone_after_waiting, every_event_keeps_time, items_are_fresh,
-    one_connection, opening_is_new, own_connection, starts_in_time,
+    alone_after_quiet, alone_after_waiting, copies_are_delivered, every_event_keeps_time,
+    every_run_keeps_time, items_are_fresh, links_are_settled, one_connection, opening_is_new,
+    own_connection, quiet_is_counted, starts_in_time,
 };

@@ -24,6 +24,14 @@ const PROCEED: Message = Message::Signal(SignalMessage::IndicateAspect(Aspect::P
 
 const STOP: Message = Message::Signal(SignalMessage::IndicateAspect(Aspect::Stop));
 
+/// Proceed, from IXL1 to S1, as it stands in an item.
+const EXAMPLE: [u8; 61] = [
+    0x30, 0x01, 0x00, 0x49, 0x58, 0x4C, 0x31, 0x5F, 0x5F, 0x5F, 0x5F, 0x5F, 0x5F, 0x5F, 0x5F, 0x5F,
+    0x5F, 0x5F, 0x5F, 0x5F, 0x5F, 0x5F, 0x5F, 0x53, 0x31, 0x5F, 0x5F, 0x5F, 0x5F, 0x5F, 0x5F, 0x5F,
+    0x5F, 0x5F, 0x5F, 0x5F, 0x5F, 0x5F, 0x5F, 0x5F, 0x5F, 0x5F, 0x5F, 0x04, 0xFF, 0xFF, 0xFF, 0xFF,
+    0xFF, 0xFF, 0xFF, 0xFF, 0xFF, 0xFF, 0xFF, 0xFF, 0xFF, 0xFF, 0xFF, 0xFF, 0xFF,
+];
+
 /// The commanding link and the signal, and what the signal said last.
 #[derive(Drop)]
 struct Bench {
@@ -162,6 +170,16 @@ impl Bench {
         assert!(rt; answer.is_ok());
     }
 
+    /// IXL1 gives an item of these bytes, and both exchange what follows.
+    fn hand_over(&mut self, rt: &impl Abort, bytes: &[u8]) -> Result<(), Fail> {
+        let item = Item::of(bytes).ok_or("an item")?;
+        assert!(rt; self.client.may_step(OPENING));
+        assert!(rt; self.outbox.has_room());
+        let answer = self.client.send(OPENING, &item, &mut self.outbox);
+        assert!(rt; answer.is_ok());
+        self.exchange(rt, OPENING)
+    }
+
     /// IXL1 tells S1 something, and both exchange what follows.
     fn tell(&mut self, rt: &impl Abort, now: Millis, message: Message) -> Result<(), Fail> {
         let telegram = Telegram {
@@ -294,13 +312,27 @@ fn telegram_with_another_receiver_closes(rt: HostRuntime) -> Result<(), Fail> {
 #[test]
 fn bytes_that_are_no_telegram_close(rt: HostRuntime) -> Result<(), Fail> {
     let mut bench = Bench::initialised(&rt, rt.alloc())?;
-    let item = Item::of(&[0x30]).ok_or("an item")?;
-    assert!(rt; bench.client.may_step(OPENING));
-    assert!(rt; bench.outbox.has_room());
-    let answer = bench.client.send(OPENING, &item, &mut bench.outbox);
-    assert!(rt; answer.is_ok());
-    bench.exchange(&rt, OPENING)?;
+    bench.hand_over(&rt, &[0x30])?;
     bench.closed(&rt, Reason::State)
+}
+
+#[test]
+fn the_example_shows_proceed_and_each_damaged_form_of_it_closes(
+    rt: HostRuntime,
+) -> Result<(), Fail> {
+    let mut last = EXAMPLE;
+    last[60] = 0xFE;
+    let mut first = EXAMPLE;
+    first[0] = 0x31;
+    for damaged in [last.as_slice(), first.as_slice(), &EXAMPLE[..60]] {
+        let mut bench = Bench::initialised(&rt, rt.alloc())?;
+        bench.hand_over(&rt, &EXAMPLE)?;
+        bench.shows(&rt, OPENING, Aspect::Proceed);
+        bench.hand_over(&rt, damaged)?;
+        bench.closed(&rt, Reason::State)?;
+        bench.shows(&rt, OPENING, Aspect::Stop);
+    }
+    Ok(())
 }
 
 /// Four items of the initialisation and sixteen reports fill the window. The next report stays owed, a later one takes

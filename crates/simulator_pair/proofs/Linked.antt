@@ -7,18 +7,25 @@ use Rattle.std.proofs.lemmas.Bool.Decides.{nat_tests}
 use Rattle.std.proofs.lemmas.Slice.Eq.{bytes_eq-Decides}
 use Rattle.simulator_pair.specs.declared.event.Refused.TheVariants.{NeverSent}
 use Rattle.rasta_core_ends.specs.Bag.{is_copy, is_alive_copy, lifetime, newest_copy}
-use Rattle.rasta_core_ends.specs.Ends.{Sent, Call, Ticks, Opens, Closes, Sends, Receives, is_taken}
+use Rattle.rasta_core_ends.specs.Ends.{Sent, Call, Ticks, Opens, Closes, Sends, Receives, is_taken, reading_of}
 use Rattle.rasta_core_ends.specs.Run.{Ends, end_of, called}
 use Rattle.rasta_core_link.specs.declared.identity.Role.{Role}
 use Rattle.rasta_core_link.specs.declared.identity.Role.TheVariants.{Client, Server}
+use Rattle.rasta_core_link.specs.Calls.{hearing_bytes, receiving}
+use Rattle.rasta_core_link.specs.Sending.{entered}
+use Rattle.rasta_core_link.specs.State.{LinkState}
 use Rattle.rasta_core_theorem.specs.Ordered.{Ordered}
+use Rattle.rasta_core_theorem.specs.Safe.{IsIdle}
 use Rattle.rasta_core_time.specs.Events.{Event, Calls, Passes, Loses, Restarts, IsAmong, IsDelivered, IsWithinDrift, May, MayCall, happened}
 use Rattle.rasta_core_time.specs.Invariant.{AreNames, Names, Timely}
 use Rattle.rasta_core_time.specs.Sentences.{IsOpening, IsOut, freshness, receipt_at}
 use Rattle.simulator_pair.specs.declared.event.PairReply.{PairReply}
 use Rattle.simulator_pair.specs.declared.event.Refused.{Refused}
 use Rattle.rasta_pdu.specs.SafetyCode.{IsIntact, intact}
+use Rattle.rasta_pdu.specs.Reading.{reading}
+use Rattle.rasta_pdu.specs.declared.fault.PduFault.{PduFault}
 use Rattle.rasta_pdu.specs.declared.key.Key.{Key}
+use Rattle.rasta_pdu.specs.declared.pdu.Pdu.{Pdu}
 use Rattle.simulator_pair.specs.Pair.{PairState, stepped}
 use Rattle.simulator_pair.specs.Events.{connection_of, copy_of, happens, refusal, refusal_of_delivery, refusal_of_time}
 use Rattle.simulator_pair.specs.Theorem.{GivesItem, HappensRightly, IsLinked, IsTakenRightly, names}
@@ -154,6 +161,23 @@ pub record TakingLaws : Type 0 where
   pub fresh : (names : Names) (ends : Ends) (who : Role) (bytes : List ℕ) (connection : ℕ) (copy : Sent) → AreNames names → Timely names ends → IsDelivered ends bytes connection copy → (receipt_at who bytes ends).items ≢ [] → ends.time < copy.at + freshness
   pub own : (names : Names) (ends : Ends) (who : Role) (bytes : List ℕ) (connection : ℕ) (copy : Sent) → Timely names ends → IsDelivered ends bytes connection copy → is_taken (receipt_at who bytes ends).verdict ≡ true → (end_of who (called who (Receives bytes connection) ends)).connection ≡ Some copy.connection
   pub opening : (names : Names) (ends : Ends) (who : Role) (bytes : List ℕ) (connection : ℕ) (copy : Sent) → AreNames names → Timely names ends → IsDelivered ends bytes connection copy → IsOut who ends → is_taken (receipt_at who bytes ends).verdict ≡ true → IsOpening names who ends copy
+  pub intact : (key : Key) (bytes : List ℕ) → IsTrue (intact key bytes) ↔ IsIntact key bytes
+  pub read : (key : Key) (bytes : List ℕ) (pdu : Pdu) → reading key bytes ≡ Ok pdu → IsIntact key bytes
+
+-- bytes that are no copy and may be delivered can't be read, so nothing is taken of them
+none_taken : TakingLaws → (who : Role) (bytes : List ℕ) (ends : Ends) → copy_of bytes ends ≡ None → refusal_of_delivery who bytes ends ≡ None → IsIdle (receipt_at who bytes ends)
+unfolding receiving hearing_bytes
+none_taken laws who bytes ends none_found allowed = cases (reading key bytes) refl where
+  key : Key
+  key = (end_of who ends).link.identity.key
+
+  begun : LinkState
+  begun = (entered (reading_of (end_of who ends).clock) (end_of who ends).link).link
+
+  cases : (read : Result Pdu PduFault) → reading key bytes ≡ read → IsIdle (receipt_at who bytes ends)
+  cases (Err fault) is = (ap (λ r. (hearing_bytes r begun).items) is, ap (λ r. is_taken (hearing_bytes r begun).verdict) is)
+  cases (Ok pdu) is =
+      absurd (refused_is_not_allowed (sym (refused_then who bytes ends none_found ((laws.intact key bytes).1 (laws.read key bytes pdu is))) ∙ allowed))
 
 taken_rightly : TakingLaws → (who : Role) (bytes : List ℕ) (ends : Ends) (copy : Sent) → IsLinked ends → copy_of bytes ends ≡ Some copy → IsTakenRightly who ends copy
 taken_rightly laws who bytes ends copy linked found =
@@ -166,7 +190,10 @@ taken_rightly laws who bytes ends copy linked found =
     }
 
 pub happens_rightly : TakingLaws → (happening : PairEvent) (ends : Ends) → IsLinked ends → HappensRightly happening ends
-happens_rightly laws (event.Deliver who bytes) ends linked = λ copy found. taken_rightly laws who bytes.items ends copy linked found
+happens_rightly laws (event.Deliver who bytes) ends linked = record {
+  sent = λ copy found. taken_rightly laws who bytes.items ends copy linked found;
+  damaged = none_taken laws who bytes.items ends;
+}
 happens_rightly laws (event.Give who item) ends linked = tt
 happens_rightly laws (event.Tick who) ends linked = tt
 happens_rightly laws (event.Time elapsed of_client of_server) ends linked = tt

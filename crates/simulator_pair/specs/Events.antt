@@ -1,5 +1,5 @@
 -- The events of a pair: which can happen, what they change, and what is answered.
-use Rattle.std.specs.Prelude.{◌≡◌, ℕ, ◌+◌, ◌*◌, ◌≤◌, ◌<◌, IsTrue, nat_le, nat_lt, ◌&&◌, not, Bool, true, false, List, [], ◌∷◌, Option, Some, None, is_none, if◌then◌else◌}
+use Rattle.std.specs.Prelude.{ℕ, ◌+◌, ◌*◌, nat_le, nat_lt, ◌&&◌, not, Bool, true, false, List, [], Option, Some, None, is_none, if◌then◌else◌}
 use Rattle.rasta_core_link.specs.Calls.{answer_to_send, created}
 use Rattle.rasta_core_link.specs.declared.identity.Identity.{Identity}
 use Rattle.rasta_core_link.specs.declared.identity.Role.{Role}
@@ -9,7 +9,7 @@ use Rattle.rasta_core_ends.specs.Bag.{newest_copy, has_copy}
 use Rattle.rasta_core_ends.specs.Run.{Ends, end_of, later, lost, restarted}
 use Rattle.rasta_pdu.specs.SafetyCode.{intact}
 use Rattle.rasta_pdu.specs.declared.key.Key.{Key}
-use Rattle.simulator_pair.specs.Pair.{PairState, PairView, stepped, new_lamp}
+use Rattle.simulator_pair.specs.Pair.{PairState, stepped, new_lamp}
 use Rattle.simulator_pair.specs.declared.event.PairEvent.{PairEvent}
 use Rattle.simulator_pair.specs.declared.event.PairEvent.TheVariants as event
 use Rattle.simulator_pair.specs.declared.event.PairReply.{PairReply}
@@ -83,15 +83,6 @@ reply_to _ ends = reply.Done
 abbrev pub is_restart : PairEvent → Bool
 is_restart (event.Restart who clock first) = true
 is_restart _ = false
-
--- A list of events is applied one after the other, and so many of them are accepted. Those that can't happen change
--- nothing, and neither do those for which memory is lacking: restarts, and others only where there was no room for
--- an event. A refused event may have made room, and an accepted one takes at most that of one event.
-pub data Runs : List PairEvent → PairView → ℕ → PairView → Type 0 where
-  stops : {pair : PairView} → Runs [] pair 0 pair
-  refuses : {event : PairEvent} {later : List PairEvent} {pair next last : PairView} {count : ℕ} {why : Refused} → refusal event pair.run.ends ≡ Some why → next.run ≡ pair.run → pair.room ≤ next.room → Runs later next count last → Runs (event ∷ later) pair count last
-  lacks_memory : {event : PairEvent} {later : List PairEvent} {pair next last : PairView} {count : ℕ} → refusal event pair.run.ends ≡ None → (0 < pair.room → IsTrue (is_restart event)) → next.run ≡ pair.run → pair.room ≤ next.room → Runs later next count last → Runs (event ∷ later) pair count last
-  accepts : {event : PairEvent} {later : List PairEvent} {pair next last : PairView} {count : ℕ} → refusal event pair.run.ends ≡ None → next.run ≡ happens event pair.run → pair.room ≤ next.room + 1 → Runs later next count last → Runs (event ∷ later) pair (count + 1) last
 
 -- an end as it is made: with its clock at 0, in no connection
 abbrev pub new_end : Identity → EndState

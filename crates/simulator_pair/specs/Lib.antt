@@ -7,3 +7,4 @@ pub mod Order
 pub mod Parts
 pub mod Theorem
 pub mod Worked
+pub mod Runs

@@ -1,14 +1,15 @@
 -- What is true of a pair after every list of events.
-use Rattle.std.specs.Prelude.{◌≡◌, ◌≢◌, ◌+◌, ◌<◌, true, [], Some}
+use Rattle.std.specs.Prelude.{◌≡◌, ◌≢◌, ℕ, ◌+◌, ◌<◌, true, List, [], Some, None}
 use Rattle.md4.specs.declared.message.TheConstants.{STANDARD}
 use Rattle.rasta_core_ends.specs.Ends.{Sent, Receives, is_taken}
 use Rattle.rasta_core_ends.specs.Run.{Ends, end_of, called}
 use Rattle.rasta_core_link.specs.declared.identity.Role.{Role}
 use Rattle.rasta_core_theorem.specs.Ordered.{Ordered}
+use Rattle.rasta_core_theorem.specs.Safe.{IsIdle}
 use Rattle.rasta_core_time.specs.Invariant.{Names, Timely}
 use Rattle.rasta_core_time.specs.Sentences.{IsOpening, IsOut, freshness, receipt_at}
 use Rattle.rasta_pdu.specs.Items.{IsItem}
-use Rattle.simulator_pair.specs.Events.{copy_of}
+use Rattle.simulator_pair.specs.Events.{copy_of, refusal_of_delivery}
 use Rattle.simulator_pair.specs.declared.event.PairEvent.{PairEvent}
 use Rattle.simulator_pair.specs.declared.event.PairEvent.TheVariants as event
 
@@ -34,7 +35,12 @@ pub record IsTakenRightly (who : Role) (ends : Ends) (copy : Sent) : Type 0 wher
   pub own : is_taken (receipt_at who copy.bytes ends).verdict ≡ true → (end_of who (called who (Receives copy.bytes copy.connection) ends)).connection ≡ Some copy.connection
   pub opening : IsOut who ends → is_taken (receipt_at who copy.bytes ends).verdict ≡ true → IsOpening names who ends copy
 
+-- A delivery that can happen: what the end does with a copy that was sent, and that it takes nothing of other bytes.
+pub record IsDeliveredRightly (who : Role) (bytes : List ℕ) (ends : Ends) : Type 0 where
+  pub sent : (copy : Sent) → copy_of bytes ends ≡ Some copy → IsTakenRightly who ends copy
+  pub damaged : copy_of bytes ends ≡ None → refusal_of_delivery who bytes ends ≡ None → IsIdle (receipt_at who bytes ends)
+
 -- what is true of an event by the state in which it happens
 abbrev pub HappensRightly : PairEvent → Ends → Type 0
-HappensRightly (event.Deliver who bytes) ends = (copy : Sent) → copy_of bytes.items ends ≡ Some copy → IsTakenRightly who ends copy
+HappensRightly (event.Deliver who bytes) ends = IsDeliveredRightly who bytes.items ends
 HappensRightly _ ends = Unit {0}

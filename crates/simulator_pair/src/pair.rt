@@ -17,7 +17,7 @@ use rasta_core_theorem::{every_event_keeps_order, order_is_safe, outside_until_i
 use rasta_core_time::{
     every_event_keeps_time, items_are_fresh, opening_is_new, own_connection, starts_in_time,
 };
-use rasta_pdu::{Item, Key, intact_is_tested};
+use rasta_pdu::{Item, Key, intact_is_tested, read_was_written};
 use signal_ctl::{Aspect, Lamp};
 use std::alloc::{AllocError, Global};
 use std::marker::Model;
@@ -104,7 +104,8 @@ impl Pair {
     ghost use Rattle.rasta_core_link.specs.Clock.{alive_until};
     ghost use Rattle.simulator_pair.specs.Pair.{shown};
     ghost use Rattle.simulator_pair.specs.Lamp.{StopHolds, aspect_due};
-    ghost use Rattle.simulator_pair.specs.Events.{refusal, happens, reply_to, is_restart, Runs};
+    ghost use Rattle.simulator_pair.specs.Events.{refusal, happens, reply_to, is_restart};
+    ghost use Rattle.simulator_pair.specs.Runs.{Runs};
     ghost use Rattle.simulator_pair.specs.declared.event.Refused.TheVariants.{OutOfMemory};
 
     /// A new pair: the client has identity 1, the server 2; their key is the standard start of MD4, their clocks
@@ -133,7 +134,7 @@ impl Pair {
         // In a connection that is the last of both ends, each took a beginning of what the other gave, and what the
         // other holds for confirmed was taken.
         ensures safe { AreSafe self.new.run.ends }
-        // What a delivery brings is fresh, and of the connection of the end that takes it.
+        // What a delivery brings is fresh, and of the connection of the end that takes it; nothing is taken of damaged bytes.
         ensures rightly { HappensRightly event.now self.old.run.ends }
         // The lamp shows the last aspect that the server took since its link was lost last, while the link's time lasts.
         ensures lamp { shown self.new.run ≡ aspect_due self.new.run.ends.server }
@@ -144,6 +145,7 @@ impl Pair {
         every_event_keeps_time();
         every_event_keeps_order();
         intact_is_tested();
+        read_was_written();
         order_is_safe();
         items_are_fresh();
         own_connection();

@@ -1,7 +1,7 @@
 use Rattle.std.proofs.Common.{◌≡◌, ◌+◌, ◌++◌, [], ◌∷◌, ap, sym, ◌∙◌, subst, take, arith, List}
 use Rattle.std.specs.Prelude.{is_ok, if◌then◌else◌, ℕ}
 use Rattle.std.proofs.lemmas.List.{take_more}
-use Rattle.simulator_pair.specs.Events.{Runs, stops}
+use Rattle.simulator_pair.specs.Runs.{Runs, stops}
 use Rattle.simulator_pair.specs.declared.event.PairEvent.{PairEvent}
 use Rattle.rasta_core_theorem.specs.Safe.{AreSafe}
 use Rattle.simulator_pair.specs.Pair.{PairView, shown}
@@ -28,7 +28,7 @@ loop-event-preserved c =
       | then-is_ok w ↦ w.accepted-is ∙ ap (λ b. if b then loop.accepted + 1 else loop.accepted) (sym w.if-is_ok.true ∙ c.is_ok.ensures.value)
       | else-is_ok w ↦ w.accepted-is ∙ ap (λ b. if b then loop.accepted + 1 else loop.accepted) (sym w.if-is_ok.false ∙ c.is_ok.ensures.value)
     ]
-    in let ran = run_step _ one _ _ _ _ c.apply.result loop.invariant.0 applied.step applied.allowed applied.refused applied.same applied.memory applied.room applied.kept
+    in let ran = run_step _ one _ _ _ _ c.apply.result loop.invariant.0 applied.step applied.allowed applied.refused applied.same applied.memory applied.room applied.kept applied.rightly
     in let Counted : ℕ → Type 0 = λ n. Runs (take loop.event-index events ++ one ∷ []) c.args.self.now n c.apply.new.self
     in let Grown : List PairEvent → Type 0 = λ es. Runs es c.args.self.now c.if-is_ok.accepted c.apply.new.self
     in (

@@ -1,5 +1,5 @@
 use Rattle.std.proofs.Common.{◌≤◌, take}
-use Rattle.simulator_pair.specs.Events.{Runs}
+use Rattle.simulator_pair.specs.Runs.{Runs}
 use Rattle.simulator_pair.proofs.pair.Pair.run.Given as goal
 
 abbrev pub invariant-loop-event : goal.invariant-loop-event
