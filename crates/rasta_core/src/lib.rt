@@ -9,8 +9,8 @@ pub use rasta_core_link::{
 };
 pub use rasta_core_links::{each_link_is_a_run, links_of_one_client};
 pub use rasta_core_theorem::{
-    every_event_keeps_order, given_was_sent, link_is_safe, order_is_safe, outside_until_it_enters,
-    what_is_taken,
+    every_event_keeps_order, given_was_sent, items_are_counted, link_is_safe, order_is_safe,
+    outside_until_it_enters, what_is_taken,
 };
 pub use rasta_core_time::{
     alone_after_quiet, alone_after_waiting, copies_are_delivered, every_event_keeps_time,

@@ -1,5 +1,5 @@
 -- Every event keeps the order of two ends, and so does every run.
-use Rattle.std.proofs.Common.{◌≡◌, ℕ, ◌+◌, ◌≤◌, inr, true, List, [], ◌∷◌, ◌++◌, length, Some, None, refl, sym, ap, subst, ◌∙◌}
+use Rattle.std.proofs.Common.{◌≡◌, ℕ, ◌+◌, ◌≤◌, inl, inr, true, List, [], ◌∷◌, ◌++◌, length, Some, None, refl, sym, ap, subst, ◌∙◌}
 use Rattle.rasta_core_link.specs.Parameters.{stops_at_greatest}
 use Rattle.rasta_core_link.specs.State.{LinkState, is_open, confirmed_items}
 use Rattle.rasta_core_link.specs.Calls.{created}
@@ -7,17 +7,17 @@ use Rattle.rasta_core_link.specs.declared.identity.Identity.{Identity}
 use Rattle.rasta_core_link.specs.declared.identity.Role.{Role}
 use Rattle.rasta_core_link.specs.declared.identity.Role.TheVariants as role
 use Rattle.rasta_core_ends.specs.Bag.{is_copy, without_oldest}
-use Rattle.rasta_core_ends.specs.Ends.{Sent, Call, Ticks, Opens, Closes, Sends, Receives, reading_of, end_later, end_restarted}
+use Rattle.rasta_core_ends.specs.Ends.{Sent, EndState, Call, Ticks, Opens, Closes, Sends, Receives, reading_of, end_later, end_restarted}
 use Rattle.rasta_core_ends.specs.Run.{Ends, called, later, lost, restarted}
 use Rattle.rasta_core_order.specs.Part.{Part}
-use Rattle.rasta_core_order.specs.Playing.{Plays, joined, asking, left}
+use Rattle.rasta_core_order.specs.Playing.{Keeps, Plays, joined, asking, left}
 use Rattle.rasta_core_order.specs.Beginning.{PlaysEarly, gone}
 use Rattle.rasta_core_time.specs.Each.{Each}
 use Rattle.rasta_core_time.specs.Invariant.{Names, AreNames, Timely}
 use Rattle.rasta_core_time.specs.Events.{Event, Calls, Passes, Loses, Restarts, Elsewhere, May, MayCall, happened, run, MayRun, Start, started}
 use Rattle.rasta_core_time.proofs.Called.{ReadIsIntact}
 use Rattle.rasta_core_theorem.specs.Ordered.{IsSpelledIn, Ordered, unbegun, alone, together}
-use Rattle.rasta_core_theorem.specs.Safe.{IsSafe, AreSafe}
+use Rattle.rasta_core_theorem.specs.Safe.{AreCounted, AreSafe, IsCounted, IsSafe, counts, made_anew}
 use Rattle.rasta_core_theorem.proofs.Tests.{by_test}
 use Rattle.rasta_core_theorem.proofs.OrderLaws.{Laws, SafeLaws}
 use Rattle.rasta_core_theorem.proofs.Calls.{ticks_client, closes_client, sends_client, opens_client, ticks_server, closes_server, sends_server, opens_server}
@@ -242,10 +242,27 @@ some_same a b e = cc
 not_none : (connection : ℕ) → None ≡ Some connection → ⊥
 not_none connection e = cc
 
-taken_counted : (link : LinkState) (own other : Part) → Plays link own other → is_open link.phase ≡ true → link.taken ≡ stops_at_greatest (length own.taken)
-taken_counted link own other (joined has) inside = has.inside.keeps.taken
-taken_counted link own other (asking still) inside = still.inside.keeps.taken
-taken_counted link own other (left shut keeps) inside = absurd (cc (shut, inside))
+kept_counted : (end : EndState) (own : Part) → Keeps end.link own → own.given ≡ end.given → own.taken ≡ end.taken → IsCounted end
+kept_counted end own keeps given_is taken_is =
+    counts (keeps.given ∙ ap (λ (items : List (List ℕ)). stops_at_greatest (length items)) given_is)
+    (keeps.taken ∙ ap (λ (items : List (List ℕ)). stops_at_greatest (length items)) taken_is)
+
+plays_counted : (end : EndState) (own other : Part) → Plays end.link own other → own.given ≡ end.given → own.taken ≡ end.taken → IsCounted end
+plays_counted end own other (joined has) given_is taken_is = kept_counted end own has.inside.keeps given_is taken_is
+plays_counted end own other (asking still) given_is taken_is = kept_counted end own still.inside.keeps given_is taken_is
+plays_counted end own other (left shut keeps) given_is taken_is = elim keeps [
+  | inl kept ↦ kept_counted end own kept given_is taken_is
+  | inr new ↦ made_anew shut new.given new.taken
+]
+
+pub ordered_counted : (names : Names) (ends : Ends) → Ordered names ends → AreCounted ends
+ordered_counted names ends (unbegun is) connection of_client of_server = absurd (not_none connection (sym is ∙ of_client))
+ordered_counted names ends (alone is) connection of_client of_server =
+    absurd (is.not_of_server (of_server ∙ ap (λ (c : ℕ). Some c) (some_same connection is.connection (sym of_client ∙ is.of_client))))
+ordered_counted names ends (together is) connection of_client of_server = (
+  plays_counted ends.client is.client is.server is.client_plays is.client_given is.client_taken,
+  plays_counted ends.server is.server is.client is.server_plays is.server_given is.server_taken,
+)
 
 pub ordered_safe : SafeLaws → (names : Names) (ends : Ends) → Ordered names ends → AreSafe ends
 ordered_safe law names ends (unbegun is) connection of_client of_server = absurd (not_none connection (sym is ∙ of_client))
@@ -260,7 +277,6 @@ ordered_safe law names ends (together is) connection of_client of_server = (ther
           rest = first.0;
           beginning = sym is.client_given ∙ first.1 ∙ ap (λ (taken : List (List ℕ)). taken ++ first.0) is.server_taken;
           confirmed = subst (λ (taken : List (List ℕ)). confirmed_items ends.client.link ≤ length taken) is.server_taken (law.confirmed ends.client.link is.client is.server is.order is.client_plays);
-          counted = λ inside. taken_counted ends.server.link is.server is.client is.server_plays inside ∙ ap (λ (taken : List (List ℕ)). stops_at_greatest (length taken)) is.server_taken;
         }
 
     back : IsSafe ends.server ends.client
@@ -271,5 +287,4 @@ ordered_safe law names ends (together is) connection of_client of_server = (ther
           beginning = sym is.server_given ∙ first.1 ∙ ap (λ (taken : List (List ℕ)). taken ++ first.0) is.client_taken;
           confirmed = subst (λ (taken : List (List ℕ)). confirmed_items ends.server.link ≤ length taken) is.client_taken
               (law.confirmed ends.server.link is.server is.client (law.swapped is.client is.server is.order) is.server_plays);
-          counted = λ inside. taken_counted ends.client.link is.client is.server is.client_plays inside ∙ ap (λ (taken : List (List ℕ)). stops_at_greatest (length taken)) is.client_taken;
         }

@@ -12,7 +12,7 @@ ghost use Rattle.rasta_core_time.specs.Sentences.{IsOpening, IsOut, freshness, r
 ghost use Rattle.rasta_core_theorem.specs.Given.{IsGiven};
 ghost use Rattle.rasta_core_theorem.specs.Ordered.{Ordered};
 ghost use Rattle.rasta_pdu.specs.SafetyCode.{IsIntact};
-ghost use Rattle.rasta_core_theorem.specs.Safe.{AreSafe, IsIdle};
+ghost use Rattle.rasta_core_theorem.specs.Safe.{AreCounted, AreSafe, IsIdle};
 
 use rasta_core_order::{
     calls_carry_what_they_accept, calls_keep_order, client_alone, connection_begins,
@@ -48,6 +48,12 @@ pub fn order_is_safe()
     parts_are_safe();
     partner_stays();
 }
+
+/// In a connection that is the last of both ends, `Link::given` and `Link::taken` count the items that the end gave and
+/// took there, until it is made anew.
+pub fn items_are_counted()
+    ensures { (names : Names) (ends : Ends) → Ordered names ends → AreCounted ends }
+{}
 
 /// The link is safe after every list of events.
 pub fn link_is_safe()
