@@ -1,24 +1,22 @@
 -- What the rows of a sound table say of its routes, and that their conflicts are those of the definition.
-use Rattle.std.proofs.Common.{◌≡◌, ◌⊎◌, Bool, true, false, not, ◌&&◌, ◌||◌, ◌==◌, ℕ, zero, suc, ◌+◌, ◌<◌, List, [], ◌∷◌, length, get_or, Option, Some, None, Result, Ok, Err, refl, sym, ap, subst, ◌∙◌, inl, inr, ⊎_elim, arith}
-use Rattle.std.proofs.lemmas.Bool.{false≢true}
-use Rattle.std.proofs.lemmas.Bool.Decides.{Decides-and, Decides-or, Decides-not, Decides-like, Decides-eqb}
+use Rattle.std.proofs.Common.{◌≡◌, Bool, not, ◌||◌, ◌==◌, ℕ, zero, suc, ◌<◌, List, [], ◌∷◌, length, get_or, Some, Ok, refl, sym, ap, subst, ◌∙◌, arith}
+use Rattle.std.proofs.lemmas.Bool.Decides.{Decides-and, Decides-or, Decides-not, Decides-like}
 use Rattle.std.specs.Bool.{Decides}
 use Rattle.std.specs.Prelude.{slice_get, ◌↔◌, IsTrue}
 use Rattle.std.specs.Option.{option_map}
-use Rattle.std.specs.List.{Contains, list_any}
+use Rattle.std.specs.List.{Contains}
 use Rattle.sci_telegram.specs.declared.message.Side.{Side}
 use Rattle.layout.specs.declared.ids.SectionId.{SectionId}
 use Rattle.layout.specs.declared.ids.PointId.{PointId}
 use Rattle.layout.specs.declared.ids.SignalId.{SignalId}
 use Rattle.layout.specs.declared.ids.RouteId.{RouteId}
 use Rattle.layout.specs.Entries.{RouteEntry, Plan}
-use Rattle.control_table.specs.declared.fault.FaultyRoute.{FaultyRoute}
-use Rattle.control_table.specs.declared.passage.Passage.{Passage}
 use Rattle.control_table.specs.Topology.{IsRoute}
-use Rattle.control_table.specs.Path.{Follows, sections, Path}
+use Rattle.control_table.specs.Path.{Passage, sections, Path}
 use Rattle.control_table.specs.Sides.{other, Requires}
-use Rattle.control_table.specs.Table.{Lists, LeadsOver, RouteRequires, InLayoutOrder, AreSections, AreRequired, SameEntry, ShareSection, RequireDifferently, Conflict}
-use Rattle.control_table.specs.Judging.{some_and, same_section, needs, has_need, in_layout_order, lists, TableRow, rows_of, rows_from, IsRowAt, entry_of, enters_at, same_entry, has_section, share_section, require_differently, conflicts}
+use Rattle.control_table.specs.Table.{LeadsOver, RouteRequires, InLayoutOrder, AreSections, AreRequired, SameEntry, ShareSection, RequireDifferently, Conflict}
+use Rattle.control_table.specs.Judging.{same_section, needs, has_need, lists, TableRow, rows_of, IsRowAt, entry_of, enters_at, same_entry, has_section, share_section, require_differently, conflicts}
+use Rattle.control_table.proofs.Joints.{OneBeyond}
 use Rattle.control_table.proofs.Judged.{none-some}
 use Rattle.control_table.proofs.Members.{any-decides, has-decides, some-injective}
 use Rattle.control_table.proofs.Same.{section-decides, signal-decides, route-decides, other-differs, differ-other}
@@ -43,37 +41,37 @@ pub table-length : (l : Plan) (rows : List TableRow) → rows_of l ≡ Ok rows �
 unfolding rows_of
 table-length l rows e = rows-length l 0 l.routes rows e
 
-pub row-facts : (l : Plan) (a : RouteId) (r : RouteEntry) (row : TableRow) → IsRoute l a r → IsRowAt l a row → RowFacts l a r row
-row-facts l a r row at is =
-    let found = table-row l is.0 is.1 a r at in
+pub row-facts : (l : Plan) (one : OneBeyond l) (a : RouteId) (r : RouteEntry) (row : TableRow) → IsRoute l a r → IsRowAt l a row → RowFacts l a r row
+row-facts l one a r row at is =
+    let found = table-row l one is.0 is.1 a r at in
     subst (RowFacts l a r) (some-injective found.0 row (sym found.1 ∙ is.2)) found.2
 
 -- the path of a route in the table is the one of its row
-same-path : (l : Plan) (a : RouteId) (r q : RouteEntry) (row : TableRow) (h : RowFacts l a r row) (path : List Passage) → IsRoute l a r → IsRoute l a q → Path l q path → path ≡ h.path
-same-path l a r q row h path at also is =
+same-path : (l : Plan) (one : OneBeyond l) (a : RouteId) (r q : RouteEntry) (row : TableRow) (h : RowFacts l a r row) (path : List Passage) → IsRoute l a r → IsRoute l a q → Path l q path → path ≡ h.path
+same-path l one a r q row h path at also is =
     let same : q ≡ r = some-injective q r (sym also ∙ at) in
     let P : RouteEntry → Type 0 = λ x. Path l x path in
-    one-path l r (place_at 0 r.name) path h.path (subst P same is).follows h.is_path.follows
+    one-path l one r (place_at 0 r.name) path h.path (subst P same is).follows h.is_path.follows
 
 pub sections-are : (l : Plan) (a : RouteId) (r : RouteEntry) (row : TableRow) → IsRoute l a r → RowFacts l a r row → AreSections l a row.sections
 sections-are l a r row at h = (r, h.path, at, h.is_path, h.sections)
 
-pub requires-is : (l : Plan) (a : RouteId) (r : RouteEntry) (row : TableRow) → IsRoute l a r → RowFacts l a r row → (p : PointId) (s : Side) → Contains row.required (p, s) ↔ RouteRequires l a p s
-requires-is l a r row at h p s =
+pub requires-is : (l : Plan) (one : OneBeyond l) (a : RouteId) (r : RouteEntry) (row : TableRow) → IsRoute l a r → RowFacts l a r row → (p : PointId) (s : Side) → Contains row.required (p, s) ↔ RouteRequires l a p s
+requires-is l one a r row at h p s =
     let C : List (PointId × Side) → Type 0 = λ ns. Contains ns (p, s) in
     let R : List Passage → Type 0 = λ path. Requires l path p s in (
       λ c. (r, h.path, at, h.is_path, ordered-from l h.path p s (subst C h.required c)),
-      λ k. subst C (sym h.required) (ordered-to l h.path h.protected.consistent p s (subst R (same-path l a r k.0 row h k.1 at k.2 k.3) k.4)),
+      λ k. subst C (sym h.required) (ordered-to l one h.path h.protected.consistent p s (subst R (same-path l one a r k.0 row h k.1 at k.2 k.3) k.4)),
     )
 
-pub required-are : (l : Plan) (a : RouteId) (r : RouteEntry) (row : TableRow) → IsRoute l a r → RowFacts l a r row → AreRequired l a row.required
-required-are l a r row at h = record { points = requires-is l a r row at h; order = subst InLayoutOrder (sym h.required) (ordered (needs l h.path)) }
+pub required-are : (l : Plan) (one : OneBeyond l) (a : RouteId) (r : RouteEntry) (row : TableRow) → IsRoute l a r → RowFacts l a r row → AreRequired l a row.required
+required-are l one a r row at h = record { points = requires-is l one a r row at h; order = subst InLayoutOrder (sym h.required) (ordered (needs l h.path)) }
 
-leads-is : (l : Plan) (a : RouteId) (r : RouteEntry) (row : TableRow) → IsRoute l a r → RowFacts l a r row → (s : SectionId) → Contains row.sections s ↔ LeadsOver l a s
-leads-is l a r row at h s =
+leads-is : (l : Plan) (one : OneBeyond l) (a : RouteId) (r : RouteEntry) (row : TableRow) → IsRoute l a r → RowFacts l a r row → (s : SectionId) → Contains row.sections s ↔ LeadsOver l a s
+leads-is l one a r row at h s =
     let C : List SectionId → Type 0 = λ ss. Contains ss s in
     let S : List Passage → Type 0 = λ path. Contains (sections l path) s in
-    (λ c. (r, h.path, at, h.is_path, subst C h.sections c), λ k. subst C (sym h.sections) (subst S (same-path l a r k.0 row h k.1 at k.2 k.3) k.4))
+    (λ c. (r, h.path, at, h.is_path, subst C h.sections c), λ k. subst C (sym h.sections) (subst S (same-path l one a r k.0 row h k.1 at k.2 k.3) k.4))
 
 -- ---- conflicts
 
@@ -90,32 +88,32 @@ entry-decides l a b =
     Decides-like (same_entry l.routes a b) up down
     (some_and-decides (λ s. enters_at l.routes b s) B (λ s. some_and-decides (λ t. t.0 == s.0) (T s) (λ t. signal-decides t s) (entry_of l.routes b)) (entry_of l.routes a))
 
-share-decides : (l : Plan) (a b : RouteId) (r q : RouteEntry) (first second : TableRow) → IsRoute l a r → IsRoute l b q → RowFacts l a r first → RowFacts l b q second
+share-decides : (l : Plan) (one : OneBeyond l) (a b : RouteId) (r q : RouteEntry) (first second : TableRow) → IsRoute l a r → IsRoute l b q → RowFacts l a r first → RowFacts l b q second
     → Decides (share_section first.sections second.sections) (ShareSection l a b)
-share-decides l a b r q first second at also h k =
+share-decides l one a b r q first second at also h k =
     let P : SectionId → Type 0 = λ s. Contains second.sections s in
-    Decides-like (share_section first.sections second.sections) (λ c. (c.0, (leads-is l a r first at h c.0).0 c.1, (leads-is l b q second also k c.0).0 c.2)) (λ c. (c.0, (leads-is l a r first at h c.0).1 c.1, (leads-is l b q second also k c.0).1 c.2))
+    Decides-like (share_section first.sections second.sections) (λ c. (c.0, (leads-is l one a r first at h c.0).0 c.1, (leads-is l one b q second also k c.0).0 c.2)) (λ c. (c.0, (leads-is l one a r first at h c.0).1 c.1, (leads-is l one b q second also k c.0).1 c.2))
     (any-decides (λ s. has_section second.sections s) P (λ s. has-decides same_section section-decides second.sections s) first.sections)
 
-differ-decides : (l : Plan) (a b : RouteId) (r q : RouteEntry) (first second : TableRow) → IsRoute l a r → IsRoute l b q → RowFacts l a r first → RowFacts l b q second
+differ-decides : (l : Plan) (one : OneBeyond l) (a b : RouteId) (r q : RouteEntry) (first second : TableRow) → IsRoute l a r → IsRoute l b q → RowFacts l a r first → RowFacts l b q second
     → Decides (require_differently first.required second.required) (RequireDifferently l a b)
-differ-decides l a b r q first second at also h k =
+differ-decides l one a b r q first second at also h k =
     let P : PointId × Side → Type 0 = λ n. Contains second.required (n.0, other n.1) in
     let up : ((n : PointId × Side) × Contains first.required n × P n) → RequireDifferently l a b = λ c.
-    (c.0.0, c.0.1, other c.0.1, (λ e. other-differs c.0.1 (sym e)), (requires-is l a r first at h c.0.0 c.0.1).0 c.1, (requires-is l b q second also k c.0.0 (other c.0.1)).0 c.2) in
+    (c.0.0, c.0.1, other c.0.1, (λ e. other-differs c.0.1 (sym e)), (requires-is l one a r first at h c.0.0 c.0.1).0 c.1, (requires-is l one b q second also k c.0.0 (other c.0.1)).0 c.2) in
     let down : RequireDifferently l a b → (n : PointId × Side) × Contains first.required n × P n = λ c.
     let S : Side → Type 0 = λ t. Contains second.required (c.0, t) in
-    ((c.0, c.1), (requires-is l a r first at h c.0 c.1).1 c.4, subst S (differ-other c.1 c.2 c.3) ((requires-is l b q second also k c.0 c.2).1 c.5)) in
+    ((c.0, c.1), (requires-is l one a r first at h c.0 c.1).1 c.4, subst S (differ-other c.1 c.2 c.3) ((requires-is l one b q second also k c.0 c.2).1 c.5)) in
     Decides-like (require_differently first.required second.required) up down
     (any-decides (λ n. has_need second.required (n.0, other n.1)) P (λ n. has_need-decides second.required (n.0, other n.1)) first.required)
 
-pub conflict-decides : (l : Plan) (a b : RouteId) (r q : RouteEntry) (first second : TableRow) → IsRoute l a r → IsRoute l b q → RowFacts l a r first → RowFacts l b q second
+pub conflict-decides : (l : Plan) (one : OneBeyond l) (a b : RouteId) (r q : RouteEntry) (first second : TableRow) → IsRoute l a r → IsRoute l b q → RowFacts l a r first → RowFacts l b q second
     → Decides (conflicts l.routes a b first second) (Conflict l a b)
 unfolding conflicts
-conflict-decides l a b r q first second at also h k =
+conflict-decides l one a b r q first second at also h k =
     let ll = Decides-or (lists l.routes a b) (lists l.routes b a) (lists-decides l a b) (lists-decides l b a) in
-    let ds = Decides-or (require_differently first.required second.required) (lists l.routes a b || lists l.routes b a) (differ-decides l a b r q first second at also h k) ll in
-    let ss = Decides-or (share_section first.sections second.sections) (require_differently first.required second.required || (lists l.routes a b || lists l.routes b a)) (share-decides l a b r q first second at also h k) ds in
+    let ds = Decides-or (require_differently first.required second.required) (lists l.routes a b || lists l.routes b a) (differ-decides l one a b r q first second at also h k) ll in
+    let ss = Decides-or (share_section first.sections second.sections) (require_differently first.required second.required || (lists l.routes a b || lists l.routes b a)) (share-decides l one a b r q first second at also h k) ds in
     let es = Decides-or (same_entry l.routes a b) (share_section first.sections second.sections || (require_differently first.required second.required || (lists l.routes a b || lists l.routes b a))) (entry-decides l a b) ss in
     Decides-and (not (a.0 == b.0)) (same_entry l.routes a b || (share_section first.sections second.sections || (require_differently first.required second.required || (lists l.routes a b || lists l.routes b a)))) (Decides-not (a.0 == b.0) (route-decides a b)) es
 

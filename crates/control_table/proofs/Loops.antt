@@ -1,8 +1,7 @@
 -- Lists that loops build one item after the other.
-use Rattle.std.proofs.Common.{◌≡◌, Bool, true, false, ℕ, suc, ◌+◌, ◌≤◌, ◌<◌, List, [], ◌∷◌, ◌++◌, length, get_or, drop, Option, Some, None, Result, Ok, Err, refl, sym, ap, subst, ◌∙◌, append_assoc, arith}
+use Rattle.std.proofs.Common.{◌≡◌, Bool, true, false, ℕ, suc, ◌+◌, ◌≤◌, ◌<◌, List, [], ◌∷◌, ◌++◌, length, get_or, drop, Some, None, Result, Ok, Err, refl, sym, ap, subst, ◌∙◌, append_assoc, arith}
 use Rattle.std.proofs.lemmas.List.{append-nil, drop_more, drop_all}
 use Rattle.layout.specs.declared.port.Port.{Port}
-use Rattle.layout.specs.declared.ids.SignalId.{SignalId}
 use Rattle.layout.specs.declared.entries.Joint.{Joint}
 use Rattle.layout.specs.declared.entries.Signal.{Signal}
 use Rattle.layout.specs.declared.entries.Exit.{Exit}
@@ -11,7 +10,7 @@ use Rattle.std.specs.List.{list_any}
 use Rattle.control_table.specs.declared.fault.TableFault.{TableFault}
 use Rattle.control_table.specs.declared.fault.TableFault.TheVariants.{PathBroken, PathRepeats, PointMissing, PointWrong, FlankMissing, FlankOpen, FlankContradicts, SignalPlace, NotSymmetric, OutOfMemory}
 use Rattle.control_table.specs.declared.fault.FaultyRoute.{FaultyRoute}
-use Rattle.control_table.specs.declared.passage.Passage.{Passage}
+use Rattle.control_table.specs.Path.{Passage}
 use Rattle.control_table.specs.Judging.{◌>>=◌, Fails, passage_behind, passages, all_different, is_other_at, no_other_at, TableRow, row_of, rows_from}
 
 -- what was made before, and what is still made

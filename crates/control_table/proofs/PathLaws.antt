@@ -1,16 +1,14 @@
 -- The computed path is the path of the definition, and its tests decide what they are named after.
-use Rattle.std.proofs.Common.{◌≡◌, ◌≢◌, ◌⊎◌, Bool, true, false, not, ◌&&◌, ◌||◌, ◌==◌, ◌-◌, ℕ, zero, suc, ◌+◌, ◌<◌, List, [], ◌∷◌, length, map, Option, Some, None, Result, Ok, Err, cond, refl, sym, ap, subst, ◌∙◌, inl, inr, ⊎_elim, arith}
+use Rattle.std.proofs.Common.{◌≡◌, ◌⊎◌, Bool, true, false, not, ◌&&◌, ◌||◌, ◌==◌, ◌-◌, ℕ, zero, suc, ◌+◌, List, [], ◌∷◌, length, map, Option, Some, None, Ok, Err, refl, sym, ap, subst, ◌∙◌, ⊎_elim, arith}
 use Rattle.std.proofs.lemmas.Bool.{false≢true}
-use Rattle.std.proofs.lemmas.Bool.Decides.{Decides-and, Decides-or, Decides-not, Decides-like, Decides-eqb, Decides-at, not_from_Decides}
+use Rattle.std.proofs.lemmas.Bool.Decides.{Decides-and, Decides-or, Decides-not, Decides-like, Decides-eqb, Decides-at}
 use Rattle.std.specs.Bool.{Decides}
 use Rattle.std.specs.Prelude.{slice_get}
 use Rattle.std.specs.Prelude.{if◌then◌else◌}
 use Rattle.std.specs.Option.{option_map, ok_or}
-use Rattle.std.specs.List.{Contains, list_any, list_all}
-use Rattle.layout.specs.declared.ids.SectionId.{SectionId}
+use Rattle.std.specs.List.{Contains, list_any}
 use Rattle.layout.specs.declared.ids.PointId.{PointId}
 use Rattle.layout.specs.declared.ids.SignalId.{SignalId}
-use Rattle.layout.specs.declared.ids.BorderId.{BorderId}
 use Rattle.layout.specs.declared.port.Port.{Port}
 use Rattle.layout.specs.declared.port.Element.{Element}
 use Rattle.layout.specs.declared.port.Element.TheVariants as of
@@ -22,14 +20,14 @@ use Rattle.layout.specs.declared.entries.Exit.TheVariants as exit
 use Rattle.layout.specs.Entries.{RouteEntry, Plan}
 use Rattle.control_table.specs.declared.fault.FaultyRoute.{FaultyRoute}
 use Rattle.control_table.specs.declared.fault.TableFault.{TableFault}
-use Rattle.control_table.specs.declared.fault.TableFault.TheVariants.{PathBroken, PathRepeats}
-use Rattle.control_table.specs.declared.passage.Passage.{Passage}
-use Rattle.control_table.specs.Topology.{is_port, is_element, is_end, joined_to, Joined, port_of, StandsAt}
-use Rattle.control_table.specs.Path.{Passes, Leads, Follows, AllDifferent, elements, sections, ComesOnce, ExitAt, EndsAt, SignalsPlaced}
-use Rattle.control_table.specs.Judging.{◌>>=◌, some_and, is_point, may_pass, passage_from, passage_behind, passages, path_of, all_different, same_section, sections_of, same_exit, stands_at, leads_out, is_exit, ends_at_exit, is_other_at, no_other_at, none_between, signals_placed}
-use Rattle.control_table.proofs.Judged.{none-some, err-ok, ok-injective, ok-from, err-from, ok-some, err-none, passed, failed_or_passed, not_stopped, stopped_or_not, false-from}
-use Rattle.control_table.proofs.Members.{contains-none, contains-here, contains-there, contains-cases, all-decides, has-decides, some-injective}
-use Rattle.control_table.proofs.Same.{never, element-decides, end-decides, port-decides, section-decides, signal-decides, exit-decides}
+use Rattle.control_table.specs.declared.fault.TableFault.TheVariants.{PathBroken}
+use Rattle.control_table.specs.Topology.{port_of, StandsAt}
+use Rattle.control_table.specs.Path.{Passage, Passes, Leads, Follows, AllDifferent, elements, sections, ComesOnce, ExitAt, EndsAt, SignalsPlaced}
+use Rattle.control_table.specs.Judging.{is_port, is_element, is_end, joined_to, ◌>>=◌, some_and, is_point, may_pass, passage_from, passage_behind, passages, path_of, all_different, same_section, same_exit, stands_at, is_exit, ends_at_exit, is_other_at, no_other_at, none_between, signals_placed}
+use Rattle.control_table.proofs.Joints.{OneBeyond, joined-found}
+use Rattle.control_table.proofs.Judged.{none-some, err-ok, ok-injective, ok-from, err-from, ok-some, err-none, not_stopped, stopped_or_not, false-from}
+use Rattle.control_table.proofs.Members.{all-decides, has-decides, some-injective}
+use Rattle.control_table.proofs.Same.{never, element-decides, end-decides, port-decides, section-decides, exit-decides}
 
 -- ---- passing an element
 
@@ -78,27 +76,27 @@ passage-is joints before g joined passes =
     ap (λ o. passage_from o g.left) joined ∙ ap (λ b. if b then Some g else None) ((passes-decides g.entered g.left).1 passes)
 
 -- the passages that are computed lead on from joint to joint
-pub passages-lead : (place : FaultyRoute) (joints : List Joint) (from : Port) (ports : List Port) (path : List Passage) → passages place joints from ports ≡ Ok path → Leads joints from path × (ports ≡ map (λ g. g.left) path)
+pub passages-lead : (place : FaultyRoute) (l : Plan) (from : Port) (ports : List Port) (path : List Passage) → passages place l.joints from ports ≡ Ok path → Leads l from path × (ports ≡ map (λ g. g.left) path)
 unfolding passages
-passages-lead place joints from [] path e =
-    let P : List Passage → Type 0 = λ path. Leads joints from path × ([] ≡ map (λ g. g.left) path) in
+passages-lead place l from [] path e =
+    let P : List Passage → Type 0 = λ path. Leads l from path × ([] ≡ map (λ g. g.left) path) in
     subst P (ok-injective [] path e) (tt, refl)
-passages-lead place joints from (left ∷ ports) path e =
-    let P : List Passage → Type 0 = λ path. Leads joints from path × ((left ∷ ports) ≡ map (λ g. g.left) path) in
-    let a = ok-from (ok_or (passage_behind joints from left) (PathBroken place)) (λ g. passages place joints left ports >>= λ rest. Ok (g ∷ rest)) path e in
-    let b = ok-from (passages place joints left ports) (λ rest. Ok (a.0 ∷ rest)) path a.2 in
-    let found = passage-found joints from left a.0 (ok-some (passage_behind joints from left) (PathBroken place) a.0 a.1) in
-    let rest = passages-lead place joints left ports b.0 b.1 in
-    let on : Port → Type 0 = λ p. Leads joints p b.0 in
-    subst P (ok-injective (a.0 ∷ b.0) path b.2) ((found.0, found.2, subst on found.1 rest.0), λ i. found.1 i ∷ rest.1 i)
+passages-lead place l from (left ∷ ports) path e =
+    let P : List Passage → Type 0 = λ path. Leads l from path × ((left ∷ ports) ≡ map (λ g. g.left) path) in
+    let a = ok-from (ok_or (passage_behind l.joints from left) (PathBroken place)) (λ g. passages place l.joints left ports >>= λ rest. Ok (g ∷ rest)) path e in
+    let b = ok-from (passages place l.joints left ports) (λ rest. Ok (a.0 ∷ rest)) path a.2 in
+    let found = passage-found l.joints from left a.0 (ok-some (passage_behind l.joints from left) (PathBroken place) a.0 a.1) in
+    let rest = passages-lead place l left ports b.0 b.1 in
+    let on : Port → Type 0 = λ p. Leads l p b.0 in
+    subst P (ok-injective (a.0 ∷ b.0) path b.2) ((joined-found l from a.0.entered found.0, found.2, subst on found.1 rest.0), λ i. found.1 i ∷ rest.1 i)
 
 -- and what leads on so is computed
-pub leading-found : (place : FaultyRoute) (joints : List Joint) (from : Port) (path : List Passage) → Leads joints from path → passages place joints from (map (λ g. g.left) path) ≡ Ok path
+pub leading-found : (place : FaultyRoute) (l : Plan) (one : OneBeyond l) (from : Port) (path : List Passage) → Leads l from path → passages place l.joints from (map (λ g. g.left) path) ≡ Ok path
 unfolding passages
-leading-found place joints from [] h = refl
-leading-found place joints from (g ∷ path) h =
-    ap (λ o. ok_or o (PathBroken place) >>= λ g'. passages place joints g.left (map (λ g. g.left) path) >>= λ rest. Ok (g' ∷ rest)) (passage-is joints from g h.0 h.1)
-    ∙ ap (λ judged. judged >>= λ rest. Ok (g ∷ rest)) (leading-found place joints g.left path h.2)
+leading-found place l one from [] h = refl
+leading-found place l one from (g ∷ path) h =
+    ap (λ o. ok_or o (PathBroken place) >>= λ g'. passages place l.joints g.left (map (λ g. g.left) path) >>= λ rest. Ok (g' ∷ rest)) (passage-is l.joints from g (one from g.entered h.0) h.1)
+    ∙ ap (λ judged. judged >>= λ rest. Ok (g ∷ rest)) (leading-found place l one g.left path h.2)
 
 -- a fault of the computed path is that it is broken
 passages-broken : (place : FaultyRoute) (joints : List Joint) (from : Port) (ports : List Port) (f : TableFault) → passages place joints from ports ≡ Err f → PathBroken place ≡ f
@@ -125,31 +123,31 @@ unfolding path_of
 path-follows place l r path e =
     let some = not_stopped (length r.path == 0) (PathBroken place) (ok_or (port_of l.signals r.entry) (PathBroken place) >>= λ start. passages place l.joints start r.path) path e in
     let a = ok-from (ok_or (port_of l.signals r.entry) (PathBroken place)) (λ start. passages place l.joints start r.path) path some.1 in
-    let lead = passages-lead place l.joints a.0 r.path path a.2 in
+    let lead = passages-lead place l a.0 r.path path a.2 in
     record { ports = lead.1; some = not_empty r.path path some.0 lead.1; begins = (a.0, ok-some (port_of l.signals r.entry) (PathBroken place) a.0 a.1, lead.0) }
 
-pub following-found : (place : FaultyRoute) (l : Plan) (r : RouteEntry) (path : List Passage) → Follows l r path → path_of place l r ≡ Ok path
+pub following-found : (place : FaultyRoute) (l : Plan) (one : OneBeyond l) (r : RouteEntry) (path : List Passage) → Follows l r path → path_of place l r ≡ Ok path
 unfolding path_of
-following-found place l r path h =
+following-found place l one r path h =
     let b = h.begins in
     ap (λ none. if none then Err (PathBroken place) else (ok_or (port_of l.signals r.entry) (PathBroken place) >>= λ start. passages place l.joints start r.path)) (some-ports r.path path h.ports h.some)
     ∙ ap (λ o. ok_or o (PathBroken place) >>= λ start. passages place l.joints start r.path) b.1
     ∙ ap (λ ports. passages place l.joints b.0 ports) h.ports
-    ∙ leading-found place l.joints b.0 path b.2
+    ∙ leading-found place l one b.0 path b.2
 
-pub path-broken : (place : FaultyRoute) (l : Plan) (r : RouteEntry) (f : TableFault) → path_of place l r ≡ Err f → (PathBroken place ≡ f) × ((path : List Passage) → Follows l r path → ⊥)
+pub path-broken : (place : FaultyRoute) (l : Plan) (one : OneBeyond l) (r : RouteEntry) (f : TableFault) → path_of place l r ≡ Err f → (PathBroken place ≡ f) × ((path : List Passage) → Follows l r path → ⊥)
 unfolding path_of
-path-broken place l r f e =
+path-broken place l one r f e =
     let rest = ok_or (port_of l.signals r.entry) (PathBroken place) >>= λ start. passages place l.joints start r.path in
     let which : PathBroken place ≡ f =
     ⊎_elim (λ h. h.1) (λ h. ⊎_elim (λ no_signal. (err-none (port_of l.signals r.entry) (PathBroken place) f no_signal).1) (λ later. passages-broken place l.joints later.0 r.path f later.2)
     (err-from (ok_or (port_of l.signals r.entry) (PathBroken place)) (λ start. passages place l.joints start r.path) f h.1))
     (stopped_or_not (length r.path == 0) (PathBroken place) f rest e) in
-    (which, λ path h. err-ok f path (sym e ∙ following-found place l r path h))
+    (which, λ path h. err-ok f path (sym e ∙ following-found place l one r path h))
 
 -- a route has one path at most
-pub one-path : (l : Plan) (r : RouteEntry) (place : FaultyRoute) (path other : List Passage) → Follows l r path → Follows l r other → path ≡ other
-one-path l r place path other h k = ok-injective path other (sym (following-found place l r path h) ∙ following-found place l r other k)
+pub one-path : (l : Plan) (one : OneBeyond l) (r : RouteEntry) (place : FaultyRoute) (path other : List Passage) → Follows l r path → Follows l r other → path ≡ other
+one-path l one r place path other h k = ok-injective path other (sym (following-found place l one r path h) ∙ following-found place l one r other k)
 
 -- ---- what comes once
 
@@ -177,20 +175,21 @@ stands-decides signals s p =
     let P : Port → Type 0 = λ at. at ≡ p in
     Decides-like (stands_at signals s p) (λ h. h.1 ∙ ap Some h.2) (λ e. (p, e, refl)) (some_and-decides (λ at. is_port at p) P (λ at. port-decides at p) (port_of signals s))
 
-exit_at-decides : (l : Plan) (x : Exit) (p : Port) → Decides (is_exit l x p) (ExitAt l x p)
-exit_at-decides l (exit.Signal s) p = stands-decides l.signals s p
-exit_at-decides l (exit.Border b) p =
+exit_at-decides : (l : Plan) (one : OneBeyond l) (x : Exit) (p : Port) → Decides (is_exit l x p) (ExitAt l x p)
+exit_at-decides l one (exit.Signal s) p = stands-decides l.signals s p
+exit_at-decides l one (exit.Border b) p =
     let P : Port → Type 0 = λ beyond. beyond.element ≡ of.Border b in
-    some_and-decides (λ beyond. is_element beyond.element (of.Border b)) P (λ beyond. element-decides beyond.element (of.Border b)) (joined_to l.joints p)
+    Decides-like (is_exit l (exit.Border b) p) (λ h. (h.0, joined-found l p h.0 h.1, h.2)) (λ h. (h.0, one p h.0 h.1, h.2))
+    (some_and-decides (λ beyond. is_element beyond.element (of.Border b)) P (λ beyond. element-decides beyond.element (of.Border b)) (joined_to l.joints p))
 
-pub ends-decides : (l : Plan) (x : Exit) (path : List Passage) → Decides (ends_at_exit l x path) (EndsAt l x path)
+pub ends-decides : (l : Plan) (one : OneBeyond l) (x : Exit) (path : List Passage) → Decides (ends_at_exit l x path) (EndsAt l x path)
 unfolding ends_at_exit
-ends-decides l x [] = never (λ h. h)
-ends-decides l x (g ∷ []) = exit_at-decides l x g.left
-ends-decides l x (g ∷ h ∷ path) =
+ends-decides l one x [] = never (λ h. h)
+ends-decides l one x (g ∷ []) = exit_at-decides l one x g.left
+ends-decides l one x (g ∷ h ∷ path) =
     let n : length (g ∷ h ∷ path) - 1 ≡ suc (length (h ∷ path) - 1) = omega arith in
     let same : ends_at_exit l x (g ∷ h ∷ path) ≡ ends_at_exit l x (h ∷ path) = ap (λ i. some_and (λ g. is_exit l x g.left) (slice_get (g ∷ h ∷ path) i)) n in
-    Decides-at (ends_at_exit l x (g ∷ h ∷ path)) (ends_at_exit l x (h ∷ path)) same (ends-decides l x (h ∷ path))
+    Decides-at (ends_at_exit l x (g ∷ h ∷ path)) (ends_at_exit l x (h ∷ path)) same (ends-decides l one x (h ∷ path))
 
 -- ---- signals between
 
@@ -240,9 +239,9 @@ no_other-decides n (s ∷ signals) x p =
     let id : SignalId = record { 0 = n } in
     first_or (is_other_at s id x p) (no_other_at (suc n) signals x p) n s signals x p (other_at-decides s id x p) (no_other-decides (suc n) signals x p)
 
-pub signals-decide : (l : Plan) (r : RouteEntry) (path : List Passage) → Decides (signals_placed l r path) (SignalsPlaced l r path)
+pub signals-decide : (l : Plan) (one : OneBeyond l) (r : RouteEntry) (path : List Passage) → Decides (signals_placed l r path) (SignalsPlaced l r path)
 unfolding signals_placed
-signals-decide l r path =
+signals-decide l one r path =
     let x = r.exit in
     let P : Passage → Type 0 = λ g. NoOther 0 l.signals x g.left in
     let every : Type 0 = (g : Passage) → Contains path g → P g in
@@ -251,5 +250,5 @@ signals-decide l r path =
     let down : between → every = λ h g c k at. let id : SignalId = record { 0 = k } in let m : k ≡ 0 + k = omega arith in h g id c at ∙ ap (λ i. exit.Signal (record { 0 = i })) m in
     let b : Decides (none_between l.signals x path) between = Decides-like (none_between l.signals x path) up down (all-decides (λ g. no_other_at 0 l.signals x g.left) P (λ g. no_other-decides 0 l.signals x g.left) path) in
     let e : Decides (not (same_exit x (exit.Signal r.entry))) (x ≡ exit.Signal r.entry → ⊥) = Decides-not (same_exit x (exit.Signal r.entry)) (exit-decides x (exit.Signal r.entry)) in
-    let ends = Decides-and (ends_at_exit l x path) (not (same_exit x (exit.Signal r.entry))) (ends-decides l x path) e in
+    let ends = Decides-and (ends_at_exit l x path) (not (same_exit x (exit.Signal r.entry))) (ends-decides l one x path) e in
     Decides-like (signals_placed l r path) (λ h. record { ends = h.0.0; elsewhere = h.0.1; between = h.1 }) (λ h. ((h.ends, h.elsewhere), h.between)) (Decides-and (ends_at_exit l x path && not (same_exit x (exit.Signal r.entry))) (none_between l.signals x path) ends b)

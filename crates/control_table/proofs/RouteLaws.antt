@@ -4,12 +4,13 @@ use Rattle.sci_telegram.specs.declared.message.Side.TheVariants as side
 use Rattle.layout.specs.declared.ids.PointId.{PointId}
 use Rattle.layout.specs.declared.ids.RouteId.{RouteId}
 use Rattle.layout.specs.Entries.{RouteEntry, Plan}
+use Rattle.layout.specs.Once.{Once}
 use Rattle.control_table.specs.declared.fault.FaultyRoute.{FaultyRoute}
-use Rattle.control_table.specs.declared.passage.Passage.{Passage}
-use Rattle.control_table.specs.Path.{Follows}
+use Rattle.control_table.specs.Path.{Passage, Follows}
 use Rattle.control_table.specs.Sides.{Requires}
 use Rattle.control_table.specs.Table.{Conflict, Lists, RequireDifferently, RouteRequires, SameEntry, ShareSection, Sound}
 use Rattle.control_table.proofs.Members.{some-injective}
+use Rattle.control_table.proofs.Joints.{one-beyond}
 use Rattle.control_table.proofs.PathLaws.{one-path}
 
 abbrev Reasons : Plan → RouteId → RouteId → Type 0
@@ -29,13 +30,14 @@ pub entry-conflicts : (l : Plan) (a b : RouteId) → a ≢ b → SameEntry l a b
 entry-conflicts l a b other same = (other, inl same)
 
 -- what one path of a route requires, the other does, since they are one
-pub one-side : (l : Plan) (a : RouteId) (p : PointId) → Sound l → RouteRequires l a p side.Left → RouteRequires l a p side.Right → ⊥
-one-side l a p sound left right =
+pub one-side : (l : Plan) (a : RouteId) (p : PointId) → Once l → Sound l → RouteRequires l a p side.Left → RouteRequires l a p side.Right → ⊥
+one-side l a p once sound left right =
+    let one = one-beyond l once in
     let same : left.0 ≡ right.0 = some-injective left.0 right.0 (sym left.2 ∙ right.2) in
     let route = sound a left.0 left.2 in
     let place : FaultyRoute = record { id = a; name = left.0.name } in
-    let of_left = one-path l left.0 place left.1 route.path left.3.follows route.is_path.follows in
-    let of_right = one-path l left.0 place right.1 route.path (subst (λ (r : RouteEntry). Follows l r right.1) (sym same) right.3.follows) route.is_path.follows in
+    let of_left = one-path l one left.0 place left.1 route.path left.3.follows route.is_path.follows in
+    let of_right = one-path l one left.0 place right.1 route.path (subst (λ (r : RouteEntry). Follows l r right.1) (sym same) right.3.follows) route.is_path.follows in
     route.consistent p
     (subst (λ (path : List Passage). Requires l path p side.Left) of_left left.4)
     (subst (λ (path : List Passage). Requires l path p side.Right) of_right right.4)

@@ -1,16 +1,14 @@
 -- The tests of equality decide equality.
-use Rattle.std.proofs.Common.{◌≡◌, ◌≢◌, Bool, true, false, not, ◌&&◌, ◌==◌, ℕ, zero, suc, List, Option, Some, None, refl, sym, ap, ◌∙◌, arith}
+use Rattle.std.proofs.Common.{◌≡◌, Bool, true, false, ◌&&◌, ◌==◌, ℕ, zero, suc, refl, sym, ap, ◌∙◌, arith}
 use Rattle.std.proofs.lemmas.Bool.{false≢true}
 use Rattle.std.proofs.lemmas.Bool.Decides.{Decides-and, Decides-like, Decides-eqb}
 use Rattle.std.specs.Bool.{Decides}
 use Rattle.sci_telegram.specs.declared.message.Side.{Side}
 use Rattle.sci_telegram.specs.declared.message.Side.TheVariants as side
 use Rattle.layout.specs.declared.ids.SectionId.{SectionId}
-use Rattle.layout.specs.declared.ids.TrackId.{TrackId}
 use Rattle.layout.specs.declared.ids.PointId.{PointId}
 use Rattle.layout.specs.declared.ids.SignalId.{SignalId}
 use Rattle.layout.specs.declared.ids.RouteId.{RouteId}
-use Rattle.layout.specs.declared.ids.BorderId.{BorderId}
 use Rattle.layout.specs.declared.port.Port.{Port}
 use Rattle.layout.specs.declared.port.Element.{Element}
 use Rattle.layout.specs.declared.port.Element.TheVariants as element
@@ -19,9 +17,8 @@ use Rattle.layout.specs.declared.port.End.TheVariants as end
 use Rattle.layout.specs.declared.entries.Exit.{Exit}
 use Rattle.layout.specs.declared.entries.Exit.TheVariants as exit
 use Rattle.layout.specs.Known.{end_number}
-use Rattle.control_table.specs.Topology.{is_port, is_element, is_end}
 use Rattle.control_table.specs.Sides.{other}
-use Rattle.control_table.specs.Judging.{same_section, same_side, same_need, same_exit}
+use Rattle.control_table.specs.Judging.{is_port, is_element, is_end, same_section, same_side, same_need, same_exit}
 
 -- what never holds is decided by false
 pub never : {P : Type 0} → (P → ⊥) → Decides false P

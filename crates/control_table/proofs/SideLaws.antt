@@ -1,11 +1,11 @@
 -- The computed requirements of a path are those of the definition, and the tests decide what they are named after.
-use Rattle.std.proofs.Common.{◌≡◌, ◌≢◌, ◌⊎◌, Bool, true, false, not, ◌&&◌, ◌||◌, ◌==◌, ℕ, zero, suc, ◌+◌, ◌<◌, List, [], ◌∷◌, length, map, Option, Some, None, cond, refl, sym, ap, subst, ◌∙◌, inl, inr, ⊎_elim, arith}
+use Rattle.std.proofs.Common.{◌≡◌, ◌⊎◌, Bool, true, false, not, ◌&&◌, ◌||◌, ◌==◌, List, [], Option, Some, None, refl, sym, ap, subst, ◌∙◌, inl, inr, ⊎_elim}
 use Rattle.std.proofs.lemmas.Bool.{false≢true}
 use Rattle.std.proofs.lemmas.Bool.Decides.{Decides-and, Decides-or, Decides-not, Decides-like, Decides-at}
 use Rattle.std.specs.Bool.{Decides}
 use Rattle.std.specs.Prelude.{slice_get, if◌then◌else◌}
 use Rattle.std.specs.Option.{option_map}
-use Rattle.std.specs.List.{Contains, list_any, list_all, flat_map}
+use Rattle.std.specs.List.{Contains, list_any, list_all}
 use Rattle.sci_telegram.specs.declared.message.Side.{Side}
 use Rattle.sci_telegram.specs.declared.message.Side.TheVariants as side
 use Rattle.layout.specs.declared.ids.PointId.{PointId}
@@ -17,15 +17,16 @@ use Rattle.layout.specs.declared.port.End.{End}
 use Rattle.layout.specs.declared.port.End.TheVariants as end
 use Rattle.layout.specs.declared.entries.Signal.{Signal}
 use Rattle.layout.specs.Entries.{RouteEntry, Plan}
-use Rattle.control_table.specs.declared.passage.Passage.{Passage}
+use Rattle.control_table.specs.Path.{Passage}
 use Rattle.control_table.specs.declared.sides.Protection.{Protection}
 use Rattle.control_table.specs.declared.sides.Protection.TheVariants as protection
-use Rattle.control_table.specs.Topology.{is_port, is_end, joined_to, Joined, port_of, StandsAt}
-use Rattle.control_table.specs.Sides.{leg_at, leg, other, Uses, OnPath, Guards, Requires, IsGuarded, FlanksGuarded, NoneAtBothSides, PointsNamed, WritesOnlyRequired, FlankNamed, WritesRequired}
-use Rattle.control_table.specs.Judging.{some_and, side_of, leg_used, point_of, used_of, used, leg_at_port, leg_of_another, guarded_by, protection_by, protection_from, protection_behind, protection_of, has_signal, flank_need, needs_at, needs, is_open_leg, is_open_at, flanks_guarded, same_need, has_need, consistent, names_point, is_over, on_path, is_named, points_written, points_right, flank_right, flank_written}
+use Rattle.control_table.specs.Topology.{Joined, StandsAt}
+use Rattle.control_table.specs.Sides.{leg_at, leg, other, Uses, OnPath, Guards, Requires, IsGuarded, FlanksGuarded, NoneAtBothSides, PointsNamed, WritesOnlyRequired, FlankNamed}
+use Rattle.control_table.specs.Judging.{is_port, is_end, joined_to, side_of, leg_used, point_of, used_of, used, leg_at_port, leg_of_another, guarded_by, protection_by, protection_from, protection_behind, protection_of, has_signal, flank_need, needs_at, needs, is_open_leg, is_open_at, flanks_guarded, same_need, has_need, consistent, names_point, is_over, on_path, is_named, points_written, points_right, flank_right, flank_written}
+use Rattle.control_table.proofs.Joints.{OneBeyond, joined-found}
 use Rattle.control_table.proofs.Judged.{none-some, false-from}
 use Rattle.control_table.proofs.Members.{contains-none, contains-here, contains-there, contains-cases, any-decides, all-decides, has-decides, flat_map-from, flat_map-to, get-contains, contains-get, some-injective}
-use Rattle.control_table.proofs.Same.{never, end-decides, port-decides, point-decides, need-decides, other-other}
+use Rattle.control_table.proofs.Same.{end-decides, port-decides, point-decides, need-decides, other-other}
 use Rattle.control_table.proofs.PathLaws.{some_and-decides}
 
 -- ---- the leg that a passage uses
@@ -169,17 +170,17 @@ from-from l p s from n joined c =
 
 behind-from : (l : Plan) (p : PointId) (s : Side) (o : Option Port) (n : PointId × Side) → joined_to l.joints (leg p (other s)) ≡ o → Contains (flank_need (protection_behind l p o)) n → Guards l n.0 n.1 p s
 behind-from l p s None n joined c = absurd (contains-none n c)
-behind-from l p s (Some from) n joined c = from-from l p s from n joined c
+behind-from l p s (Some from) n joined c = from-from l p s from n (joined-found l (leg p (other s)) from joined) c
 
 pub flank-from : (l : Plan) (p : PointId) (s : Side) (n : PointId × Side) → Contains (flank_need (protection_of l p s)) n → Guards l n.0 n.1 p s
 unfolding protection_of
 flank-from l p s n c = behind-from l p s (joined_to l.joints (leg p (other s))) n refl c
 
-pub flank-to : (l : Plan) (p : PointId) (s : Side) (q : PointId) (t : Side) → Guards l q t p s → Contains (flank_need (protection_of l p s)) (q, t)
+pub flank-to : (l : Plan) (one : OneBeyond l) (p : PointId) (s : Side) (q : PointId) (t : Side) → Guards l q t p s → Contains (flank_need (protection_of l p s)) (q, t)
 unfolding protection_of protection_from
-flank-to l p s q t h =
+flank-to l one p s q t h =
     let is : protection_of l p s ≡ protection.By q t =
-    ap (protection_behind l p) h.1 ∙ ap (protection_by (has_signal l.signals (leg q (other t)))) (leg_of_another-is p q (other t) h.0) ∙ ap (protection.By q) (other-other t) in
+    ap (protection_behind l p) (one (leg p (other s)) (leg q (other t)) h.1) ∙ ap (protection_by (has_signal l.signals (leg q (other t)))) (leg_of_another-is p q (other t) h.0) ∙ ap (protection.By q) (other-other t) in
     let C : Protection → Type 0 = λ x. Contains (flank_need x) (q, t) in
     subst C (sym is) (contains-here (q, t) [])
 
@@ -198,35 +199,35 @@ needs-from l path n c =
     let a = flat_map-from (λ g. needs_at l (used g)) path n c in
     (a.0, a.1, at-from l a.0 (used a.0) n refl a.2)
 
-pub needs-to : (l : Plan) (path : List Passage) (q : PointId) (t : Side) → Requires l path q t → Contains (needs l path) (q, t)
+pub needs-to : (l : Plan) (one : OneBeyond l) (path : List Passage) (q : PointId) (t : Side) → Requires l path q t → Contains (needs l path) (q, t)
 unfolding needs
-needs-to l path q t h =
+needs-to l one path q t h =
     let g = h.0 in
     let C : Option (PointId × Side) → Type 0 = λ o. Contains (needs_at l o) (q, t) in
     let own : Uses g q t → Contains (needs_at l (used g)) (q, t) = λ u. subst C (sym (uses-used g q t u)) (contains-here (q, t) (flank_need (protection_of l q t))) in
     let flank : ((p : PointId) × (s : Side) × Uses g p s × Guards l q t p s) → Contains (needs_at l (used g)) (q, t) = λ u.
-    subst C (sym (uses-used g u.0 u.1 u.2)) (contains-there (u.0, u.1) (q, t) (flank_need (protection_of l u.0 u.1)) (flank-to l u.0 u.1 q t u.3)) in
+    subst C (sym (uses-used g u.0 u.1 u.2)) (contains-there (u.0, u.1) (q, t) (flank_need (protection_of l u.0 u.1)) (flank-to l one u.0 u.1 q t u.3)) in
     flat_map-to (λ g. needs_at l (used g)) path g (q, t) h.1 (⊎_elim own flank h.2)
 
 pub has_need-decides : (ns : List (PointId × Side)) (n : PointId × Side) → Decides (has_need ns n) (Contains ns n)
 has_need-decides ns n = has-decides same_need need-decides ns n
 
-pub requires-decides : (l : Plan) (path : List Passage) (n : PointId × Side) → Decides (has_need (needs l path) n) (Requires l path n.0 n.1)
-requires-decides l path n = Decides-like (has_need (needs l path) n) (needs-from l path n) (needs-to l path n.0 n.1) (has_need-decides (needs l path) n)
+pub requires-decides : (l : Plan) (one : OneBeyond l) (path : List Passage) (n : PointId × Side) → Decides (has_need (needs l path) n) (Requires l path n.0 n.1)
+requires-decides l one path n = Decides-like (has_need (needs l path) n) (needs-from l path n) (needs-to l one path n.0 n.1) (has_need-decides (needs l path) n)
 
 at_both : (l : Plan) (path : List Passage) → NoneAtBothSides l path → (p : PointId) (s : Side) → Requires l path p s → Requires l path p (other s) → ⊥
 at_both l path h p side.Left a b = h p a b
 at_both l path h p side.Right a b = h p b a
 
-pub consistent-decides : (l : Plan) (path : List Passage) → Decides (consistent (needs l path)) (NoneAtBothSides l path)
+pub consistent-decides : (l : Plan) (one : OneBeyond l) (path : List Passage) → Decides (consistent (needs l path)) (NoneAtBothSides l path)
 unfolding consistent
-consistent-decides l path =
+consistent-decides l one path =
     let P : PointId × Side → Type 0 = λ n. Requires l path n.0 (other n.1) → ⊥ in
     let every : Type 0 = (n : PointId × Side) → Contains (needs l path) n → P n in
-    let up : every → NoneAtBothSides l path = λ h p a b. h (p, side.Left) (needs-to l path p side.Left a) b in
+    let up : every → NoneAtBothSides l path = λ h p a b. h (p, side.Left) (needs-to l one path p side.Left a) b in
     let down : NoneAtBothSides l path → every = λ h n c b. at_both l path h n.0 n.1 (needs-from l path n c) b in
     Decides-like (list_all (λ n. not (has_need (needs l path) (n.0, other n.1))) (needs l path)) up down
-    (all-decides (λ n. not (has_need (needs l path) (n.0, other n.1))) P (λ n. Decides-not (has_need (needs l path) (n.0, other n.1)) (requires-decides l path (n.0, other n.1))) (needs l path))
+    (all-decides (λ n. not (has_need (needs l path) (n.0, other n.1))) P (λ n. Decides-not (has_need (needs l path) (n.0, other n.1)) (requires-decides l one path (n.0, other n.1))) (needs l path))
 
 -- ---- flanks
 
@@ -242,61 +243,61 @@ has_signal-decides l p =
     (a.0, get-contains l.signals h.0.0 a.0 a.1, a.2) in
     Decides-like (has_signal l.signals p) up down (any-decides (λ s. is_port s.at p) P (λ s. port-decides s.at p) l.signals)
 
-guarded-none : (l : Plan) (p : PointId) (s : Side) (from : Port) → Joined l (leg p (other s)) from → leg_of_another p from ≡ None → Decides (has_signal l.signals from) (IsGuarded l p s)
-guarded-none l p s from joined no_leg =
+guarded-none : (l : Plan) (one : OneBeyond l) (p : PointId) (s : Side) (from : Port) → joined_to l.joints (leg p (other s)) ≡ Some from → leg_of_another p from ≡ None → Decides (has_signal l.signals from) (IsGuarded l p s)
+guarded-none l one p s from joined no_leg =
     let signal : Type 0 = (i : SignalId) × StandsAt l i from in
     let up : signal → IsGuarded l p s = λ h at j.
-    let same : from ≡ at = some-injective from at (sym joined ∙ j) in
+    let same : from ≡ at = some-injective from at (sym joined ∙ one (leg p (other s)) at j) in
     let S : Port → Type 0 = λ port. (i : SignalId) × StandsAt l i port in
     inr (subst S same h) in
     let down : IsGuarded l p s → signal = λ h.
-    ⊎_elim (λ another. absurd (none-some (another.0, another.1) (sym no_leg ∙ ap (leg_of_another p) another.3 ∙ leg_of_another-is p another.0 another.1 another.2))) (λ is. is) (h from joined) in
+    ⊎_elim (λ another. absurd (none-some (another.0, another.1) (sym no_leg ∙ ap (leg_of_another p) another.3 ∙ leg_of_another-is p another.0 another.1 another.2))) (λ is. is) (h from (joined-found l (leg p (other s)) from joined)) in
     Decides-like (has_signal l.signals from) up down (has_signal-decides l from)
 
 closed : (b : Bool) → not (is_open_leg (guarded_by b)) ≡ b
 closed true = refl
 closed false = refl
 
-guarded-by : (l : Plan) (p : PointId) (s : Side) (from : Port) (o : Option (PointId × Side)) → Joined l (leg p (other s)) from → leg_of_another p from ≡ o → Decides (not (is_open_leg (protection_by (has_signal l.signals from) o))) (IsGuarded l p s)
-guarded-by l p s from None joined no_leg = Decides-at (not (is_open_leg (guarded_by (has_signal l.signals from)))) (has_signal l.signals from) (closed (has_signal l.signals from)) (guarded-none l p s from joined no_leg)
-guarded-by l p s from (Some n) joined is_leg =
+guarded-by : (l : Plan) (one : OneBeyond l) (p : PointId) (s : Side) (from : Port) (o : Option (PointId × Side)) → joined_to l.joints (leg p (other s)) ≡ Some from → leg_of_another p from ≡ o → Decides (not (is_open_leg (protection_by (has_signal l.signals from) o))) (IsGuarded l p s)
+guarded-by l one p s from None joined no_leg = Decides-at (not (is_open_leg (guarded_by (has_signal l.signals from)))) (has_signal l.signals from) (closed (has_signal l.signals from)) (guarded-none l one p s from joined no_leg)
+guarded-by l one p s from (Some n) joined is_leg =
     let a = leg_of_another-some p from n is_leg in
-    (λ h at j. inl (n.0, n.1, a.0, some-injective at from (sym j ∙ joined) ∙ a.1), λ h. refl)
+    (λ h at j. inl (n.0, n.1, a.0, some-injective at from (sym (one (leg p (other s)) at j) ∙ joined) ∙ a.1), λ h. refl)
 
-guarded-behind : (l : Plan) (p : PointId) (s : Side) (o : Option Port) → joined_to l.joints (leg p (other s)) ≡ o → Decides (not (is_open_leg (protection_behind l p o))) (IsGuarded l p s)
+guarded-behind : (l : Plan) (one : OneBeyond l) (p : PointId) (s : Side) (o : Option Port) → joined_to l.joints (leg p (other s)) ≡ o → Decides (not (is_open_leg (protection_behind l p o))) (IsGuarded l p s)
 unfolding protection_from
-guarded-behind l p s None joined = (λ h from j. absurd (none-some from (sym joined ∙ j)), λ h. refl)
-guarded-behind l p s (Some from) joined = guarded-by l p s from (leg_of_another p from) joined refl
+guarded-behind l one p s None joined = (λ h from j. absurd (none-some from (sym joined ∙ one (leg p (other s)) from j)), λ h. refl)
+guarded-behind l one p s (Some from) joined = guarded-by l one p s from (leg_of_another p from) joined refl
 
-pub guarded-decides : (l : Plan) (p : PointId) (s : Side) → Decides (not (is_open_leg (protection_of l p s))) (IsGuarded l p s)
+pub guarded-decides : (l : Plan) (one : OneBeyond l) (p : PointId) (s : Side) → Decides (not (is_open_leg (protection_of l p s))) (IsGuarded l p s)
 unfolding protection_of
-guarded-decides l p s = guarded-behind l p s (joined_to l.joints (leg p (other s))) refl
+guarded-decides l one p s = guarded-behind l one p s (joined_to l.joints (leg p (other s))) refl
 
-open-decides : (l : Plan) (o : Option (PointId × Side)) → Decides (not (is_open_at l o)) ((n : PointId × Side) → o ≡ Some n → IsGuarded l n.0 n.1)
-open-decides l None = (λ h n e. absurd (none-some n e), λ h. refl)
-open-decides l (Some m) =
+open-decides : (l : Plan) (one : OneBeyond l) (o : Option (PointId × Side)) → Decides (not (is_open_at l o)) ((n : PointId × Side) → o ≡ Some n → IsGuarded l n.0 n.1)
+open-decides l one None = (λ h n e. absurd (none-some n e), λ h. refl)
+open-decides l one (Some m) =
     let G : PointId × Side → Type 0 = λ n. IsGuarded l n.0 n.1 in
-    Decides-like (not (is_open_leg (protection_of l m.0 m.1))) (λ h n e. subst G (some-injective m n e) h) (λ h. h m refl) (guarded-decides l m.0 m.1)
+    Decides-like (not (is_open_leg (protection_of l m.0 m.1))) (λ h n e. subst G (some-injective m n e) h) (λ h. h m refl) (guarded-decides l one m.0 m.1)
 
-pub flanks-decide : (l : Plan) (path : List Passage) → Decides (flanks_guarded l path) (FlanksGuarded l path)
+pub flanks-decide : (l : Plan) (one : OneBeyond l) (path : List Passage) → Decides (flanks_guarded l path) (FlanksGuarded l path)
 unfolding flanks_guarded
-flanks-decide l path =
+flanks-decide l one path =
     let P : Passage → Type 0 = λ g. (n : PointId × Side) → used g ≡ Some n → IsGuarded l n.0 n.1 in
     let every : Type 0 = (g : Passage) → Contains path g → P g in
     let up : every → FlanksGuarded l path = λ h g p s c u. h g c (p, s) (uses-used g p s u) in
     let down : FlanksGuarded l path → every = λ h g c n e. h g n.0 n.1 c (used-uses g n e) in
-    Decides-like (list_all (λ g. not (is_open_at l (used g))) path) up down (all-decides (λ g. not (is_open_at l (used g))) P (λ g. open-decides l (used g)) path)
+    Decides-like (list_all (λ g. not (is_open_at l (used g))) path) up down (all-decides (λ g. not (is_open_at l (used g))) P (λ g. open-decides l one (used g)) path)
 
 -- ---- what is written
 
-pub right-decides : (l : Plan) (r : RouteEntry) (path : List Passage) → Decides (points_right r path (needs l path) && flank_right r path (needs l path)) (WritesOnlyRequired l r path)
+pub right-decides : (l : Plan) (one : OneBeyond l) (r : RouteEntry) (path : List Passage) → Decides (points_right r path (needs l path) && flank_right r path (needs l path)) (WritesOnlyRequired l r path)
 unfolding points_right flank_right
-right-decides l r path =
+right-decides l one r path =
     let ns = needs l path in
     let P : PointId × Side → Type 0 = λ n. Requires l path n.0 n.1 × OnPath path n.0 in
     let F : PointId × Side → Type 0 = λ n. Requires l path n.0 n.1 × (OnPath path n.0 → ⊥) in
-    let points = all-decides (λ n. has_need ns n && on_path path n.0) P (λ n. Decides-and (has_need ns n) (on_path path n.0) (requires-decides l path n) (on_path-decides path n.0)) r.points in
-    let flank = all-decides (λ n. has_need ns n && not (on_path path n.0)) F (λ n. Decides-and (has_need ns n) (not (on_path path n.0)) (requires-decides l path n) (Decides-not (on_path path n.0) (on_path-decides path n.0))) r.flank in
+    let points = all-decides (λ n. has_need ns n && on_path path n.0) P (λ n. Decides-and (has_need ns n) (on_path path n.0) (requires-decides l one path n) (on_path-decides path n.0)) r.points in
+    let flank = all-decides (λ n. has_need ns n && not (on_path path n.0)) F (λ n. Decides-and (has_need ns n) (not (on_path path n.0)) (requires-decides l one path n) (Decides-not (on_path path n.0) (on_path-decides path n.0))) r.flank in
     let p_test = list_all (λ n. has_need ns n && on_path path n.0) r.points in
     let f_test = list_all (λ n. has_need ns n && not (on_path path n.0)) r.flank in
     Decides-like (p_test && f_test) (λ h. record { points = λ p s c. h.0 (p, s) c; flank = λ p s c. h.1 (p, s) c }) (λ h. (λ n c. h.points n.0 n.1 c, λ n c. h.flank n.0 n.1 c)) (Decides-and p_test f_test points flank)
@@ -306,13 +307,13 @@ either : {A B : Type 0} (b : Bool) → Decides b A → ((A → ⊥) → B) → A
 either true d h = inl (d.0 refl)
 either false d h = inr (h (λ a. false≢true (d.1 a)))
 
-pub flank_written-decides : (l : Plan) (r : RouteEntry) (path : List Passage) → Decides (flank_written r path (needs l path)) (FlankNamed l r path)
+pub flank_written-decides : (l : Plan) (one : OneBeyond l) (r : RouteEntry) (path : List Passage) → Decides (flank_written r path (needs l path)) (FlankNamed l r path)
 unfolding flank_written
-flank_written-decides l r path =
+flank_written-decides l one r path =
     let ns = needs l path in
     let P : PointId × Side → Type 0 = λ n. OnPath path n.0 ⊎ ((t : Side) × Contains r.flank (n.0, t)) in
     let every : Type 0 = (n : PointId × Side) → Contains ns n → P n in
-    let up : every → FlankNamed l r path = λ h p s needed off. ⊎_elim (λ on. absurd (off on)) (λ named. named) (h (p, s) (needs-to l path p s needed)) in
+    let up : every → FlankNamed l r path = λ h p s needed off. ⊎_elim (λ on. absurd (off on)) (λ named. named) (h (p, s) (needs-to l one path p s needed)) in
     let down : FlankNamed l r path → every = λ h n c. either (on_path path n.0) (on_path-decides path n.0) (λ off. h n.0 n.1 (needs-from l path n c) off) in
     Decides-like (list_all (λ n. on_path path n.0 || names_point r.flank n.0) ns) up down
     (all-decides (λ n. on_path path n.0 || names_point r.flank n.0) P (λ n. Decides-or (on_path path n.0) (names_point r.flank n.0) (on_path-decides path n.0) (names-decides r.flank n.0)) ns)

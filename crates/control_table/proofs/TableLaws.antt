@@ -1,10 +1,10 @@
 -- The table that is computed is sound, and each fault is the first.
-use Rattle.std.proofs.Common.{◌≡◌, ◌⊎◌, Bool, true, false, not, ◌&&◌, ◌==◌, ℕ, zero, suc, ◌+◌, ◌<◌, List, [], ◌∷◌, length, Option, Some, None, Result, Ok, Err, refl, sym, ap, subst, ◌∙◌, inl, inr, ⊎_elim, arith}
+use Rattle.std.proofs.Common.{◌≡◌, Bool, true, false, not, ◌&&◌, ◌==◌, ℕ, zero, suc, ◌+◌, ◌<◌, List, [], ◌∷◌, length, Some, Result, Ok, Err, refl, sym, ap, subst, ◌∙◌, inl, ⊎_elim, arith}
 use Rattle.std.proofs.lemmas.Bool.{false≢true}
 use Rattle.std.proofs.lemmas.Bool.Decides.{Decides-and, Decides-not, Decides-like}
 use Rattle.std.specs.Bool.{Decides}
-use Rattle.std.specs.Prelude.{slice_get, if◌then◌else◌, ◌↔◌}
-use Rattle.std.specs.List.{Contains, list_any, list_all}
+use Rattle.std.specs.Prelude.{slice_get, if◌then◌else◌}
+use Rattle.std.specs.List.{Contains, list_all}
 use Rattle.sci_telegram.specs.declared.message.Side.{Side}
 use Rattle.layout.specs.declared.ids.SectionId.{SectionId}
 use Rattle.layout.specs.declared.ids.PointId.{PointId}
@@ -13,15 +13,15 @@ use Rattle.layout.specs.Entries.{RouteEntry, Plan}
 use Rattle.control_table.specs.declared.fault.FaultyRoute.{FaultyRoute}
 use Rattle.control_table.specs.declared.fault.TableFault.{TableFault}
 use Rattle.control_table.specs.declared.fault.TableFault.TheVariants.{PathBroken, PathRepeats, PointMissing, PointWrong, FlankMissing, FlankOpen, FlankContradicts, SignalPlace, NotSymmetric, OutOfMemory}
-use Rattle.control_table.specs.declared.passage.Passage.{Passage}
-use Rattle.control_table.specs.Topology.{is_element, IsRoute}
-use Rattle.control_table.specs.Path.{Follows, elements, sections, ComesOnce, SignalsPlaced, Path}
-use Rattle.control_table.specs.Sides.{Requires, OnPath, FlanksGuarded, NoneAtBothSides, PointsNamed, WritesOnlyRequired, FlankNamed, WritesRequired}
+use Rattle.control_table.specs.Topology.{IsRoute}
+use Rattle.control_table.specs.Path.{Passage, elements, sections, ComesOnce, SignalsPlaced, Path}
+use Rattle.control_table.specs.Sides.{FlanksGuarded, NoneAtBothSides, PointsNamed, WritesOnlyRequired, FlankNamed, WritesRequired}
 use Rattle.control_table.specs.Table.{Lists, ExtrasListed, SoundRoute, Sound}
-use Rattle.control_table.specs.Faults.{BeforePointMissing, BeforePointWrong, BeforeFlankMissing, BeforeFlankOpen, BeforeFlankContradicts, BeforeSignalPlace, BeforeNotSymmetric, IsFaultOf, ToldAt, IsFirstFault}
-use Rattle.control_table.specs.Judging.{◌>>=◌, Fails, Gives, some_and, path_of, all_different, same_section, sections_of, needs, points_written, points_right, flank_right, flank_written, flanks_guarded, consistent, in_layout_order, required_of, signals_placed, names_route, lists_in, lists, extras_listed, TableRow, row_of, rows_from, rows_of}
+use Rattle.control_table.specs.Faults.{BeforePointMissing, BeforeSignalPlace, IsFaultOf, ToldAt, IsFirstFault}
+use Rattle.control_table.specs.Judging.{is_element, ◌>>=◌, Fails, path_of, all_different, same_section, sections_of, needs, points_written, points_right, flank_right, flank_written, flanks_guarded, consistent, in_layout_order, required_of, signals_placed, names_route, lists, extras_listed, TableRow, row_of, rows_from, rows_of}
+use Rattle.control_table.proofs.Joints.{OneBeyond}
 use Rattle.control_table.proofs.Judged.{none-some, err-ok, ok-injective, err-injective, ok-from, err-from, passed, failed_or_passed}
-use Rattle.control_table.proofs.Members.{any-decides, all-decides, has-decides, some-injective}
+use Rattle.control_table.proofs.Members.{all-decides, has-decides, some-injective}
 use Rattle.control_table.proofs.Same.{route-decides}
 use Rattle.control_table.proofs.PathLaws.{path-follows, path-broken, one-path, once-decides, signals-decide, some_and-decides}
 use Rattle.control_table.proofs.SideLaws.{points_written-decides, right-decides, flank_written-decides, flanks-decide, consistent-decides}
@@ -83,9 +83,9 @@ pub record Protected (l : Plan) (r : RouteEntry) (path : List Passage) : Type 0 
   pub guarded : FlanksGuarded l path
   pub consistent : NoneAtBothSides l path
 
-pub required-found : (place : FaultyRoute) (l : Plan) (r : RouteEntry) (path : List Passage) (ns : List (PointId × Side)) → required_of place l r path ≡ Ok ns → Protected l r path × (in_layout_order (needs l path) ≡ ns)
+pub required-found : (place : FaultyRoute) (l : Plan) (one : OneBeyond l) (r : RouteEntry) (path : List Passage) (ns : List (PointId × Side)) → required_of place l r path ≡ Ok ns → Protected l r path × (in_layout_order (needs l path) ≡ ns)
 unfolding required_of
-required-found place l r path ns e =
+required-found place l one r path ns e =
     let last : Result (List (PointId × Side)) TableFault = Ok (in_layout_order (needs l path)) in
     let e7 : Result (List (PointId × Side)) TableFault = if not (consistent (needs l path)) then Err (FlankContradicts place) else last in
     let e6 : Result (List (PointId × Side)) TableFault = if not (flanks_guarded l path) then Err (FlankOpen place) else e7 in
@@ -98,29 +98,29 @@ required-found place l r path ns e =
     let t7 = passed (consistent (needs l path)) (FlankContradicts place) last ns t6.1 in (
       record {
         points = (points_written-decides r path).0 t3.0;
-        only = (right-decides l r path).0 t4.0;
-        flank = (flank_written-decides l r path).0 t5.0;
-        guarded = (flanks-decide l path).0 t6.0;
-        consistent = (consistent-decides l path).0 t7.0;
+        only = (right-decides l one r path).0 t4.0;
+        flank = (flank_written-decides l one r path).0 t5.0;
+        guarded = (flanks-decide l one path).0 t6.0;
+        consistent = (consistent-decides l one path).0 t7.0;
       },
       ok-injective (in_layout_order (needs l path)) ns t7.1,
     )
 
 -- a fault of the points and flanks of a path that comes once
-pub required-fault : (place : FaultyRoute) (l : Plan) (r : RouteEntry) (path : List Passage) (f : TableFault) (C : TableFault → Type 0) → required_of place l r path ≡ Err f → BeforePointMissing l r path
+pub required-fault : (place : FaultyRoute) (l : Plan) (one : OneBeyond l) (r : RouteEntry) (path : List Passage) (f : TableFault) (C : TableFault → Type 0) → required_of place l r path ≡ Err f → BeforePointMissing l r path
     → ((g : TableFault) → IsFaultOf l place r g → C g) → C f
 unfolding required_of
-required-fault place l r path f C e so_far told =
+required-fault place l one r path f C e so_far told =
     let last : Result (List (PointId × Side)) TableFault = Ok (in_layout_order (needs l path)) in
     let e7 : Result (List (PointId × Side)) TableFault = if not (consistent (needs l path)) then Err (FlankContradicts place) else last in
     let e6 : Result (List (PointId × Side)) TableFault = if not (flanks_guarded l path) then Err (FlankOpen place) else e7 in
     let e5 : Result (List (PointId × Side)) TableFault = if not (flank_written r path (needs l path)) then Err (FlankMissing place) else e6 in
     let e4 : Result (List (PointId × Side)) TableFault = if not (points_right r path (needs l path) && flank_right r path (needs l path)) then Err (PointWrong place) else e5 in
     let d3 = points_written-decides r path in
-    let d4 = right-decides l r path in
-    let d5 = flank_written-decides l r path in
-    let d6 = flanks-decide l path in
-    let d7 = consistent-decides l path in
+    let d4 = right-decides l one r path in
+    let d5 = flank_written-decides l one r path in
+    let d6 = flanks-decide l one path in
+    let d7 = consistent-decides l one path in
     ⊎_elim (λ h. subst C h.1 (told (PointMissing place) (refl, path, so_far, false-not (points_written r path) d3 h.0))) (λ t3.
     ⊎_elim (λ h. subst C h.1 (told (PointWrong place) (refl, path, (so_far, d3.0 t3.0), false-not (points_right r path (needs l path) && flank_right r path (needs l path)) d4 h.0))) (λ t4.
     ⊎_elim (λ h. subst C h.1 (told (FlankMissing place) (refl, path, ((so_far, d3.0 t3.0), d4.0 t4.0), false-not (flank_written r path (needs l path)) d5 h.0))) (λ t5.
@@ -153,43 +153,43 @@ row_with place l r path ss = required_of place l r path >>= λ ns. row_placed pl
 abbrev row_on : FaultyRoute → Plan → RouteEntry → List Passage → Result TableRow TableFault
 row_on place l r path = sections_of place l path >>= λ ss. row_with place l r path ss
 
-pub row-found : (place : FaultyRoute) (l : Plan) (r : RouteEntry) (row : TableRow) → row_of place l r ≡ Ok row → RowFacts l place.id r row
+pub row-found : (place : FaultyRoute) (l : Plan) (one : OneBeyond l) (r : RouteEntry) (row : TableRow) → row_of place l r ≡ Ok row → RowFacts l place.id r row
 unfolding row_of sections_of
-row-found place l r row e =
+row-found place l one r row e =
     let a = ok-from (path_of place l r) (row_on place l r) row e in
     let path = a.0 in
     let b = ok-from (sections_of place l path) (row_with place l r path) row a.2 in
     let once = taken (all_different is_element (elements path) && all_different same_section (sections l path)) (sections l path) b.0 (PathRepeats place) b.1 in
     let c = ok-from (required_of place l r path) (λ ns. row_placed place l r path (record { sections = b.0; required = ns })) row b.2 in
-    let kept = required-found place l r path c.0 c.1 in
+    let kept = required-found place l one r path c.0 c.1 in
     let made : TableRow = record { sections = b.0; required = c.0 } in
     let placed = passed (signals_placed l r path) (SignalPlace place) (row_listed place l r made) row c.2 in
     let listed = passed (extras_listed l.routes place.id r.extra) (NotSymmetric place) (Ok made) row placed.1 in
     let same : made ≡ row = ok-injective made row listed.1 in
     record {
       path = path;
-      is_path = record { follows = path-follows place l r path a.1; once = (once-decides l path).0 once.0; signals = (signals-decide l r path).0 placed.0 };
+      is_path = record { follows = path-follows place l r path a.1; once = (once-decides l path).0 once.0; signals = (signals-decide l one r path).0 placed.0 };
       protected = kept.0;
       listed = (extras-decide l place.id r).0 listed.0;
       sections = ap (λ (x : TableRow). x.sections) (sym same) ∙ sym once.1;
       required = ap (λ (x : TableRow). x.required) (sym same) ∙ sym kept.1;
     }
 
-pub row-fault : (place : FaultyRoute) (l : Plan) (r : RouteEntry) (f : TableFault) (C : TableFault → Type 0) → row_of place l r ≡ Err f → ((g : TableFault) → IsFaultOf l place r g → C g) → C f
+pub row-fault : (place : FaultyRoute) (l : Plan) (one : OneBeyond l) (r : RouteEntry) (f : TableFault) (C : TableFault → Type 0) → row_of place l r ≡ Err f → ((g : TableFault) → IsFaultOf l place r g → C g) → C f
 unfolding row_of sections_of
-row-fault place l r f C e told =
-    ⊎_elim (λ h. let broken = path-broken place l r f h in subst C broken.0 (told (PathBroken place) (refl, broken.1))) (λ a.
+row-fault place l one r f C e told =
+    ⊎_elim (λ h. let broken = path-broken place l one r f h in subst C broken.0 (told (PathBroken place) (refl, broken.1))) (λ a.
     let path = a.0 in
     let follows = path-follows place l r path a.1 in
     let once = all_different is_element (elements path) && all_different same_section (sections l path) in
     ⊎_elim (λ h. let again = refused once (sections l path) (PathRepeats place) f h in subst C again.1 (told (PathRepeats place) (refl, path, follows, false-not once (once-decides l path) again.0))) (λ b.
     let comes = (once-decides l path).0 (taken once (sections l path) b.0 (PathRepeats place) b.1).0 in
-    ⊎_elim (λ h. required-fault place l r path f C h (follows, comes) told) (λ c.
-    let kept = (required-found place l r path c.0 c.1).0 in
+    ⊎_elim (λ h. required-fault place l one r path f C h (follows, comes) told) (λ c.
+    let kept = (required-found place l one r path c.0 c.1).0 in
     let before : BeforeSignalPlace l r path = ((((((follows, comes), kept.points), kept.only), kept.flank), kept.guarded), kept.consistent) in
     let made : TableRow = record { sections = b.0; required = c.0 } in
-    ⊎_elim (λ h. subst C h.1 (told (SignalPlace place) (refl, path, before, false-not (signals_placed l r path) (signals-decide l r path) h.0))) (λ placed.
-    ⊎_elim (λ h. subst C h.1 (told (NotSymmetric place) (refl, path, (before, (signals-decide l r path).0 placed.0), false-not (extras_listed l.routes place.id r.extra) (extras-decide l place.id r) h.0))) (λ listed. absurd (err-ok f made (sym listed.1)))
+    ⊎_elim (λ h. subst C h.1 (told (SignalPlace place) (refl, path, before, false-not (signals_placed l r path) (signals-decide l one r path) h.0))) (λ placed.
+    ⊎_elim (λ h. subst C h.1 (told (NotSymmetric place) (refl, path, (before, (signals-decide l one r path).0 placed.0), false-not (extras_listed l.routes place.id r.extra) (extras-decide l place.id r) h.0))) (λ listed. absurd (err-ok f made (sym listed.1)))
     (failed_or_passed (extras_listed l.routes place.id r.extra) (NotSymmetric place) f (Ok made) placed.1))
     (failed_or_passed (signals_placed l r path) (SignalPlace place) f (row_listed place l r made) c.2))
     (err-from (required_of place l r path) (λ ns. row_placed place l r path (record { sections = b.0; required = ns })) f b.2))
@@ -278,19 +278,19 @@ first-without l n (q ∷ routes) f e =
 
 -- ---- the table
 
-pub table-row : (l : Plan) (rows : List TableRow) → rows_of l ≡ Ok rows → (a : RouteId) (r : RouteEntry) → IsRoute l a r → (row : TableRow) × (slice_get rows a.0 ≡ Some row) × RowFacts l a r row
+pub table-row : (l : Plan) (one : OneBeyond l) (rows : List TableRow) → rows_of l ≡ Ok rows → (a : RouteId) (r : RouteEntry) → IsRoute l a r → (row : TableRow) × (slice_get rows a.0 ≡ Some row) × RowFacts l a r row
 unfolding rows_of
-table-row l rows e a r at =
+table-row l one rows e a r at =
     let h = each-row l 0 l.routes rows e a.0 r at in
     let m : 0 + a.0 ≡ a.0 = omega arith in
     let R : ℕ → Type 0 = λ i. row_of (place_at i r.name) l r ≡ Ok h.0 in
-    (h.0, h.1, row-found (place_at a.0 r.name) l r h.0 (subst R m h.2))
+    (h.0, h.1, row-found (place_at a.0 r.name) l one r h.0 (subst R m h.2))
 
-pub table-sound : (l : Plan) (rows : List TableRow) → rows_of l ≡ Ok rows → Sound l
-table-sound l rows e a r at = let h = table-row l rows e a r at in row-sound l a r h.0 h.2
+pub table-sound : (l : Plan) (one : OneBeyond l) (rows : List TableRow) → rows_of l ≡ Ok rows → Sound l
+table-sound l one rows e a r at = let h = table-row l one rows e a r at in row-sound l a r h.0 h.2
 
-first-told : (l : Plan) (f g : TableFault) (w : FirstWithout l 0 l.routes f) → IsFaultOf l (place_at w.at w.route.name) w.route g → ToldAt l (place_at w.at w.route.name) g
-first-told l f g w h =
+first-told : (l : Plan) (one : OneBeyond l) (f g : TableFault) (w : FirstWithout l 0 l.routes f) → IsFaultOf l (place_at w.at w.route.name) w.route g → ToldAt l (place_at w.at w.route.name) g
+first-told l one f g w h =
     record {
       route = w.route;
       in_table = w.there;
@@ -300,7 +300,7 @@ first-told l f g w h =
           let k = w.before b.0 q lt at in
           let m : 0 + b.0 ≡ b.0 = omega arith in
           let R : ℕ → Type 0 = λ i. row_of (place_at i q.name) l q ≡ Ok k.0 in
-          row-sound l b q k.0 (row-found (place_at b.0 q.name) l q k.0 (subst R m k.1));
+          row-sound l b q k.0 (row-found (place_at b.0 q.name) l one q k.0 (subst R m k.1));
     }
 
 is-first : (l : Plan) (f : TableFault) → ((at : FaultyRoute) × ToldAt l at f) → IsFirstFault l f
@@ -315,51 +315,51 @@ is-first l (SignalPlace told) h = h
 is-first l (NotSymmetric told) h = h
 is-first l OutOfMemory h = tt
 
-pub table-fault : (l : Plan) (f : TableFault) → rows_of l ≡ Err f → IsFirstFault l f
+pub table-fault : (l : Plan) (one : OneBeyond l) (f : TableFault) → rows_of l ≡ Err f → IsFirstFault l f
 unfolding rows_of
-table-fault l f e =
+table-fault l one f e =
     let w = first-without l 0 l.routes f e in
     let m : 0 + w.at ≡ w.at = omega arith in
     let R : ℕ → Type 0 = λ i. row_of (place_at i w.route.name) l w.route ≡ Err f in
-    row-fault (place_at w.at w.route.name) l w.route f (IsFirstFault l) (subst R m w.fault) (λ g h. is-first l g (place_at w.at w.route.name, first-told l f g w h))
+    row-fault (place_at w.at w.route.name) l one w.route f (IsFirstFault l) (subst R m w.fault) (λ g h. is-first l g (place_at w.at w.route.name, first-told l one f g w h))
 
 -- a sound route has no fault
-sound-faultless : (l : Plan) (at : FaultyRoute) (r : RouteEntry) (f : TableFault) → SoundRoute l at.id r → IsFaultOf l at r f → ⊥
-sound-faultless l at r (PathBroken told) s h = h.1 s.path s.is_path.follows
-sound-faultless l at r (PathRepeats told) s h = h.3 (subst (ComesOnce l) (one-path l r at s.path h.1 s.is_path.follows h.2) s.is_path.once)
-sound-faultless l at r (PointMissing told) s h = h.3 (subst (PointsNamed r) (one-path l r at s.path h.1 s.is_path.follows h.2.0) (all-named l r s.path s.writes))
-sound-faultless l at r (PointWrong told) s h = h.3 (subst (WritesOnlyRequired l r) (one-path l r at s.path h.1 s.is_path.follows h.2.0.0) (only-required l r s.path s.writes))
-sound-faultless l at r (FlankMissing told) s h = h.3 (subst (FlankNamed l r) (one-path l r at s.path h.1 s.is_path.follows h.2.0.0.0) (flank-named l r s.path s.writes))
-sound-faultless l at r (FlankOpen told) s h = h.3 (subst (FlanksGuarded l) (one-path l r at s.path h.1 s.is_path.follows h.2.0.0.0.0) s.guarded)
-sound-faultless l at r (FlankContradicts told) s h = h.3 (subst (NoneAtBothSides l) (one-path l r at s.path h.1 s.is_path.follows h.2.0.0.0.0.0) s.consistent)
-sound-faultless l at r (SignalPlace told) s h = h.3 (subst (SignalsPlaced l r) (one-path l r at s.path h.1 s.is_path.follows h.2.0.0.0.0.0.0) s.is_path.signals)
-sound-faultless l at r (NotSymmetric told) s h = h.3 s.listed
-sound-faultless l at r OutOfMemory s h = h
+sound-faultless : (l : Plan) (one : OneBeyond l) (at : FaultyRoute) (r : RouteEntry) (f : TableFault) → SoundRoute l at.id r → IsFaultOf l at r f → ⊥
+sound-faultless l one at r (PathBroken told) s h = h.1 s.path s.is_path.follows
+sound-faultless l one at r (PathRepeats told) s h = h.3 (subst (ComesOnce l) (one-path l one r at s.path h.1 s.is_path.follows h.2) s.is_path.once)
+sound-faultless l one at r (PointMissing told) s h = h.3 (subst (PointsNamed r) (one-path l one r at s.path h.1 s.is_path.follows h.2.0) (all-named l r s.path s.writes))
+sound-faultless l one at r (PointWrong told) s h = h.3 (subst (WritesOnlyRequired l r) (one-path l one r at s.path h.1 s.is_path.follows h.2.0.0) (only-required l r s.path s.writes))
+sound-faultless l one at r (FlankMissing told) s h = h.3 (subst (FlankNamed l r) (one-path l one r at s.path h.1 s.is_path.follows h.2.0.0.0) (flank-named l r s.path s.writes))
+sound-faultless l one at r (FlankOpen told) s h = h.3 (subst (FlanksGuarded l) (one-path l one r at s.path h.1 s.is_path.follows h.2.0.0.0.0) s.guarded)
+sound-faultless l one at r (FlankContradicts told) s h = h.3 (subst (NoneAtBothSides l) (one-path l one r at s.path h.1 s.is_path.follows h.2.0.0.0.0.0) s.consistent)
+sound-faultless l one at r (SignalPlace told) s h = h.3 (subst (SignalsPlaced l r) (one-path l one r at s.path h.1 s.is_path.follows h.2.0.0.0.0.0.0) s.is_path.signals)
+sound-faultless l one at r (NotSymmetric told) s h = h.3 s.listed
+sound-faultless l one at r OutOfMemory s h = h
 
-told-unsound : (l : Plan) (f : TableFault) → ((at : FaultyRoute) × ToldAt l at f) → Sound l → ⊥
-told-unsound l f h s = let t = h.1 in sound-faultless l h.0 t.route f (s h.0.id t.route t.in_table) t.fault
+told-unsound : (l : Plan) (one : OneBeyond l) (f : TableFault) → ((at : FaultyRoute) × ToldAt l at f) → Sound l → ⊥
+told-unsound l one f h s = let t = h.1 in sound-faultless l one h.0 t.route f (s h.0.id t.route t.in_table) t.fault
 
-pub only-memory : (l : Plan) (f : TableFault) → IsFirstFault l f → Sound l → f ≡ OutOfMemory
-only-memory l OutOfMemory h s = refl
-only-memory l (PathBroken told) h s = absurd (told-unsound l (PathBroken told) h s)
-only-memory l (PathRepeats told) h s = absurd (told-unsound l (PathRepeats told) h s)
-only-memory l (PointMissing told) h s = absurd (told-unsound l (PointMissing told) h s)
-only-memory l (PointWrong told) h s = absurd (told-unsound l (PointWrong told) h s)
-only-memory l (FlankMissing told) h s = absurd (told-unsound l (FlankMissing told) h s)
-only-memory l (FlankOpen told) h s = absurd (told-unsound l (FlankOpen told) h s)
-only-memory l (FlankContradicts told) h s = absurd (told-unsound l (FlankContradicts told) h s)
-only-memory l (SignalPlace told) h s = absurd (told-unsound l (SignalPlace told) h s)
-only-memory l (NotSymmetric told) h s = absurd (told-unsound l (NotSymmetric told) h s)
+pub only-memory : (l : Plan) (one : OneBeyond l) (f : TableFault) → IsFirstFault l f → Sound l → f ≡ OutOfMemory
+only-memory l one OutOfMemory h s = refl
+only-memory l one (PathBroken told) h s = absurd (told-unsound l one (PathBroken told) h s)
+only-memory l one (PathRepeats told) h s = absurd (told-unsound l one (PathRepeats told) h s)
+only-memory l one (PointMissing told) h s = absurd (told-unsound l one (PointMissing told) h s)
+only-memory l one (PointWrong told) h s = absurd (told-unsound l one (PointWrong told) h s)
+only-memory l one (FlankMissing told) h s = absurd (told-unsound l one (FlankMissing told) h s)
+only-memory l one (FlankOpen told) h s = absurd (told-unsound l one (FlankOpen told) h s)
+only-memory l one (FlankContradicts told) h s = absurd (told-unsound l one (FlankContradicts told) h s)
+only-memory l one (SignalPlace told) h s = absurd (told-unsound l one (SignalPlace told) h s)
+only-memory l one (NotSymmetric told) h s = absurd (told-unsound l one (NotSymmetric told) h s)
 
 -- what a function answered that fails as the rows do
-pub fails-first : (l : Plan) (f : TableFault) → Fails f (rows_of l) → IsFirstFault l f
-fails-first l OutOfMemory h = tt
-fails-first l (PathBroken told) h = table-fault l (PathBroken told) h
-fails-first l (PathRepeats told) h = table-fault l (PathRepeats told) h
-fails-first l (PointMissing told) h = table-fault l (PointMissing told) h
-fails-first l (PointWrong told) h = table-fault l (PointWrong told) h
-fails-first l (FlankMissing told) h = table-fault l (FlankMissing told) h
-fails-first l (FlankOpen told) h = table-fault l (FlankOpen told) h
-fails-first l (FlankContradicts told) h = table-fault l (FlankContradicts told) h
-fails-first l (SignalPlace told) h = table-fault l (SignalPlace told) h
-fails-first l (NotSymmetric told) h = table-fault l (NotSymmetric told) h
+pub fails-first : (l : Plan) (one : OneBeyond l) (f : TableFault) → Fails f (rows_of l) → IsFirstFault l f
+fails-first l one OutOfMemory h = tt
+fails-first l one (PathBroken told) h = table-fault l one (PathBroken told) h
+fails-first l one (PathRepeats told) h = table-fault l one (PathRepeats told) h
+fails-first l one (PointMissing told) h = table-fault l one (PointMissing told) h
+fails-first l one (PointWrong told) h = table-fault l one (PointWrong told) h
+fails-first l one (FlankMissing told) h = table-fault l one (FlankMissing told) h
+fails-first l one (FlankOpen told) h = table-fault l one (FlankOpen told) h
+fails-first l one (FlankContradicts told) h = table-fault l one (FlankContradicts told) h
+fails-first l one (SignalPlace told) h = table-fault l one (SignalPlace told) h
+fails-first l one (NotSymmetric told) h = table-fault l one (NotSymmetric told) h

@@ -5,9 +5,8 @@ use Rattle.layout.specs.Entries.{RouteEntry, Plan}
 use Rattle.control_table.specs.declared.fault.FaultyRoute.{FaultyRoute}
 use Rattle.control_table.specs.declared.fault.TableFault.{TableFault}
 use Rattle.control_table.specs.declared.fault.TableFault.TheVariants.{PathBroken, PathRepeats, PointMissing, PointWrong, FlankMissing, FlankOpen, FlankContradicts, SignalPlace, NotSymmetric, OutOfMemory}
-use Rattle.control_table.specs.declared.passage.Passage.{Passage}
 use Rattle.control_table.specs.Topology.{IsRoute}
-use Rattle.control_table.specs.Path.{Follows, ComesOnce, SignalsPlaced}
+use Rattle.control_table.specs.Path.{Passage, Follows, ComesOnce, SignalsPlaced}
 use Rattle.control_table.specs.Sides.{PointsNamed, WritesOnlyRequired, FlankNamed, FlanksGuarded, NoneAtBothSides}
 use Rattle.control_table.specs.Table.{ExtrasListed, SoundRoute}
 

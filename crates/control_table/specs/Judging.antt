@@ -1,6 +1,6 @@
 -- How the tests on a table are computed, in the order in which their faults are told.
-use Rattle.std.specs.Prelude.{◌≡◌, ℕ, suc, ◌==◌, ◌-◌, ◌&&◌, ◌||◌, nat_lt, length, Bool, true, false, not, List, [], ◌∷◌, Option, Some, None, is_some, Result, Ok, Err, map, slice_get, if◌then◌else◌}
-use Rattle.std.specs.Option.{option_map, ok_or}
+use Rattle.std.specs.Prelude.{◌≡◌, ℕ, suc, ◌==◌, ◌-◌, ◌&&◌, ◌||◌, nat_lt, length, Bool, true, false, not, List, [], ◌∷◌, Option, Some, None, Result, Ok, Err, slice_get, if◌then◌else◌}
+use Rattle.std.specs.Option.{option_map, option_or, ok_or}
 use Rattle.std.specs.List.{list_any, list_all, flat_map, prefix_len, insert, fold}
 use Rattle.sci_telegram.specs.declared.message.Side.{Side}
 use Rattle.sci_telegram.specs.declared.message.Side.TheVariants as side
@@ -22,12 +22,12 @@ use Rattle.layout.specs.Entries.{RouteEntry, Plan}
 use Rattle.control_table.specs.declared.fault.FaultyRoute.{FaultyRoute}
 use Rattle.control_table.specs.declared.fault.TableFault.{TableFault}
 use Rattle.control_table.specs.declared.fault.TableFault.TheVariants.{PathBroken, PathRepeats, PointMissing, PointWrong, FlankMissing, FlankOpen, FlankContradicts, SignalPlace, NotSymmetric, OutOfMemory}
-use Rattle.control_table.specs.declared.passage.Passage.{Passage}
 use Rattle.control_table.specs.declared.sides.Protection.{Protection}
 use Rattle.control_table.specs.declared.sides.Protection.TheVariants as protection
-use Rattle.control_table.specs.Topology.{is_port, is_element, is_end, joined_to, port_of, section_of}
-use Rattle.control_table.specs.Path.{elements, sections}
-use Rattle.control_table.specs.Sides.{leg_at, leg, other}
+use Rattle.layout.specs.Known.{same_port, same_element, end_number}
+use Rattle.control_table.specs.Topology.{port_of}
+use Rattle.control_table.specs.Path.{Passage, elements, sections}
+use Rattle.control_table.specs.Sides.{leg, other}
 
 -- ---- a value, or the first fault
 
@@ -49,6 +49,25 @@ Gives view (Ok x) judged = judged ≡ Ok (view x)
 Gives view (Err e) judged = Fails e judged
 
 -- ---- ports, elements and signals
+
+-- whether two ports, two elements, two ends are the same
+unfoldable pub is_port : Port → Port → Bool
+is_port p q = same_port p q
+
+unfoldable pub is_element : Element → Element → Bool
+is_element a b = same_element a b
+
+unfoldable pub is_end : End → End → Bool
+is_end a b = end_number a == end_number b
+
+-- the other port of a joint, if this port stands in it
+abbrev pub other_port : Joint → Port → Option Port
+other_port joint p = if is_port joint.first p then Some joint.second else if is_port joint.second p then Some joint.first else None
+
+-- the port to which a port is joined by the first joint in which it stands
+abbrev pub joined_to : List Joint → Port → Option Port
+joined_to [] p = None
+joined_to (joint ∷ joints) p = option_or (other_port joint p) (joined_to joints p)
 
 -- there is a value, and it passes a test
 abbrev pub some_and : {A : Type 0} → (A → Bool) → Option A → Bool
@@ -94,6 +113,16 @@ all_different same (x ∷ xs) = not (list_any (λ y. same y x) xs) && all_differ
 
 abbrev pub same_section : SectionId → SectionId → Bool
 same_section s t = s.0 == t.0
+
+-- whether a section is the one that was counted last
+abbrev pub is_last : Option SectionId → SectionId → Bool
+is_last None s = false
+is_last (Some last) s = last.0 == s.0
+
+-- Sections, of which neighbours that are equal are counted once: those behind one that was counted last
+abbrev pub counted_behind : Option SectionId → List SectionId → List SectionId
+counted_behind last [] = []
+counted_behind last (s ∷ ss) = if is_last last s then counted_behind last ss else s ∷ counted_behind (Some s) ss
 
 unfoldable pub sections_of : FaultyRoute → Plan → List Passage → Result (List SectionId) TableFault
 sections_of place l path =

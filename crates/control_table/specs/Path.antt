@@ -1,5 +1,5 @@
 -- The path of a route: a relation between the route and the ports by which a train passes its elements.
-use Rattle.std.specs.Prelude.{◌≡◌, ◌≢◌, ◌⊎◌, List, [], ◌∷◌, Option, Some, None, map, Bool, ◌==◌, false, if◌then◌else◌}
+use Rattle.std.specs.Prelude.{◌≡◌, ◌≢◌, ◌⊎◌, List, [], ◌∷◌, map, ◌==◌, if◌then◌else◌}
 use Rattle.std.specs.List.{Contains, filter_map}
 use Rattle.layout.specs.declared.ids.SectionId.{SectionId}
 use Rattle.layout.specs.declared.ids.PointId.{PointId}
@@ -8,14 +8,17 @@ use Rattle.layout.specs.declared.port.Port.{Port}
 use Rattle.layout.specs.declared.port.Element.{Element}
 use Rattle.layout.specs.declared.port.Element.TheVariants as of
 use Rattle.layout.specs.declared.port.End.TheVariants as end
-use Rattle.layout.specs.declared.entries.Joint.{Joint}
 use Rattle.layout.specs.declared.entries.Exit.{Exit}
 use Rattle.layout.specs.declared.entries.Exit.TheVariants as exit
 use Rattle.layout.specs.Entries.{RouteEntry, Plan}
-use Rattle.control_table.specs.declared.passage.Passage.{Passage}
-use Rattle.control_table.specs.Topology.{joined_to, Joined, StandsAt, section_of}
+use Rattle.control_table.specs.Topology.{Joined, StandsAt, section_of}
 
--- A passage over one element: it is left by another port than the one by which it is entered, and through a
+-- The way over one element: in by one of its ports, out by another.
+pub record Passage : Type 0 where
+  pub entered : Port
+  pub left : Port
+
+-- A train can pass so: the element is left by another port than the one by which it is entered, and through a
 -- point one of the two is the tip.
 pub record Passes (g : Passage) : Type 0 where
   pub element : g.entered.element ≡ g.left.element
@@ -23,16 +26,16 @@ pub record Passes (g : Passage) : Type 0 where
   pub by_tip : (p : PointId) → g.entered.element ≡ of.Point p → (g.entered.end ≡ end.Tip) ⊎ (g.left.end ≡ end.Tip)
 
 -- From a port on, each joint leads to the port by which the next element is entered.
-abbrev pub Leads : List Joint → Port → List Passage → Type 0
-Leads joints from [] = Unit {0}
-Leads joints from (g ∷ path) = (joined_to joints from ≡ Some g.entered) × Passes g × Leads joints g.left path
+abbrev pub Leads : Plan → Port → List Passage → Type 0
+Leads l from [] = Unit {0}
+Leads l from (g ∷ path) = Joined l from g.entered × Passes g × Leads l g.left path
 
 -- The passages of a route: its path names the ports by which the elements are left, and it leads on from the
 -- port at which the entry signal stands. It isn't empty.
 pub record Follows (l : Plan) (r : RouteEntry) (path : List Passage) : Type 0 where
   pub ports : r.path ≡ map (λ g. g.left) path
   pub some : path ≢ []
-  pub begins : (from : Port) × StandsAt l r.entry from × Leads l.joints from path
+  pub begins : (from : Port) × StandsAt l r.entry from × Leads l from path
 
 -- No item of a list comes twice.
 abbrev pub AllDifferent : {A : Type 0} → List A → Type 0
@@ -43,19 +46,15 @@ AllDifferent (x ∷ xs) = (Contains xs x → ⊥) × AllDifferent xs
 abbrev pub elements : List Passage → List Element
 elements path = map (λ g. g.left.element) path
 
--- Whether a section is the one that was counted last.
-abbrev pub is_last : Option SectionId → SectionId → Bool
-is_last None s = false
-is_last (Some last) s = last.0 == s.0
-
--- Sections, of which neighbours that are equal are counted once: those behind one that was counted last.
-abbrev pub counted_behind : Option SectionId → List SectionId → List SectionId
-counted_behind last [] = []
-counted_behind last (s ∷ ss) = if is_last last s then counted_behind last ss else s ∷ counted_behind (Some s) ss
+-- Sections, of which neighbours that are equal are counted once.
+abbrev pub counted_once : List SectionId → List SectionId
+counted_once [] = []
+counted_once (s ∷ []) = s ∷ []
+counted_once (s ∷ t ∷ ss) = if s.0 == t.0 then counted_once (t ∷ ss) else s ∷ counted_once (t ∷ ss)
 
 -- The sections of a path: those of its elements in order, neighbours that are equal counted once.
 abbrev pub sections : Plan → List Passage → List SectionId
-sections l path = counted_behind None (filter_map (section_of l) (elements path))
+sections l path = counted_once (filter_map (section_of l) (elements path))
 
 -- No element comes twice, and no section comes again after it was left.
 pub record ComesOnce (l : Plan) (path : List Passage) : Type 0 where

@@ -1,5 +1,5 @@
 -- At which sides a path requires points, and what guards its flank.
-use Rattle.std.specs.Prelude.{◌≡◌, ◌≢◌, ◌⊎◌, List, Some, ◌↔◌}
+use Rattle.std.specs.Prelude.{◌≡◌, ◌≢◌, ◌⊎◌, List, ◌↔◌}
 use Rattle.std.specs.List.{Contains}
 use Rattle.sci_telegram.specs.declared.message.Side.{Side}
 use Rattle.sci_telegram.specs.declared.message.Side.TheVariants as side
@@ -10,7 +10,7 @@ use Rattle.layout.specs.declared.port.Element.TheVariants as element
 use Rattle.layout.specs.declared.port.End.{End}
 use Rattle.layout.specs.declared.port.End.TheVariants as end
 use Rattle.layout.specs.Entries.{RouteEntry, Plan}
-use Rattle.control_table.specs.declared.passage.Passage.{Passage}
+use Rattle.control_table.specs.Path.{Passage}
 use Rattle.control_table.specs.Topology.{Joined, StandsAt}
 
 -- The leg to which a point leads at a side.

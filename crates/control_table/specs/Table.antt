@@ -6,9 +6,8 @@ use Rattle.layout.specs.declared.ids.SectionId.{SectionId}
 use Rattle.layout.specs.declared.ids.PointId.{PointId}
 use Rattle.layout.specs.declared.ids.RouteId.{RouteId}
 use Rattle.layout.specs.Entries.{RouteEntry, Plan}
-use Rattle.control_table.specs.declared.passage.Passage.{Passage}
 use Rattle.control_table.specs.Topology.{IsRoute}
-use Rattle.control_table.specs.Path.{Path, sections}
+use Rattle.control_table.specs.Path.{Passage, Path, sections}
 use Rattle.control_table.specs.Sides.{Requires, FlanksGuarded, NoneAtBothSides, WritesRequired}
 
 -- A route lists another as an extra conflict.

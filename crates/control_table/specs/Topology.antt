@@ -1,41 +1,24 @@
--- Where a joint leads from a port, what stands at it, and in which section an element lies.
-use Rattle.std.specs.Prelude.{◌≡◌, ◌==◌, Bool, List, [], ◌∷◌, Option, Some, None, slice_get, if◌then◌else◌}
-use Rattle.std.specs.Option.{option_map, option_or}
+-- Which ports are joined, what stands at a port, and in which section an element lies.
+use Rattle.std.specs.Prelude.{◌≡◌, ◌⊎◌, List, Option, Some, None, slice_get}
+use Rattle.std.specs.Option.{option_map}
 use Rattle.std.specs.List.{Contains}
 use Rattle.layout.specs.declared.ids.SectionId.{SectionId}
 use Rattle.layout.specs.declared.ids.SignalId.{SignalId}
 use Rattle.layout.specs.declared.ids.RouteId.{RouteId}
 use Rattle.layout.specs.declared.port.Port.{Port}
 use Rattle.layout.specs.declared.port.Element.{Element}
-use Rattle.layout.specs.declared.port.End.{End}
 use Rattle.layout.specs.declared.port.Element.TheVariants as element
 use Rattle.layout.specs.declared.entries.Joint.{Joint}
 use Rattle.layout.specs.declared.entries.Signal.{Signal}
 use Rattle.layout.specs.Entries.{RouteEntry, Plan}
-use Rattle.layout.specs.Known.{same_port, same_element, end_number}
 
--- Whether two ports, two elements, two ends are the same.
-unfoldable pub is_port : Port → Port → Bool
-is_port p q = same_port p q
+-- A joint lies between two ports, whichever of them it names first.
+abbrev pub Joins : Joint → Port → Port → Type 0
+Joins joint p q = ((joint.first ≡ p) × (joint.second ≡ q)) ⊎ ((joint.first ≡ q) × (joint.second ≡ p))
 
-unfoldable pub is_element : Element → Element → Bool
-is_element a b = same_element a b
-
-unfoldable pub is_end : End → End → Bool
-is_end a b = end_number a == end_number b
-
--- The other port of a joint, if this port stands in it.
-abbrev pub other_port : Joint → Port → Option Port
-other_port joint p = if is_port joint.first p then Some joint.second else if is_port joint.second p then Some joint.first else None
-
--- The port to which a port is joined. A port without a joint is a dead end.
-abbrev pub joined_to : List Joint → Port → Option Port
-joined_to [] p = None
-joined_to (joint ∷ joints) p = option_or (other_port joint p) (joined_to joints p)
-
--- Two ports lie end to end.
+-- Two ports lie end to end. A port that is joined to none is a dead end.
 abbrev pub Joined : Plan → Port → Port → Type 0
-Joined l p q = joined_to l.joints p ≡ Some q
+Joined l p q = (joint : Joint) × Contains l.joints joint × Joins joint p q
 
 -- The port at which a signal stands.
 abbrev pub port_of : List Signal → SignalId → Option Port

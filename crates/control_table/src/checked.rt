@@ -1,6 +1,7 @@
 //! A control table that was found sound.
 
 ghost use Rattle.std.specs.Prelude.{◌≡◌, ◌↔◌, ◌<◌, length, IsTrue, IfOk, IfErr};
+ghost use Rattle.layout.specs.Once.{Once};
 ghost use Rattle.control_table.specs.Table.{Sound, AreSections, AreRequired, Conflict};
 ghost use Rattle.control_table.specs.Faults.{IsFirstFault};
 ghost use Rattle.control_table.specs.Judging.{IsRowAt};
@@ -24,13 +25,21 @@ pub struct Checked {
 impl Model for Checked {
     ghost use Rattle.std.specs.Prelude.{◌≡◌, Ok};
     ghost use Rattle.layout.specs.Entries.{Plan};
+    ghost use Rattle.layout.specs.Once.{Once};
     ghost use Rattle.control_table.specs.Judging.{rows_of};
 
     ghost Value = { Plan };
 
     ghost view = { λ c. c.layout };
 
-    ghost invariant = { λ c. rows_of c.layout ≡ Ok c.rows.items };
+    ghost invariant = { λ c. Once c.layout × (rows_of c.layout ≡ Ok c.rows.items) };
+}
+
+/// In no layout a port is joined twice.
+fn joins_once(layout: &Layout)
+    ensures { Once layout.now }
+{
+    layout.joints();
 }
 
 /// Checks the control table of a layout: accepts exactly the sound ones, and keeps the layout.
@@ -42,6 +51,7 @@ pub fn check(alloc: Global, layout: Layout) -> Result<Checked, TableFault>
     ensures refuses { IfErr result (IsFirstFault layout) }
     ensures complete { Sound layout → IfErr result (λ f. f ≡ OutOfMemory) }
 {
+    joins_once(&layout);
     match rows(alloc, &layout) {
         Ok(rows) => Ok(Checked { layout, rows }),
         Err(fault) => Err(fault),
@@ -61,7 +71,8 @@ impl Checked {
     /// The row of a route.
     fn row_at(&self, route: RouteId) -> &Row
         requires { route.0 < length self.now.routes }
-        ensures { IsRowAt self.now route result.now }
+        ensures once { Once self.now }
+        ensures row { IsRowAt self.now route result.now }
     {
         &self.rows[route.0]
     }

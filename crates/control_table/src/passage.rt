@@ -7,6 +7,7 @@ use crate::fault::{FaultyRoute, TableFault};
 use crate::topology::{is_element, is_end, joined_to};
 use layout::{Element, End, Joint, Port};
 use std::alloc::Global;
+use std::marker::Model;
 
 /// The way over one element: in by one of its ports, out by another.
 #[derive(Clone, Copy, Debug)]
@@ -15,6 +16,16 @@ pub(crate) struct Passage {
     pub(crate) entered: Port,
     /// The port by which it is left.
     pub(crate) left: Port,
+}
+
+impl Model for Passage {
+    ghost use Rattle.control_table.specs.Path as path;
+
+    ghost Value = { path.Passage };
+
+    ghost view = { λ g. record { entered = g.entered; left = g.left } };
+
+    ghost inverse = { λ g. record { entered = g.entered; left = g.left } };
 }
 
 /// Whether a train can pass from one port to another: both are of one element, and through a point

@@ -2,9 +2,9 @@
 
 ghost use Rattle.std.specs.Prelude.{◌≡◌, IfOk, None};
 ghost use Rattle.std.specs.List.{filter_map};
-ghost use Rattle.control_table.specs.Topology.{is_element, section_of};
-ghost use Rattle.control_table.specs.Path.{elements, is_last, counted_behind};
-ghost use Rattle.control_table.specs.Judging.{all_different, same_section};
+ghost use Rattle.control_table.specs.Topology.{section_of};
+ghost use Rattle.control_table.specs.Path.{elements, counted_once};
+ghost use Rattle.control_table.specs.Judging.{is_element, is_last, counted_behind, all_different, same_section};
 
 use crate::passage::Passage;
 use crate::topology::section_of;
@@ -45,8 +45,9 @@ fn each_section(
 }
 
 /// The sections of a list, of which neighbours that are equal count once.
+#[tactic(auto, using(crate::proofs::CountedOnce::counted_once_is))]
 fn counted_once(alloc: Global, sections: &[SectionId]) -> Result<Vec<SectionId>, AllocError>
-    ensures { IfOk result (λ v. v.items ≡ counted_behind None sections.now) }
+    ensures { IfOk result (λ v. v.items ≡ counted_once sections.now) }
 {
     let mut counted = Vec::new(alloc);
     let mut last = None;
@@ -65,7 +66,7 @@ pub(crate) fn sections(
     layout: &Layout,
     elements: &[Element],
 ) -> Result<Vec<SectionId>, AllocError>
-    ensures { IfOk result (λ v. v.items ≡ counted_behind None (filter_map (section_of layout.now) elements.now)) }
+    ensures { IfOk result (λ v. v.items ≡ counted_once (filter_map (section_of layout.now) elements.now)) }
 {
     let sections = each_section(alloc, layout, elements)?;
     counted_once(alloc, &sections)
@@ -86,7 +87,7 @@ fn all_different<T: Eq>(items: &[T]) -> bool
 }
 
 /// Whether no element comes twice.
-#[tactic(auto, unfolding(crate::specs::Topology::is_element))]
+#[tactic(auto, unfolding(crate::specs::Judging::is_element))]
 pub(crate) fn elements_differ(elements: &[Element]) -> bool
     ensures { result ≡ all_different is_element elements.now }
 {

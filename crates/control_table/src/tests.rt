@@ -337,7 +337,7 @@ fn tells_a_flank_point_that_is_not_written(rt: HostRuntime) -> Result<(), Fail> 
     Ok(())
 }
 
-/// Two points one behind the other, whose left legs meet.
+/// Two points that face each other: each leg of the one is joined to the other leg of the other.
 const FACING: &str = "station = {name=\"IXL1\",id=1}
 section = [\"GA\", \"G1\"]
 border = [\"W\", \"E\"]
@@ -365,7 +365,7 @@ fn a_flank_point_on_the_path_is_written_under_points_alone(rt: HostRuntime) -> R
     Ok(())
 }
 
-/// The same two points, where the legs that meet ask each for the side of the other's unused leg.
+/// The same two points, with a track of another section between them on one of the two ways.
 const CROSSED: &str = "station = {name=\"IXL1\",id=1}
 section = [\"GA\", \"G1\"]
 border = [\"W\", \"E\"]
@@ -387,7 +387,7 @@ fn tells_a_section_that_comes_again(rt: HostRuntime) -> Result<(), Fail> {
     Ok(())
 }
 
-/// A point of which a leg is joined to the same leg of the next one.
+/// Two points of a path, whose unused legs are joined to the two legs of a third.
 const CONTRARY: &str = "station = {name=\"IXL1\",id=1}
 section = [\"GA\", \"G1\", \"G2\"]
 border = [\"W\", \"E\", \"N\"]
