@@ -31,9 +31,6 @@ use Rattle.control_table.specs.Sides.{leg, other}
 
 -- ---- a value, or the first fault
 
-abbrev pub Judged : Type 0 → Type 0
-Judged A = Result A TableFault
-
 infixl 10 ◌>>=◌
 abbrev pub ◌>>=◌ : {A B : Type 0} → Result A TableFault → (A → Result B TableFault) → Result B TableFault
 (Ok x) >>= f = f x
