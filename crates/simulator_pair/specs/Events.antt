@@ -1,5 +1,5 @@
 -- The events of a pair: which can happen, what they change, and what is answered.
-use Rattle.std.specs.Prelude.{ℕ, ◌+◌, ◌*◌, nat_le, nat_lt, ◌&&◌, not, Bool, true, false, List, [], Option, Some, None, is_none, if◌then◌else◌}
+use Rattle.std.specs.Prelude.{ℕ, ◌+◌, ◌-◌, ◌*◌, nat_le, nat_lt, ◌&&◌, not, Bool, true, false, List, [], Option, Some, None, is_none, if◌then◌else◌}
 use Rattle.rasta_core_link.specs.Calls.{answer_to_send, created}
 use Rattle.rasta_core_link.specs.declared.identity.Identity.{Identity}
 use Rattle.rasta_core_link.specs.declared.identity.Role.{Role}
@@ -13,7 +13,8 @@ use Rattle.simulator_pair.specs.Pair.{PairState, stepped, new_lamp}
 use Rattle.simulator_pair.specs.declared.event.PairEvent.{PairEvent}
 use Rattle.simulator_pair.specs.declared.event.PairEvent.TheVariants as event
 use Rattle.simulator_pair.specs.declared.event.PairReply.{PairReply}
-use Rattle.simulator_pair.specs.declared.event.PairReply.TheVariants as reply
+use Rattle.simulator_pair.specs.declared.event.PairAnswer.{PairAnswer}
+use Rattle.simulator_pair.specs.declared.event.PairAnswer.TheVariants as answer
 use Rattle.simulator_pair.specs.declared.event.Refused.{Refused}
 use Rattle.simulator_pair.specs.declared.event.Refused.TheVariants as refused
 
@@ -76,9 +77,13 @@ happens (event.Restart role.Server clock first) pair =
     in record { ends = ends; lamp = new_lamp ends.server.link }
 
 -- what is answered to it
-unfoldable pub reply_to : PairEvent → Ends → PairReply
-reply_to (event.Give who item) ends = reply.Given (answer_to_send (reading_of (end_of who ends).clock) (end_of who ends).link)
-reply_to _ ends = reply.Done
+unfoldable pub answered : PairEvent → Ends → PairAnswer
+answered (event.Give who item) ends = answer.Given (answer_to_send (reading_of (end_of who ends).clock) (end_of who ends).link)
+answered _ ends = answer.Done
+
+-- what is told of it: the answer, and how many datagrams it sent
+unfoldable pub reply_to : PairEvent → PairState → PairReply
+reply_to event pair = record { answer = answered event pair.ends; added = (happens event pair).ends.moment - pair.ends.moment }
 
 abbrev pub is_restart : PairEvent → Bool
 is_restart (event.Restart who clock first) = true

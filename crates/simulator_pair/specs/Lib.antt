@@ -5,6 +5,7 @@ pub mod Lamp
 pub mod Calling
 pub mod Order
 pub mod Parts
+pub mod Bag
 pub mod Theorem
 pub mod Worked
 pub mod Runs

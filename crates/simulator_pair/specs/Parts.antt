@@ -46,6 +46,7 @@ pub record KeepRoom (calls : ℕ) (old new : Parts) : Type 0 where
   pub server_lists : KeepsLists (3 * calls) old.server new.server
   pub sent_memory : vec_capacity old.sent ≤ vec_capacity new.sent
   pub sent_more : vec_len new.sent ≤ vec_len old.sent + 24 * calls
+  pub sent_stays : vec_len old.sent ≤ vec_len new.sent
   pub room : new.room ≡ old.room
 
 -- what is always true of a pair: an event makes at most two calls

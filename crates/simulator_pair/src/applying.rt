@@ -11,10 +11,10 @@ ghost use Rattle.rasta_pdu.specs.SafetyCode.{intact};
 ghost use Rattle.simulator_pair.specs.Pair.{stepped};
 ghost use Rattle.simulator_pair.specs.declared.event.PairEvent.TheVariants as event;
 ghost use Rattle.simulator_pair.specs.declared.event.Refused.TheVariants.{OutOfMemory};
-ghost use Rattle.simulator_pair.specs.Events.{refusal, refusal_of_time, refusal_of_delivery, keeps_time, happens, reply_to, is_restart, copy_of, connection_of, clock_limit};
+ghost use Rattle.simulator_pair.specs.Events.{refusal, refusal_of_time, refusal_of_delivery, keeps_time, happens, answered, reply_to, is_restart, copy_of, connection_of, clock_limit};
 
 use crate::bag;
-use crate::event::{Bytes, PairEvent, PairReply, Refused};
+use crate::event::{Bytes, PairAnswer, PairEvent, PairReply, Refused};
 use crate::node::{Call, Node};
 use crate::parts::Parts;
 use rasta_core_link::{Millis, Role};
@@ -216,13 +216,13 @@ impl Parts {
     }
 
     /// An event that can happen does; only a restart may lack memory.
-    #[tactic(auto, unfolding(crate::specs::Events::happens, crate::specs::Events::reply_to, crate::specs::Events::refusal, crate::specs::Parts::seen, crate::specs::Parts::seen_ends))]
-    pub(crate) fn happen(&mut self, event: &PairEvent) -> Result<PairReply, AllocError>
+    #[tactic(auto, unfolding(crate::specs::Events::happens, crate::specs::Events::answered, crate::specs::Events::refusal, crate::specs::Parts::seen, crate::specs::Parts::seen_ends))]
+    pub(crate) fn happen(&mut self, event: &PairEvent) -> Result<PairAnswer, AllocError>
         requires sound { AreSound self.old }
         requires room { HaveRoom 2 self.old }
         requires allowed { refusal event.now (seen_ends self.old) ≡ None }
         ensures step { OnOk result (seen self.new ≡ happens event.now (seen self.old)) }
-        ensures reply { IfOk result (λ answer. answer ≡ reply_to event.now (seen_ends self.old)) }
+        ensures answer { IfOk result (λ answer. answer ≡ answered event.now (seen_ends self.old)) }
         ensures same { OnErr result (self.new ≡ self.old) }
         ensures only_restarts { OnErr result (IsTrue (is_restart event.now)) }
         ensures sound { AreSound self.new }
@@ -230,7 +230,7 @@ impl Parts {
     {
         match event {
             PairEvent::Give(who, item) => {
-                return Ok(PairReply::Given(self.call(*who, &Call::Sends(item.copy()))));
+                return Ok(PairAnswer::Given(self.call(*who, &Call::Sends(item.copy()))));
             }
             PairEvent::Tick(who) => self.tick(*who),
             PairEvent::Time {
@@ -251,7 +251,7 @@ impl Parts {
                 self.restart(*end, *clock, *first_sequence_number)?;
             }
         }
-        Ok(PairReply::Done)
+        Ok(PairAnswer::Done)
     }
 
     /// Makes memory for at least so many events.
@@ -276,12 +276,12 @@ impl Parts {
     }
 
     /// Applies an event, or says why it can't happen.
-    #[tactic(auto, unfolding(crate::specs::Parts::seen, crate::specs::Parts::seen_ends))]
+    #[tactic(auto, unfolding(crate::specs::Events::reply_to, crate::specs::Parts::seen, crate::specs::Parts::seen_ends))]
     pub(crate) fn apply(&mut self, event: &PairEvent) -> Result<PairReply, Refused>
         requires { IsPair self.old }
         ensures step { OnOk result (seen self.new ≡ happens event.now (seen self.old)) }
         ensures allowed { OnOk result (refusal event.now (seen_ends self.old) ≡ None) }
-        ensures reply { IfOk result (λ answer. answer ≡ reply_to event.now (seen_ends self.old)) }
+        ensures reply { IfOk result (λ reply. reply ≡ reply_to event.now (seen self.old)) }
         ensures refused { IfErr result (λ why. (refusal event.now (seen_ends self.old) ≡ Some why) ⊎ ((why ≡ OutOfMemory) × (refusal event.now (seen_ends self.old) ≡ None))) }
         ensures memory { result ≡ Err OutOfMemory → 0 < self.old.room → IsTrue (is_restart event.now) }
         ensures same { OnErr result (seen self.new ≡ seen self.old) }
@@ -295,10 +295,12 @@ impl Parts {
         if self.room == 0 && self.reserve(1).is_err() {
             return Err(Refused::OutOfMemory);
         }
+        let sent_before = self.sent.len();
         match self.happen(event) {
-            Ok(reply) => {
+            Ok(answer) => {
                 self.room -= 1;
-                Ok(reply)
+                let added = self.sent.len() - sent_before;
+                Ok(PairReply { answer, added })
             }
             Err(_) => Err(Refused::OutOfMemory),
         }

@@ -1,4 +1,4 @@
-//! The datagrams that were sent, oldest first.
+//! The datagrams that were sent, oldest first, and the bag of those that the network still has.
 
 ghost use Rattle.std.specs.Prelude.{◌≡◌, ◌+◌, ◌≤◌, ◌++◌, [], length};
 ghost use Rattle.std.specs.Option.{option_map};
@@ -13,6 +13,33 @@ use rasta_core_link::{Outbox, Role};
 
 /// How long a datagram can be delivered, in microseconds of true time.
 const LIFETIME: u64 = 2_000_000;
+
+/// The datagrams that the network still has: those that were sent and aren't lost, oldest first.
+#[derive(Debug, Drop)]
+pub struct Bag<'a> {
+    pub(crate) sent: &'a [Sent],
+}
+
+impl<'a> Iterator for Bag<'a> {
+    type Item = &'a Sent;
+
+    ghost use Rattle.std.specs.Iterator.{YieldsFirstRef, item_count};
+    ghost use Rattle.simulator_pair.specs.Bag.{in_bag};
+
+    ghost next_gives = { YieldsFirstRef in_bag };
+
+    ghost remaining = { item_count in_bag };
+
+    fn next(&mut self) -> Option<&'a Sent> {
+        while let Some((first, later)) = self.sent.split_first() {
+            self.sent = later;
+            if !first.is_lost() {
+                return Some(first);
+            }
+        }
+        None
+    }
+}
 
 /// Whether it is a copy of these bytes that isn't lost.
 fn is_copy(sent: &Sent, bytes: &[u8]) -> bool

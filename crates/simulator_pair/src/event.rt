@@ -35,9 +35,17 @@ pub enum PairEvent {
     },
 }
 
-/// What a pair answers to an event that it applied.
+/// What a pair tells of an event that it applied.
 #[derive(Clone, Copy, Debug)]
-pub enum PairReply {
+pub struct PairReply {
+    pub answer: PairAnswer,
+    /// How many datagrams were sent. They are the last of `Pair::sent`, and of `Pair::bag`.
+    pub added: usize,
+}
+
+/// The answer to an event.
+#[derive(Clone, Copy, Debug)]
+pub enum PairAnswer {
     Done,
     /// The answer of `Link::send` to an item.
     Given(Result<(), SendFault>),

@@ -10,7 +10,8 @@ mod pair;
 mod parts;
 mod worked;
 
-pub use event::{Bytes, PairEvent, PairReply, Refused};
+pub use bag::Bag;
+pub use event::{Bytes, PairAnswer, PairEvent, PairReply, Refused};
 pub use pair::Pair;
 pub use rasta_core_ends::Sent;
 pub use rasta_core_link::{Reason, Role, SendFault};

@@ -8,6 +8,7 @@ ghost use Rattle.simulator_pair.specs.Events.{new_pair};
 ghost use Rattle.simulator_pair.specs.Parts.{seen, IsPair};
 ghost use Rattle.md4.specs.declared.message.TheConstants.{STANDARD};
 
+use crate::bag::Bag;
 use crate::event::{PairEvent, PairReply, Refused};
 use crate::node::Node;
 use crate::parts::Parts;
@@ -105,6 +106,7 @@ impl Pair {
     ghost use Rattle.simulator_pair.specs.Pair.{shown};
     ghost use Rattle.simulator_pair.specs.Lamp.{StopHolds, aspect_due};
     ghost use Rattle.simulator_pair.specs.Events.{refusal, happens, reply_to, is_restart};
+    ghost use Rattle.simulator_pair.specs.Bag.{in_bag, not_lost};
     ghost use Rattle.simulator_pair.specs.Runs.{Runs};
     ghost use Rattle.simulator_pair.specs.declared.event.Refused.TheVariants.{OutOfMemory};
 
@@ -119,12 +121,12 @@ impl Pair {
         Ok(Pair { parts })
     }
 
-    /// Applies an event and gives its answer, or says why it can't happen; then nothing has changed but that the
+    /// Applies an event and tells of it, or says why it can't happen; then nothing has changed but that the
     /// room may have grown. Where there is room for an event, only a restart can lack memory.
     #[tactic(auto, unfolding(crate::specs::Parts::seen, crate::specs::Parts::seen_ends, crate::specs::Seen::seen_end))]
     pub fn apply(&mut self, event: &PairEvent) -> Result<PairReply, Refused>
         ensures step { OnOk result (self.new.run ≡ happens event.now self.old.run) }
-        ensures reply { IfOk result (λ answer. answer ≡ reply_to event.now self.old.run.ends) }
+        ensures reply { IfOk result (λ reply. reply ≡ reply_to event.now self.old.run) }
         ensures allowed { OnOk result (refusal event.now self.old.run.ends ≡ None) }
         ensures refused { IfErr result (λ why. (refusal event.now self.old.run.ends ≡ Some why) ⊎ ((why ≡ OutOfMemory) × (refusal event.now self.old.run.ends ≡ None))) }
         ensures memory { result ≡ Err OutOfMemory → 0 < self.old.room → IsTrue (is_restart event.now) }
@@ -238,7 +240,17 @@ impl Pair {
         self.parts.end(end).link.confirmed()
     }
 
-    /// Every datagram that was sent, oldest first; those that aren't lost are the bag.
+    /// The datagrams that the network still has, oldest first.
+    #[tactic(auto, unfolding(crate::specs::Parts::seen, crate::specs::Parts::seen_ends, crate::specs::Seen::seen_end))]
+    pub fn bag(&self) -> Bag<'_>
+        ensures { in_bag result ≡ not_lost self.now.run.ends.sent }
+    {
+        Bag {
+            sent: &self.parts.sent,
+        }
+    }
+
+    /// Every datagram that was sent, oldest first, also those that are lost.
     #[tactic(auto, unfolding(crate::specs::Parts::seen, crate::specs::Parts::seen_ends, crate::specs::Seen::seen_end))]
     pub fn sent(&self) -> &[Sent]
         ensures { result.now ≡ self.now.run.ends.sent }

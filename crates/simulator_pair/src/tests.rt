@@ -63,15 +63,27 @@ impl Bench {
         bench
     }
 
-    /// Applies an event; where memory is lacking nothing has changed, and the same event is given once more.
-    fn apply(&mut self, rt: &impl Abort, event: &PairEvent) -> Result<PairReply, Refused> {
+    /// Applies an event; where memory is lacking nothing has changed, and the same event is given once more. A
+    /// refused event changes nothing, and the others tell how many datagrams they sent.
+    fn apply(&mut self, rt: &impl Abort, event: &PairEvent) -> Result<PairAnswer, Refused> {
         let before = self.stored();
-        match self.pair.apply(event) {
-            Err(Refused::OutOfMemory) => {
-                assert_eq!(rt; self.stored(), before);
-                self.pair.apply(event)
+        let mut reply = self.pair.apply(event);
+        if let Err(Refused::OutOfMemory) = reply {
+            assert_eq!(rt; self.stored(), before);
+            reply = self.pair.apply(event);
+        }
+        match reply {
+            Ok(reply) => {
+                assert_eq!(rt;
+                    Some(self.pair.sent().len()),
+                    before.1.checked_add(reply.added)
+                );
+                Ok(reply.answer)
             }
-            answer => answer,
+            Err(why) => {
+                assert_eq!(rt; self.stored(), before);
+                Err(why)
+            }
         }
     }
 
@@ -96,9 +108,18 @@ impl Bench {
         )
     }
 
+    /// How many datagrams the network still has.
+    fn in_bag(&self) -> usize {
+        let mut count: usize = 0;
+        for _ in self.pair.bag() {
+            count = count.saturating_add(1);
+        }
+        count
+    }
+
     fn does(&mut self, rt: &impl Abort, event: &PairEvent) {
         let answer = self.apply(rt, event);
-        assert!(rt; matches!(answer, Ok(PairReply::Done)));
+        assert!(rt; matches!(answer, Ok(PairAnswer::Done)));
     }
 
     fn refuses(&mut self, rt: &impl Abort, event: &PairEvent, why: Refused) {
@@ -109,7 +130,7 @@ impl Bench {
     fn gives(&mut self, rt: &impl Abort, end: Role, byte: u8) {
         let item = Item::of(&[byte]).expect(rt, "one byte is an item");
         let answer = self.apply(rt, &PairEvent::Give(end, item));
-        assert!(rt; matches!(answer, Ok(PairReply::Given(Ok(())))));
+        assert!(rt; matches!(answer, Ok(PairAnswer::Given(Ok(())))));
     }
 
     fn datagram(&self, rt: &impl Abort, index: usize) -> Bytes {
@@ -365,6 +386,18 @@ fn the_oldest_copy_is_lost_first(rt: HostRuntime) {
         &PairEvent::Deliver(Role::Server, again),
         Refused::NeverSent,
     );
+}
+
+#[test]
+fn the_bag_has_what_is_not_lost(rt: HostRuntime) {
+    let mut bench = Bench::up(&rt, rt.alloc());
+    let count = bench.pair.sent().len();
+    assert_eq!(rt; bench.in_bag(), count);
+    let lost = bench.datagram(&rt, 2);
+    bench.does(&rt, &PairEvent::Lose(lost));
+    assert_eq!(rt; bench.pair.sent().len(), count);
+    assert_eq!(rt; bench.in_bag().checked_add(1), Some(count));
+    assert!(rt; bench.pair.bag().all(|sent| !sent.is_lost()));
 }
 
 #[test]

@@ -1,7 +1,7 @@
 //! The sentences of the theorem, evaluated on what a pair stores.
 
 use crate::events::partner;
-use simulator_pair::{Aspect, Item, Pair, PairEvent, PairReply, Refused, Role, SendFault, Sent};
+use simulator_pair::{Aspect, Item, Pair, PairAnswer, PairEvent, PairReply, Refused, Role, SendFault, Sent};
 use std::process::Abort;
 
 /// How long a datagram can be delivered, in microseconds.
@@ -254,9 +254,10 @@ impl Watch {
                 self.takes_nothing(rt, now, end);
             }
         }
-        match (event, reply) {
+        assert_eq!(rt; Some(now.sent), self.sent.checked_add(reply.added));
+        match (event, reply.answer) {
             (PairEvent::Deliver(end, bytes), _) => self.takes_rightly(rt, now, pair, *end, bytes),
-            (PairEvent::Give(end, _), PairReply::Given(answer)) => {
+            (PairEvent::Give(end, _), PairAnswer::Given(answer)) => {
                 let more = now.of(*end).given.checked_sub(self.of(*end).given);
                 assert_eq!(rt; more, Some(usize::from(answer.is_ok())));
             }
@@ -338,10 +339,10 @@ impl Watch {
             (Aspect::Proceed, Aspect::Stop) => once_more(&mut tally.proceed_fell),
             _ => {}
         }
-        match (event, reply) {
+        match (event, reply.answer) {
             (PairEvent::Restart { .. }, _) => once_more(&mut tally.restarts),
             (PairEvent::Close(..), _) => once_more(&mut tally.closes),
-            (_, PairReply::Given(Err(SendFault::WindowFull))) => once_more(&mut tally.window_full),
+            (_, PairAnswer::Given(Err(SendFault::WindowFull))) => once_more(&mut tally.window_full),
             _ => {}
         }
     }

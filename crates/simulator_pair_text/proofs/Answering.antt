@@ -18,7 +18,7 @@ at passed pair = record { pair = pair; passed = passed }
 -- what `apply` ensures of an event
 pub record Applied (event : PairEvent) (old new : PairState) (result : Result PairReply Refused) : Type 0 where
   pub step : OnOk result (new ≡ happens event old)
-  pub reply : IfOk result (λ answer. answer ≡ reply_to event old.ends)
+  pub reply : IfOk result (λ reply. reply ≡ reply_to event old)
   pub allowed : OnOk result (refusal event old.ends ≡ None)
   pub refused : IfErr result (λ why. (refusal event old.ends ≡ Some why) ⊎ ((why ≡ OutOfMemory) × (refusal event old.ends ≡ None)))
   pub same : OnErr result (new ≡ old)
@@ -27,7 +27,7 @@ pub answers : (event : PairEvent) (passed : ℕ) (old new : PairState) (result :
     → Answers event (at passed old) (answer_to result) (at passed new)
 answers event passed old new (Ok reply) applied =
     subst (λ (r : PairReply). Answers event (at passed old) (answer_to (Ok r)) (at passed new)) (sym applied.reply)
-    (subst (λ (p : PairState). Answers event (at passed old) (answer_to (Ok (reply_to event old.ends))) (at passed p)) (sym applied.step)
+    (subst (λ (p : PairState). Answers event (at passed old) (answer_to (Ok (reply_to event old))) (at passed p)) (sym applied.step)
     (happens_so applied.allowed))
 answers event passed old new (Err why) applied =
     subst (λ (p : PairState). Answers event (at passed old) (answer_to (Err why)) (at passed p)) (sym applied.same) (choose applied.refused) where

@@ -8,7 +8,8 @@ use Rattle.rasta_core_ends.specs.Ends.{EndState}
 use Rattle.simulator_pair.specs.Pair.{PairState, shown}
 use Rattle.rasta_core_link.specs.declared.fault.SendFault.TheVariants.{NotUp, WindowFull}
 use Rattle.simulator_pair.specs.declared.event.PairReply.{PairReply}
-use Rattle.simulator_pair.specs.declared.event.PairReply.TheVariants as reply
+use Rattle.simulator_pair.specs.declared.event.PairAnswer.{PairAnswer}
+use Rattle.simulator_pair.specs.declared.event.PairAnswer.TheVariants.{Given, Done as Applied}
 use Rattle.simulator_pair.specs.declared.event.Refused.{Refused as Why}
 use Rattle.simulator_pair.specs.Events.{refusal_number}
 use Rattle.simulator_pair_text.specs.declared.answer.Answer.{Answer}
@@ -16,12 +17,16 @@ use Rattle.simulator_pair_text.specs.declared.answer.Answer.TheVariants.{Done, A
 use Rattle.simulator_pair_text.specs.declared.picture.EndSeen.{EndSeen}
 use Rattle.simulator_pair_text.specs.declared.picture.Picture.{Picture}
 
+-- the answer to an event that happened
+abbrev pub told : PairAnswer → Answer
+told Applied = Done
+told (Given (Ok taken)) = Accepted
+told (Given (Err NotUp)) = Refused 1
+told (Given (Err WindowFull)) = Refused 2
+
 -- the answer to an event, by what the pair says to it
 abbrev pub answer_to : Result PairReply Why → Answer
-answer_to (Ok reply.Done) = Done
-answer_to (Ok (reply.Given (Ok taken))) = Accepted
-answer_to (Ok (reply.Given (Err NotUp))) = Refused 1
-answer_to (Ok (reply.Given (Err WindowFull))) = Refused 2
+answer_to (Ok reply) = told reply.answer
 answer_to (Err why) = No (refusal_number why)
 
 -- the text of an answer

@@ -20,7 +20,7 @@ feed text = text ++ codes "\n"
 -- What an event answers and changes: it can't happen, it happens, or memory is lacking for it.
 pub data Answers (event : PairEvent) (old : Flowing) : Answer → Flowing → Type 0 where
   refuses : {why : Why} → refusal event old.pair.ends ≡ Some why → Answers event old (answer_to (Err why)) old
-  happens_so : refusal event old.pair.ends ≡ None → Answers event old (answer_to (Ok (reply_to event old.pair.ends))) (record old { pair = happens event old.pair })
+  happens_so : refusal event old.pair.ends ≡ None → Answers event old (answer_to (Ok (reply_to event old.pair))) (record old { pair = happens event old.pair })
   lacks_memory : refusal event old.pair.ends ≡ None → Answers event old (answer_to (Err OutOfMemory)) old
 
 -- what a line writes and changes

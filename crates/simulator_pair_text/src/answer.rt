@@ -2,7 +2,7 @@
 
 ghost use Rattle.std.specs.Prelude.{Some};
 
-use simulator_pair::{PairReply, Refused};
+use simulator_pair::{PairAnswer, PairReply, Refused};
 use std::fmt;
 
 /// The answer to an event line.
@@ -20,17 +20,26 @@ pub(crate) enum Answer {
 
 impl Answer {
     ghost use Rattle.std.specs.Prelude.{◌≡◌};
-    ghost use Rattle.simulator_pair_text.specs.Answers.{answer_to};
+    ghost use Rattle.simulator_pair_text.specs.Answers.{answer_to, told};
 
     /// The answer to an event.
     pub(crate) fn to_event(reply: Result<PairReply, Refused>) -> Answer
         ensures { result ≡ answer_to reply }
     {
         match reply {
-            Ok(PairReply::Done) => Answer::Done,
-            Ok(PairReply::Given(Ok(()))) => Answer::Accepted,
-            Ok(PairReply::Given(Err(fault))) => Answer::Refused(fault as u8),
+            Ok(reply) => Answer::told(reply.answer),
             Err(refused) => Answer::No(refused.number()),
+        }
+    }
+
+    /// The answer to an event that happened.
+    fn told(answer: PairAnswer) -> Answer
+        ensures { result ≡ told answer }
+    {
+        match answer {
+            PairAnswer::Done => Answer::Done,
+            PairAnswer::Given(Ok(())) => Answer::Accepted,
+            PairAnswer::Given(Err(fault)) => Answer::Refused(fault as u8),
         }
     }
 }

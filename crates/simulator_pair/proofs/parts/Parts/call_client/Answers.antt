@@ -62,5 +62,6 @@ returns-clause-room c =
       server_lists = record { given_memory = omega arith; taken_memory = omega arith; given_more = omega arith; taken_more = omega arith };
       sent_memory = omega (arith, c.send_all.ensures.capacity);
       sent_more = omega (arith, sent, made.few, c.send_all.ensures.len);
+      sent_stays = omega (arith, c.send_all.ensures.len);
       room = refl;
     }

@@ -63,5 +63,6 @@ returns-clause-room c =
       server_lists = made.lists;
       sent_memory = omega (arith, c.send_all.ensures.capacity);
       sent_more = omega (arith, sent, made.few, c.send_all.ensures.len);
+      sent_stays = omega (arith, c.send_all.ensures.len);
       room = refl;
     }
