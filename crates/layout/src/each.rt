@@ -1,6 +1,5 @@
 //! One step for each entry of a list, up to the first fault.
 
-ghost use Rattle.std.specs.Prelude.{◌≡◌, ◌≤◌, ◌<◌, ◌^◌, length};
 ghost use Rattle.layout.specs.Reading.{Gives, each_of, all_of};
 
 use crate::fault::{LayoutFault, Place, TableName};

@@ -1,6 +1,6 @@
 //! How many entries a station may have.
 
-ghost use Rattle.std.specs.Prelude.{◌≡◌, ◌<◌, length};
+ghost use Rattle.std.specs.Prelude.{◌<◌};
 ghost use Rattle.layout.specs.Reading.{Gives};
 ghost use Rattle.layout.specs.Limits.{at_most, all_within, detector_limit, route_limit, limits_of};
 ghost use Rattle.layout.specs.declared.fault.TableName.TheVariants as named;

@@ -1,6 +1,6 @@
 //! The entries of a TOML text: missing keys and wrong kinds, in reading order.
 
-ghost use Rattle.std.specs.Prelude.{◌≡◌, codes, option_map};
+ghost use Rattle.std.specs.Prelude.{◌≡◌, option_map};
 ghost use Rattle.toml.specs.Data.{get_member};
 ghost use Rattle.toml.specs.View.{view, table_view};
 ghost use Rattle.layout.specs.Reading.{Gives};

@@ -1,6 +1,6 @@
 //! All that the text of a layout writes.
 
-ghost use Rattle.std.specs.Prelude.{◌≡◌, codes, map};
+ghost use Rattle.std.specs.Prelude.{codes, map};
 ghost use Rattle.toml.specs.View.{view, table_view};
 ghost use Rattle.toml.specs.Parse.{parse_document};
 ghost use Rattle.layout.specs.Reading.{Gives};

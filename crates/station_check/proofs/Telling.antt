@@ -1,12 +1,12 @@
 -- A report grows with each pair of routes and with each route.
-use Rattle.std.proofs.Common.{◌≡◌, ℕ, zero, suc, ◌+◌, ◌-◌, ◌≤◌, ◌<◌, Bool, true, false, List, [], ◌++◌, length, take, drop, Option, inl, inr, IsTrue, ◌↔◌, refl, sym, ap, ◌∙◌, arith, rules}
+use Rattle.std.proofs.Common.{◌≡◌, ℕ, suc, ◌+◌, ◌-◌, ◌≤◌, Bool, true, false, List, [], ◌++◌, length, take, drop, Option, inl, inr, IsTrue, ◌↔◌, refl, sym, ◌∙◌, arith}
 use Rattle.std.proofs.lemmas.Bool.{false≢true}
 use Rattle.std.proofs.KnownBytes.{Appends-nil, Appends-trans, Appends-kept}
 use Rattle.std.proofs.Math.Seq.{take-add}
 use Rattle.std.specs.Io.KnownBytes.{Appends, Keeps}
 use Rattle.layout.specs.Entries.{Plan}
 use Rattle.control_table.specs.Table.{Conflict}
-use Rattle.station_check.specs.Report.{conflict_line, TellsPair, TellsBehind, TellsRoutes, ToldPair, ToldBehind, ToldRoutes, summary_line}
+use Rattle.station_check.specs.Report.{conflict_line, TellsBehind, TellsRoutes, ToldPair, ToldBehind, ToldRoutes, summary_line}
 
 module _ (l : Plan) where
   pub pair_free : (a b : ℕ) (c : Option (List ℕ)) (r : Bool) → IsTrue r ↔ Conflict l (record { 0 = a }) (record { 0 = b }) → r ≡ false → ToldPair l a b c c

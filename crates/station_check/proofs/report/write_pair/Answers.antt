@@ -1,4 +1,3 @@
-use Rattle.std.proofs.Common.{◌≡◌}
 use Rattle.station_check.proofs.Telling.{pair_free, pair_told}
 use Rattle.station_check.proofs.report.write_pair.Goals as goal
 
