@@ -184,6 +184,8 @@ fn missing_items_come_once_each_in_their_order(rt: HostRuntime) -> Result<(), Fa
     let later = pdu((8, FIRST), (520, 10000), data(&y));
     bench.hear(&rt, 10030, &later, Verdict::Asked);
     bench.told(&rt, &Body::RetransmissionRequest);
+    let late = pdu((7, FIRST), (515, 10000), data(&x));
+    bench.hear(&rt, 10040, &late, Verdict::Discarded);
     let (last, stamps) = (FIRST + 1, (540, 10030));
     let response = pdu((9, last), stamps, Body::RetransmissionResponse);
     bench.hear(&rt, 10050, &response, Verdict::Taken);

@@ -1,0 +1,38 @@
+// Refuses one call of the C allocator, the one of the number REFUSED_CALL, counted from 1. At the end of the program
+// the number of its calls stands in the file COUNTED_CALLS, if that is set. To be loaded by LD_PRELOAD.
+#define _GNU_SOURCE
+#include <dlfcn.h>
+#include <stdio.h>
+#include <stdlib.h>
+
+static long calls;
+
+static int is_refused(void) {
+    static long refused = -1;
+    if (refused < 0) {
+        const char *number = getenv("REFUSED_CALL");
+        refused = number ? atol(number) : 0;
+    }
+    return ++calls == refused;
+}
+
+void *malloc(size_t size) {
+    static void *(*next)(size_t);
+    if (!next) next = dlsym(RTLD_NEXT, "malloc");
+    return is_refused() ? NULL : next(size);
+}
+
+void *realloc(void *block, size_t size) {
+    static void *(*next)(void *, size_t);
+    if (!next) next = dlsym(RTLD_NEXT, "realloc");
+    return is_refused() ? NULL : next(block, size);
+}
+
+__attribute__((destructor)) static void tell(void) {
+    const char *path = getenv("COUNTED_CALLS");
+    FILE *file = path ? fopen(path, "w") : NULL;
+    if (file) {
+        fprintf(file, "%ld\n", calls);
+        fclose(file);
+    }
+}
