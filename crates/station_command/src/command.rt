@@ -1,7 +1,10 @@
 //! The words of a command line.
 
-ghost use Rattle.std.specs.Prelude.{◌≡◌, ◌↔◌, IsTrue};
-ghost use Rattle.clap.specs.Words.{kind_of};
+ghost use Rattle.std.specs.Prelude.{◌≡◌, ◌↔◌, ◌⊎◌, IsTrue, IfOk, IfErr, None, false, map};
+ghost use Rattle.clap.specs.Words.{FailsBy, app_of, fault_of, kind_of};
+ghost use Rattle.clap.specs.declared.builder.command.Command.TheViews.{out-Command};
+ghost use Rattle.station_command.specs.Asking.{Asks, file_asked};
+ghost use Rattle.station_command.specs.Line.{check_line, station_line};
 ghost use Rattle.clap.specs.declared.error.kind.ErrorKind.TheVariants as kind;
 
 use clap::error::ErrorKind;
@@ -36,7 +39,9 @@ pair of routes that can't be set at the same time. Otherwise it prints the first
 status 1. docs/INTERLOCKING.md has the keys of the file and all faults, examples/ has stations.";
 
 /// The command line of `station`.
-fn station<'a>(alloc: Global) -> Result<Command<'a>, AllocError> {
+fn station<'a>(alloc: Global) -> Result<Command<'a>, AllocError>
+    ensures { IfOk result (λ line. app_of line ≡ station_line) }
+{
     Command::new(alloc, "station")
         .bin_name("station")?
         .about(ABOUT)
@@ -46,7 +51,9 @@ fn station<'a>(alloc: Global) -> Result<Command<'a>, AllocError> {
 }
 
 /// `check FILE`.
-fn check<'a>(alloc: Global) -> Result<Command<'a>, AllocError> {
+fn check<'a>(alloc: Global) -> Result<Command<'a>, AllocError>
+    ensures { IfOk result (λ line. (app_of line ≡ check_line) × ((out-Command line).has_globals ≡ false)) }
+{
     let file = Arg::new(alloc, FILE)
         .required(true)
         .help("The layout, a TOML file");
@@ -59,7 +66,11 @@ fn check<'a>(alloc: Global) -> Result<Command<'a>, AllocError> {
 /// What the words of a command line ask for, the first of which is the program's name.
 ///
 /// An `Err` has the text to print (help, or what is wrong), and the status to end with.
-pub fn read_words<'a, S: AsStr>(alloc: Global, words: &'a [S]) -> Result<Asked<'a>, Error> {
+pub fn read_words<'a, S: AsStr>(alloc: Global, words: &'a [S]) -> Result<Asked<'a>, Error>
+    ensures asked { IfOk result (Asks (map S.text words.entry.now)) }
+    ensures refused { IfErr result (λ error. (kind_of error ≡ kind.OutOfMemory) ⊎ (file_asked (map S.text words.entry.now) ≡ None)) }
+    ensures kinds { FailsBy (fault_of station_line (map S.text words.entry.now)) result }
+{
     let mut command = station(alloc)?;
     let matches = command.try_get_matches_from_mut(words)?;
     match matches.subcommand_matches(CHECK) {
