@@ -15,7 +15,7 @@ use rasta_pdu::Item;
 use std::alloc::AllocError;
 
 /// How many microseconds a millisecond has.
-const MICROS: u64 = 1000;
+pub(crate) const MICROS: u64 = 1000;
 
 /// One end, with its exact clock and the lists of its last connection.
 #[derive(Debug, Drop)]
