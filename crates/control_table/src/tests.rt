@@ -387,6 +387,75 @@ fn tells_a_section_that_comes_again(rt: HostRuntime) -> Result<(), Fail> {
     Ok(())
 }
 
+/// A point whose legs are joined by one track, in the same section.
+const LOOP: &str = "station = {name=\"IXL1\",id=1}
+section = [\"GA\", \"G1\"]
+border = [\"W\"]
+joint = [[\"W.end\",\"A1.a\"], [\"A1.b\",\"P1.tip\"], [\"P1.right\",\"T1.a\"], [\"T1.b\",\"P1.left\"]]
+track = [{name=\"A1\",section=\"GA\"}, {name=\"T1\",section=\"G1\"}]
+point = [{name=\"P1\",id=10,section=\"G1\"}]
+signal = [{name=\"S1\",id=2,at=\"A1.b\"}]
+detector = [{name=\"D1\",id=20,sections=[\"GA\",\"G1\"]}]
+route = [{name=\"a\",entry=\"S1\",exit=\"W\",path=[\"P1.right\",\"T1.b\",\"P1.tip\",\"A1.a\"],points={P1=\"right\"}}]
+";
+
+#[test]
+fn tells_an_element_that_comes_again_in_the_same_section(rt: HostRuntime) -> Result<(), Fail> {
+    let alloc = rt.alloc();
+    let fault = fault(alloc, LOOP)?;
+    assert!(rt; prints(alloc, fault, "2 PathRepeats at route a")?);
+    Ok(())
+}
+
+/// A point P1, over which a route leads from a track, and a second point aside; without joints.
+const ASIDE: &str = "station = {name=\"IXL1\",id=1}
+section = [\"GA\", \"G1\", \"G2\"]
+border = [\"W\", \"E\", \"N\"]
+track = [{name=\"A1\",section=\"GA\"}]
+point = [{name=\"P1\",id=10,section=\"G1\"}, {name=\"P2\",id=12,section=\"G2\"}]
+signal = [{name=\"S1\",id=2,at=\"A1.b\"}]
+detector = [{name=\"D1\",id=20,sections=[\"GA\",\"G1\",\"G2\"]}]
+route = [{name=\"a\",entry=\"S1\",exit=\"E\",path=[\"P1.right\"],points={P1=\"right\"}}]
+";
+
+/// The fault of that station with these joints.
+fn aside_told(alloc: Global, joints: &str) -> Result<Option<TableFault>, Fail> {
+    let text = joined(alloc, joints, ASIDE)?;
+    fault(alloc, text.as_str())
+}
+
+#[test]
+fn a_leg_that_is_joined_to_a_border_is_open(rt: HostRuntime) -> Result<(), Fail> {
+    let alloc = rt.alloc();
+    let apart = "joint = [[\"W.end\",\"A1.a\"], [\"A1.b\",\"P1.tip\"], [\"P1.right\",\"E.end\"]]\n";
+    assert!(rt; aside_told(alloc, apart)?.is_none());
+    let to_border =
+        "joint = [[\"W.end\",\"A1.a\"], [\"A1.b\",\"P1.tip\"], [\"P1.right\",\"E.end\"], [\"P1.left\",\"N.end\"]]\n";
+    let fault = aside_told(alloc, to_border)?;
+    assert!(rt; prints(alloc, fault, "6 FlankOpen at route a")?);
+    Ok(())
+}
+
+#[test]
+fn a_leg_that_is_joined_to_the_tip_of_another_point_is_open(rt: HostRuntime) -> Result<(), Fail> {
+    let alloc = rt.alloc();
+    let to_tip =
+        "joint = [[\"W.end\",\"A1.a\"], [\"A1.b\",\"P1.tip\"], [\"P1.right\",\"E.end\"], [\"P1.left\",\"P2.tip\"]]\n";
+    let fault = aside_told(alloc, to_tip)?;
+    assert!(rt; prints(alloc, fault, "6 FlankOpen at route a")?);
+    Ok(())
+}
+
+#[test]
+fn a_leg_that_is_joined_to_the_other_leg_of_its_point_is_open(rt: HostRuntime) -> Result<(), Fail> {
+    let alloc = rt.alloc();
+    let to_other_leg =
+        "joint = [[\"W.end\",\"A1.a\"], [\"A1.b\",\"P1.tip\"], [\"P1.left\",\"P1.right\"]]\n";
+    let fault = aside_told(alloc, to_other_leg)?;
+    assert!(rt; prints(alloc, fault, "6 FlankOpen at route a")?);
+    Ok(())
+}
+
 /// Two points of a path, whose unused legs are joined to the two legs of a third.
 const CONTRARY: &str = "station = {name=\"IXL1\",id=1}
 section = [\"GA\", \"G1\", \"G2\"]

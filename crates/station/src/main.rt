@@ -9,6 +9,9 @@ use std::process::ExitCode;
 use std::{env, fs, io};
 use thiserror::Error as Told;
 
+#[cfg(test)]
+mod tests;
+
 /// Why a command isn't carried out.
 #[derive(Debug, Drop, Told)]
 enum Failure {

@@ -1,7 +1,8 @@
-//! The texts for command lines, which no contract says.
+//! The texts for command lines, which no contract says. What takes memory is done again where it is lacking, so that
+//! the answers also hold with any one allocation refused.
 
-use super::{Asked, read_words};
-use std::alloc::Global;
+use super::{Asked, Error, is_memory, read_words};
+use std::alloc::{AllocError, Global};
 use std::process::Abort;
 use std::test::Fail;
 
@@ -71,6 +72,22 @@ Usage: station check <FILE>
 For more information, try '--help'.
 ";
 
+/// Reads the words of a command line; where memory is lacking they are read once more.
+fn read<'a>(alloc: Global, words: &'a [&str]) -> Result<Asked<'a>, Error> {
+    match read_words(alloc, words) {
+        Err(error) if is_memory(&error) => read_words(alloc, words),
+        answer => answer,
+    }
+}
+
+/// What is printed for an error; where memory is lacking it is made once more.
+fn printed(alloc: Global, error: &Error) -> Result<String, AllocError> {
+    match format!(in alloc; "{error}") {
+        Ok(text) => Ok(text),
+        Err(_) => format!(in alloc; "{error}"),
+    }
+}
+
 // What is printed for a command line, to the standard error where the status is 2.
 fn expect_text(
     rt: &impl Abort,
@@ -79,10 +96,10 @@ fn expect_text(
     status: i32,
     text: &str,
 ) -> Result<(), Fail> {
-    match read_words(alloc, words) {
+    match read(alloc, words) {
         Ok(asked) => assert!(rt; false, "{asked:?} was asked"),
         Err(error) => {
-            let printed = format!(in alloc; "{error}")?;
+            let printed = printed(alloc, &error)?;
             assert_eq!(rt; printed.as_str(), text);
             assert_eq!(rt; error.exit_code(), status);
             assert_eq!(rt; error.use_stderr(), status == 2);
@@ -122,7 +139,7 @@ fn a_check_names_its_file(rt: HostRuntime) {
         (["/usr/bin/other", "check", "a b/c"].as_slice(), "a b/c"),
         (["station", "check", "--", "--help"].as_slice(), "--help"),
     ] {
-        match read_words(rt.alloc(), words) {
+        match read(rt.alloc(), words) {
             Ok(asked) => assert_eq!(rt; asked, Asked::Check(file)),
             Err(error) => assert!(rt; false, "{error}"),
         }
