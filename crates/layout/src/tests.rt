@@ -91,6 +91,17 @@ fn reads_the_small_station(rt: HostRuntime) -> Result<(), Fail> {
     Ok(())
 }
 
+#[test]
+fn reads_each_register_of_a_key_with_its_low_order_byte_first(rt: HostRuntime) -> Result<(), Fail> {
+    let alloc = rt.alloc();
+    let line = "station = {name=\"IXL1\",id=1,key=\"0123456789abcdeffedcba9876543210\"}\n";
+    let text = changed(alloc, "station", line)?;
+    let layout = read(alloc, text.as_str())?;
+    let key = layout.station().key;
+    assert_eq!(rt; key, Some([0x67452301, 0xefcdab89, 0x98badcfe, 0x10325476]));
+    Ok(())
+}
+
 const WRONG_FORMS: [(&str, &str, LayoutFault); 26] = [
     ("border", "border = [\n", LayoutFault::Toml),
     ("border", "a = 1\na = 2\n", LayoutFault::Toml),
