@@ -347,6 +347,32 @@ fn a_failed_write_ends_with_status_1(rt: HostRuntime) -> Result<(), Fail> {
     Ok(())
 }
 
+/// A writer that takes all bytes, and then fails to pass them on.
+#[derive(Drop)]
+struct Withholding;
+
+impl Write for Withholding {
+    fn write(&mut self, buf: &[u8]) -> io::Result<usize> {
+        Ok(buf.len())
+    }
+
+    fn flush(&mut self) -> io::Result<()> {
+        Err(io::Error::from(io::ErrorKind::StorageFull))
+    }
+}
+
+#[test]
+fn a_report_that_is_not_passed_on_ends_with_status_1(rt: HostRuntime) -> Result<(), Fail> {
+    let mut err = page(rt.alloc())?;
+    let status = check_text(rt.alloc(), SMALL, &mut Withholding, &mut err);
+    assert_eq!(rt; status, 1);
+    if was_lacking(err.as_slice()) {
+        err.clear();
+    }
+    assert!(rt; err.is_empty());
+    Ok(())
+}
+
 #[test]
 fn a_fault_is_told_as_far_as_there_is_room(rt: HostRuntime) {
     let mut out = Vec::new(rt.alloc());
