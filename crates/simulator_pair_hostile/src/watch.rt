@@ -1,7 +1,9 @@
 //! The sentences of the theorem, evaluated on what a pair stores.
 
 use crate::events::partner;
-use simulator_pair::{Aspect, Item, Pair, PairAnswer, PairEvent, PairReply, Refused, Role, SendFault, Sent};
+use simulator_pair::{
+    Aspect, Item, Pair, PairAnswer, PairEvent, PairReply, Refused, Role, SendFault, Sent,
+};
 use std::process::Abort;
 
 /// How long a datagram can be delivered, in microseconds.
