@@ -8,7 +8,7 @@ if [ "${1:-}" != --write ]; then
     (cd "$here/crates/station" && rt run -- check data/small.toml >/dev/null 2>&1) # proves it where it isn't yet, and leaves out/station
 fi
 exec python3 - "$here/crates/station/out/station" "$@" <<'PY'
-import os, platform, resource, subprocess, sys, tempfile, time
+import os, platform, subprocess, sys, tempfile, time
 
 LINES, LOOPS, TRACKS = 2, 8, 6  # a line has 8 loops of two points, and 6 tracks behind each: 64 elements
 
@@ -96,5 +96,4 @@ for what, text, lines in STATIONS:
             if run.returncode != 0 or run.stdout.count("\n") != lines:
                 sys.exit(f"{what}: status {run.returncode}, {run.stdout[:200]}{run.stderr[:200]}")
     print(f"{what}, {len(text)} bytes: {min(took) * 1000:.1f} ms, {lines} lines")
-print(f"memory at most {resource.getrusage(resource.RUSAGE_CHILDREN).ru_maxrss / 1024:.0f} MB")
 PY
