@@ -12,10 +12,10 @@ use Rattle.layout.specs.declared.ids.SignalId.{SignalId}
 use Rattle.layout.specs.declared.ids.RouteId.{RouteId}
 use Rattle.layout.specs.Entries.{RouteEntry, Plan}
 use Rattle.control_table.specs.Topology.{IsRoute}
-use Rattle.control_table.specs.Path.{Passage, sections, Path}
+use Rattle.control_table.specs.Path.{Passage, sections, Path, same_section}
 use Rattle.control_table.specs.Sides.{other, Requires}
 use Rattle.control_table.specs.Table.{LeadsOver, RouteRequires, InLayoutOrder, AreSections, AreRequired, SameEntry, ShareSection, RequireDifferently, Conflict}
-use Rattle.control_table.specs.Judging.{same_section, needs, has_need, lists, TableRow, rows_of, IsRowAt, entry_of, enters_at, same_entry, has_section, share_section, require_differently, conflicts}
+use Rattle.control_table.specs.Judging.{needs, has_need, lists, TableRow, rows_of, IsRowAt, entry_of, enters_at, same_entry, has_section, share_section, require_differently, conflicts}
 use Rattle.control_table.proofs.Joints.{OneBeyond}
 use Rattle.control_table.proofs.Judged.{none-some}
 use Rattle.control_table.proofs.Members.{any-decides, has-decides, some-injective}

@@ -2,7 +2,6 @@ pub mod Loops
 pub mod Members
 pub mod Same
 pub mod Joints
-pub mod CountedOnce
 pub mod PathLaws
 pub mod Judged
 pub mod SideLaws

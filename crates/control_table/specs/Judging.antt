@@ -26,7 +26,7 @@ use Rattle.control_table.specs.declared.sides.Protection.{Protection}
 use Rattle.control_table.specs.declared.sides.Protection.TheVariants as protection
 use Rattle.layout.specs.Known.{same_port, same_element, end_number}
 use Rattle.control_table.specs.Topology.{port_of}
-use Rattle.control_table.specs.Path.{Passage, elements, sections}
+use Rattle.control_table.specs.Path.{Passage, elements, same_section, sections}
 use Rattle.control_table.specs.Sides.{leg, other}
 
 -- ---- a value, or the first fault
@@ -107,19 +107,6 @@ path_of place l r = if length r.path == 0 then Err (PathBroken place) else (do
 unfoldable pub all_different : {A : Type 0} → (A → A → Bool) → List A → Bool
 all_different same [] = true
 all_different same (x ∷ xs) = not (list_any (λ y. same y x) xs) && all_different same xs
-
-abbrev pub same_section : SectionId → SectionId → Bool
-same_section s t = s.0 == t.0
-
--- whether a section is the one that was counted last
-abbrev pub is_last : Option SectionId → SectionId → Bool
-is_last None s = false
-is_last (Some last) s = last.0 == s.0
-
--- Sections, of which neighbours that are equal are counted once: those behind one that was counted last
-abbrev pub counted_behind : Option SectionId → List SectionId → List SectionId
-counted_behind last [] = []
-counted_behind last (s ∷ ss) = if is_last last s then counted_behind last ss else s ∷ counted_behind (Some s) ss
 
 unfoldable pub sections_of : FaultyRoute → Plan → List Passage → Result (List SectionId) TableFault
 sections_of place l path =

@@ -1,6 +1,6 @@
 -- The path of a route: a relation between the route and the ports by which a train passes its elements.
-use Rattle.std.specs.Prelude.{◌≡◌, ◌≢◌, ◌⊎◌, List, [], ◌∷◌, map, ◌==◌, if◌then◌else◌}
-use Rattle.std.specs.List.{Contains, filter_map}
+use Rattle.std.specs.Prelude.{◌≡◌, ◌≢◌, ◌⊎◌, Bool, List, [], ◌∷◌, map, ◌==◌}
+use Rattle.std.specs.List.{Contains, dedup, filter_map}
 use Rattle.layout.specs.declared.ids.SectionId.{SectionId}
 use Rattle.layout.specs.declared.ids.PointId.{PointId}
 use Rattle.layout.specs.declared.ids.SignalId.{SignalId}
@@ -46,15 +46,13 @@ AllDifferent (x ∷ xs) = (Contains xs x → ⊥) × AllDifferent xs
 abbrev pub elements : List Passage → List Element
 elements path = map (λ g. g.left.element) path
 
--- Sections, of which neighbours that are equal are counted once.
-abbrev pub counted_once : List SectionId → List SectionId
-counted_once [] = []
-counted_once (s ∷ []) = s ∷ []
-counted_once (s ∷ t ∷ ss) = if s.0 == t.0 then counted_once (t ∷ ss) else s ∷ counted_once (t ∷ ss)
+-- Whether two sections are the same.
+abbrev pub same_section : SectionId → SectionId → Bool
+same_section s t = s.0 == t.0
 
 -- The sections of a path: those of its elements in order, neighbours that are equal counted once.
 abbrev pub sections : Plan → List Passage → List SectionId
-sections l path = counted_once (filter_map (section_of l) (elements path))
+sections l path = dedup same_section (filter_map (section_of l) (elements path))
 
 -- No element comes twice, and no section comes again after it was left.
 pub record ComesOnce (l : Plan) (path : List Passage) : Type 0 where

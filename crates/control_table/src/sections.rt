@@ -1,10 +1,10 @@
 //! The elements and sections of a path, each of which comes once.
 
-ghost use Rattle.std.specs.Prelude.{◌≡◌, IfOk, None};
-ghost use Rattle.std.specs.List.{filter_map};
+ghost use Rattle.std.specs.Prelude.{◌≡◌, IfOk};
+ghost use Rattle.std.specs.List.{dedup, filter_map};
 ghost use Rattle.control_table.specs.Topology.{section_of};
-ghost use Rattle.control_table.specs.Path.{elements, counted_once};
-ghost use Rattle.control_table.specs.Judging.{is_element, is_last, counted_behind, all_different, same_section};
+ghost use Rattle.control_table.specs.Path.{elements, same_section};
+ghost use Rattle.control_table.specs.Judging.{is_element, all_different};
 
 use crate::passage::Passage;
 use crate::topology::section_of;
@@ -18,16 +18,6 @@ pub(crate) fn elements(alloc: Global, path: &[Passage]) -> Result<Vec<Element>, 
     path.iter()
         .map(|passage| passage.left.element)
         .collect(alloc)
-}
-
-/// Whether a section is the one that was counted last.
-fn is_last(last: Option<SectionId>, section: SectionId) -> bool
-    ensures { result ≡ is_last last section }
-{
-    match last {
-        Some(last) => last.0 == section.0,
-        None => false,
-    }
 }
 
 /// The sections of elements, in their order.
@@ -44,32 +34,17 @@ fn each_section(
         .collect(alloc)
 }
 
-/// The sections of a list, of which neighbours that are equal count once.
-#[tactic(auto, using(crate::proofs::CountedOnce::counted_once_is))]
-fn counted_once(alloc: Global, sections: &[SectionId]) -> Result<Vec<SectionId>, AllocError>
-    ensures { IfOk result (λ v. v.items ≡ counted_once sections.now) }
-{
-    let mut counted = Vec::new(alloc);
-    let mut last = None;
-    for section in sections {
-        if !is_last(last, *section) {
-            counted.push(*section)?;
-            last = Some(*section);
-        }
-    }
-    Ok(counted)
-}
-
 /// The sections of a path's elements, in its order, of which neighbours that are equal count once.
 pub(crate) fn sections(
     alloc: Global,
     layout: &Layout,
     elements: &[Element],
 ) -> Result<Vec<SectionId>, AllocError>
-    ensures { IfOk result (λ v. v.items ≡ counted_once (filter_map (section_of layout.now) elements.now)) }
+    ensures { IfOk result (λ v. v.items ≡ dedup same_section (filter_map (section_of layout.now) elements.now)) }
 {
-    let sections = each_section(alloc, layout, elements)?;
-    counted_once(alloc, &sections)
+    let mut sections = each_section(alloc, layout, elements)?;
+    sections.dedup();
+    Ok(sections)
 }
 
 /// Whether no item of a list comes twice.
