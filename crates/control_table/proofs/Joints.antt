@@ -1,5 +1,5 @@
 -- Where no port is joined twice, the joint that is found is the joint that there is.
-use Rattle.std.proofs.Common.{◌≡◌, ◌≢◌, Bool, true, false, suc, List, [], ◌∷◌, Option, Some, None, refl, sym, ap, subst, ◌∙◌, inl, inr, ⊎_elim, arith}
+use Rattle.std.proofs.Common.{◌≡◌, ◌≢◌, Bool, true, false, List, [], ◌∷◌, Option, Some, None, refl, sym, ap, subst, ◌∙◌, inl, inr, ⊎_elim}
 use Rattle.std.specs.Prelude.{if◌then◌else◌}
 use Rattle.std.specs.Option.{option_or}
 use Rattle.std.specs.List.{Contains}
@@ -10,7 +10,7 @@ use Rattle.layout.specs.Once.{Distinct, joined_ports, Once}
 use Rattle.control_table.specs.Topology.{Joins, Joined}
 use Rattle.control_table.specs.Judging.{is_port, other_port, joined_to}
 use Rattle.control_table.proofs.Judged.{none-some, false-from}
-use Rattle.control_table.proofs.Members.{contains-none, contains-here, contains-there, contains-cases, some-injective}
+use Rattle.control_table.proofs.Members.{contains-none, contains-here, contains-there, contains-cases, some-injective, distinct-first, distinct-rest}
 use Rattle.control_table.proofs.Same.{port-decides}
 
 -- Some joint of a list lies between two ports.
@@ -37,12 +37,6 @@ pub joined-found : (l : Plan) (p q : Port) → joined_to l.joints p ≡ Some q �
 joined-found l p q e = found-in l.joints p q e
 
 -- ---- what is joined is found, where no port is joined twice
-
-distinct-first : {A : Type 0} (x y : A) (xs : List A) → Distinct (x ∷ xs) → Contains xs y → x ≢ y
-distinct-first x y xs d c e = d 0 (suc c.0) y (omega arith) (let lt = c.1 in omega (arith, lt)) (e ∙ sym c.2)
-
-distinct-rest : {A : Type 0} (x : A) (xs : List A) → Distinct (x ∷ xs) → Distinct xs
-distinct-rest x xs d i j y lt within = d (suc i) (suc j) y (omega (arith, lt)) (omega (arith, within))
 
 ports-contained : (joints : List Joint) (joint : Joint) → Contains joints joint → Contains (joined_ports joints) joint.first × Contains (joined_ports joints) joint.second
 ports-contained [] joint c = absurd (contains-none joint c)

@@ -1,11 +1,14 @@
 -- Membership in lists, and tests of every or of some member.
-use Rattle.std.proofs.Common.{◌≡◌, ◌⊎◌, Bool, ◌&&◌, ◌||◌, ℕ, zero, suc, List, [], ◌∷◌, Option, Some, None, refl, sym, ap, subst, inl, inr, ⊎_elim, arith}
+use Rattle.std.proofs.Common.{◌≡◌, ◌≢◌, ◌∙◌, ◌⊎◌, Bool, ◌&&◌, ◌||◌, ℕ, zero, suc, List, [], ◌∷◌, Option, Some, None, refl, sym, ap, subst, inl, inr, ⊎_elim, arith}
+use Rattle.std.proofs.lemmas.List.{get_or_default}
+use Rattle.std.proofs.lemmas.List.Kept.{AllPairs-cons}
 use Rattle.std.proofs.lemmas.List.Elements.{Contains-append_left, Contains-append_right, Contains-append_cases}
 use Rattle.std.proofs.lemmas.Bool.{false≢true}
 use Rattle.std.proofs.lemmas.Bool.Decides.{Decides-and, Decides-or, Decides-like}
 use Rattle.std.specs.Bool.{Decides}
 use Rattle.std.specs.List.{Contains, list_any, list_all, flat_map}
 use Rattle.std.specs.Prelude.{slice_get}
+use Rattle.layout.specs.Once.{Distinct}
 
 pub contains-none : {A : Type 0} (x : A) → Contains [] x → ⊥
 contains-none x h = absurd (omega (arith, h.1))
@@ -69,3 +72,14 @@ get-contains (w ∷ xs) (suc i) x e = contains-there w x xs (get-contains xs i x
 pub contains-get : {A : Type 0} (xs : List A) (x : A) → Contains xs x → (i : ℕ) × (slice_get xs i ≡ Some x)
 contains-get [] x c = absurd (contains-none x c)
 contains-get (w ∷ xs) x c = ⊎_elim (λ e. (0, ap Some e)) (λ later. let h = contains-get xs x later in (suc h.0, h.1)) (contains-cases w x xs c)
+
+-- ---- members that are distinct
+
+pub distinct-first : {A : Type 0} (x y : A) (xs : List A) → Distinct (x ∷ xs) → Contains xs y → x ≢ y
+distinct-first x y xs d c e = d 0 (suc c.0) y (omega arith) (let lt = c.1 in omega (arith, lt)) (e ∙ sym c.2)
+
+pub distinct-rest : {A : Type 0} (x : A) (xs : List A) → Distinct (x ∷ xs) → Distinct xs
+distinct-rest x xs d i j y lt within = d (suc i) (suc j) y (omega (arith, lt)) (omega (arith, within))
+
+pub distinct-cons : {A : Type 0} (x : A) (xs : List A) → (Contains xs x → ⊥) → Distinct xs → Distinct (x ∷ xs)
+distinct-cons x xs absent rest = AllPairs-cons (λ a b. a ≢ b) x xs (λ k d lt e. absent (k, lt, get_or_default xs k x d lt ∙ sym e)) rest

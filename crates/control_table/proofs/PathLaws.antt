@@ -18,15 +18,16 @@ use Rattle.layout.specs.declared.entries.Signal.{Signal}
 use Rattle.layout.specs.declared.entries.Exit.{Exit}
 use Rattle.layout.specs.declared.entries.Exit.TheVariants as exit
 use Rattle.layout.specs.Entries.{RouteEntry, Plan}
+use Rattle.layout.specs.Once.{Distinct}
 use Rattle.control_table.specs.declared.fault.FaultyRoute.{FaultyRoute}
 use Rattle.control_table.specs.declared.fault.TableFault.{TableFault}
 use Rattle.control_table.specs.declared.fault.TableFault.TheVariants.{PathBroken}
 use Rattle.control_table.specs.Topology.{port_of, StandsAt}
-use Rattle.control_table.specs.Path.{Passage, Passes, Leads, Follows, AllDifferent, elements, sections, ComesOnce, ExitAt, EndsAt, SignalsPlaced, same_section}
+use Rattle.control_table.specs.Path.{Passage, Passes, Leads, Follows, elements, sections, ComesOnce, ExitAt, EndsAt, SignalsPlaced, same_section}
 use Rattle.control_table.specs.Judging.{is_port, is_element, is_end, joined_to, ◌>>=◌, some_and, is_point, may_pass, passage_from, passage_behind, passages, path_of, all_different, same_exit, stands_at, is_exit, ends_at_exit, is_other_at, no_other_at, none_between, signals_placed}
 use Rattle.control_table.proofs.Joints.{OneBeyond, joined-found}
 use Rattle.control_table.proofs.Judged.{none-some, err-ok, ok-injective, ok-from, err-from, ok-some, err-none, not_stopped, stopped_or_not, false-from}
-use Rattle.control_table.proofs.Members.{all-decides, has-decides, some-injective}
+use Rattle.control_table.proofs.Members.{all-decides, has-decides, some-injective, distinct-first, distinct-rest, distinct-cons}
 use Rattle.control_table.proofs.Same.{never, element-decides, end-decides, port-decides, section-decides, exit-decides}
 
 -- ---- passing an element
@@ -151,11 +152,12 @@ one-path l one r place path other h k = ok-injective path other (sym (following-
 
 -- ---- what comes once
 
-pub different-decides : {A : Type 0} (same : A → A → Bool) → ((x y : A) → Decides (same x y) (x ≡ y)) → (xs : List A) → Decides (all_different same xs) (AllDifferent xs)
+pub different-decides : {A : Type 0} (same : A → A → Bool) → ((x y : A) → Decides (same x y) (x ≡ y)) → (xs : List A) → Decides (all_different same xs) (Distinct xs)
 unfolding all_different
-different-decides same each [] = (λ h. tt, λ h. refl)
+different-decides same each [] = (λ h i j d lt within. absurd (omega (arith, within)), λ h. refl)
 different-decides same each (x ∷ xs) =
-    Decides-and (not (list_any (λ y. same y x) xs)) (all_different same xs) (Decides-not (list_any (λ y. same y x) xs) (has-decides same each xs x)) (different-decides same each xs)
+    Decides-like (all_different same (x ∷ xs)) (λ h. distinct-cons x xs h.0 h.1) (λ d. (λ c. distinct-first x x xs d c refl, distinct-rest x xs d))
+    (Decides-and (not (list_any (λ y. same y x) xs)) (all_different same xs) (Decides-not (list_any (λ y. same y x) xs) (has-decides same each xs x)) (different-decides same each xs))
 
 pub once-decides : (l : Plan) (path : List Passage) → Decides (all_different is_element (elements path) && all_different same_section (sections l path)) (ComesOnce l path)
 once-decides l path =

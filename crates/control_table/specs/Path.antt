@@ -11,6 +11,7 @@ use Rattle.layout.specs.declared.port.End.TheVariants as end
 use Rattle.layout.specs.declared.entries.Exit.{Exit}
 use Rattle.layout.specs.declared.entries.Exit.TheVariants as exit
 use Rattle.layout.specs.Entries.{RouteEntry, Plan}
+use Rattle.layout.specs.Once.{Distinct}
 use Rattle.control_table.specs.Topology.{Joined, StandsAt, section_of}
 
 -- The way over one element: in by one of its ports, out by another.
@@ -37,11 +38,6 @@ pub record Follows (l : Plan) (r : RouteEntry) (path : List Passage) : Type 0 wh
   pub some : path ≢ []
   pub begins : (from : Port) × StandsAt l r.entry from × Leads l from path
 
--- No item of a list comes twice.
-abbrev pub AllDifferent : {A : Type 0} → List A → Type 0
-AllDifferent [] = Unit {0}
-AllDifferent (x ∷ xs) = (Contains xs x → ⊥) × AllDifferent xs
-
 -- The elements over which a path leads.
 abbrev pub elements : List Passage → List Element
 elements path = map (λ g. g.left.element) path
@@ -56,8 +52,8 @@ sections l path = dedup same_section (filter_map (section_of l) (elements path))
 
 -- No element comes twice, and no section comes again after it was left.
 pub record ComesOnce (l : Plan) (path : List Passage) : Type 0 where
-  pub elements : AllDifferent (elements path)
-  pub sections : AllDifferent (sections l path)
+  pub elements : Distinct (elements path)
+  pub sections : Distinct (sections l path)
 
 -- The exit is at a port: the signal stands there, or the border is joined to it.
 abbrev pub ExitAt : Plan → Exit → Port → Type 0
