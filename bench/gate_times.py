@@ -1,0 +1,86 @@
+#!/usr/bin/env python3
+"""The gate with its times: runs `rt ci` at the top of the repository, tells the verdict of each wrong body as it comes,
+and writes at the end, crate by crate, the processor time in seconds of the proof, the tests and the wrong bodies,
+and the most memory that one process took.
+
+    python3 bench/gate_times.py [CRATE ..]      with names: the wrong bodies of these crates alone (rt must-fail)
+"""
+import collections
+import importlib.machinery
+import importlib.util
+import os
+import shutil
+import sys
+import tempfile
+
+# stands for the prover: runs it, and notes what it took
+NOTING = """#!{python}
+import os, sys
+child = os.fork()
+if not child:
+    os.execv({prover!r}, [{prover!r}, *sys.argv[1:]])
+_, status, used = os.wait4(child, 0)
+words = sys.argv[1:]
+crate = words[words.index("--crate-name") + 1] if "--crate-name" in words else "-"
+kind = "edits" if os.path.basename(os.getcwd()).startswith("rt-edit-") else "tests" if "--test" in words else "proof"
+with open({notes!r}, "a") as it:
+    it.write(f"{{crate}} {{kind}} {{used.ru_utime + used.ru_stime:.1f}} {{used.ru_maxrss}}\\n")
+if os.WIFSIGNALED(status):
+    os.kill(os.getpid(), os.WTERMSIG(status))
+sys.exit(os.WEXITSTATUS(status))
+"""
+
+
+def load_rt():
+    path = os.path.realpath(shutil.which("rt"))
+    loader = importlib.machinery.SourceFileLoader("rt", path)
+    module = importlib.util.module_from_spec(importlib.util.spec_from_loader("rt", loader))
+    loader.exec_module(module)
+    return module
+
+
+def tell_each_edit(rt):
+    """Has rt print the verdict of an edit as soon as it is known."""
+    silent = rt.must_fail
+
+    def told(*given):
+        verdict = silent(*given)
+        print(verdict[1].split(": ", 2)[0], "refused" if verdict[0] else "NOT REFUSED", flush=True)
+        return verdict
+
+    rt.must_fail = told
+
+
+def table(notes):
+    times, memory = collections.defaultdict(collections.Counter), collections.Counter()
+    for line in notes:
+        crate, kind, seconds, kilobytes = line.split()
+        times[crate][kind] += float(seconds)
+        memory[crate] = max(memory[crate], int(kilobytes))
+    kinds = ("proof", "tests", "edits")
+    print("\n| Crate | Proof | Tests | Wrong bodies | Memory |\n|---|---|---|---|---|")
+    for crate, spent in sorted(times.items()):
+        print(f"| `{crate}` |", " | ".join(f"{spent[kind]:.0f}" for kind in kinds), f"| {memory[crate] / 1e6:.1f} GB |")
+    sums = [sum(spent[kind] for spent in times.values()) for kind in kinds]
+    print("| all |", " | ".join(f"{it:.0f}" for it in sums), f"| {max(memory.values()) / 1e6:.1f} GB |")
+    print(f"\n{sum(sums) / 60:.0f} minutes of processor time", flush=True)
+
+
+def main(names):
+    rt = load_rt()
+    tell_each_edit(rt)
+    with tempfile.TemporaryDirectory(prefix="gate-times-") as room:
+        notes, prover = f"{room}/notes", f"{room}/rattle"
+        with open(prover, "w") as it:
+            it.write(NOTING.format(python=sys.executable, prover=rt.rtlib.RATTLE, notes=notes))
+        os.chmod(prover, 0o755)
+        open(notes, "w").close()
+        rt.rtlib.RATTLE = prover
+        status = rt.edits_alone(names) if names else rt.ci()
+        with open(notes) as it:
+            table(it)
+    return status
+
+
+if __name__ == "__main__":
+    sys.exit(main(sys.argv[1:]))
