@@ -2,18 +2,18 @@
 //! ends and the network between them, and prints an answer for each. Its status is 0 or 1.
 #![tactic(auto)]
 
+use pair_command::{Asked, Error, is_memory, read_words, status};
 use simulator_pair_text::pair_text;
 use std::io::BufWriter;
 use std::process::ExitCode;
-use std::rt::{Env, Files};
 use std::{env, fs, io};
-use thiserror::Error;
+use thiserror::Error as Told;
 
 /// Why there is no text to run.
-#[derive(Debug, Drop, Error)]
+#[derive(Debug, Drop, Told)]
 enum Failure {
-    #[error("usage: pair [FILE]")]
-    Usage,
+    #[error("error: a word of the command line is not UTF-8")]
+    Words,
     #[error("cannot read {0}")]
     File(String),
     #[error("cannot read standard input")]
@@ -33,39 +33,66 @@ impl Failure {
 }
 
 fn main(rt: HostRuntime) -> ExitCode {
-    let status = match text(&rt) {
-        Ok(text) => run(&rt, text.as_str()),
-        Err(failure) => {
-            // Where this can't be written, the status has to do.
-            let _ = eprintln!(rt; "{failure}");
-            1
-        }
+    let status = match words(&rt) {
+        Ok(words) => match read_words(rt.alloc(), words.as_slice()) {
+            Ok(asked) => run(&rt, asked),
+            Err(error) => refuse(&rt, &error),
+        },
+        Err(failure) => fail(&rt, &failure),
     };
     ExitCode::from(status)
 }
 
-/// The text of the file that is named, or of standard input.
-fn text<R: Files + Env + Input + AllocGlobal>(rt: &R) -> Result<String, Failure> {
-    let mut args = env::args(rt).map_err(|error| Failure::Usage.unless_memory(&error))?;
-    let _program = args.next();
-    match (args.next(), args.next()) {
-        (None, _) => io::read_to_string(rt.alloc(), rt.reader()).map_err(
+/// The words of the command line.
+fn words(rt: &HostRuntime) -> Result<Vec<String>, Failure> {
+    let words = env::args(rt).map_err(|error| Failure::Words.unless_memory(&error))?;
+    match words.collect(rt.alloc()) {
+        Ok(words) => Ok(words),
+        Err(_) => Err(Failure::OutOfMemory),
+    }
+}
+
+/// Prints the help that was asked for, or what is wrong with the command line.
+fn refuse(rt: &HostRuntime, error: &Error) -> u8 {
+    if is_memory(error) {
+        return fail(rt, &Failure::OutOfMemory);
+    }
+    match error.print(rt) {
+        Ok(()) => status(error),
+        Err(_) => 1,
+    }
+}
+
+/// Tells why there is no text to run.
+fn fail(rt: &HostRuntime, failure: &Failure) -> u8 {
+    // Where this can't be written, the status has to do.
+    let _ = eprintln!(rt; "{failure}");
+    1
+}
+
+/// The text that is asked for.
+fn text(rt: &HostRuntime, asked: Asked<'_>) -> Result<String, Failure> {
+    match asked {
+        Asked::Input => io::read_to_string(rt.alloc(), rt.reader()).map_err(
             |error| Failure::Input.unless_memory(&error),
         ),
-        (Some(path), None) => fs::read_to_string(rt, path.as_str()).map_err(|error| Failure::File(
-            path,
-        ).unless_memory(&error)),
-        (Some(_), Some(_)) => Err(Failure::Usage),
+        Asked::File(file) => match fs::read_to_string(rt, file) {
+            Ok(text) => Ok(text),
+            Err(error) => match String::from_str(rt.alloc(), file) {
+                Ok(name) => Err(Failure::File(name).unless_memory(&error)),
+                Err(_) => Err(Failure::OutOfMemory),
+            },
+        },
     }
 }
 
 /// Runs a text, and writes its answers at once to standard output.
-fn run(rt: &HostRuntime, text: &str) -> u8 {
-    match BufWriter::new(rt.alloc(), rt.stdout()) {
-        Ok(mut out) => pair_text(rt.alloc(), text, &mut out, &mut rt.stderr()),
-        Err(_) => {
-            let _ = eprintln!(rt; "{}", Failure::OutOfMemory);
-            1
-        }
+fn run(rt: &HostRuntime, asked: Asked<'_>) -> u8 {
+    match text(rt, asked) {
+        Ok(text) => match BufWriter::new(rt.alloc(), rt.stdout()) {
+            Ok(mut out) => pair_text(rt.alloc(), text.as_str(), &mut out, &mut rt.stderr()),
+            Err(_) => fail(rt, &Failure::OutOfMemory),
+        },
+        Err(failure) => fail(rt, &failure),
     }
 }
