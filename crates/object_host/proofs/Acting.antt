@@ -1,8 +1,8 @@
 -- Acting on the items of a datagram, one after another.
 use Rattle.std.proofs.Common.{◌≡◌, ℕ, ◌+◌, ◌*◌, ◌<◌, ◌≤◌, true, false, List, [], ◌∷◌, drop, length, get_or, arith, refl, ap, sym, ◌∙◌, subst}
 use Rattle.std.proofs.lemmas.List.{at_drop_more, at_drop_all}
-use Rattle.rasta_core_link.specs.State.{is_open}
-use Rattle.rasta_core_link.specs.Outbox.{OutboxState}
+use Rattle.rasta_core.specs.State.{is_open}
+use Rattle.rasta_core.specs.Outbox.{OutboxState}
 use Rattle.sci_telegram.specs.Reading.{reading}
 use Rattle.object_host.specs.Behaviour.{Behaviour}
 use Rattle.object_host.specs.Host.{HostState, Part}

@@ -8,9 +8,9 @@ use Rattle.sci_telegram.specs.declared.fault.SciFault.{SciFault}
 use Rattle.sci_telegram.specs.declared.message.Message.{Message}
 use Rattle.sci_telegram.specs.declared.message.Message.TheVariants as message
 use Rattle.sci_telegram.specs.declared.telegram.Telegram.{Telegram}
-use Rattle.rasta_core_link.specs.State.{LinkState, is_open}
-use Rattle.rasta_core_link.specs.Clock.{settled}
-use Rattle.rasta_core_link.specs.Calls.{answer_to_send, receiving}
+use Rattle.rasta_core.specs.State.{LinkState, is_open}
+use Rattle.rasta_core.specs.Clock.{settled}
+use Rattle.rasta_core.specs.Calls.{answer_to_send, receiving}
 use Rattle.object_host.specs.Behaviour.{Behaviour}
 use Rattle.object_host.specs.Course.{course, commanding as to_object}
 use Rattle.object_host.specs.Host.{HostState, LinkCall, Part, Ticks, Closes, Sends, Receives, is_completed, keeping, silent, then_do}

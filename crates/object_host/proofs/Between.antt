@@ -10,10 +10,10 @@ use Rattle.sci_telegram.specs.declared.message.Initialisation.{Initialisation}
 use Rattle.sci_telegram.specs.declared.message.Initialisation.TheVariants as init
 use Rattle.sci_telegram.specs.declared.message.Protocol.{Protocol}
 use Rattle.sci_telegram.specs.declared.telegram.Telegram.{Telegram}
-use Rattle.rasta_core_link.specs.State.{LinkState, is_open}
-use Rattle.rasta_core_link.specs.Clock.{alive_until, settled}
-use Rattle.rasta_core_link.specs.Calls.{answer_to_send, created, receiving}
-use Rattle.rasta_core_link.specs.declared.identity.Identity.{Identity}
+use Rattle.rasta_core.specs.State.{LinkState, is_open}
+use Rattle.rasta_core.specs.Clock.{alive_until, settled}
+use Rattle.rasta_core.specs.Calls.{answer_to_send, created, receiving}
+use Rattle.rasta_core.specs.identity.Identity.{Identity}
 use Rattle.object_host.proofs.Closed.{settled_closed, ticking_closed}
 use Rattle.object_host.specs.Behaviour.{Behaviour}
 use Rattle.object_host.specs.Lawful.{IsLawful}

@@ -2,14 +2,14 @@
 use Rattle.std.proofs.Common.{◌≡◌, ℕ, Bool, true, false, List, refl, ap, ◌∙◌, if◌then◌else◌}
 use Rattle.std.specs.Prelude.{is_ok}
 use Rattle.std.proofs.lemmas.Bool.{true≢false}
-use Rattle.rasta_core_link.specs.State.{LinkState, is_open, is_up}
-use Rattle.rasta_core_link.specs.Clock.{settled}
-use Rattle.rasta_core_link.specs.Sending.{Step, beating as link_beats, closing, entered, giving, limited, silent as links_silent, telling, then_do as links_then}
-use Rattle.rasta_core_link.specs.Calls.{acceptance, closing_by, sending_item, ticking}
-use Rattle.rasta_core_link.specs.declared.phase.Phase.{Phase}
-use Rattle.rasta_core_link.specs.declared.phase.Phase.TheVariants as phase
-use Rattle.rasta_core_link.specs.declared.reason.Reason.{Reason}
-use Rattle.rasta_core_link.specs.declared.reason.Reason.TheVariants as reason
+use Rattle.rasta_core.specs.State.{LinkState, is_open, is_up}
+use Rattle.rasta_core.specs.Clock.{settled}
+use Rattle.rasta_core.specs.Sending.{Step, beating as link_beats, closing, entered, giving, limited, silent as links_silent, telling, then_do as links_then}
+use Rattle.rasta_core.specs.Calls.{acceptance, closing_by, sending_item, ticking}
+use Rattle.rasta_core.specs.phase.Phase.{Phase}
+use Rattle.rasta_core.specs.phase.Phase.TheVariants as phase
+use Rattle.rasta_core.specs.reason.Reason.{Reason}
+use Rattle.rasta_core.specs.reason.Reason.TheVariants as reason
 
 -- a closed link stays closed, whatever the clock does
 settled_is : (now : ℕ) (link : LinkState) → is_open link.phase ≡ false → settled now link ≡ record link { clock = now }

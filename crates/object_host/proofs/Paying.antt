@@ -1,7 +1,7 @@
 -- Sending the owed reports, one after another.
 use Rattle.std.proofs.Common.{◌≡◌, ℕ, ◌+◌, ◌-◌, ◌<◌, suc, true, false, arith, refl, sym, subst}
 use Rattle.std.proofs.lemmas.List.{append-nil}
-use Rattle.rasta_core_link.specs.Outbox.{OutboxState}
+use Rattle.rasta_core.specs.Outbox.{OutboxState}
 use Rattle.object_host.specs.Behaviour.{Behaviour}
 use Rattle.object_host.specs.Host.{HostState, Part, silent}
 use Rattle.object_host.specs.Step.{goes_on, most_owed, paying, paying_first}

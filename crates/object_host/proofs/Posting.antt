@@ -2,7 +2,7 @@
 use Rattle.std.proofs.Common.{◌≡◌, ℕ, ◌+◌, List, [], ◌++◌, length, append_assoc, refl, ap}
 use Rattle.std.proofs.lemmas.List.{append-nil, map-append, length-append, length-map}
 use Rattle.std.proofs.lemmas.Grind.{common_steps}
-use Rattle.rasta_core_link.specs.Outbox.{OutboxState, posted}
+use Rattle.rasta_core.specs.Outbox.{OutboxState, posted}
 use Rattle.rasta_pdu.specs.declared.key.Key.{Key}
 use Rattle.rasta_pdu.specs.declared.pdu.Pdu.{Pdu}
 

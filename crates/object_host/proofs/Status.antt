@@ -1,7 +1,7 @@
 -- Telling the initial status, report by report.
 use Rattle.std.proofs.Common.{◌≡◌, ℕ, ◌+◌, ◌-◌, ◌<◌, suc, List, [], ◌∷◌, arith, refl, ap, sym, ◌∙◌, subst}
 use Rattle.std.specs.Prelude.{Some, None}
-use Rattle.rasta_core_link.specs.Outbox.{OutboxState}
+use Rattle.rasta_core.specs.Outbox.{OutboxState}
 use Rattle.object_host.specs.Behaviour.{Behaviour}
 use Rattle.object_host.specs.Host.{HostState, Part}
 use Rattle.object_host.specs.Step.{initial_status, most_objects, posting, posting_all, report_then, telling_status}

@@ -1,7 +1,7 @@
 -- A loop that does part after part: what is left to do from here does what all of it does from the start.
 use Rattle.std.proofs.Common.{◌≡◌, ℕ, ◌+◌, ◌≤◌, List, [], ◌∷◌, ◌++◌, length, arith, refl, ap, sym, ◌∙◌, subst}
-use Rattle.rasta_core_link.specs.Calls.{IsAt}
-use Rattle.rasta_core_link.specs.Outbox.{OutboxState, posted}
+use Rattle.rasta_core.specs.Calls.{IsAt}
+use Rattle.rasta_core.specs.Outbox.{OutboxState, posted}
 use Rattle.object_host.specs.Host.{HostState, LinkCall, Part, Ticks, Closes, Sends, Receives}
 use Rattle.object_host.specs.Made.{AreItems}
 use Rattle.object_host.proofs.Posting.{posted_nothing, posted_more, length-posted, capacity-posted}

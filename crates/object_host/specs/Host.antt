@@ -4,10 +4,10 @@ use Rattle.sci_telegram.specs.declared.message.Initialisation.{Initialisation}
 use Rattle.sci_telegram.specs.declared.message.Message.TheVariants as message
 use Rattle.sci_telegram.specs.declared.telegram.Telegram.{Telegram}
 use Rattle.rasta_pdu.specs.declared.pdu.Pdu.{Pdu}
-use Rattle.rasta_core_link.specs.State.{LinkState, is_open}
-use Rattle.rasta_core_link.specs.Clock.{alive_until}
-use Rattle.rasta_core_link.specs.Sending.{Step}
-use Rattle.rasta_core_link.specs.declared.reason.Reason.{Reason}
+use Rattle.rasta_core.specs.State.{LinkState, is_open}
+use Rattle.rasta_core.specs.Clock.{alive_until}
+use Rattle.rasta_core.specs.Sending.{Step}
+use Rattle.rasta_core.specs.reason.Reason.{Reason}
 use Rattle.object_host.specs.Behaviour.{Behaviour}
 use Rattle.object_host.specs.declared.report.Report.{Report}
 use Rattle.object_host.specs.declared.stage.Stage.{Stage}

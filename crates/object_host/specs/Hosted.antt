@@ -1,10 +1,10 @@
 -- What is always true of a host between its steps, and how it is made.
 use Rattle.std.specs.Prelude.{◌≡◌, ℕ, ◌≤◌, not, true, false, List, []}
-use Rattle.rasta_core_link.specs.State.{is_open}
-use Rattle.rasta_core_link.specs.Clock.{alive_until}
-use Rattle.rasta_core_link.specs.Calls.{created}
-use Rattle.rasta_core_link.specs.Outbox.{OutboxState}
-use Rattle.rasta_core_link.specs.declared.identity.Identity.{Identity}
+use Rattle.rasta_core.specs.State.{is_open}
+use Rattle.rasta_core.specs.Clock.{alive_until}
+use Rattle.rasta_core.specs.Calls.{created}
+use Rattle.rasta_core.specs.Outbox.{OutboxState}
+use Rattle.rasta_core.specs.identity.Identity.{Identity}
 use Rattle.object_host.specs.Behaviour.{Behaviour}
 use Rattle.object_host.specs.Host.{HostState, is_completed, is_outside, keeping}
 use Rattle.object_host.specs.declared.stage.Stage.TheVariants as stage

@@ -11,11 +11,11 @@ use Rattle.sci_telegram.specs.declared.message.Initialisation.TheVariants.{Start
 use Rattle.sci_telegram.specs.declared.message.Protocol.{Protocol}
 use Rattle.sci_telegram.specs.declared.message.Protocol.TheVariants as protocols
 use Rattle.sci_telegram.specs.declared.telegram.Telegram.{Telegram}
-use Rattle.rasta_core_link.specs.State.{is_open}
-use Rattle.rasta_core_link.specs.Clock.{settled}
-use Rattle.rasta_core_link.specs.Calls.{ticking, closing_by, answer_to_send, sending_item, receiving}
-use Rattle.rasta_core_link.specs.Receiving.{Receipt}
-use Rattle.rasta_core_link.specs.declared.reason.Reason.TheVariants as reason
+use Rattle.rasta_core.specs.State.{is_open}
+use Rattle.rasta_core.specs.Clock.{settled}
+use Rattle.rasta_core.specs.Calls.{ticking, closing_by, answer_to_send, sending_item, receiving}
+use Rattle.rasta_core.specs.Receiving.{Receipt}
+use Rattle.rasta_core.specs.reason.Reason.TheVariants as reason
 use Rattle.object_host.specs.Behaviour.{Behaviour}
 use Rattle.object_host.specs.Course.{course}
 use Rattle.object_host.specs.Host.{HostState, Part, Ticks, Closes, Sends, Receives, silent, then_do, linked, at_stage, acting_on, is_completed, risen, fallen, keeping, telegram_of, said}

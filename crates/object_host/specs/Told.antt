@@ -1,8 +1,8 @@
 -- A step of a host as its object sees it: what the object is told in it, call by call, and what is sent of what it owes.
 use Rattle.std.specs.Prelude.{◌≡◌, ◌⊎◌, ℕ, not, ◌&&◌, Bool, true, false, List, [], ◌∷◌, ◌++◌, map}
 use Rattle.sci_telegram.specs.Telegrams.{writing}
-use Rattle.rasta_core_link.specs.State.{is_open}
-use Rattle.rasta_core_link.specs.Clock.{alive_until, settled}
+use Rattle.rasta_core.specs.State.{is_open}
+use Rattle.rasta_core.specs.Clock.{alive_until, settled}
 use Rattle.object_host.specs.Behaviour.{Behaviour}
 use Rattle.object_host.specs.Host.{HostState, Part, is_completed, is_outside, telegram_of}
 use Rattle.object_host.specs.Made.{items_given}

@@ -1,8 +1,8 @@
 //! What becomes of the items that the link hands out.
 
 ghost use Rattle.std.specs.Prelude.{◌≡◌, ◌≤◌, ℕ, List, length};
-ghost use Rattle.rasta_core_link.specs.Calls.{MayStep, IsAt};
-ghost use Rattle.rasta_core_link.specs.Outbox.{HasRoomFor, posted};
+ghost use Rattle.rasta_core.specs.Calls.{MayStep, IsAt};
+ghost use Rattle.rasta_core.specs.Outbox.{HasRoomFor, posted};
 ghost use Rattle.object_host.specs.Course.{course};
 ghost use Rattle.object_host.specs.Made.{AreItems};
 ghost use Rattle.object_host.specs.Step.{acting, acting_all, commanding, following, is_from_peer, is_same_protocol, posting};
@@ -11,7 +11,7 @@ ghost use Rattle.sci_telegram.specs.Reading.{reading};
 use crate::controller::Controller;
 use crate::course::Course;
 use crate::host::Host;
-use rasta_core_link::{Millis, Outbox};
+use rasta_core::{Millis, Outbox};
 use rasta_pdu::Item;
 use sci_telegram::{Protocol, Telegram};
 

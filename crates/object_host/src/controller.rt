@@ -6,7 +6,7 @@ ghost use Rattle.object_host.specs.Lawful.{IsLawful};
 
 use crate::report::Report;
 use crate::sense::Sense;
-use rasta_core_link::Millis;
+use rasta_core::Millis;
 use sci_telegram::{Protocol, Telegram};
 
 /// A field object, as its host knows it: what it is told, what it answers, and whether its output is

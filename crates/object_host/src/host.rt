@@ -1,8 +1,8 @@
 //! A host without its outbox, and what it says.
 
 ghost use Rattle.std.specs.Prelude.{◌≡◌, ◌≤◌, length};
-ghost use Rattle.rasta_core_link.specs.Calls.{MayStep, IsAt, answer_to_send};
-ghost use Rattle.rasta_core_link.specs.Outbox.{HasRoomFor, posted};
+ghost use Rattle.rasta_core.specs.Calls.{MayStep, IsAt, answer_to_send};
+ghost use Rattle.rasta_core.specs.Outbox.{HasRoomFor, posted};
 ghost use Rattle.object_host.specs.Host.{said};
 ghost use Rattle.object_host.specs.Made.{AreItems};
 ghost use Rattle.object_host.specs.Step.{posting, violating};
@@ -11,7 +11,7 @@ ghost use Rattle.object_host.specs.Host.{telegram_of};
 use crate::controller::Controller;
 use crate::report::Report;
 use crate::stage::Stage;
-use rasta_core_link::{Link, Millis, Outbox, Reason, SendFault};
+use rasta_core::{Link, Millis, Outbox, Reason, SendFault};
 use sci_telegram::{Initialisation, Message, Name, Telegram};
 use std::marker::Model;
 

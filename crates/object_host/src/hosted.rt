@@ -2,16 +2,16 @@
 
 ghost use Rattle.std.specs.Prelude.{◌≡◌, ◌≤◌, ◌↔◌, ℕ, true, false, [], drop, slice_get, IsTrue, IfOk};
 ghost use Rattle.std.specs.Option.{option_map};
-ghost use Rattle.rasta_core_link.specs.Calls.{MayStep};
-ghost use Rattle.rasta_core_link.specs.Clock.{alive_until};
-ghost use Rattle.rasta_core_link.specs.Outbox.{posted};
-ghost use Rattle.rasta_core_link.specs.declared.identity.Role.TheVariants.{Server};
+ghost use Rattle.rasta_core.specs.Calls.{MayStep};
+ghost use Rattle.rasta_core.specs.Clock.{alive_until};
+ghost use Rattle.rasta_core.specs.Outbox.{posted};
+ghost use Rattle.rasta_core.specs.identity.Role.TheVariants.{Server};
 
 use crate::controller::Controller;
 use crate::host::Host;
 use crate::input::Input;
 use crate::stage::Stage;
-use rasta_core_link::{Link, Millis, Outbox};
+use rasta_core::{Link, Millis, Outbox};
 use rasta_pdu::{Datagram, Key};
 use sci_telegram::Name;
 use std::alloc::{AllocError, Global};

@@ -1,15 +1,15 @@
 //! The telegrams that begin a connection.
 
 ghost use Rattle.std.specs.Prelude.{◌≡◌, ◌≤◌, length};
-ghost use Rattle.rasta_core_link.specs.Calls.{MayStep, IsAt};
-ghost use Rattle.rasta_core_link.specs.Outbox.{HasRoomFor, posted};
+ghost use Rattle.rasta_core.specs.Calls.{MayStep, IsAt};
+ghost use Rattle.rasta_core.specs.Outbox.{HasRoomFor, posted};
 ghost use Rattle.object_host.specs.Made.{AreItems};
 ghost use Rattle.object_host.specs.Step.{answering, initialising, posting, telling_status};
 
 use crate::controller::Controller;
 use crate::host::Host;
 use crate::stage::Stage;
-use rasta_core_link::{Millis, Outbox};
+use rasta_core::{Millis, Outbox};
 use sci_telegram::{Agreement, Initialisation};
 
 /// The version of the telegrams, which both ends tell.

@@ -1,8 +1,8 @@
 //! What holds of every step of a host, for every lawful object.
 
 ghost use Rattle.std.specs.Prelude.{◌≡◌, ℕ, false, List};
-ghost use Rattle.rasta_core_link.specs.Clock.{settled};
-ghost use Rattle.rasta_core_link.specs.State.{LinkState, is_open};
+ghost use Rattle.rasta_core.specs.Clock.{settled};
+ghost use Rattle.rasta_core.specs.State.{LinkState, is_open};
 ghost use Rattle.object_host.specs.Host.{HostState, LinkCall};
 ghost use Rattle.object_host.specs.Made.{ActsOn, AreCallsFor, AreOwn, IsMadeOf, calls_made, items_taken};
 ghost use Rattle.object_host.specs.Step.{host_step};

@@ -1,14 +1,14 @@
 //! The reports that the object owes.
 
 ghost use Rattle.std.specs.Prelude.{◌≡◌, ◌≤◌, length};
-ghost use Rattle.rasta_core_link.specs.Calls.{IsAt};
-ghost use Rattle.rasta_core_link.specs.Outbox.{HasRoomFor, posted};
+ghost use Rattle.rasta_core.specs.Calls.{IsAt};
+ghost use Rattle.rasta_core.specs.Outbox.{HasRoomFor, posted};
 ghost use Rattle.object_host.specs.Made.{AreItems};
 ghost use Rattle.object_host.specs.Step.{goes_on, most_owed, paying, paying_first, posting};
 
 use crate::controller::Controller;
 use crate::host::Host;
-use rasta_core_link::{Millis, Outbox};
+use rasta_core::{Millis, Outbox};
 
 /// How many owed reports a step sends at most: the window of a link.
 const MOST_OWED: usize = 20;

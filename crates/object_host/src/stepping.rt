@@ -1,8 +1,8 @@
 //! A step of a host, in its order.
 
 ghost use Rattle.std.specs.Prelude.{◌≡◌, ◌≤◌, length};
-ghost use Rattle.rasta_core_link.specs.Calls.{MayStep, IsAt};
-ghost use Rattle.rasta_core_link.specs.Outbox.{HasRoomFor, posted};
+ghost use Rattle.rasta_core.specs.Calls.{MayStep, IsAt};
+ghost use Rattle.rasta_core.specs.Outbox.{HasRoomFor, posted};
 ghost use Rattle.object_host.specs.Host.{fallen, risen};
 ghost use Rattle.object_host.specs.Made.{AreItems};
 ghost use Rattle.object_host.specs.Step.{beating, beginning, ending, given, hearing, host_step, posting};
@@ -12,7 +12,7 @@ use crate::controller::Controller;
 use crate::host::Host;
 use crate::input::Input;
 use crate::stage::Stage;
-use rasta_core_link::{Inbox, Millis, Outbox};
+use rasta_core::{Inbox, Millis, Outbox};
 
 impl<C: Controller> Host<C> {
     /// A connection that has opened begins with the version check.

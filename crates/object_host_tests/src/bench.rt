@@ -1,7 +1,7 @@
 //! An interlocking's end of a link and an object controller at the other, at one clock.
 
 use object_host::{Controller, Hosted, Input, Sense};
-use rasta_core_link::{Inbox, Link, Millis, Outbox};
+use rasta_core::{Inbox, Link, Millis, Outbox};
 use rasta_pdu::{Body, Datagram, Key, read};
 use sci_telegram::{Agreement, Initialisation, Message, Name, Protocol, Telegram, write};
 use std::alloc::Global;

@@ -7,18 +7,18 @@ use Rattle.rasta_pdu.specs.declared.body.Body.{Body}
 use Rattle.rasta_pdu.specs.declared.body.Body.TheVariants.{ConnectionRequest, ConnectionResponse, RetransmissionRequest, RetransmissionResponse, DisconnectionRequest, Heartbeat, Data, RetransmittedData}
 use Rattle.rasta_pdu.specs.declared.fault.PduFault.{PduFault}
 use Rattle.rasta_pdu.specs.declared.pdu.Pdu.{Pdu}
-use Rattle.rasta_core_link.specs.Parameters.{expiry}
-use Rattle.rasta_core_link.specs.State.{LinkState, is_client, is_open}
-use Rattle.rasta_core_link.specs.Clock.{alive_until, open_state, quiet_until, settled, state_at}
-use Rattle.rasta_core_link.specs.Sending.{Step, entered, limited, silent}
-use Rattle.rasta_core_link.specs.Opening.{granting}
-use Rattle.rasta_core_link.specs.Receiving.{Receipt, accepting, by_state, hearing, refusing, resting}
-use Rattle.rasta_core_link.specs.Calls.{hearing_bytes, receiving}
-use Rattle.rasta_core_link.specs.declared.phase.State.{State}
-use Rattle.rasta_core_link.specs.declared.phase.State.TheVariants as state
-use Rattle.rasta_core_link.specs.declared.verdict.Verdict.{Verdict}
-use Rattle.rasta_core_link.specs.declared.verdict.Verdict.TheVariants as verdict
-use Rattle.rasta_core_ends.specs.Ends.{is_taken}
+use Rattle.rasta_core.specs.Parameters.{expiry}
+use Rattle.rasta_core.specs.State.{LinkState, is_client, is_open}
+use Rattle.rasta_core.specs.Clock.{alive_until, open_state, quiet_until, settled, state_at}
+use Rattle.rasta_core.specs.Sending.{Step, entered, limited, silent}
+use Rattle.rasta_core.specs.Opening.{granting}
+use Rattle.rasta_core.specs.Receiving.{Receipt, accepting, by_state, hearing, refusing, resting}
+use Rattle.rasta_core.specs.Calls.{hearing_bytes, receiving}
+use Rattle.rasta_core.specs.phase.State.{State}
+use Rattle.rasta_core.specs.phase.State.TheVariants as state
+use Rattle.rasta_core.specs.verdict.Verdict.{Verdict}
+use Rattle.rasta_core.specs.verdict.Verdict.TheVariants as verdict
+use Rattle.rasta_core.specs.Ends.{is_taken}
 
 -- nothing but a taken PDU opens it, and no items come
 pub record IsOutsideReceipt (receipt : Receipt) : Type 0 where

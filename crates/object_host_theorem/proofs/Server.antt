@@ -4,12 +4,12 @@ use Rattle.std.specs.Prelude.{Option, Some, None}
 use Rattle.std.proofs.lemmas.Bool.{true≢false, false≢true}
 use Rattle.std.proofs.lemmas.List.{append-nil}
 use Rattle.std.proofs.lemmas.Option.{none-some}
-use Rattle.rasta_core_link.specs.State.{LinkState, is_open}
-use Rattle.rasta_core_link.specs.Calls.{receiving}
-use Rattle.rasta_core_link.specs.declared.identity.Role.TheVariants as role
-use Rattle.rasta_core_ends.specs.Ends as calls
-use Rattle.rasta_core_ends.specs.Ends.{end_after, entered_by, is_taken, kept, outcome, reading_of}
-use Rattle.rasta_core_ends.specs.Run.{Ends, called}
+use Rattle.rasta_core.specs.State.{LinkState, is_open}
+use Rattle.rasta_core.specs.Calls.{receiving}
+use Rattle.rasta_core.specs.identity.Role.TheVariants as role
+use Rattle.rasta_core.specs.Ends as calls
+use Rattle.rasta_core.specs.Ends.{end_after, entered_by, is_taken, kept, outcome, reading_of}
+use Rattle.rasta_core.specs.Run.{Ends, called}
 use Rattle.object_host.specs.Host.{LinkCall, Ticks, Closes, Sends, Receives}
 use Rattle.object_host.specs.Made.{AreCallsFor, AreOwn, call_made, calls_made, items_given, items_given_by, items_taken}
 use Rattle.object_host.specs.declared.input.Input.{Input}

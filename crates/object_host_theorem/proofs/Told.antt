@@ -5,19 +5,20 @@ use Rattle.std.proofs.lemmas.Bool.{true≢false, false≢true}
 use Rattle.std.proofs.lemmas.List.{append-nil}
 use Rattle.sci_telegram.specs.Reading.{reading}
 use Rattle.sci_telegram.specs.declared.telegram.Telegram.{Telegram}
-use Rattle.rasta_core_link.specs.State.{LinkState, is_open}
-use Rattle.rasta_core_link.specs.Clock.{settled}
-use Rattle.rasta_core_link.specs.Calls.{created}
-use Rattle.rasta_core_link.specs.declared.identity.Role.{Role}
-use Rattle.rasta_core_link.specs.declared.identity.Role.TheVariants as role
-use Rattle.rasta_core_ends.specs.Ends as calls
-use Rattle.rasta_core_ends.specs.Ends.{Call, end_later, end_restarted, kept, reading_of}
-use Rattle.rasta_core_ends.specs.Run.{Ends, called, later, lost, restarted}
-use Rattle.rasta_core_time.specs.Events as links
-use Rattle.rasta_core_time.specs.Events.{MayCall, Start, started}
-use Rattle.rasta_core_time.specs.Invariant.{AreNames, Names, Timely}
-use Rattle.rasta_core_theorem.specs.Ordered.{Ordered}
-use Rattle.rasta_core_theorem.specs.Safe.{AreSafe}
+use Rattle.rasta_core.specs.State.{LinkState, is_open}
+use Rattle.rasta_core.specs.Clock.{settled}
+use Rattle.rasta_core.specs.Calls.{created}
+use Rattle.rasta_core.specs.identity.Role.{Role}
+use Rattle.rasta_core.specs.identity.Role.TheVariants as role
+use Rattle.rasta_core.specs.Ends as calls
+use Rattle.rasta_core.specs.Ends.{Call, end_later, end_restarted, kept, reading_of}
+use Rattle.rasta_core.specs.Run.{Ends, called, later, lost, restarted}
+use Rattle.rasta_core.specs.Events as links
+use Rattle.rasta_core.specs.Events.{MayCall, Start, started}
+use Rattle.rasta_core.specs.Names.{AreNames, Names}
+use Rattle.rasta_core.specs.Invariant.{Timely}
+use Rattle.rasta_core.specs.Ordered.{Ordered}
+use Rattle.rasta_core.specs.Safe.{AreSafe}
 use Rattle.object_host.specs.Behaviour.{Behaviour}
 use Rattle.object_host.specs.Host.{HostState, LinkCall, Part, Ticks, Closes, Sends, Receives}
 use Rattle.object_host.specs.Made.{ActsOn, AreCallsFor, AreItems, AreOwn, IsMadeOf, calls_made, command_of, commands_of, items_given, items_taken}

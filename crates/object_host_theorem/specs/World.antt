@@ -1,14 +1,14 @@
 -- A commanding client, the host that is the server of its link, and the datagrams between them.
 use Rattle.std.specs.Prelude.{◌≡◌, ℕ, ◌+◌, List, [], ◌∷◌, ◌++◌, Option, Some, None}
 use Rattle.sci_telegram.specs.declared.telegram.Telegram.{Telegram}
-use Rattle.rasta_core_link.specs.State.{LinkState, is_open}
-use Rattle.rasta_core_link.specs.declared.identity.Role.{Role}
-use Rattle.rasta_core_link.specs.declared.identity.Role.TheVariants as role
-use Rattle.rasta_core_ends.specs.Ends as calls
-use Rattle.rasta_core_ends.specs.Ends.{Call, outcome, kept, reading_of}
-use Rattle.rasta_core_ends.specs.Run.{Ends, called, later, lost, restarted}
-use Rattle.rasta_core_time.specs.Events.{IsWithinDrift, MayCall, Start, started}
-use Rattle.rasta_core_time.specs.Invariant.{Names, identity_of}
+use Rattle.rasta_core.specs.State.{LinkState, is_open}
+use Rattle.rasta_core.specs.identity.Role.{Role}
+use Rattle.rasta_core.specs.identity.Role.TheVariants as role
+use Rattle.rasta_core.specs.Ends as calls
+use Rattle.rasta_core.specs.Ends.{Call, outcome, kept, reading_of}
+use Rattle.rasta_core.specs.Run.{Ends, called, later, lost, restarted}
+use Rattle.rasta_core.specs.Events.{IsWithinDrift, MayCall, Start, started}
+use Rattle.rasta_core.specs.Names.{Names, identity_of}
 use Rattle.object_host.specs.Behaviour.{Behaviour}
 use Rattle.object_host.specs.Host.{HostState, LinkCall, Part, Ticks, Closes, Sends, Receives}
 use Rattle.object_host.specs.Hosted.{new_host}

@@ -1,16 +1,18 @@
 //! What an object is told, for every lawful object.
 
 ghost use Rattle.std.specs.Prelude.{◌≡◌, ℕ, ◌++◌, List};
-ghost use Rattle.rasta_core_ends.specs.Ends.{kept, reading_of};
-ghost use Rattle.rasta_core_time.specs.Events.{Start};
-ghost use Rattle.rasta_core_time.specs.Invariant.{AreNames, Names};
+ghost use Rattle.rasta_core.specs.Ends.{kept, reading_of};
+ghost use Rattle.rasta_core.specs.Events.{Start};
+ghost use Rattle.rasta_core.specs.Names.{AreNames, Names};
 ghost use Rattle.object_host.specs.Made.{items_given, items_taken};
 ghost use Rattle.object_host.specs.declared.input.Input.{Input};
 ghost use Rattle.object_host_theorem.specs.World.{Event, IsToldInConnection, MayRun, World, begun, entering, run, step_of, stepped};
 
 use object_host::{Controller, own_calls_open_nothing, step_is_calls, step_tells_what_was_taken};
-use rasta_core_theorem::{every_event_keeps_order, order_is_safe};
-use rasta_core_time::{every_event_keeps_time, links_are_settled, starts_in_time};
+use rasta_core::{
+    every_event_keeps_order, every_event_keeps_time, links_are_settled, order_is_safe,
+    starts_in_time,
+};
 
 /// After every list of events, in a connection that is the last of both ends, the object was told what a beginning of
 /// the items commands that the client's `send` accepted there, in order and each once.

@@ -7,7 +7,7 @@ ghost use Rattle.point_ctl.specs.Controlled.{point_behaviour};
 use crate::parameters::DRIVE_LIMIT;
 use crate::progress::{Progress, is_at};
 use object_host::{Controller, Report, Sense};
-use rasta_core_link::Millis;
+use rasta_core::Millis;
 use sci_telegram::{Message, PointMessage, Position, Protocol, Side, Telegram};
 use std::marker::Model;
 

@@ -4,7 +4,7 @@ ghost use Rattle.std.specs.Prelude.{◌≡◌};
 ghost use Rattle.point_ctl.specs.Drive.{is_at};
 
 use crate::parameters::DRIVE_LIMIT;
-use rasta_core_link::Millis;
+use rasta_core::Millis;
 use sci_telegram::{Position, Side};
 
 /// How far the move that was taken last has come.

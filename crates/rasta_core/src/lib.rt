@@ -3,11 +3,11 @@
 //! their public surface.
 #![tactic(auto)]
 
-pub use rasta_core_ends::Sent;
 pub use rasta_core_link::{
     Identity, Inbox, Link, Millis, Outbox, Reason, Role, SendFault, State, Verdict,
 };
-pub use rasta_core_links::{each_link_is_a_run, links_of_one_client};
+pub use rasta_core_network::{each_link_is_a_run, links_of_one_client};
+pub use rasta_core_run::Sent;
 pub use rasta_core_theorem::{
     every_event_keeps_order, given_was_sent, items_are_counted, link_is_safe, order_is_safe,
     outside_until_it_enters, what_is_taken,

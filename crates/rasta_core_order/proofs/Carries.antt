@@ -22,7 +22,8 @@ use Rattle.rasta_pdu.specs.declared.body.Opening.{Opening}
 use Rattle.rasta_pdu.specs.declared.body.Body.{Body}
 use Rattle.rasta_pdu.specs.declared.body.Body.TheVariants.{ConnectionRequest, ConnectionResponse, RetransmissionRequest, RetransmissionResponse, DisconnectionRequest, Heartbeat, Data, RetransmittedData}
 use Rattle.rasta_core_order.specs.Held.{Held, Head}
-use Rattle.rasta_core_order.specs.Carried.{new_items, carried}
+use Rattle.rasta_core_run.specs.Given.{new_items}
+use Rattle.rasta_core_order.specs.Carried.{carried}
 use Rattle.rasta_core_order.specs.Playing.{accepted}
 use Rattle.rasta_core_order.proofs.Tests.{by_test}
 use Rattle.rasta_core_order.proofs.Phases.{Admits, violates, discards, closes, resumes, turns, admits}

@@ -9,15 +9,16 @@ use Rattle.rasta_core_link.specs.declared.identity.Identity.{Identity}
 use Rattle.rasta_core_link.specs.declared.identity.Role.{Role}
 use Rattle.rasta_core_link.specs.declared.identity.Role.TheVariants as role
 use Rattle.rasta_core_link.specs.declared.reason.Reason.{Reason}
-use Rattle.rasta_core_ends.specs.Ends.{Outcome, Ticks, Opens, Closes, Sends, outcome, reading_of, end_after, newer}
-use Rattle.rasta_core_ends.specs.Run.{Ends, end_of, called}
+use Rattle.rasta_core_run.specs.Ends.{Outcome, Ticks, Opens, Closes, Sends, outcome, reading_of, end_after, newer}
+use Rattle.rasta_core_run.specs.Run.{Ends, end_of, called}
 use Rattle.rasta_core_order.specs.Order.{InOrder}
 use Rattle.rasta_core_order.specs.Playing.{GoesOn}
 use Rattle.rasta_core_order.specs.Beginning.{EarlyGoesOn}
-use Rattle.rasta_core_time.specs.Each.{Each}
+use Rattle.rasta_core_run.specs.Each.{Each}
 use Rattle.rasta_core_time.specs.Standing.{IsInside, standing}
-use Rattle.rasta_core_time.specs.Invariant.{Names, Timely}
-use Rattle.rasta_core_time.specs.Events.{MayCall}
+use Rattle.rasta_core_run.specs.Names.{Names}
+use Rattle.rasta_core_time.specs.Invariant.{Timely}
+use Rattle.rasta_core_run.specs.Events.{MayCall}
 use Rattle.rasta_core_time.proofs.Deeds.{Own, Steps, ticking_does, closing_does, sending_does, opening_does}
 use Rattle.rasta_core_time.proofs.Finishing.{made_at}
 use Rattle.rasta_core_time.proofs.CallsKept.{ends_ready, ends_clock}

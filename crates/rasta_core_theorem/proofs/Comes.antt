@@ -3,14 +3,15 @@ use Rattle.std.proofs.Common.{◌≡◌, ℕ, ◌<◌, inl, inr, Bool, true, fal
 use Rattle.rasta_core_link.specs.declared.identity.Identity.{Identity}
 use Rattle.rasta_core_link.specs.declared.identity.Role.{Role}
 use Rattle.rasta_core_link.specs.declared.identity.Role.TheVariants as role
-use Rattle.rasta_core_ends.specs.Ends.{Sent, Receives}
-use Rattle.rasta_core_ends.specs.Run.{Ends}
+use Rattle.rasta_core_run.specs.Ends.{Sent, Receives}
+use Rattle.rasta_core_run.specs.Run.{Ends}
 use Rattle.rasta_core_order.specs.Part.{IsOf}
-use Rattle.rasta_core_time.specs.Each.{Each}
-use Rattle.rasta_core_time.specs.Standing.{Standing, IsInside, IsOutside, times_of, partner_of, standing}
+use Rattle.rasta_core_run.specs.Each.{Each}
+use Rattle.rasta_core_time.specs.Standing.{Standing, IsInside, IsOutside, times_of, standing}
+use Rattle.rasta_core_run.specs.Names.{partner_of, Names, AreNames, identity_of}
 use Rattle.rasta_core_time.specs.Timely.{IsKnown}
-use Rattle.rasta_core_time.specs.Invariant.{Names, AreNames, identity_of, InFlight, Timely}
-use Rattle.rasta_core_time.specs.Events.{IsDelivered, IsFor as IsMeant, MayCall}
+use Rattle.rasta_core_time.specs.Invariant.{InFlight, Timely}
+use Rattle.rasta_core_run.specs.Events.{IsDelivered, IsFor as IsMeant, MayCall}
 use Rattle.rasta_core_time.proofs.EachLaws.{each_turned}
 use Rattle.rasta_core_time.proofs.Reception.{alive_newest}
 use Rattle.rasta_core_time.proofs.Deeds.{Heard, Own, Word, IsFor, Deed, rests, speaks, asks, grants, joins, takes}

@@ -6,18 +6,20 @@ use Rattle.rasta_core_link.specs.Calls.{created}
 use Rattle.rasta_core_link.specs.declared.identity.Identity.{Identity}
 use Rattle.rasta_core_link.specs.declared.identity.Role.{Role}
 use Rattle.rasta_core_link.specs.declared.identity.Role.TheVariants as role
-use Rattle.rasta_core_ends.specs.Bag.{is_copy, without_oldest}
-use Rattle.rasta_core_ends.specs.Ends.{Sent, EndState, Call, Ticks, Opens, Closes, Sends, Receives, reading_of, end_later, end_restarted}
-use Rattle.rasta_core_ends.specs.Run.{Ends, called, later, lost, restarted}
+use Rattle.rasta_core_run.specs.Bag.{is_copy, without_oldest}
+use Rattle.rasta_core_run.specs.Ends.{Sent, EndState, Call, Ticks, Opens, Closes, Sends, Receives, reading_of, end_later, end_restarted}
+use Rattle.rasta_core_run.specs.Run.{Ends, called, later, lost, restarted}
 use Rattle.rasta_core_order.specs.Part.{Part}
 use Rattle.rasta_core_order.specs.Playing.{Keeps, Plays, joined, asking, left}
 use Rattle.rasta_core_order.specs.Beginning.{PlaysEarly, gone}
-use Rattle.rasta_core_time.specs.Each.{Each}
-use Rattle.rasta_core_time.specs.Invariant.{Names, AreNames, Timely}
-use Rattle.rasta_core_time.specs.Events.{Event, Calls, Passes, Loses, Restarts, Elsewhere, May, MayCall, happened, run, MayRun, Start, started}
+use Rattle.rasta_core_run.specs.Each.{Each}
+use Rattle.rasta_core_run.specs.Names.{Names, AreNames}
+use Rattle.rasta_core_time.specs.Invariant.{Timely}
+use Rattle.rasta_core_run.specs.Events.{Event, Calls, Passes, Loses, Restarts, Elsewhere, May, MayCall, happened, run, MayRun, Start, started}
 use Rattle.rasta_core_time.proofs.Called.{ReadIsIntact}
 use Rattle.rasta_core_theorem.specs.Ordered.{IsSpelledIn, Ordered, unbegun, alone, together}
-use Rattle.rasta_core_theorem.specs.Safe.{AreCounted, AreSafe, IsCounted, IsSafe, counts, made_anew}
+use Rattle.rasta_core_run.specs.Safe.{AreCounted, AreSafe, IsCounted, IsSafe}
+use Rattle.rasta_core_run.specs.Safe.{counts, made_anew}
 use Rattle.rasta_core_theorem.proofs.Tests.{by_test}
 use Rattle.rasta_core_theorem.proofs.OrderLaws.{Laws, SafeLaws}
 use Rattle.rasta_core_theorem.proofs.Calls.{ticks_client, closes_client, sends_client, opens_client, ticks_server, closes_server, sends_server, opens_server}

@@ -2,10 +2,10 @@
 use Rattle.std.proofs.Common.{◌≡◌, ℕ, zero, suc, List, [], ◌∷◌, ◌++◌, Option, Ok, refl, sym, subst, append_assoc}
 use Rattle.rasta_core_link.specs.declared.identity.Role.{Role}
 use Rattle.rasta_core_link.specs.Outbox.{spellings}
-use Rattle.rasta_core_ends.specs.Ends.{Sent, handed_out}
+use Rattle.rasta_core_run.specs.Ends.{Sent, handed_out}
 use Rattle.rasta_core_order.specs.Part.{IsAt, IsOf}
-use Rattle.rasta_core_time.specs.Each.{Each}
-use Rattle.rasta_core_time.specs.Invariant.{Names}
+use Rattle.rasta_core_run.specs.Each.{Each}
+use Rattle.rasta_core_run.specs.Names.{Names}
 use Rattle.rasta_core_time.proofs.EachLaws.{each_join, each_turned}
 use Rattle.rasta_core_time.proofs.Conversation.{WrittenIsRead}
 use Rattle.rasta_core_theorem.specs.Ordered.{IsSpelledIn}

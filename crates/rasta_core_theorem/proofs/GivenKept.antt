@@ -5,15 +5,16 @@ use Rattle.rasta_core_link.specs.Calls.{opens, opening, ticking, closing_by, sen
 use Rattle.rasta_core_link.specs.declared.identity.Role.{Role}
 use Rattle.rasta_core_link.specs.declared.identity.Role.TheVariants as role
 use Rattle.rasta_core_link.specs.declared.reason.Reason.{Reason}
-use Rattle.rasta_core_ends.specs.Ends.{Sent, Outcome, Call, Ticks, Opens, Closes, Sends, Receives, outcome, reading_of, end_later, end_restarted, is_taken}
-use Rattle.rasta_core_ends.specs.Run.{Ends, end_of, called, later, lost, restarted}
+use Rattle.rasta_core_run.specs.Ends.{Sent, Outcome, Call, Ticks, Opens, Closes, Sends, Receives, outcome, reading_of, end_later, end_restarted, is_taken}
+use Rattle.rasta_core_run.specs.Run.{Ends, end_of, called, later, lost, restarted}
 use Rattle.rasta_core_order.specs.Carried.{carried}
-use Rattle.rasta_core_time.specs.Each.{Each}
+use Rattle.rasta_core_run.specs.Each.{Each}
 use Rattle.rasta_core_time.specs.Standing.{standing, times_of}
-use Rattle.rasta_core_time.specs.Invariant.{Names, AreNames, InFlight, Timely}
-use Rattle.rasta_core_time.specs.Events.{Event, Calls, Passes, Loses, Restarts, Elsewhere, May, MayCall, happened, run, MayRun, Start, started}
+use Rattle.rasta_core_run.specs.Names.{Names, AreNames}
+use Rattle.rasta_core_time.specs.Invariant.{InFlight, Timely}
+use Rattle.rasta_core_run.specs.Events.{Event, Calls, Passes, Loses, Restarts, Elsewhere, May, MayCall, happened, run, MayRun, Start, started}
 use Rattle.rasta_core_time.specs.Timely.{IsKnown}
-use Rattle.rasta_core_time.specs.Sentences.{IsOpening}
+use Rattle.rasta_core_run.specs.Sentences.{IsOpening}
 use Rattle.rasta_core_time.proofs.EachLaws.{each_turned}
 use Rattle.rasta_core_time.proofs.CallsKept.{ends_ready}
 use Rattle.rasta_core_time.proofs.Deeds.{IsFor, ticking_does, closing_does, sending_does, opening_does}
@@ -27,7 +28,7 @@ use Rattle.rasta_pdu.specs.Items.{IsItem}
 use Rattle.rasta_pdu.specs.Reading.{reading}
 use Rattle.rasta_pdu.specs.Values.{IsPdu}
 use Rattle.rasta_core_link.specs.declared.identity.Identity.{Identity}
-use Rattle.rasta_core_theorem.specs.Given.{IsGiven}
+use Rattle.rasta_core_run.specs.Given.{IsGiven}
 use Rattle.rasta_core_theorem.proofs.Comes.{deed_pdus, client_enters_none, Comes, comes, in_newest, IsGranted, deed_grants}
 use Rattle.rasta_core_theorem.proofs.Calls.{client_key, server_key, at_clock, step_pdus}
 use Rattle.rasta_core_theorem.proofs.Receptions.{both_true, not_true}

@@ -5,15 +5,15 @@ use Rattle.std.proofs.lemmas.Bool.{eqb-true, eq-eqb}
 use Rattle.rasta_core_link.specs.Outbox.{spellings}
 use Rattle.rasta_core_link.specs.declared.identity.Role.{Role}
 use Rattle.rasta_core_link.specs.declared.identity.Role.TheVariants as role
-use Rattle.rasta_core_ends.specs.Bag.{is_copy, without_oldest}
-use Rattle.rasta_core_ends.specs.Ends.{Sent, Outcome, end_after, handed_out, newer, kept}
-use Rattle.rasta_core_ends.specs.Run.{Ends}
-use Rattle.rasta_core_order.specs.Carried.{carried, new_items}
-use Rattle.rasta_core_time.specs.Each.{Each}
-use Rattle.rasta_core_time.specs.Invariant.{Names}
+use Rattle.rasta_core_run.specs.Bag.{is_copy, without_oldest}
+use Rattle.rasta_core_run.specs.Ends.{Sent, Outcome, end_after, handed_out, newer, kept}
+use Rattle.rasta_core_run.specs.Run.{Ends}
+use Rattle.rasta_core_order.specs.Carried.{carried}
+use Rattle.rasta_core_run.specs.Given.{new_items, is_same, is_of, items_in, items_given, IsGiven}
+use Rattle.rasta_core_run.specs.Each.{Each}
+use Rattle.rasta_core_run.specs.Names.{Names}
 use Rattle.rasta_core_time.proofs.Conversation.{WrittenIsRead}
 use Rattle.rasta_core_time.proofs.Finishing.{made_at}
-use Rattle.rasta_core_theorem.specs.Given.{is_same, is_of, items_in, items_given, IsGiven}
 use Rattle.rasta_core_theorem.proofs.Tests.{by_test}
 use Rattle.rasta_pdu.specs.declared.key.Key.{Key}
 use Rattle.rasta_pdu.specs.declared.pdu.Pdu.{Pdu}

@@ -2,12 +2,12 @@
 use Rattle.std.proofs.Common.{◌≡◌, ℕ, List, [], ◌++◌, Option, Some, None, sym, ap, ◌∙◌}
 use Rattle.rasta_core_link.specs.Outbox.{spellings}
 use Rattle.rasta_core_link.specs.declared.identity.Role.TheVariants as role
-use Rattle.rasta_core_ends.specs.Ends.{Sent, Outcome, end_after, newer, kept}
-use Rattle.rasta_core_ends.specs.Run.{Ends}
+use Rattle.rasta_core_run.specs.Ends.{Sent, Outcome, end_after, newer, kept}
+use Rattle.rasta_core_run.specs.Run.{Ends}
 use Rattle.rasta_core_order.specs.Playing.{GoesOn}
 use Rattle.rasta_core_order.specs.Beginning.{EarlyGoesOn, Asks, Grants}
-use Rattle.rasta_core_time.specs.Each.{Each}
-use Rattle.rasta_core_time.specs.Invariant.{Names}
+use Rattle.rasta_core_run.specs.Each.{Each}
+use Rattle.rasta_core_run.specs.Names.{Names}
 use Rattle.rasta_core_time.proofs.Finishing.{made_at}
 use Rattle.rasta_core_theorem.specs.Ordered.{IsAlone, AreTogether}
 use Rattle.rasta_core_theorem.proofs.OrderLaws.{Laws}

@@ -16,11 +16,12 @@ use Rattle.rasta_core_order.specs.Order.{InOrder, Way}
 use Rattle.rasta_core_order.specs.Part.{IsAt, IsOf, Part}
 use Rattle.rasta_core_order.specs.Playing.{accepted, Plays, ReceiptGoesOn, StepGoesOn}
 use Rattle.rasta_core_link.specs.declared.identity.Role.{Role}
-use Rattle.rasta_core_ends.specs.Ends.{Sent, is_taken}
-use Rattle.rasta_core_ends.specs.Run.{Ends}
-use Rattle.rasta_core_time.specs.Events.{IsDelivered}
-use Rattle.rasta_core_time.specs.Invariant.{AreNames, Names, Timely}
-use Rattle.rasta_core_time.specs.Sentences.{IsOpening, IsOut, receipt_at}
+use Rattle.rasta_core_run.specs.Ends.{Sent, is_taken}
+use Rattle.rasta_core_run.specs.Run.{Ends}
+use Rattle.rasta_core_run.specs.Events.{IsDelivered}
+use Rattle.rasta_core_run.specs.Names.{AreNames, Names}
+use Rattle.rasta_core_time.specs.Invariant.{Timely}
+use Rattle.rasta_core_run.specs.Sentences.{IsOpening, IsOut, receipt_at}
 use Rattle.rasta_core_time.proofs.Conversation.{WrittenIsRead}
 use Rattle.rasta_pdu.specs.Reading.{reading}
 use Rattle.rasta_pdu.specs.declared.fault.PduFault.{PduFault}

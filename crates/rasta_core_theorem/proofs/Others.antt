@@ -8,17 +8,18 @@ use Rattle.rasta_core_link.specs.Calls.{receiving, hearing_bytes}
 use Rattle.rasta_core_link.specs.declared.identity.Identity.{Identity}
 use Rattle.rasta_core_link.specs.declared.identity.Role.{Role}
 use Rattle.rasta_core_link.specs.declared.verdict.Verdict.TheVariants as verdict
-use Rattle.rasta_core_ends.specs.Ends.{reading_of}
-use Rattle.rasta_core_ends.specs.Run.{Ends, end_of}
-use Rattle.rasta_core_time.specs.Invariant.{Names, identity_of, Timely}
-use Rattle.rasta_core_time.specs.Events.{IsFor as IsMeant, AreForeign}
-use Rattle.rasta_core_time.specs.Sentences.{receipt_at}
+use Rattle.rasta_core_run.specs.Ends.{reading_of}
+use Rattle.rasta_core_run.specs.Run.{Ends, end_of}
+use Rattle.rasta_core_run.specs.Names.{Names, identity_of}
+use Rattle.rasta_core_time.specs.Invariant.{Timely}
+use Rattle.rasta_core_run.specs.Events.{IsFor as IsMeant, AreForeign}
+use Rattle.rasta_core_run.specs.Sentences.{receipt_at}
 use Rattle.rasta_core_time.proofs.Deeds.{IsFor}
 use Rattle.rasta_core_time.proofs.Called.{ReadIsIntact, end_identity}
 use Rattle.rasta_core_theorem.proofs.Outside.{entered_identity}
 use Rattle.rasta_core_theorem.proofs.Tests.{by_test}
 use Rattle.rasta_core_theorem.proofs.Receptions.{for_me}
-use Rattle.rasta_core_theorem.specs.Safe.{IsIdle}
+use Rattle.rasta_core_run.specs.Safe.{IsIdle}
 use Rattle.rasta_pdu.specs.declared.key.Key.{Key}
 use Rattle.rasta_pdu.specs.declared.pdu.Pdu.{Pdu}
 use Rattle.rasta_pdu.specs.declared.fault.PduFault.{PduFault}

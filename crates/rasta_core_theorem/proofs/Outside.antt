@@ -14,7 +14,7 @@ use Rattle.rasta_core_link.specs.declared.identity.Role.TheVariants as role
 use Rattle.rasta_core_link.specs.declared.reason.Reason.{Reason}
 use Rattle.rasta_core_link.specs.declared.reason.Reason.TheVariants as reason
 use Rattle.rasta_core_link.specs.declared.verdict.Verdict.{Verdict}
-use Rattle.rasta_core_ends.specs.Ends.{EndState, Call, Ticks, Opens, Closes, Sends, Receives, outcome, entered_by, is_taken, reading_of}
+use Rattle.rasta_core_run.specs.Ends.{EndState, Call, Ticks, Opens, Closes, Sends, Receives, outcome, entered_by, is_taken, reading_of}
 use Rattle.rasta_core_order.specs.Beginning.{HearsOutside, refuses, grants}
 use Rattle.rasta_core_theorem.proofs.Tests.{by_test}
 use Rattle.rasta_pdu.specs.declared.body.Body.TheVariants.{Heartbeat}

@@ -14,16 +14,17 @@ use Rattle.rasta_core_link.specs.declared.phase.State.TheVariants as state
 use Rattle.rasta_core_link.specs.declared.reason.Reason.TheVariants as reason
 use Rattle.rasta_core_link.specs.declared.verdict.Verdict.{Verdict}
 use Rattle.rasta_core_link.specs.declared.verdict.Verdict.TheVariants as verdict
-use Rattle.rasta_core_ends.specs.Ends.{Outcome, Receives, outcome, reading_of, entered_by, is_taken}
-use Rattle.rasta_core_ends.specs.Run.{Ends, called}
+use Rattle.rasta_core_run.specs.Ends.{Outcome, Receives, outcome, reading_of, entered_by, is_taken}
+use Rattle.rasta_core_run.specs.Run.{Ends, called}
 use Rattle.rasta_core_order.specs.Part.{Part, IsOf, IsAt}
 use Rattle.rasta_core_order.specs.Order.{Carries}
 use Rattle.rasta_core_order.specs.Playing.{GoesOn}
 use Rattle.rasta_core_order.specs.Beginning.{EarlyGoesOn, Grants, HearsOutside, refuses, grants}
 use Rattle.rasta_core_time.specs.Standing.{standing}
-use Rattle.rasta_core_time.specs.Invariant.{Names, AreNames, Timely}
-use Rattle.rasta_core_time.specs.Events.{MayCall}
-use Rattle.rasta_core_time.specs.Sentences.{IsOpening}
+use Rattle.rasta_core_run.specs.Names.{Names, AreNames}
+use Rattle.rasta_core_time.specs.Invariant.{Timely}
+use Rattle.rasta_core_run.specs.Events.{MayCall}
+use Rattle.rasta_core_run.specs.Sentences.{IsOpening}
 use Rattle.rasta_core_time.proofs.States.{IsReady, entering, calm}
 use Rattle.rasta_core_time.proofs.Deeds.{IsFor}
 use Rattle.rasta_core_time.proofs.Receipts.{Receives as Hears}

@@ -2,14 +2,14 @@
 use Rattle.std.specs.Prelude.{◌≡◌, ℕ, List, [], Some, None, Ok}
 use Rattle.rasta_core_link.specs.declared.identity.Role.{Role}
 use Rattle.rasta_core_link.specs.declared.identity.Role.TheVariants as role
-use Rattle.rasta_core_ends.specs.Ends.{Sent}
-use Rattle.rasta_core_ends.specs.Run.{Ends}
+use Rattle.rasta_core_run.specs.Ends.{Sent}
+use Rattle.rasta_core_run.specs.Run.{Ends}
 use Rattle.rasta_core_order.specs.Part.{Part, IsOf}
 use Rattle.rasta_core_order.specs.Order.{InOrder}
 use Rattle.rasta_core_order.specs.Playing.{Plays}
 use Rattle.rasta_core_order.specs.Beginning.{IsEarly, PlaysEarly}
-use Rattle.rasta_core_time.specs.Each.{Each}
-use Rattle.rasta_core_time.specs.Invariant.{Names}
+use Rattle.rasta_core_run.specs.Each.{Each}
+use Rattle.rasta_core_run.specs.Names.{Names}
 use Rattle.rasta_pdu.specs.declared.pdu.Pdu.{Pdu}
 use Rattle.rasta_pdu.specs.Reading.{reading}
 

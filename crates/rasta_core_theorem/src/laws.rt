@@ -4,15 +4,16 @@ ghost use Rattle.std.specs.Prelude.{◌≡◌, ◌≢◌, ◌⊎◌, ℕ, ◌+�
 ghost use Rattle.rasta_core_link.specs.declared.identity.Role.{Role};
 ghost use Rattle.rasta_core_link.specs.declared.identity.Role.TheVariants as role;
 ghost use Rattle.rasta_core_link.specs.State.{is_open};
-ghost use Rattle.rasta_core_ends.specs.Ends.{Sent, Call, EndState, Receives, is_taken, outcome};
-ghost use Rattle.rasta_core_ends.specs.Run.{Ends, end_of, called};
-ghost use Rattle.rasta_core_time.specs.Events.{AreForeign, Event, IsDelivered, May, MayRun, Start, happened, run, started};
-ghost use Rattle.rasta_core_time.specs.Invariant.{AreNames, Names, Timely};
-ghost use Rattle.rasta_core_time.specs.Sentences.{IsOpening, IsOut, freshness, receipt_at};
-ghost use Rattle.rasta_core_theorem.specs.Given.{IsGiven};
+ghost use Rattle.rasta_core_run.specs.Ends.{Sent, Call, EndState, Receives, is_taken, outcome};
+ghost use Rattle.rasta_core_run.specs.Run.{Ends, end_of, called};
+ghost use Rattle.rasta_core_run.specs.Events.{AreForeign, Event, IsDelivered, May, MayRun, Start, happened, run, started};
+ghost use Rattle.rasta_core_run.specs.Names.{AreNames, Names};
+ghost use Rattle.rasta_core_time.specs.Invariant.{Timely};
+ghost use Rattle.rasta_core_run.specs.Sentences.{IsOpening, IsOut, freshness, receipt_at};
+ghost use Rattle.rasta_core_run.specs.Given.{IsGiven};
 ghost use Rattle.rasta_core_theorem.specs.Ordered.{Ordered};
 ghost use Rattle.rasta_pdu.specs.SafetyCode.{IsIntact};
-ghost use Rattle.rasta_core_theorem.specs.Safe.{AreCounted, AreSafe, IsIdle};
+ghost use Rattle.rasta_core_run.specs.Safe.{AreCounted, AreSafe, IsIdle};
 
 use rasta_core_order::{
     calls_carry_what_they_accept, calls_keep_order, client_alone, connection_begins,

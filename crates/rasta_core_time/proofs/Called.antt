@@ -5,19 +5,20 @@ use Rattle.rasta_core_link.specs.Calls.{opens, opening, ticking, closing_by, sen
 use Rattle.rasta_core_link.specs.declared.identity.Identity.{Identity}
 use Rattle.rasta_core_link.specs.declared.identity.Role.{Role}
 use Rattle.rasta_core_link.specs.declared.identity.Role.TheVariants as role
-use Rattle.rasta_core_ends.specs.Ends.{Sent, Call, Ticks, Opens, Closes, Sends, Receives, outcome, reading_of}
-use Rattle.rasta_core_ends.specs.Run.{Ends, end_of, called}
+use Rattle.rasta_core_run.specs.Ends.{Sent, Call, Ticks, Opens, Closes, Sends, Receives, outcome, reading_of}
+use Rattle.rasta_core_run.specs.Run.{Ends, end_of, called}
 use Rattle.rasta_pdu.specs.declared.key.Key.{Key}
 use Rattle.rasta_pdu.specs.declared.fault.PduFault.{PduFault}
 use Rattle.rasta_pdu.specs.declared.pdu.Pdu.{Pdu}
 use Rattle.rasta_pdu.specs.Reading.{reading}
 use Rattle.rasta_pdu.specs.SafetyCode.{IsIntact}
 use Rattle.rasta_pdu.specs.Values.{IsPdu}
-use Rattle.rasta_core_time.specs.Each.{Each}
+use Rattle.rasta_core_run.specs.Each.{Each}
 use Rattle.rasta_core_time.specs.Standing.{Times, times_of}
 use Rattle.rasta_core_time.specs.Timely.{IsKnown}
-use Rattle.rasta_core_time.specs.Invariant.{Names, AreNames, identity_of, InFlight, Timely}
-use Rattle.rasta_core_time.specs.Events.{IsAmong, IsDelivered, IsFor as IsMeant, AreForeign, MayCall}
+use Rattle.rasta_core_run.specs.Names.{Names, AreNames, identity_of}
+use Rattle.rasta_core_time.specs.Invariant.{InFlight, Timely}
+use Rattle.rasta_core_run.specs.Events.{IsAmong, IsDelivered, IsFor as IsMeant, AreForeign, MayCall}
 use Rattle.rasta_core_time.proofs.Deeds.{Own, Word, IsFor, Steps, ticking_does, closing_does, sending_does, opening_does}
 use Rattle.rasta_core_time.proofs.Receipts.{Receives as Hears}
 use Rattle.rasta_core_time.proofs.Hearing.{read_pdu, AreRead, receiving_does}

@@ -3,12 +3,13 @@ use Rattle.std.proofs.Common.{◌≡◌, ℕ, Bool, true, false, List, Option, S
 use Rattle.rasta_core_link.specs.declared.identity.Identity.{Identity}
 use Rattle.rasta_core_link.specs.declared.identity.Role.{Role}
 use Rattle.rasta_core_link.specs.declared.identity.Role.TheVariants as role
-use Rattle.rasta_core_ends.specs.Ends.{EndState, Outcome, reading_of}
-use Rattle.rasta_core_ends.specs.Run.{Ends, end_of}
+use Rattle.rasta_core_run.specs.Ends.{EndState, Outcome, reading_of}
+use Rattle.rasta_core_run.specs.Run.{Ends, end_of}
 use Rattle.rasta_pdu.specs.declared.pdu.Pdu.{Pdu}
 use Rattle.rasta_core_time.specs.Standing.{Past, Times, IsInside, own_stamp, standing, timed, times_of}
 use Rattle.rasta_core_time.specs.Timely.{IsTimed}
-use Rattle.rasta_core_time.specs.Invariant.{Names, AreNames, IsEnd, Timely}
+use Rattle.rasta_core_run.specs.Names.{Names, AreNames}
+use Rattle.rasta_core_time.specs.Invariant.{IsEnd, Timely}
 use Rattle.rasta_core_time.proofs.Sounds.{standing_open}
 use Rattle.rasta_core_time.proofs.States.{IsReady}
 use Rattle.rasta_core_time.proofs.Deeds.{Heard, Own, Word, IsFor, Deed, rests, speaks, asks, grants, joins, takes, Does}

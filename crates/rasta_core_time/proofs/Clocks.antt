@@ -7,15 +7,16 @@ use Rattle.rasta_core_link.specs.Sending.{closed}
 use Rattle.rasta_core_link.specs.Calls.{created}
 use Rattle.rasta_core_link.specs.declared.identity.Role.{Role}
 use Rattle.rasta_core_link.specs.declared.identity.Role.TheVariants as role
-use Rattle.rasta_core_ends.specs.Bag.{without_oldest, is_copy}
-use Rattle.rasta_core_ends.specs.Ends.{Sent, EndState, reading_of, end_later, end_restarted}
-use Rattle.rasta_core_ends.specs.Run.{Ends, later, lost, restarted}
-use Rattle.rasta_core_time.specs.Each.{Each}
+use Rattle.rasta_core_run.specs.Bag.{without_oldest, is_copy}
+use Rattle.rasta_core_run.specs.Ends.{Sent, EndState, reading_of, end_later, end_restarted}
+use Rattle.rasta_core_run.specs.Run.{Ends, later, lost, restarted}
+use Rattle.rasta_core_run.specs.Each.{Each}
 use Rattle.rasta_core_time.specs.Standing.{Standing, Inside, Outside, Past, Timed, Times, IsInside, own_stamp, standing, timed, times_of}
 use Rattle.rasta_core_time.specs.Moves.{clock_on, time_on, outside}
 use Rattle.rasta_core_time.specs.Timely.{IsTimed, AreTimed}
-use Rattle.rasta_core_time.specs.Invariant.{Names, AreNames, InFlight, IsEnd, IsSound, Timely}
-use Rattle.rasta_core_time.specs.Events.{IsWithinDrift, new_end, Start, started}
+use Rattle.rasta_core_run.specs.Names.{Names, AreNames}
+use Rattle.rasta_core_time.specs.Invariant.{InFlight, IsEnd, IsSound, Timely}
+use Rattle.rasta_core_run.specs.Events.{IsWithinDrift, new_end, Start, started}
 use Rattle.rasta_core_time.proofs.EachLaws.{each_turned}
 use Rattle.rasta_core_time.proofs.MovesOfEnds.{LivesOn, sent_on_kept, time_on_kept, client_out_kept, server_out_kept}
 use Rattle.rasta_core_time.proofs.Datagrams.{known_sent_on, known_time_on, known_client_out, known_server_out}

@@ -9,18 +9,19 @@ use Rattle.rasta_core_link.specs.declared.identity.Identity.{Identity}
 use Rattle.rasta_core_link.specs.declared.identity.Role.{Role}
 use Rattle.rasta_core_link.specs.declared.identity.Role.TheVariants as role
 use Rattle.rasta_core_link.specs.declared.phase.State.TheVariants as state
-use Rattle.rasta_core_ends.specs.Bag.{lifetime}
-use Rattle.rasta_core_ends.specs.Ends.{Sent, Receives, outcome, end_after, is_taken, reading_of, newer}
-use Rattle.rasta_core_ends.specs.Run.{Ends, end_of, called}
+use Rattle.rasta_core_run.specs.Bag.{lifetime}
+use Rattle.rasta_core_run.specs.Ends.{Sent, Receives, outcome, end_after, is_taken, reading_of, newer}
+use Rattle.rasta_core_run.specs.Run.{Ends, end_of, called}
 use Rattle.rasta_pdu.specs.declared.pdu.Pdu.{Pdu}
 use Rattle.rasta_pdu.specs.declared.fault.PduFault.{PduFault}
 use Rattle.rasta_pdu.specs.Reading.{reading}
-use Rattle.rasta_core_time.specs.Each.{Each}
-use Rattle.rasta_core_time.specs.Standing.{Times, IsInside, IsOutside, HasHeard, own_stamp, closed_at, standing, timed, times_of, partner_of}
-use Rattle.rasta_core_time.specs.Timely.{IsKnown, IsAnswering, IsRequest}
-use Rattle.rasta_core_time.specs.Invariant.{Names, AreNames, name_of, identity_of, InFlight, Timely}
-use Rattle.rasta_core_time.specs.Events.{IsDelivered}
-use Rattle.rasta_core_time.specs.Sentences.{freshness, receipt_at, IsIn, IsOut, IsDownNow, IsOpening, HasBeenOut}
+use Rattle.rasta_core_run.specs.Each.{Each}
+use Rattle.rasta_core_time.specs.Standing.{Times, IsInside, IsOutside, HasHeard, own_stamp, closed_at, standing, timed, times_of}
+use Rattle.rasta_core_run.specs.Names.{partner_of, Names, AreNames, name_of, identity_of}
+use Rattle.rasta_core_time.specs.Timely.{IsKnown, IsAnswering}
+use Rattle.rasta_core_run.specs.Sentences.{IsRequest, freshness, receipt_at, IsIn, IsOut, IsDownNow, IsOpening}
+use Rattle.rasta_core_time.specs.Invariant.{InFlight, Timely, HasBeenOut}
+use Rattle.rasta_core_run.specs.Events.{IsDelivered}
 use Rattle.rasta_core_time.proofs.EachLaws.{each_turned}
 use Rattle.rasta_core_time.proofs.Phases.{up_open, up_heard}
 use Rattle.rasta_core_time.proofs.Sounds.{standing_open, standing_closed, inside_open, of_heard}

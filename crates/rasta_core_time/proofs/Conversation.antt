@@ -3,17 +3,18 @@ use Rattle.std.proofs.Common.{◌≡◌, ℕ, inl, inr, ◌+◌, List, [], ◌�
 use Rattle.rasta_core_link.specs.Outbox.{spellings}
 use Rattle.rasta_core_link.specs.declared.identity.Role.{Role}
 use Rattle.rasta_core_link.specs.declared.identity.Role.TheVariants as role
-use Rattle.rasta_core_ends.specs.Ends.{Sent, handed_out}
+use Rattle.rasta_core_run.specs.Ends.{Sent, handed_out}
 use Rattle.rasta_pdu.specs.declared.key.Key.{Key}
 use Rattle.rasta_pdu.specs.declared.pdu.Pdu.{Pdu}
 use Rattle.rasta_pdu.specs.Values.{IsPdu}
 use Rattle.rasta_pdu.specs.Reading.{reading}
 use Rattle.rasta_pdu.specs.Spelling.{writing}
-use Rattle.rasta_core_time.specs.Each.{Each}
+use Rattle.rasta_core_run.specs.Each.{Each}
 use Rattle.rasta_core_time.specs.Standing.{Standing, Outside, Past, Times, IsInside, IsOutside, closed_at, at_role}
 use Rattle.rasta_core_time.specs.Moves.{with_timed, sent_on}
 use Rattle.rasta_core_time.specs.Timely.{AreTimed, IsKnown}
-use Rattle.rasta_core_time.specs.Invariant.{Names, identity_of, InFlight}
+use Rattle.rasta_core_run.specs.Names.{Names, identity_of}
+use Rattle.rasta_core_time.specs.Invariant.{InFlight}
 use Rattle.rasta_core_time.proofs.EachLaws.{each_join, each_turned}
 use Rattle.rasta_core_time.proofs.MovesOfEnds.{sent_on_kept, client_out_kept, server_out_kept}
 use Rattle.rasta_core_time.proofs.Reception.{Reads}

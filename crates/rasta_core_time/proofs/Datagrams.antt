@@ -6,7 +6,8 @@ use Rattle.rasta_core_link.specs.declared.identity.Role.TheVariants as role
 use Rattle.rasta_pdu.specs.declared.pdu.Pdu.{Pdu}
 use Rattle.rasta_core_time.specs.Standing.{Standing, Inside, Outside, Times, IsInside, IsOutside, HasHeard, heard_stamp, at_role}
 use Rattle.rasta_core_time.specs.Moves.{time_on, sent_on, outside, asking, granting, hearing}
-use Rattle.rasta_core_time.specs.Timely.{AreTimed, IsAnswering, IsRequest, IsKnown}
+use Rattle.rasta_core_time.specs.Timely.{AreTimed, IsAnswering, IsKnown}
+use Rattle.rasta_core_run.specs.Sentences.{IsRequest}
 use Rattle.rasta_core_time.proofs.MovesOfEnds.{Keeps}
 use Rattle.rasta_core_time.proofs.Reception.{Reads, IsDown, long_away, not_long}
 

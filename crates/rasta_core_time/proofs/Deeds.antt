@@ -20,7 +20,8 @@ use Rattle.rasta_pdu.specs.declared.body.Body.TheVariants.{Heartbeat}
 use Rattle.rasta_pdu.specs.Values.{IsPdu, IsOpening}
 use Rattle.rasta_pdu.specs.Items.{IsItem}
 use Rattle.rasta_core_time.specs.Standing.{Standing, Inside, IsInside, own_stamp, standing}
-use Rattle.rasta_core_time.specs.Timely.{IsAnswering, IsRequest}
+use Rattle.rasta_core_time.specs.Timely.{IsAnswering}
+use Rattle.rasta_core_run.specs.Sentences.{IsRequest}
 use Rattle.rasta_core_time.proofs.Phases.{up_open, up_heard}
 use Rattle.rasta_core_time.specs.Invariant.{IsSound}
 use Rattle.rasta_core_time.proofs.Sounds.{standing_closed, inside_open}

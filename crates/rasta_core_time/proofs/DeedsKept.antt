@@ -5,13 +5,14 @@ use Rattle.rasta_core_link.specs.Outbox.{spellings}
 use Rattle.rasta_core_link.specs.declared.identity.Identity.{Identity}
 use Rattle.rasta_core_link.specs.declared.identity.Role.{Role}
 use Rattle.rasta_core_link.specs.declared.identity.Role.TheVariants as role
-use Rattle.rasta_core_ends.specs.Ends.{Sent, Outcome, end_after, handed_out, newer, leaves}
-use Rattle.rasta_core_ends.specs.Run.{Ends}
+use Rattle.rasta_core_run.specs.Ends.{Sent, Outcome, end_after, handed_out, newer, leaves}
+use Rattle.rasta_core_run.specs.Run.{Ends}
 use Rattle.rasta_pdu.specs.declared.pdu.Pdu.{Pdu}
-use Rattle.rasta_core_time.specs.Each.{Each}
-use Rattle.rasta_core_time.specs.Standing.{Standing, Inside, Outside, Past, Times, IsInside, own_stamp, standing, timed, times_of, partner_of}
+use Rattle.rasta_core_run.specs.Each.{Each}
+use Rattle.rasta_core_time.specs.Standing.{Standing, Inside, Outside, Past, Times, IsInside, own_stamp, standing, timed, times_of}
+use Rattle.rasta_core_run.specs.Names.{partner_of, Names, AreNames, name_of, identity_of}
 use Rattle.rasta_core_time.specs.Timely.{AreTimed, IsKnown, IsAnswering}
-use Rattle.rasta_core_time.specs.Invariant.{Names, AreNames, name_of, identity_of, InFlight, Timely}
+use Rattle.rasta_core_time.specs.Invariant.{InFlight, Timely}
 use Rattle.rasta_core_time.proofs.EachLaws.{each_turned}
 use Rattle.rasta_core_time.proofs.Reception.{IsAlive}
 use Rattle.rasta_core_time.proofs.Taking.{IsFresh, client_taking_kept, server_taking_kept}

@@ -5,13 +5,14 @@ use Rattle.rasta_core_link.specs.Outbox.{spellings}
 use Rattle.rasta_core_link.specs.declared.identity.Identity.{Identity}
 use Rattle.rasta_core_link.specs.declared.identity.Role.{Role}
 use Rattle.rasta_core_link.specs.declared.identity.Role.TheVariants as role
-use Rattle.rasta_core_ends.specs.Ends.{EndState, Outcome, reading_of, end_after, handed_out, newer, leaves}
-use Rattle.rasta_core_ends.specs.Run.{Ends, end_of, with_end}
+use Rattle.rasta_core_run.specs.Ends.{EndState, Outcome, reading_of, end_after, handed_out, newer, leaves}
+use Rattle.rasta_core_run.specs.Run.{Ends, end_of, with_end}
 use Rattle.rasta_pdu.specs.declared.key.Key.{Key}
-use Rattle.rasta_core_time.specs.Each.{Each}
+use Rattle.rasta_core_run.specs.Each.{Each}
 use Rattle.rasta_core_time.specs.Standing.{Standing, Inside, Outside, Past, Times, IsInside, IsOutside, closed_at, standing, timed, times_of}
 use Rattle.rasta_core_time.specs.Timely.{AreTimed}
-use Rattle.rasta_core_time.specs.Invariant.{Names, InFlight, IsEnd, Timely}
+use Rattle.rasta_core_run.specs.Names.{Names}
+use Rattle.rasta_core_time.specs.Invariant.{InFlight, IsEnd, Timely}
 use Rattle.rasta_core_time.proofs.Reception.{Reads}
 use Rattle.rasta_core_time.proofs.Sounds.{standing_closed}
 use Rattle.rasta_core_time.proofs.Speaking.{Acts, IsKept}

@@ -13,7 +13,7 @@ use Rattle.rasta_core_link.specs.declared.reason.Reason.TheVariants as reason
 use Rattle.rasta_core_link.specs.declared.verdict.Verdict.TheVariants as verdict
 use Rattle.rasta_core_link.specs.declared.identity.Role.{Role}
 use Rattle.rasta_core_link.specs.declared.identity.Role.TheVariants as role
-use Rattle.rasta_core_ends.specs.Ends.{is_taken}
+use Rattle.rasta_core_run.specs.Ends.{is_taken}
 use Rattle.rasta_pdu.specs.declared.pdu.Pdu.{Pdu}
 use Rattle.rasta_pdu.specs.declared.fault.PduFault.{PduFault}
 use Rattle.rasta_pdu.specs.declared.body.Opening.{Opening}
@@ -22,7 +22,7 @@ use Rattle.rasta_pdu.specs.declared.body.Body.TheVariants.{ConnectionRequest, Co
 use Rattle.rasta_pdu.specs.Reading.{reading}
 use Rattle.rasta_pdu.specs.Values.{IsPdu}
 use Rattle.rasta_core_time.specs.Standing.{Inside, Outside, own_stamp, standing}
-use Rattle.rasta_core_time.specs.Timely.{IsRequest}
+use Rattle.rasta_core_run.specs.Sentences.{IsRequest}
 use Rattle.rasta_core_time.proofs.Phases.{up_open, up_heard}
 use Rattle.rasta_core_time.specs.Invariant.{IsSound}
 use Rattle.rasta_core_time.proofs.Sounds.{standing_open, standing_closed, inside_open}

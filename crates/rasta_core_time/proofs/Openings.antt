@@ -5,15 +5,17 @@ use Rattle.rasta_core_link.specs.Outbox.{spellings}
 use Rattle.rasta_core_link.specs.declared.identity.Identity.{Identity}
 use Rattle.rasta_core_link.specs.declared.identity.Role.{Role}
 use Rattle.rasta_core_link.specs.declared.identity.Role.TheVariants as role
-use Rattle.rasta_core_ends.specs.Ends.{Sent, EndState, Outcome, end_after, handed_out, newer, leaves}
-use Rattle.rasta_core_ends.specs.Run.{Ends}
+use Rattle.rasta_core_run.specs.Ends.{Sent, EndState, Outcome, end_after, handed_out, newer, leaves}
+use Rattle.rasta_core_run.specs.Run.{Ends}
 use Rattle.rasta_pdu.specs.declared.key.Key.{Key}
 use Rattle.rasta_pdu.specs.declared.pdu.Pdu.{Pdu}
-use Rattle.rasta_core_time.specs.Each.{Each}
+use Rattle.rasta_core_run.specs.Each.{Each}
 use Rattle.rasta_core_time.specs.Standing.{Inside, Past, Times, IsInside, own_stamp, standing, timed, times_of}
 use Rattle.rasta_core_time.specs.Moves.{asking}
-use Rattle.rasta_core_time.specs.Timely.{AreTimed, IsRequest}
-use Rattle.rasta_core_time.specs.Invariant.{Names, AreNames, InFlight, IsEnd, Timely}
+use Rattle.rasta_core_time.specs.Timely.{AreTimed}
+use Rattle.rasta_core_run.specs.Sentences.{IsRequest}
+use Rattle.rasta_core_run.specs.Names.{Names, AreNames}
+use Rattle.rasta_core_time.specs.Invariant.{InFlight, IsEnd, Timely}
 use Rattle.rasta_core_time.proofs.EachLaws.{each_join, each_turned}
 use Rattle.rasta_core_time.proofs.Reception.{IsDown, alive_newest, asking_kept, connection_fresh}
 use Rattle.rasta_core_time.proofs.Taking.{granting_kept, joining_kept}

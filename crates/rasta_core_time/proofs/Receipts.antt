@@ -8,7 +8,7 @@ use Rattle.rasta_core_link.specs.declared.reason.Reason.TheVariants as reason
 use Rattle.rasta_core_link.specs.declared.verdict.Verdict.{Verdict}
 use Rattle.rasta_core_link.specs.declared.verdict.Verdict.TheVariants as verdict
 use Rattle.rasta_core_link.specs.declared.identity.Role.TheVariants as role
-use Rattle.rasta_core_ends.specs.Ends.{is_taken}
+use Rattle.rasta_core_run.specs.Ends.{is_taken}
 use Rattle.rasta_pdu.specs.declared.pdu.Pdu.{Pdu}
 use Rattle.rasta_pdu.specs.declared.body.Body.{Body}
 use Rattle.rasta_pdu.specs.declared.body.Body.TheVariants.{ConnectionRequest, ConnectionResponse, RetransmissionRequest, RetransmissionResponse, DisconnectionRequest, Heartbeat, Data, RetransmittedData}

@@ -4,11 +4,12 @@ use native.Mathlib.Decide.{ℕ_discrete, dec_lt}
 use Rattle.rasta_core_link.specs.Parameters.{expiry, quiet_time}
 use Rattle.rasta_core_link.specs.declared.identity.Role.{Role}
 use Rattle.rasta_core_link.specs.declared.identity.Role.TheVariants as role
-use Rattle.rasta_core_ends.specs.Bag.{lifetime}
+use Rattle.rasta_core_run.specs.Bag.{lifetime}
 use Rattle.rasta_pdu.specs.declared.pdu.Pdu.{Pdu}
 use Rattle.rasta_core_time.specs.Standing.{Standing, Inside, Outside, Timed, Times, IsInside, IsOutside, HasHeard, closed_at}
 use Rattle.rasta_core_time.specs.Moves.{asking}
-use Rattle.rasta_core_time.specs.Timely.{IsTimed, AreTimed, IsRequest, IsKnown}
+use Rattle.rasta_core_time.specs.Timely.{IsTimed, AreTimed, IsKnown}
+use Rattle.rasta_core_run.specs.Sentences.{IsRequest}
 
 -- a reading of a clock in milliseconds
 pub record Reads (now clock : ℕ) : Type 0 where

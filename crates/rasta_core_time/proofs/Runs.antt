@@ -1,10 +1,11 @@
 -- Every event, and every list of them, keeps the invariant.
 use Rattle.std.proofs.Common.{◌∙◌, ℕ, List, [], ◌∷◌}
-use Rattle.rasta_core_ends.specs.Run.{Ends, restarted}
+use Rattle.rasta_core_run.specs.Run.{Ends, restarted}
 use Rattle.rasta_core_link.specs.declared.identity.Role.TheVariants as role
-use Rattle.rasta_core_time.specs.Sentences.{LeavesClient, HasBeenOut, IsIn, IsOut}
-use Rattle.rasta_core_time.specs.Invariant.{Names, AreNames, Timely}
-use Rattle.rasta_core_time.specs.Events.{Event, Calls, Passes, Loses, Restarts, Elsewhere, May, MayRun, happened, run, Start, started}
+use Rattle.rasta_core_run.specs.Sentences.{LeavesClient, IsIn, IsOut}
+use Rattle.rasta_core_time.specs.Invariant.{HasBeenOut, Timely}
+use Rattle.rasta_core_run.specs.Names.{Names, AreNames}
+use Rattle.rasta_core_run.specs.Events.{Event, Calls, Passes, Loses, Restarts, Elsewhere, May, MayRun, happened, run, Start, started}
 use Rattle.rasta_core_time.proofs.Conversation.{WrittenIsRead}
 use Rattle.rasta_core_time.proofs.Called.{ReadIsIntact, called_kept}
 use Rattle.rasta_core_time.proofs.Clocks.{later_kept, lost_kept, client_restarted, server_restarted, elsewhere_kept, Renewed, started_timely}

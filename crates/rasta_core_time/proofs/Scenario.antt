@@ -11,13 +11,13 @@ use Rattle.rasta_core_link.specs.Opening.{beginning, requesting, meeting, judgin
 use Rattle.rasta_core_link.specs.Receiving.{ahead, behind, still_waiting, taking, missing, handing, bringing, in_turn, admitting, testing, connected, asking, resting, by_state, hearing}
 use Rattle.rasta_core_link.specs.declared.identity.Role.{Role}
 use Rattle.rasta_core_link.specs.declared.identity.Role.TheVariants as role
-use Rattle.rasta_core_ends.specs.Bag.{lifetime}
-use Rattle.rasta_core_ends.specs.Ends.{Sent, Opens, Sends, Receives, outcome, end_after, end_later, end_restarted}
-use Rattle.rasta_core_ends.specs.Run.{Ends, called, later, restarted}
+use Rattle.rasta_core_run.specs.Bag.{lifetime}
+use Rattle.rasta_core_run.specs.Ends.{Sent, Opens, Sends, Receives, outcome, end_after, end_later, end_restarted}
+use Rattle.rasta_core_run.specs.Run.{Ends, called, later, restarted}
 use Rattle.rasta_core_link.specs.declared.verdict.Verdict.TheVariants as verdict
-use Rattle.rasta_core_time.specs.Invariant.{Names, AreNames}
-use Rattle.rasta_core_time.specs.Sentences.{receipt_at}
-use Rattle.rasta_core_time.specs.Events.{Event, Calls, Passes, Restarts, happened, run, started, Start, IsAmong, IsDelivered, MayRun}
+use Rattle.rasta_core_run.specs.Names.{Names, AreNames}
+use Rattle.rasta_core_run.specs.Sentences.{receipt_at}
+use Rattle.rasta_core_run.specs.Events.{Event, Calls, Passes, Restarts, happened, run, started, Start, IsAmong, IsDelivered, MayRun}
 
 abbrev pub names : Names
 names = record { key = record { 0 = 0x01234567 ∷ 0x89abcdef ∷ 0xfedcba98 ∷ 0x76543210 ∷ [] }; client = 1; server = 2 }

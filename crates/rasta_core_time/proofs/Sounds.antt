@@ -10,10 +10,11 @@ use Rattle.rasta_pdu.specs.declared.body.Body.{Body}
 use Rattle.rasta_pdu.specs.declared.body.Body.TheVariants.{RetransmittedData}
 use Rattle.rasta_pdu.specs.Values.{IsPdu, IsBody}
 use Rattle.rasta_pdu.specs.Items.{IsItem, AreItems}
-use Rattle.rasta_core_time.specs.Each.{Each}
+use Rattle.rasta_core_run.specs.Each.{Each}
 use Rattle.rasta_core_time.specs.Invariant.{IsSound}
 use Rattle.rasta_core_time.specs.Standing.{Standing, Inside, Outside, IsInside, HasHeard, heard_stamp, standing}
-use Rattle.rasta_core_time.specs.Timely.{IsAnswering, IsRequest}
+use Rattle.rasta_core_time.specs.Timely.{IsAnswering}
+use Rattle.rasta_core_run.specs.Sentences.{IsRequest}
 use Rattle.rasta_core_time.proofs.Phases.{TypeOf}
 use Rattle.rasta_core_time.proofs.Datagrams.{IsSpoken}
 

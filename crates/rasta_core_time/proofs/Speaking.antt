@@ -17,9 +17,10 @@ use Rattle.rasta_pdu.specs.declared.body.Body.{Body}
 use Rattle.rasta_pdu.specs.declared.body.Body.TheVariants.{RetransmissionResponse, DisconnectionRequest, Heartbeat, Data}
 use Rattle.rasta_pdu.specs.Values.{IsBody}
 use Rattle.rasta_pdu.specs.Items.{IsItem}
-use Rattle.rasta_core_time.specs.Each.{Each}
+use Rattle.rasta_core_run.specs.Each.{Each}
 use Rattle.rasta_core_time.specs.Standing.{Standing, Outside, standing}
-use Rattle.rasta_core_time.specs.Timely.{IsAnswering, IsRequest}
+use Rattle.rasta_core_time.specs.Timely.{IsAnswering}
+use Rattle.rasta_core_run.specs.Sentences.{IsRequest}
 use Rattle.rasta_core_time.proofs.EachLaws.{each_join}
 use Rattle.rasta_core_time.proofs.Phases.{asking_client}
 use Rattle.rasta_core_time.specs.Invariant.{IsSound}

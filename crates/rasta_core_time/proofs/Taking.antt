@@ -4,7 +4,8 @@ use Rattle.rasta_core_link.specs.declared.identity.Role.TheVariants as role
 use Rattle.rasta_pdu.specs.declared.pdu.Pdu.{Pdu}
 use Rattle.rasta_core_time.specs.Standing.{Standing, Inside, Outside, Timed, Times, IsInside, HasHeard, own_stamp}
 use Rattle.rasta_core_time.specs.Moves.{asking, granting, hearing}
-use Rattle.rasta_core_time.specs.Timely.{WasRead, IsTimed, AreTimed, IsAnswering, IsRequest, IsKnown}
+use Rattle.rasta_core_time.specs.Timely.{WasRead, IsTimed, AreTimed, IsAnswering, IsKnown}
+use Rattle.rasta_core_run.specs.Sentences.{IsRequest}
 use Rattle.rasta_core_time.proofs.Reception.{IsDown, IsAlive, alive_newest, connection_fresh}
 
 some_same : (a b : ℕ) → Some a ≡ Some b → a ≡ b

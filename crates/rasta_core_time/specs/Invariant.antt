@@ -1,37 +1,19 @@
 -- The invariant of two ends of a link and the datagrams between them, as far as time goes.
-use Rattle.std.specs.Prelude.{◌≡◌, ◌≢◌, ℕ, ◌^◌, ◌<◌, Ok}
+use Rattle.std.specs.Prelude.{◌≡◌, ℕ, ◌^◌, ◌<◌, Ok}
 use Rattle.rasta_core_link.specs.State.{LinkState}
-use Rattle.rasta_core_link.specs.declared.identity.Identity.{Identity}
 use Rattle.rasta_core_link.specs.declared.identity.Role.{Role}
 use Rattle.rasta_core_link.specs.declared.identity.Role.TheVariants as role
-use Rattle.rasta_core_ends.specs.Ends.{Sent, EndState, reading_of}
-use Rattle.rasta_core_ends.specs.Run.{Ends}
-use Rattle.rasta_pdu.specs.declared.key.Key.{Key}
+use Rattle.rasta_core_run.specs.Ends.{Sent, EndState, reading_of}
+use Rattle.rasta_core_run.specs.Run.{Ends}
 use Rattle.rasta_pdu.specs.declared.pdu.Pdu.{Pdu}
 use Rattle.rasta_pdu.specs.Values.{IsPdu}
 use Rattle.rasta_pdu.specs.Items.{IsItem}
 use Rattle.rasta_pdu.specs.Reading.{reading}
-use Rattle.rasta_core_time.specs.Each.{Each}
-use Rattle.rasta_core_time.specs.Standing.{Past, Times, partner_of, times_of}
+use Rattle.rasta_core_run.specs.Each.{Each}
+use Rattle.rasta_core_time.specs.Standing.{Past, Times, times_of}
+use Rattle.rasta_core_run.specs.Names.{Names, identity_of, name_of, partner_of}
+use Rattle.rasta_core_run.specs.Sentences.{IsOut}
 use Rattle.rasta_core_time.specs.Timely.{AreTimed, IsKnown}
-
--- the key of the network, and the identities of the two ends, which differ
-pub record Names : Type 0 where
-  pub key : Key
-  pub client : ℕ
-  pub server : ℕ
-
-abbrev pub name_of : Role → Names → ℕ
-name_of role.Client names = names.client
-name_of role.Server names = names.server
-
-pub record AreNames (names : Names) : Type 0 where
-  pub differ : names.client ≢ names.server
-  pub client : names.client < 2 ^ 32
-  pub server : names.server < 2 ^ 32
-
-abbrev pub identity_of : Role → Names → Identity
-identity_of who names = record { role = who; own = name_of who names; partner = name_of (partner_of who) names; key = names.key }
 
 -- what every link keeps, so that what it hands out are PDUs
 pub record IsSound (link : LinkState) : Type 0 where
@@ -67,3 +49,9 @@ pub record Timely (names : Names) (ends : Ends) : Type 0 where
   pub server : IsEnd names role.Server ends.server
   pub ends_timed : AreTimed (times_of ends of_client of_server newest)
   pub datagrams : Each (InFlight names (times_of ends of_client of_server newest)) ends.sent
+
+-- The client is outside, and its clock read so many milliseconds when it left its last connection, or when it was made.
+pub record HasBeenOut (names : Names) (since : ℕ) (ends : Ends) : Type 0 where
+  pub timely : Timely names ends
+  pub is_out : IsOut role.Client ends
+  pub left_then : timely.of_client.left_clock ≡ since

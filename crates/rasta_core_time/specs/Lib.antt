@@ -1,7 +1,5 @@
-pub mod Each
+-- Invariants, for the proofs: what is believed of runs is in rasta_core_run.
 pub mod Standing
 pub mod Timely
 pub mod Moves
 pub mod Invariant
-pub mod Events
-pub mod Sentences

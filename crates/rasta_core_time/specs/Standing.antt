@@ -4,8 +4,8 @@ use Rattle.std.specs.Prelude.{ℕ, Bool, true, false, Option, if◌then◌else�
 use Rattle.rasta_core_link.specs.State.{LinkState, is_open, is_asking}
 use Rattle.rasta_core_link.specs.declared.identity.Role.{Role}
 use Rattle.rasta_core_link.specs.declared.identity.Role.TheVariants as role
-use Rattle.rasta_core_ends.specs.Ends.{EndState}
-use Rattle.rasta_core_ends.specs.Run.{Ends}
+use Rattle.rasta_core_run.specs.Ends.{EndState}
+use Rattle.rasta_core_run.specs.Run.{Ends}
 
 -- Where an end stands. Inside a connection: whether it still asks for it, the own stamp that the partner returned
 -- last, and the partner's stamp that it took last. Outside: when it left or was created, on its clock.
@@ -73,10 +73,6 @@ pub record Times : Type 0 where
 abbrev pub at_role : Role → Times → Timed
 at_role role.Client times = times.client
 at_role role.Server times = times.server
-
-abbrev pub partner_of : Role → Role
-partner_of role.Client = role.Server
-partner_of role.Server = role.Client
 
 abbrev pub timed : EndState → Past → Timed
 timed end past = record {

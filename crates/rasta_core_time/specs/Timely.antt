@@ -3,11 +3,13 @@ use Rattle.std.specs.Prelude.{◌≡◌, ◌≢◌, ℕ, ◌+◌, ◌*◌, ◌�
 use Rattle.rasta_core_link.specs.Parameters.{time_limit, expiry}
 use Rattle.rasta_core_link.specs.declared.identity.Role.{Role}
 use Rattle.rasta_core_link.specs.declared.identity.Role.TheVariants as role
-use Rattle.rasta_core_ends.specs.Bag.{lifetime}
+use Rattle.rasta_core_run.specs.Bag.{lifetime}
 use Rattle.rasta_pdu.specs.declared.pdu.Pdu.{Pdu}
 use Rattle.rasta_pdu.specs.declared.body.Body.{Body}
 use Rattle.rasta_pdu.specs.declared.body.Body.TheVariants.{ConnectionRequest, DisconnectionRequest}
-use Rattle.rasta_core_time.specs.Standing.{Timed, Times, IsInside, IsOutside, HasHeard, own_stamp, heard_stamp, closed_at, at_role, partner_of}
+use Rattle.rasta_core_time.specs.Standing.{Timed, Times, IsInside, IsOutside, HasHeard, own_stamp, heard_stamp, closed_at, at_role}
+use Rattle.rasta_core_run.specs.Names.{partner_of}
+use Rattle.rasta_core_run.specs.Sentences.{IsRequest}
 
 -- A clock that runs at least at 999 in 1000 of true time read this stamp, in milliseconds, at this true time.
 abbrev pub WasRead : ℕ → ℕ → ℕ → ℕ → Type 0
@@ -60,10 +62,6 @@ IsAnswering role.Server body = Unit {0}
 IsAnswering role.Client (ConnectionRequest opening) = ⊥
 IsAnswering role.Client (DisconnectionRequest detail reason) = ⊥
 IsAnswering role.Client _ = Unit {0}
-
-abbrev pub IsRequest : Body → Type 0
-IsRequest (ConnectionRequest opening) = Unit {0}
-IsRequest _ = ⊥
 
 abbrev pub IsServer : Role → Type 0
 IsServer role.Client = ⊥

@@ -7,13 +7,14 @@ ghost use Rattle.rasta_core_link.specs.Parameters.{expiry, quiet_time};
 ghost use Rattle.rasta_core_link.specs.State.{is_up};
 ghost use Rattle.rasta_core_link.specs.declared.identity.Role.{Role};
 ghost use Rattle.rasta_core_link.specs.declared.identity.Role.TheVariants as role;
-ghost use Rattle.rasta_core_ends.specs.Bag.{lifetime, newest_copy};
-ghost use Rattle.rasta_core_ends.specs.Ends.{Sent, Receives, is_taken, reading_of};
-ghost use Rattle.rasta_core_ends.specs.Run.{Ends, end_of, called};
-ghost use Rattle.rasta_core_time.specs.Each.{Each};
-ghost use Rattle.rasta_core_time.specs.Events.{Event, IsDelivered, Restarts, May, MayRun, Start, happened, run, started};
-ghost use Rattle.rasta_core_time.specs.Invariant.{AreNames, Names, Timely};
-ghost use Rattle.rasta_core_time.specs.Sentences.{HasBeenOut, IsDownNow, LeavesClient, IsIn, IsOpening, IsOut, freshness, receipt_at};
+ghost use Rattle.rasta_core_run.specs.Bag.{lifetime, newest_copy};
+ghost use Rattle.rasta_core_run.specs.Ends.{Sent, Receives, is_taken, reading_of};
+ghost use Rattle.rasta_core_run.specs.Run.{Ends, end_of, called};
+ghost use Rattle.rasta_core_run.specs.Each.{Each};
+ghost use Rattle.rasta_core_run.specs.Events.{Event, IsDelivered, Restarts, May, MayRun, Start, happened, run, started};
+ghost use Rattle.rasta_core_run.specs.Names.{AreNames, Names};
+ghost use Rattle.rasta_core_time.specs.Invariant.{Timely, HasBeenOut};
+ghost use Rattle.rasta_core_run.specs.Sentences.{IsDownNow, LeavesClient, IsIn, IsOpening, IsOut, freshness, receipt_at};
 
 use rasta_pdu::{read_was_written, written_is_read};
 

@@ -4,7 +4,7 @@ ghost use Rattle.std.specs.Prelude.{◌≡◌, false};
 
 use crate::lamp::Lamp;
 use object_host::{Controller, Report, Sense};
-use rasta_core_link::Millis;
+use rasta_core::Millis;
 use sci_telegram::{Aspect, Message, Protocol, SignalMessage, Telegram};
 use std::marker::Model;
 

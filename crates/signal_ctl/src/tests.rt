@@ -3,7 +3,7 @@
 
 use super::*;
 use object_host::{Controller, Hosted, Input, Sense};
-use rasta_core_link::{Inbox, Link, Millis, Outbox, Reason, Verdict};
+use rasta_core::{Inbox, Link, Millis, Outbox, Reason, Verdict};
 use rasta_pdu::{Body, Datagram, Item, Key, read};
 use sci_telegram::{
     Agreement, Initialisation, Message, Name, Occupancy, Protocol, SignalMessage, Telegram, write,

@@ -1,12 +1,12 @@
 -- What the code does around a call of an end is one step of the pair.
 use Rattle.std.proofs.Common.{◌≡◌, ap, ◌∙◌, ℕ, ◌+◌, List, [], ◌++◌, length}
-use Rattle.rasta_core_link.specs.Clock.{alive_until}
-use Rattle.rasta_core_link.specs.Outbox.{OutboxState, posted, spellings}
-use Rattle.rasta_core_link.specs.State.{LinkState}
-use Rattle.rasta_core_link.specs.declared.identity.Role.{Role}
-use Rattle.rasta_core_link.specs.declared.identity.Role.TheVariants.{Client, Server}
-use Rattle.rasta_core_ends.specs.Ends.{EndState, Sent, Call, Outcome, outcome, end_after, handed_out}
-use Rattle.rasta_core_ends.specs.Run.{called}
+use Rattle.rasta_core.specs.Clock.{alive_until}
+use Rattle.rasta_core.specs.Outbox.{OutboxState, posted, spellings}
+use Rattle.rasta_core.specs.State.{LinkState}
+use Rattle.rasta_core.specs.identity.Role.{Role}
+use Rattle.rasta_core.specs.identity.Role.TheVariants.{Client, Server}
+use Rattle.rasta_core.specs.Ends.{EndState, Sent, Call, Outcome, outcome, end_after, handed_out}
+use Rattle.rasta_core.specs.Run.{called}
 use Rattle.rasta_pdu.specs.declared.key.Key.{Key}
 use Rattle.rasta_pdu.specs.declared.pdu.Pdu.{Pdu}
 use Rattle.signal_ctl.specs.Lamp.{Lamp}

@@ -4,8 +4,8 @@ use Rattle.std.proofs.Math.ListN.{set}
 use Rattle.std.proofs.lemmas.List.{take_more, drop_more, set_split}
 use Rattle.std.proofs.lemmas.Bool.Decides.{nat_tests}
 use Rattle.std.proofs.lemmas.Grind.{common_steps}
-use Rattle.rasta_core_ends.specs.Ends.{Sent}
-use Rattle.rasta_core_ends.specs.Bag.{lifetime, is_copy, is_alive_copy, newest_copy, without_oldest}
+use Rattle.rasta_core.specs.Ends.{Sent}
+use Rattle.rasta_core.specs.Bag.{lifetime, is_copy, is_alive_copy, newest_copy, without_oldest}
 use Rattle.simulator_pair.specs.Order.{AreInOrder}
 
 -- the last of a list is its newest copy, if it is one

@@ -6,19 +6,20 @@ use Rattle.std.proofs.lemmas.Bool.{and_parts, false≢true}
 use Rattle.std.proofs.lemmas.Bool.Decides.{nat_tests}
 use Rattle.std.proofs.lemmas.Slice.Eq.{bytes_eq-Decides}
 use Rattle.simulator_pair.specs.declared.event.Refused.TheVariants.{NeverSent}
-use Rattle.rasta_core_ends.specs.Bag.{is_copy, is_alive_copy, lifetime, newest_copy}
-use Rattle.rasta_core_ends.specs.Ends.{Sent, Call, Ticks, Opens, Closes, Sends, Receives, is_taken, reading_of}
-use Rattle.rasta_core_ends.specs.Run.{Ends, end_of, called}
-use Rattle.rasta_core_link.specs.declared.identity.Role.{Role}
-use Rattle.rasta_core_link.specs.declared.identity.Role.TheVariants.{Client, Server}
-use Rattle.rasta_core_link.specs.Calls.{hearing_bytes, receiving}
-use Rattle.rasta_core_link.specs.Sending.{entered}
-use Rattle.rasta_core_link.specs.State.{LinkState}
-use Rattle.rasta_core_theorem.specs.Ordered.{Ordered}
-use Rattle.rasta_core_theorem.specs.Safe.{IsIdle}
-use Rattle.rasta_core_time.specs.Events.{Event, Calls, Passes, Loses, Restarts, IsAmong, IsDelivered, IsWithinDrift, May, MayCall, happened}
-use Rattle.rasta_core_time.specs.Invariant.{AreNames, Names, Timely}
-use Rattle.rasta_core_time.specs.Sentences.{IsOpening, IsOut, freshness, receipt_at}
+use Rattle.rasta_core.specs.Bag.{is_copy, is_alive_copy, lifetime, newest_copy}
+use Rattle.rasta_core.specs.Ends.{Sent, Call, Ticks, Opens, Closes, Sends, Receives, is_taken, reading_of}
+use Rattle.rasta_core.specs.Run.{Ends, end_of, called}
+use Rattle.rasta_core.specs.identity.Role.{Role}
+use Rattle.rasta_core.specs.identity.Role.TheVariants.{Client, Server}
+use Rattle.rasta_core.specs.Calls.{hearing_bytes, receiving}
+use Rattle.rasta_core.specs.Sending.{entered}
+use Rattle.rasta_core.specs.State.{LinkState}
+use Rattle.rasta_core.specs.Ordered.{Ordered}
+use Rattle.rasta_core.specs.Safe.{IsIdle}
+use Rattle.rasta_core.specs.Events.{Event, Calls, Passes, Loses, Restarts, IsAmong, IsDelivered, IsWithinDrift, May, MayCall, happened}
+use Rattle.rasta_core.specs.Names.{AreNames, Names}
+use Rattle.rasta_core.specs.Invariant.{Timely}
+use Rattle.rasta_core.specs.Sentences.{IsOpening, IsOut, freshness, receipt_at}
 use Rattle.simulator_pair.specs.declared.event.PairReply.{PairReply}
 use Rattle.simulator_pair.specs.declared.event.Refused.{Refused}
 use Rattle.rasta_pdu.specs.SafetyCode.{IsIntact, intact}

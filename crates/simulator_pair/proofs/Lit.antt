@@ -4,14 +4,14 @@ use Rattle.std.specs.Prelude.{◌⊎◌, ◌&&◌, OnOk, OnErr, nat_le, nat_lt, 
 use Rattle.std.specs.Str.{bytes_eq}
 use Rattle.std.proofs.lemmas.Bool.Decides.{nat_tests}
 use Rattle.std.proofs.lemmas.Slice.Eq.{bytes_eq-Decides}
-use Rattle.rasta_core_link.specs.State.{LinkState, is_open}
-use Rattle.rasta_core_link.specs.Clock.{alive_until, settled}
-use Rattle.rasta_core_link.specs.declared.identity.Role.TheVariants.{Client, Server}
-use Rattle.rasta_core_ends.specs.Ends.{EndState, Call, Ticks, Opens, Closes, Sends, Receives, Outcome, outcome, end_after, end_later, end_restarted, kept, reading_of}
-use Rattle.rasta_core_ends.specs.Run.{called, later, lost, restarted}
-use Rattle.rasta_core_link.specs.Calls.{created}
-use Rattle.rasta_core_link.specs.declared.identity.Role.{Role}
-use Rattle.rasta_core_theorem.specs.Safe.{AreSafe}
+use Rattle.rasta_core.specs.State.{LinkState, is_open}
+use Rattle.rasta_core.specs.Clock.{alive_until, settled}
+use Rattle.rasta_core.specs.identity.Role.TheVariants.{Client, Server}
+use Rattle.rasta_core.specs.Ends.{EndState, Call, Ticks, Opens, Closes, Sends, Receives, Outcome, outcome, end_after, end_later, end_restarted, kept, reading_of}
+use Rattle.rasta_core.specs.Run.{called, later, lost, restarted}
+use Rattle.rasta_core.specs.Calls.{created}
+use Rattle.rasta_core.specs.identity.Role.{Role}
+use Rattle.rasta_core.specs.Safe.{AreSafe}
 use Rattle.signal_ctl.specs.Lamp.{standing}
 use Rattle.sci_telegram.specs.declared.message.Aspect.{Aspect}
 use Rattle.sci_telegram.specs.declared.message.Aspect.TheVariants.{Stop, Proceed}

@@ -2,9 +2,9 @@
 use Rattle.std.proofs.Common.{ℕ, ◌≤◌, ◌<◌, Bool, true, false, List, [], ◌∷◌, ◌++◌, if◌then◌else◌, arith, Option}
 use Rattle.std.specs.List.{All}
 use Rattle.std.proofs.lemmas.List.Elements.{All-cons, All-head, All-tail, All-append, All-weaker}
-use Rattle.rasta_core_ends.specs.Ends.{Sent, handed_out}
-use Rattle.rasta_core_ends.specs.Bag.{is_copy, without_oldest}
-use Rattle.rasta_core_link.specs.declared.identity.Role.{Role}
+use Rattle.rasta_core.specs.Ends.{Sent, handed_out}
+use Rattle.rasta_core.specs.Bag.{is_copy, without_oldest}
+use Rattle.rasta_core.specs.identity.Role.{Role}
 use Rattle.simulator_pair.specs.Order.{AreInOrder}
 
 -- none was sent after the time

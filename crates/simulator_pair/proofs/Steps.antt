@@ -1,11 +1,10 @@
 -- What steps of an end and of a pair share.
 use Rattle.std.proofs.Common.{◌≡◌, refl, sym, ap, ◌∙◌, ℕ, ◌+◌, Bool, List, [], ◌++◌, length, arith, Option}
-use Rattle.std.proofs.lemmas.List.{append-nil, length-map}
+use Rattle.std.proofs.lemmas.List.{append-nil, length-append, length-map}
 use Rattle.std.proofs.lemmas.Grind.{common_steps}
-use Rattle.rasta_core_link.proofs.Posting.{length-posted, capacity-posted}
-use Rattle.rasta_core_link.specs.Outbox.{OutboxState, posted}
-use Rattle.rasta_core_link.specs.State.{is_open}
-use Rattle.rasta_core_ends.specs.Ends.{EndState, Outcome, end_after}
+use Rattle.rasta_core.specs.Outbox.{OutboxState, posted}
+use Rattle.rasta_core.specs.State.{is_open}
+use Rattle.rasta_core.specs.Ends.{EndState, Outcome, end_after}
 use Rattle.rasta_pdu.specs.declared.key.Key.{Key}
 use Rattle.rasta_pdu.specs.declared.pdu.Pdu.{Pdu}
 use Rattle.simulator_pair.specs.Seen.{noted, concluded}
@@ -27,10 +26,15 @@ concluded-end end made moment count was_open enters given taken open-is enters-i
     ∙ ap (λ n. concluded (is_open end.link.phase) made.enters made.given made.taken (moment + n) mid) count-is
     ∙ concluded_plainly end made moment
 
+length-posted : (key : Key) (pdus : List Pdu) (box : OutboxState) → length (posted key pdus box).datagrams ≡ length box.datagrams + length pdus
+unfolding posted
+length-posted key pdus box = simp (length-append, length-map)
+
 -- how many datagrams stand in an outbox that was empty
 pub length-posted_alone : (key : Key) (pdus : List Pdu) (box after : OutboxState) → box.datagrams ≡ [] → after ≡ posted key pdus box → length after.datagrams ≡ length pdus
 length-posted_alone key pdus box after empty posted-is =
     ap (λ b. length b.datagrams) posted-is ∙ length-posted key pdus box ∙ ap (λ xs. length xs + length pdus) empty ∙ grind arith
 
 pub capacity-posted_after : (key : Key) (pdus : List Pdu) (box after : OutboxState) → after ≡ posted key pdus box → after.capacity ≡ box.capacity
-capacity-posted_after key pdus box after posted-is = ap (λ b. b.capacity) posted-is ∙ capacity-posted key pdus box
+unfolding posted
+capacity-posted_after key pdus box after posted-is = ap (λ b. b.capacity) posted-is

@@ -1,7 +1,7 @@
 -- The datagrams that the network still has.
 use Rattle.std.specs.Prelude.{not, List}
 use Rattle.std.specs.List.{filter}
-use Rattle.rasta_core_ends.specs.Ends.{Sent}
+use Rattle.rasta_core.specs.Ends.{Sent}
 use Rattle.simulator_pair.specs.declared.bag.Bag.{Bag}
 
 -- those of a list that aren't lost

@@ -1,9 +1,9 @@
 -- Calls as the code has them.
 use Rattle.std.specs.Prelude.{Result, Ok}
-use Rattle.rasta_core_ends.specs.Ends as spec
-use Rattle.rasta_core_ends.specs.Ends.{EndState, reading_of}
-use Rattle.rasta_core_link.specs.Calls.{answer_to_send}
-use Rattle.rasta_core_link.specs.declared.fault.SendFault.{SendFault}
+use Rattle.rasta_core.specs.Ends as spec
+use Rattle.rasta_core.specs.Ends.{EndState, reading_of}
+use Rattle.rasta_core.specs.Calls.{answer_to_send}
+use Rattle.rasta_core.specs.fault.SendFault.{SendFault}
 use Rattle.simulator_pair.specs.declared.node.Call.{Call}
 use Rattle.simulator_pair.specs.declared.node.Call.TheVariants as calls
 

@@ -1,12 +1,12 @@
 -- The events of a pair: which can happen, what they change, and what is answered.
 use Rattle.std.specs.Prelude.{ℕ, ◌+◌, ◌-◌, ◌*◌, nat_le, nat_lt, ◌&&◌, not, Bool, true, false, List, [], Option, Some, None, is_none, if◌then◌else◌}
-use Rattle.rasta_core_link.specs.Calls.{answer_to_send, created}
-use Rattle.rasta_core_link.specs.declared.identity.Identity.{Identity}
-use Rattle.rasta_core_link.specs.declared.identity.Role.{Role}
-use Rattle.rasta_core_link.specs.declared.identity.Role.TheVariants as role
-use Rattle.rasta_core_ends.specs.Ends.{Sent, EndState, Ticks, Opens, Closes, Sends, Receives, reading_of}
-use Rattle.rasta_core_ends.specs.Bag.{newest_copy, has_copy}
-use Rattle.rasta_core_ends.specs.Run.{Ends, end_of, later, lost, restarted}
+use Rattle.rasta_core.specs.Calls.{answer_to_send, created}
+use Rattle.rasta_core.specs.identity.Identity.{Identity}
+use Rattle.rasta_core.specs.identity.Role.{Role}
+use Rattle.rasta_core.specs.identity.Role.TheVariants as role
+use Rattle.rasta_core.specs.Ends.{Sent, EndState, Ticks, Opens, Closes, Sends, Receives, reading_of}
+use Rattle.rasta_core.specs.Bag.{newest_copy, has_copy}
+use Rattle.rasta_core.specs.Run.{Ends, end_of, later, lost, restarted}
 use Rattle.rasta_pdu.specs.SafetyCode.{intact}
 use Rattle.rasta_pdu.specs.declared.key.Key.{Key}
 use Rattle.simulator_pair.specs.Pair.{PairState, stepped, new_lamp}

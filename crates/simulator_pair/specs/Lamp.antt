@@ -1,8 +1,8 @@
 -- What the lamp of a pair shows, by what its server took.
 use Rattle.std.specs.Prelude.{◌≡◌, ℕ, ◌<◌, ◌≤◌, true, false, List, ◌∷◌, ◌++◌, length, ◌⊎◌, Some, if◌then◌else◌}
-use Rattle.rasta_core_link.specs.State.{confirmed_items, is_open}
-use Rattle.rasta_core_link.specs.Clock.{alive_until}
-use Rattle.rasta_core_ends.specs.Ends.{EndState, reading_of}
+use Rattle.rasta_core.specs.State.{confirmed_items, is_open}
+use Rattle.rasta_core.specs.Clock.{alive_until}
+use Rattle.rasta_core.specs.Ends.{EndState, reading_of}
 use Rattle.signal_ctl.specs.Lamp.{standing}
 use Rattle.sci_telegram.specs.declared.message.Aspect.{Aspect}
 use Rattle.sci_telegram.specs.declared.message.Aspect.TheVariants.{Stop, Proceed}

@@ -1,6 +1,6 @@
 -- Datagrams in the order of their sending.
 use Rattle.std.specs.Prelude.{ℕ, ◌≤◌, List, [], ◌∷◌, All}
-use Rattle.rasta_core_ends.specs.Ends.{Sent}
+use Rattle.rasta_core.specs.Ends.{Sent}
 
 -- none was sent after this time, and none before one that stands earlier
 abbrev pub AreInOrder : ℕ → List Sent → Type 0

@@ -1,7 +1,7 @@
 -- What contracts see of the parts of a pair, and what is always true of them.
 use Rattle.std.specs.Prelude.{◌≡◌, ℕ, ◌+◌, ◌*◌, ◌≤◌, []}
 use Rattle.std.specs.Vec.{vec_len, vec_capacity}
-use Rattle.rasta_core_ends.specs.Run.{Ends}
+use Rattle.rasta_core.specs.Run.{Ends}
 use Rattle.simulator_pair.specs.Pair.{PairState}
 use Rattle.simulator_pair.specs.Events.{clock_limit}
 use Rattle.simulator_pair.specs.Order.{AreInOrder}

@@ -1,8 +1,8 @@
 -- What contracts see of the ends of a pair.
 use Rattle.std.specs.Prelude.{◌≡◌, ℕ, ◌+◌, ◌≤◌, ◌&&◌, ◌||◌, ◌++◌, not, Bool, List, Option, is_some, if◌then◌else◌}
-use Rattle.rasta_core_link.specs.State.{is_open}
+use Rattle.rasta_core.specs.State.{is_open}
 use Rattle.std.specs.Vec.{vec_len, vec_capacity}
-use Rattle.rasta_core_ends.specs.Ends.{EndState, newer, kept, reading_of}
+use Rattle.rasta_core.specs.Ends.{EndState, newer, kept, reading_of}
 use Rattle.simulator_pair.specs.declared.node.Node.{Node}
 
 unfoldable pub seen_end : Node → EndState

@@ -1,13 +1,14 @@
 -- What is true of a pair after every list of events.
 use Rattle.std.specs.Prelude.{◌≡◌, ◌≢◌, ℕ, ◌+◌, ◌<◌, true, List, [], Some, None}
 use Rattle.md4.specs.declared.message.TheConstants.{STANDARD}
-use Rattle.rasta_core_ends.specs.Ends.{Sent, Receives, is_taken}
-use Rattle.rasta_core_ends.specs.Run.{Ends, end_of, called}
-use Rattle.rasta_core_link.specs.declared.identity.Role.{Role}
-use Rattle.rasta_core_theorem.specs.Ordered.{Ordered}
-use Rattle.rasta_core_theorem.specs.Safe.{IsIdle}
-use Rattle.rasta_core_time.specs.Invariant.{Names, Timely}
-use Rattle.rasta_core_time.specs.Sentences.{IsOpening, IsOut, freshness, receipt_at}
+use Rattle.rasta_core.specs.Ends.{Sent, Receives, is_taken}
+use Rattle.rasta_core.specs.Run.{Ends, end_of, called}
+use Rattle.rasta_core.specs.identity.Role.{Role}
+use Rattle.rasta_core.specs.Ordered.{Ordered}
+use Rattle.rasta_core.specs.Safe.{IsIdle}
+use Rattle.rasta_core.specs.Names.{Names}
+use Rattle.rasta_core.specs.Invariant.{Timely}
+use Rattle.rasta_core.specs.Sentences.{IsOpening, IsOut, freshness, receipt_at}
 use Rattle.rasta_pdu.specs.Items.{IsItem}
 use Rattle.simulator_pair.specs.Events.{copy_of, refusal_of_delivery}
 use Rattle.simulator_pair.specs.declared.event.PairEvent.{PairEvent}

@@ -1,14 +1,14 @@
 -- Worked runs of a pair, by its definitions.
 use Rattle.std.specs.Prelude.{◌≡◌, ℕ, zero, suc, is_none, List, [], ◌∷◌, length, Some, true, if◌then◌else◌}
 use Rattle.md4.specs.declared.message.TheConstants.{STANDARD}
-use Rattle.rasta_core_link.specs.State.{confirmed_items, is_up}
-use Rattle.rasta_core_link.specs.declared.identity.Role.{Role}
-use Rattle.rasta_core_link.specs.declared.identity.Role.TheVariants.{Client, Server}
-use Rattle.rasta_core_link.specs.declared.reason.Reason.TheVariants as reason
-use Rattle.rasta_core_link.specs.declared.verdict.Verdict.{Verdict}
-use Rattle.rasta_core_link.specs.declared.verdict.Verdict.TheVariants as verdict
-use Rattle.rasta_core_ends.specs.Ends.{Sent}
-use Rattle.rasta_core_time.specs.Sentences.{receipt_at}
+use Rattle.rasta_core.specs.State.{confirmed_items, is_up}
+use Rattle.rasta_core.specs.identity.Role.{Role}
+use Rattle.rasta_core.specs.identity.Role.TheVariants.{Client, Server}
+use Rattle.rasta_core.specs.reason.Reason.TheVariants as reason
+use Rattle.rasta_core.specs.verdict.Verdict.{Verdict}
+use Rattle.rasta_core.specs.verdict.Verdict.TheVariants as verdict
+use Rattle.rasta_core.specs.Ends.{Sent}
+use Rattle.rasta_core.specs.Sentences.{receipt_at}
 use Rattle.sci_telegram.specs.declared.message.Aspect.TheVariants.{Stop, Proceed}
 use Rattle.simulator_pair.specs.Pair.{PairState, proceed_item, shown, stop_item}
 use Rattle.simulator_pair.specs.Events.{happens, new_pair, refusal}

@@ -1,12 +1,12 @@
 //! What each event does to the parts of a pair.
 
 ghost use Rattle.std.specs.Prelude.{◌≡◌, ◌≢◌, ◌≤◌, ◌<◌, ◌+◌, ◌*◌, ◌⊎◌, nat_le, None, Some, Ok, Err, IfOk, IfErr, OnOk, OnErr, IsTrue};
-ghost use Rattle.rasta_core_ends.specs.Run.{end_of, later, lost, restarted};
-ghost use Rattle.rasta_core_ends.specs.Ends.{reading_of};
-ghost use Rattle.rasta_core_ends.specs.Ends as ends;
-ghost use Rattle.rasta_core_ends.specs.Bag.{has_copy};
-ghost use Rattle.rasta_core_link.specs.Calls.{answer_to_send};
-ghost use Rattle.rasta_core_link.specs.declared.identity.Role.TheVariants.{Client, Server};
+ghost use Rattle.rasta_core.specs.Run.{end_of, later, lost, restarted};
+ghost use Rattle.rasta_core.specs.Ends.{reading_of};
+ghost use Rattle.rasta_core.specs.Ends as ends;
+ghost use Rattle.rasta_core.specs.Bag.{has_copy};
+ghost use Rattle.rasta_core.specs.Calls.{answer_to_send};
+ghost use Rattle.rasta_core.specs.identity.Role.TheVariants.{Client, Server};
 ghost use Rattle.rasta_pdu.specs.SafetyCode.{intact};
 ghost use Rattle.simulator_pair.specs.Pair.{stepped};
 ghost use Rattle.simulator_pair.specs.declared.event.PairEvent.TheVariants as event;
@@ -17,7 +17,7 @@ use crate::bag;
 use crate::event::{Bytes, PairAnswer, PairEvent, PairReply, Refused};
 use crate::node::{Call, MICROS, Node};
 use crate::parts::Parts;
-use rasta_core_link::{Millis, Role};
+use rasta_core::{Millis, Role};
 use rasta_pdu::is_intact;
 use signal_ctl::Lamp;
 use std::alloc::AllocError;
@@ -143,7 +143,7 @@ impl Parts {
     }
 
     /// Time goes on.
-    #[tactic(auto, unfolding(crate::specs::Events::happens, crate::specs::Events::refusal_of_time, crate::specs::Parts::seen, crate::specs::Parts::seen_ends, rasta_core_ends::specs::Run::later))]
+    #[tactic(auto, unfolding(crate::specs::Events::happens, crate::specs::Events::refusal_of_time, crate::specs::Parts::seen, crate::specs::Parts::seen_ends, crate::proofs::Below::later))]
     fn pass(&mut self, elapsed: u64, of_client: u64, of_server: u64)
         requires sound { AreSound self.old }
         requires allowed { refusal_of_time elapsed of_client of_server (seen_ends self.old) ≡ None }
@@ -171,7 +171,7 @@ impl Parts {
     }
 
     /// The oldest copy of bytes is lost.
-    #[tactic(auto, unfolding(crate::specs::Events::happens, crate::specs::Parts::seen, crate::specs::Parts::seen_ends, rasta_core_ends::specs::Run::lost))]
+    #[tactic(auto, unfolding(crate::specs::Events::happens, crate::specs::Parts::seen, crate::specs::Parts::seen_ends, crate::proofs::Below::lost))]
     fn lose(&mut self, bytes: &Bytes)
         requires sound { AreSound self.old }
         ensures step { seen self.new ≡ happens (event.Lose bytes.now) (seen self.old) }
@@ -182,7 +182,7 @@ impl Parts {
     }
 
     /// An end is made anew; a restarted server has a new lamp.
-    #[tactic(auto, unfolding(crate::specs::Events::happens, crate::specs::Parts::seen, crate::specs::Parts::seen_ends, crate::specs::Seen::seen_end, rasta_core_ends::specs::Run::restarted, rasta_core_ends::specs::Ends::end_restarted))]
+    #[tactic(auto, unfolding(crate::specs::Events::happens, crate::specs::Parts::seen, crate::specs::Parts::seen_ends, crate::specs::Seen::seen_end, crate::proofs::Below::restarted, crate::proofs::Below::end_restarted))]
     fn restart(
         &mut self,
         who: Role,

@@ -3,13 +3,12 @@
 ghost use Rattle.std.specs.Prelude.{◌≡◌, ◌+◌, ◌≤◌, ◌++◌, [], length};
 ghost use Rattle.std.specs.Option.{option_map};
 ghost use Rattle.std.specs.Vec.{vec_len, vec_capacity};
-ghost use Rattle.rasta_core_ends.specs.Bag as spec;
-ghost use Rattle.rasta_core_ends.specs.Ends.{handed_out};
+ghost use Rattle.rasta_core.specs.Bag as spec;
+ghost use Rattle.rasta_core.specs.Ends.{handed_out};
 ghost use Rattle.simulator_pair.specs.Order.{AreInOrder};
 ghost use Rattle.simulator_pair.specs.Events.{clock_limit};
 
-use rasta_core_ends::Sent;
-use rasta_core_link::{Outbox, Role};
+use rasta_core::{Outbox, Role, Sent};
 
 /// How long a datagram can be delivered, in microseconds of true time.
 const LIFETIME: u64 = 2_000_000;

@@ -1,7 +1,7 @@
 //! What happens to a pair, and what it answers.
 
 use arrayvec::ArrayVec;
-use rasta_core_link::{Millis, Reason, Role, SendFault};
+use rasta_core::{Millis, Reason, Role, SendFault};
 use rasta_pdu::Item;
 use thiserror::Error;
 

@@ -3,7 +3,7 @@
 ghost use Rattle.std.specs.Prelude.{◌≡◌};
 ghost use Rattle.simulator_pair.specs.Pair.{indicated_by, indicated_after, unless_closed};
 
-use rasta_core_link::Link;
+use rasta_core::Link;
 use rasta_pdu::Item;
 use signal_ctl::{Aspect, Lamp};
 

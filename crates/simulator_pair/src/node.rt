@@ -2,15 +2,15 @@
 
 ghost use Rattle.std.specs.Prelude.{◌≡◌, OnOk, ◌∷◌, Ok, is_ok, ◌+◌, ◌*◌, ◌≤◌, ◌<◌, ◌^◌, ◌++◌, ℕ, Some, None, [], length, if◌then◌else◌};
 ghost use Rattle.std.specs.Vec.{vec_len, vec_capacity};
-ghost use Rattle.rasta_core_link.specs.Outbox.{HasRoomFor, posted};
-ghost use Rattle.rasta_core_link.specs.Calls.{MayStep, IsAt, opening, opens, sending_item, answer_to_send, receiving};
-ghost use Rattle.rasta_core_ends.specs.Ends.{outcome, end_after, end_later, entered_by, reading_of};
+ghost use Rattle.rasta_core.specs.Outbox.{HasRoomFor, posted};
+ghost use Rattle.rasta_core.specs.Calls.{MayStep, IsAt, opening, opens, sending_item, answer_to_send, receiving};
+ghost use Rattle.rasta_core.specs.Ends.{outcome, end_after, end_later, entered_by, reading_of};
 ghost use Rattle.arrayvec.specs.ArrayVec.{array_vec_len};
 ghost use Rattle.simulator_pair.specs.Calling.{meant};
 
 use crate::event::Bytes;
 use arrayvec::ArrayVec;
-use rasta_core_link::{Inbox, Link, Millis, Outbox, Reason, SendFault, Verdict};
+use rasta_core::{Inbox, Link, Millis, Outbox, Reason, SendFault, Verdict};
 use rasta_pdu::Item;
 use std::alloc::AllocError;
 
@@ -72,7 +72,7 @@ impl Node {
     }
 
     /// The link's part of a call.
-    #[tactic(auto, using(crate::proofs::Steps::stepping), unfolding(rasta_core_ends::specs::Ends::outcome, crate::specs::Seen::seen_end))]
+    #[tactic(auto, using(crate::proofs::Steps::stepping), unfolding(crate::proofs::Below::outcome, crate::specs::Seen::seen_end))]
     fn call_link(
         &mut self,
         call: &Call,
@@ -128,7 +128,7 @@ impl Node {
     }
 
     /// A call of the link, and what it makes of the connection and its lists.
-    #[tactic(auto, using(crate::proofs::Steps::stepping), unfolding(crate::specs::Seen::seen_end, crate::specs::Seen::noted, crate::specs::Seen::concluded, rasta_core_ends::specs::Ends::end_after))]
+    #[tactic(auto, using(crate::proofs::Steps::stepping), unfolding(crate::specs::Seen::seen_end, crate::specs::Seen::noted, crate::specs::Seen::concluded, crate::proofs::Below::end_after))]
     pub(crate) fn call(
         &mut self,
         call: &Call,
@@ -158,7 +158,7 @@ impl Node {
     }
 
     /// The end is made anew, with this link and this clock in milliseconds.
-    #[tactic(auto, unfolding(crate::specs::Seen::seen_end, rasta_core_ends::specs::Ends::end_restarted))]
+    #[tactic(auto, unfolding(crate::specs::Seen::seen_end, crate::proofs::Below::end_restarted))]
     pub(crate) fn restart(&mut self, link: Link, clock: Millis, moment: usize)
         requires fits { clock * 1000 < 2 ^ 64 }
         ensures end { seen_end self.new ≡ record (seen_end self.old) { link = link; clock = clock * 1000; left = moment } }
@@ -185,7 +185,7 @@ impl Node {
     }
 
     /// The clock goes on by so many microseconds.
-    #[tactic(auto, using(crate::proofs::Steps::stepping), unfolding(crate::specs::Seen::seen_end, crate::specs::Seen::noted, rasta_core_ends::specs::Ends::end_later))]
+    #[tactic(auto, using(crate::proofs::Steps::stepping), unfolding(crate::specs::Seen::seen_end, crate::specs::Seen::noted, crate::proofs::Below::end_later))]
     pub(crate) fn pass(&mut self, elapsed: u64, moment: usize)
         requires clock { IsAtClock self.old }
         requires fits { self.old.clock + elapsed < 2 ^ 64 }

@@ -1,7 +1,7 @@
 //! A pair of ends and the network between them.
 
 ghost use Rattle.std.specs.Prelude.{◌≡◌, ◌≤◌, ◌<◌, ◌+◌, ◌⊎◌, [], None, Some, Err, IfOk, IfErr, OnOk, OnErr, IsTrue};
-ghost use Rattle.rasta_core_ends.specs.Run.{end_of};
+ghost use Rattle.rasta_core.specs.Run.{end_of};
 ghost use Rattle.simulator_pair.specs.Seen.{seen_end, HasLists};
 ghost use Rattle.simulator_pair.specs.Theorem.{GivesItem};
 ghost use Rattle.simulator_pair.specs.Events.{new_pair};
@@ -12,11 +12,10 @@ use crate::bag::Bag;
 use crate::event::{PairEvent, PairReply, Refused};
 use crate::node::Node;
 use crate::parts::Parts;
-use rasta_core_ends::Sent;
-use rasta_core_link::{Inbox, Link, Outbox, Role};
-use rasta_core_theorem::{every_event_keeps_order, order_is_safe, outside_until_it_enters};
-use rasta_core_time::{
-    every_event_keeps_time, items_are_fresh, opening_is_new, own_connection, starts_in_time,
+use rasta_core::{
+    Inbox, Link, Outbox, Role, Sent, every_event_keeps_order, every_event_keeps_time,
+    items_are_fresh, opening_is_new, order_is_safe, outside_until_it_enters, own_connection,
+    starts_in_time,
 };
 use rasta_pdu::{Item, Key, intact_is_tested, read_was_written};
 use signal_ctl::{Aspect, Lamp};
@@ -67,7 +66,7 @@ fn new_node(alloc: Global, link: Link) -> Node
 }
 
 /// The parts of a new pair.
-#[tactic(auto, unfolding(crate::specs::Parts::seen, crate::specs::Parts::seen_ends, crate::specs::Seen::seen_end, rasta_core_link::specs::Calls::created, rasta_core_link::specs::Clock::alive_until))]
+#[tactic(auto, unfolding(crate::specs::Parts::seen, crate::specs::Parts::seen_ends, crate::specs::Seen::seen_end, crate::proofs::Below::created, crate::proofs::Below::alive_until))]
 fn new_parts(alloc: Global) -> Result<Parts, AllocError>
     ensures state { IfOk result (λ parts. seen parts ≡ new_pair (record { 0 = STANDARD })) }
     ensures whole { IfOk result IsPair }
@@ -99,10 +98,10 @@ fn gives_item(event: &PairEvent)
 }
 
 impl Pair {
-    ghost use Rattle.rasta_core_theorem.specs.Safe.{AreSafe};
+    ghost use Rattle.rasta_core.specs.Safe.{AreSafe};
     ghost use Rattle.simulator_pair.specs.Theorem.{HappensRightly};
-    ghost use Rattle.rasta_core_link.specs.State.{is_up, confirmed_items};
-    ghost use Rattle.rasta_core_link.specs.Clock.{alive_until};
+    ghost use Rattle.rasta_core.specs.State.{is_up, confirmed_items};
+    ghost use Rattle.rasta_core.specs.Clock.{alive_until};
     ghost use Rattle.simulator_pair.specs.Pair.{shown};
     ghost use Rattle.simulator_pair.specs.Lamp.{StopHolds, aspect_due};
     ghost use Rattle.simulator_pair.specs.Events.{refusal, happens, reply_to, is_restart};

@@ -3,13 +3,12 @@
 ghost use Rattle.std.specs.Prelude.{◌≡◌, ◌≤◌};
 ghost use Rattle.simulator_pair.specs.Pair.{stepped};
 ghost use Rattle.simulator_pair.specs.Calling.{meant};
-ghost use Rattle.rasta_core_ends.specs.Run.{end_of};
-ghost use Rattle.rasta_core_link.specs.declared.identity.Role.TheVariants.{Client, Server};
+ghost use Rattle.rasta_core.specs.Run.{end_of};
+ghost use Rattle.rasta_core.specs.identity.Role.TheVariants.{Client, Server};
 
 use crate::node::{Call, Node};
 use crate::{bag, lamp};
-use rasta_core_ends::Sent;
-use rasta_core_link::{Inbox, Outbox, Role, SendFault};
+use rasta_core::{Inbox, Outbox, Role, SendFault, Sent};
 use signal_ctl::Lamp;
 use std::alloc::Global;
 

@@ -2,7 +2,7 @@
 //! so that the runs also hold with any one allocation refused.
 
 use super::*;
-use rasta_core_link::Millis;
+use rasta_core::Millis;
 use rasta_pdu::{Body, Key, Pdu, read};
 use std::alloc::Global;
 use std::process::Abort;

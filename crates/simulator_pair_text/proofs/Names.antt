@@ -2,7 +2,7 @@
 use Rattle.std.proofs.Common.{◌≡◌, ℕ, List, Result, Ok, Err, Bor, refl, ap, sym, ◌∙◌, arith}
 use Rattle.std.proofs.lemmas.Bool.Decides.{nat_tests}
 use Rattle.std.specs.Result.{MatchResult}
-use Rattle.rasta_core_link.specs.declared.identity.Role.{Role}
+use Rattle.rasta_core.specs.identity.Role.{Role}
 use Rattle.event_words.specs.declared.fault.Fault.{Fault}
 use Rattle.event_words.specs.Fault.{both, lower, ◌>>=◌}
 

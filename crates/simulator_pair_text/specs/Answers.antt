@@ -3,10 +3,10 @@ use Rattle.std.specs.Prelude.{ℕ, ◌/◌, length, if◌then◌else◌, List, �
 use Rattle.std.specs.Fmt.{decimal}
 use Rattle.sci_telegram.specs.declared.message.Aspect.{Aspect}
 use Rattle.sci_telegram.specs.declared.message.Aspect.TheVariants.{Stop, Proceed}
-use Rattle.rasta_core_link.specs.State.{is_up}
-use Rattle.rasta_core_ends.specs.Ends.{EndState}
+use Rattle.rasta_core.specs.State.{is_up}
+use Rattle.rasta_core.specs.Ends.{EndState}
 use Rattle.simulator_pair.specs.Pair.{PairState, shown}
-use Rattle.rasta_core_link.specs.declared.fault.SendFault.TheVariants.{NotUp, WindowFull}
+use Rattle.rasta_core.specs.fault.SendFault.TheVariants.{NotUp, WindowFull}
 use Rattle.simulator_pair.specs.declared.event.PairReply.{PairReply}
 use Rattle.simulator_pair.specs.declared.event.PairAnswer.{PairAnswer}
 use Rattle.simulator_pair.specs.declared.event.PairAnswer.TheVariants.{Given, Done as Applied}

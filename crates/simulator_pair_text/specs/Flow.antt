@@ -1,8 +1,8 @@
 -- What a flow does to a pair.
 use Rattle.std.specs.Prelude.{ℕ, zero, suc, ◌-◌, ◌<◌, ◌||◌, nat_lt, List, length, slice_get, Option, Some, None, is_none, if◌then◌else◌}
-use Rattle.rasta_core_link.specs.declared.identity.Role.{Role}
-use Rattle.rasta_core_link.specs.declared.identity.Role.TheVariants as role
-use Rattle.rasta_core_ends.specs.Ends.{Sent, Receives}
+use Rattle.rasta_core.specs.identity.Role.{Role}
+use Rattle.rasta_core.specs.identity.Role.TheVariants as role
+use Rattle.rasta_core.specs.Ends.{Sent, Receives}
 use Rattle.simulator_pair.specs.Pair.{PairState, stepped}
 use Rattle.simulator_pair.specs.Events.{refusal_of_delivery, copy_of, connection_of, refusal, happens}
 use Rattle.simulator_pair.specs.declared.event.PairEvent.{PairEvent}

@@ -18,10 +18,10 @@ use Rattle.event_words.specs.declared.fault.Fault.TheVariants.{Words, Name, Numb
 use Rattle.event_words.specs.Fault.{both, ◌>>=◌}
 use Rattle.event_words.specs.Cut.{words, name_and_number}
 use Rattle.event_words.specs.Read.{decimal, hexadecimal, hexadecimal_or_none}
-use Rattle.rasta_core_link.specs.declared.identity.Role.{Role}
-use Rattle.rasta_core_link.specs.declared.identity.Role.TheVariants.{Client, Server}
-use Rattle.rasta_core_link.specs.declared.reason.Reason.{Reason}
-use Rattle.rasta_core_link.specs.declared.reason.Reason.TheVariants.{User, State, Sequence, Version, Window, Time as Silence}
+use Rattle.rasta_core.specs.identity.Role.{Role}
+use Rattle.rasta_core.specs.identity.Role.TheVariants.{Client, Server}
+use Rattle.rasta_core.specs.reason.Reason.{Reason}
+use Rattle.rasta_core.specs.reason.Reason.TheVariants.{User, State, Sequence, Version, Window, Time as Silence}
 use Rattle.simulator_pair.specs.declared.event.PairEvent.TheVariants.{Give, Tick, Time, Deliver, Lose, Close, Restart}
 use Rattle.simulator_pair_text.specs.declared.line.PairLine.{PairLine}
 use Rattle.simulator_pair_text.specs.declared.line.PairLine.TheVariants.{Event, Flow, Picture}

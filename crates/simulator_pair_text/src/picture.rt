@@ -19,7 +19,7 @@ pub(crate) struct EndSeen {
 }
 
 impl EndSeen {
-    ghost use Rattle.rasta_core_ends.specs.Run.{end_of};
+    ghost use Rattle.rasta_core.specs.Run.{end_of};
     ghost use Rattle.simulator_pair_text.specs.Answers.{seen_of_end};
 
     fn of(pair: &Pair, end: Role) -> EndSeen

@@ -8,7 +8,7 @@ use crate::section::Section;
 use crate::sections;
 use arrayvec::ArrayVec;
 use object_host::{Controller, Report, Sense};
-use rasta_core_link::Millis;
+use rasta_core::Millis;
 use sci_telegram::{Name, Occupancy, Protocol, Telegram};
 use std::marker::Model;
 

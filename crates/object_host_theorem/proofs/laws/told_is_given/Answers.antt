@@ -1,11 +1,11 @@
 -- the laws that the body calls are those that the invariant stands on
 use Rattle.std.proofs.Common.{◌≡◌, ℕ, List}
-use Rattle.rasta_core_link.specs.declared.identity.Role.TheVariants as role
-use Rattle.rasta_core_ends.specs.Run.{Ends}
-use Rattle.rasta_core_link.specs.Clock.{settled}
-use Rattle.rasta_core_time.specs.Events.{Event, May, happened}
-use Rattle.rasta_core_time.specs.Invariant.{Timely}
-use Rattle.rasta_core_theorem.specs.Ordered.{Ordered}
+use Rattle.rasta_core.specs.identity.Role.TheVariants as role
+use Rattle.rasta_core.specs.Run.{Ends}
+use Rattle.rasta_core.specs.Clock.{settled}
+use Rattle.rasta_core.specs.Events.{Event, May, happened}
+use Rattle.rasta_core.specs.Invariant.{Timely}
+use Rattle.rasta_core.specs.Ordered.{Ordered}
 use Rattle.object_host_theorem.proofs.Server.{now_of}
 use Rattle.object_host_theorem.proofs.Told.{begun_holds, holds_told, run_holds}
 use Rattle.object_host_theorem.proofs.laws.told_is_given.Goals as goal

@@ -1,4 +1,4 @@
-use Rattle.rasta_core_time.specs.Events.{run, started}
+use Rattle.rasta_core_run.specs.Events.{run, started}
 use Rattle.rasta_core_theorem.proofs.Events.{run_kept}
 use Rattle.rasta_core_theorem.proofs.laws.link_is_safe.Goals as goal
 

@@ -1,4 +1,4 @@
-use Rattle.rasta_core_time.specs.Events.{run, started}
+use Rattle.rasta_core_run.specs.Events.{run, started}
 use Rattle.rasta_core_theorem.proofs.Others.{others_idle}
 use Rattle.rasta_core_theorem.proofs.laws.what_is_taken.Goals as goal
 

@@ -1,5 +1,5 @@
 use Rattle.std.proofs.Common.{◌≡◌, drop}
-use Rattle.rasta_core_ends.specs.Bag.{has_copy}
+use Rattle.rasta_core.specs.Bag.{has_copy}
 use Rattle.simulator_pair.proofs.bag.has_copy.Given as goal
 
 abbrev pub invariant-loop-one : goal.invariant-loop-one

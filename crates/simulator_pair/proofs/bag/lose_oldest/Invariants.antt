@@ -1,5 +1,5 @@
 use Rattle.std.proofs.Common.{◌≡◌, ◌++◌, take, drop}
-use Rattle.rasta_core_ends.specs.Bag.{without_oldest}
+use Rattle.rasta_core.specs.Bag.{without_oldest}
 use Rattle.simulator_pair.proofs.bag.lose_oldest.Given as goal
 
 abbrev pub invariant-loop-one : goal.invariant-loop-one

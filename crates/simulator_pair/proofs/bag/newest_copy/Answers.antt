@@ -1,7 +1,7 @@
 use Rattle.std.proofs.Common.{rules, ◌≡◌, ◌+◌, ◌-◌, ◌≤◌, ◌<◌, ◌∙◌, ap, sym, ℕ, List, take, length, Some, None, Option, arith}
 use Rattle.std.specs.Option.{option_map}
-use Rattle.rasta_core_ends.specs.Bag.{newest_copy}
-use Rattle.rasta_core_ends.specs.Ends.{Sent}
+use Rattle.rasta_core.specs.Bag.{newest_copy}
+use Rattle.rasta_core.specs.Ends.{Sent}
 use Rattle.simulator_pair.proofs.Order.{sent_by}
 use Rattle.simulator_pair.proofs.Copies.{newest_found, newest_goes_on, newest_too_old}
 use Rattle.simulator_pair.proofs.bag.newest_copy.Goals as goal

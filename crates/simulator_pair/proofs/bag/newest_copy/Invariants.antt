@@ -1,5 +1,5 @@
 use Rattle.std.proofs.Common.{◌≡◌, ◌≤◌, length, take}
-use Rattle.rasta_core_ends.specs.Bag.{newest_copy}
+use Rattle.rasta_core.specs.Bag.{newest_copy}
 use Rattle.simulator_pair.proofs.bag.newest_copy.Given as goal
 
 abbrev pub invariant-loop-index : goal.invariant-loop-index

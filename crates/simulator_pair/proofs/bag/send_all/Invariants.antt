@@ -1,6 +1,6 @@
 use Rattle.std.proofs.Common.{◌≡◌, ◌+◌, ◌++◌, length, Some}
 use Rattle.std.specs.Vec.{vec_len, vec_capacity}
-use Rattle.rasta_core_ends.specs.Ends.{handed_out}
+use Rattle.rasta_core.specs.Ends.{handed_out}
 use Rattle.simulator_pair.proofs.bag.send_all.Given as goal
 
 abbrev pub invariant-loop-datagram : goal.invariant-loop-datagram

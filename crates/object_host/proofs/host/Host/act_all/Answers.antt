@@ -1,6 +1,6 @@
 -- each round acts on one item; a closed link drops those that are left
 use Rattle.std.proofs.Common.{◌*◌, ap, sym, ◌∙◌, arith}
-use Rattle.rasta_core_link.specs.State.{is_open}
+use Rattle.rasta_core.specs.State.{is_open}
 use Rattle.object_host.specs.Step.{acting_all}
 use Rattle.object_host.proofs.Acting.{acting_next, closed_drops, nothing_at_end}
 use Rattle.object_host.proofs.UnderWay.{IsDone, begins, comes_to_end}

@@ -1,6 +1,6 @@
 -- a new link is closed
 use Rattle.std.proofs.Common.{ap}
-use Rattle.rasta_core_link.specs.Outbox.{OutboxState}
+use Rattle.rasta_core.specs.Outbox.{OutboxState}
 use Rattle.object_host.proofs.Between.{new_hosted}
 use Rattle.object_host.proofs.hosted.Hosted.new.Goals as goal
 

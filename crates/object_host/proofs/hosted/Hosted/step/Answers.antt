@@ -1,6 +1,6 @@
 -- every step keeps what is always true of a host
 use Rattle.std.proofs.Common.{◌∙◌, ap, sym, subst}
-use Rattle.rasta_core_link.specs.Outbox.{OutboxState}
+use Rattle.rasta_core.specs.Outbox.{OutboxState}
 use Rattle.object_host.specs.Hosted.{IsHosted}
 use Rattle.object_host.proofs.Between.{step_hosted}
 use Rattle.object_host.proofs.Posting.{capacity-posted}

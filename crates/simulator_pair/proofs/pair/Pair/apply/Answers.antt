@@ -1,7 +1,7 @@
 use Rattle.std.proofs.Common.{subst, ap}
 use Rattle.simulator_pair.specs.Parts.{seen, seen_ends}
 use Rattle.simulator_pair.specs.Theorem.{HappensRightly, names}
-use Rattle.rasta_core_ends.specs.Run.{Ends}
+use Rattle.rasta_core.specs.Run.{Ends}
 use Rattle.simulator_pair.proofs.Lit.{lit_answer, lit_shows, stop_holds}
 use Rattle.simulator_pair.proofs.Linked.{Laws, TakingLaws, linked_answer, happens_rightly}
 use Rattle.simulator_pair.proofs.pair.Pair.apply.Goals as goal

@@ -1,6 +1,6 @@
 use Rattle.std.proofs.Common.{inl, refl, sym, subst}
-use Rattle.rasta_core_link.specs.Calls.{created}
-use Rattle.rasta_core_time.specs.Events.{Start}
+use Rattle.rasta_core.specs.Calls.{created}
+use Rattle.rasta_core.specs.Events.{Start}
 use Rattle.simulator_pair.specs.Pair.{PairState}
 use Rattle.simulator_pair.specs.Parts.{seen}
 use Rattle.simulator_pair.specs.Lamp.{IsLit}

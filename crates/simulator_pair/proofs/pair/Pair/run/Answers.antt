@@ -3,7 +3,7 @@ use Rattle.std.specs.Prelude.{is_ok, if◌then◌else◌, ℕ}
 use Rattle.std.proofs.lemmas.List.{take_more}
 use Rattle.simulator_pair.specs.Runs.{Runs, stops}
 use Rattle.simulator_pair.specs.declared.event.PairEvent.{PairEvent}
-use Rattle.rasta_core_theorem.specs.Safe.{AreSafe}
+use Rattle.rasta_core.specs.Safe.{AreSafe}
 use Rattle.simulator_pair.specs.Pair.{PairView, shown}
 use Rattle.simulator_pair.specs.Lamp.{StopHolds, aspect_due}
 use Rattle.simulator_pair.specs.Parts.{seen}

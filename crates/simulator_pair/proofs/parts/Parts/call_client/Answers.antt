@@ -1,9 +1,9 @@
 use Rattle.std.proofs.Common.{◌≤◌, ℕ, ◌+◌, refl, sym, ap, ◌∙◌, subst, List, length, arith}
 use Rattle.std.specs.Vec.{vec_len}
-use Rattle.rasta_core_link.specs.Outbox.{spellings}
-use Rattle.rasta_core_ends.specs.Ends.{Sent, outcome, end_after}
+use Rattle.rasta_core.specs.Outbox.{spellings}
+use Rattle.rasta_core.specs.Ends.{Sent, outcome, end_after}
 use Rattle.simulator_pair.specs.Calling.{meant}
-use Rattle.rasta_core_link.specs.declared.identity.Role.TheVariants.{Client}
+use Rattle.rasta_core.specs.identity.Role.TheVariants.{Client}
 use Rattle.simulator_pair.specs.Events.{clock_limit}
 use Rattle.simulator_pair.specs.Order.{AreInOrder}
 use Rattle.simulator_pair.specs.Seen.{seen_end}

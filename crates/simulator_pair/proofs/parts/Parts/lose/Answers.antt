@@ -1,6 +1,6 @@
 use Rattle.std.proofs.Common.{◌≡◌, sym, ap, ◌∙◌, subst, List, ◌++◌, take, drop, length, arith}
 use Rattle.std.proofs.Math.Seq.{take-append_seam}
-use Rattle.rasta_core_ends.specs.Ends.{Sent}
+use Rattle.rasta_core.specs.Ends.{Sent}
 use Rattle.simulator_pair.specs.Order.{AreInOrder}
 use Rattle.simulator_pair.proofs.Order.{in_order_losing}
 use Rattle.simulator_pair.proofs.parts.Parts.lose.Goals as goal

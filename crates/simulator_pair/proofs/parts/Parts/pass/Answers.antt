@@ -1,5 +1,5 @@
 use Rattle.std.proofs.Common.{ap, arith}
-use Rattle.rasta_core_ends.specs.Ends.{end_later}
+use Rattle.rasta_core.specs.Ends.{end_later}
 use Rattle.simulator_pair.specs.Seen.{seen_end}
 use Rattle.simulator_pair.specs.Parts.{seen_ends}
 use Rattle.simulator_pair.proofs.Order.{in_order_later}

@@ -1,5 +1,5 @@
 use Rattle.std.proofs.Common.{◌≡◌, ap, List, length, subst}
-use Rattle.rasta_core_ends.specs.Ends.{Sent}
+use Rattle.rasta_core.specs.Ends.{Sent}
 use Rattle.simulator_pair_text.specs.Flow.{Flowing, round}
 use Rattle.simulator_pair_text.proofs.Answering.{at}
 use Rattle.simulator_pair_text.proofs.Rounds.{made-round}

@@ -1,0 +1,9 @@
+pub mod Each
+pub mod Names
+pub mod Ends
+pub mod Bag
+pub mod Run
+pub mod Events
+pub mod Sentences
+pub mod Safe
+pub mod Given
