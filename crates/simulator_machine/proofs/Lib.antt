@@ -1,0 +1,5 @@
+pub mod Lists
+pub mod Signals
+pub mod Points
+pub mod Frames
+pub mod Kept
