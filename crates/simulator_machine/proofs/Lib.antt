@@ -3,3 +3,4 @@ pub mod Signals
 pub mod Points
 pub mod Frames
 pub mod Kept
+pub mod Runs

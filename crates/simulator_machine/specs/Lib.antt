@@ -5,3 +5,5 @@ pub mod Point
 pub mod Machine
 pub mod Promise
 pub mod Invariant
+pub mod Small
+pub mod Wrong
