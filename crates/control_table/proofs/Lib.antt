@@ -9,4 +9,3 @@ pub mod OrderLaws
 pub mod TableLaws
 pub mod ConflictLaws
 pub mod RouteLaws
-pub mod There

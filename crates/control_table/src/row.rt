@@ -7,7 +7,7 @@ use crate::fault::{FaultyRoute, TableFault};
 use crate::order::in_layout_order;
 use crate::passage::{Passage, passages};
 use crate::sections::{elements, elements_differ, sections, sections_differ};
-use crate::sides::{FlankProtection, consistent, flanks_guarded, needs, protections};
+use crate::sides::{consistent, flanks_guarded, needs};
 use crate::signals::{extras_listed, port_of, signals_placed};
 use crate::written::{flank_written, points_written, written_right};
 use layout::{Layout, PointId, Route, RouteId, SectionId};
@@ -22,8 +22,6 @@ pub(crate) struct Row {
     pub(crate) sections: Vec<SectionId>,
     /// The points that it requires, each with its side, in layout order.
     pub(crate) required: Vec<(PointId, Side)>,
-    /// Which point guards which point on its path.
-    pub(crate) protections: Vec<FlankProtection>,
 }
 
 impl Model for Row {
@@ -31,7 +29,7 @@ impl Model for Row {
 
     ghost Value = { TableRow };
 
-    ghost view = { λ r. record { sections = r.sections.items; required = r.required.items; protections = r.protections.items } };
+    ghost view = { λ r. record { sections = r.sections.items; required = r.required.items } };
 }
 
 impl Row {
@@ -41,12 +39,7 @@ impl Row {
     {
         let sections = Vec::from_slice(alloc, &self.sections)?;
         let required = Vec::from_slice(alloc, &self.required)?;
-        let protections = Vec::from_slice(alloc, &self.protections)?;
-        Ok(Row {
-            sections,
-            required,
-            protections,
-        })
+        Ok(Row { sections, required })
     }
 }
 
@@ -148,12 +141,7 @@ fn row_of(
     if !extras_listed(layout.routes(), place.id, route.extra()) {
         return Err(TableFault::NotSymmetric(*place));
     }
-    let protections = protections(alloc, layout, &path)?;
-    Ok(Row {
-        sections,
-        required,
-        protections,
-    })
+    Ok(Row { sections, required })
 }
 
 /// The rows of routes, or the first fault of the first faulty one.

@@ -4,9 +4,3 @@ pub mod TextLemmas
 pub mod KnownLemmas
 pub mod OnceLemmas
 pub mod OncePlan
-pub mod Steps
-pub mod Directory
-pub mod StationEntries
-pub mod ReportedOnce
-pub mod TextIds
-pub mod StationPlan

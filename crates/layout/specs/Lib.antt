@@ -8,5 +8,4 @@ pub mod Known
 pub mod Doubles
 pub mod Resolving
 pub mod Once
-pub mod Station
 pub mod Messages

@@ -3,6 +3,3 @@ pub mod Waiting
 pub mod Steps
 pub mod Keeping
 pub mod Few
-pub mod Verdicts
-pub mod Refusals
-pub mod WorkedLimit

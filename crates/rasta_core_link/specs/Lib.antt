@@ -5,7 +5,5 @@ pub mod Clock
 pub mod Sending
 pub mod Opening
 pub mod Receiving
-pub mod Verdicts
 pub mod Calls
 pub mod Outbox
-pub mod Worked

@@ -1,5 +1,3 @@
 pub mod Runs
 pub mod Views
 pub mod Projection
-pub mod Order
-pub mod Quiet

@@ -1,3 +1,1 @@
 pub mod Links
--- an invariant, for the proofs
-pub mod EachLink

@@ -1,0 +1,93 @@
+-- What a telegram of the controller is to its connection, by the order of the initialisation: version answer, start, the
+-- state of each object, completed, and then reports. The protocol is this project's own, in the manner of EULYNX.
+use Rattle.std.specs.Prelude.{ℕ, ◌-◌, ◌==◌, ◌&&◌, not, Bool, true, false, List, Option, Some, None, length, if◌then◌else◌}
+use Rattle.std.specs.List.{position}
+use Rattle.std.specs.Str.{bytes_eq}
+use Rattle.sci_telegram.specs.Messages.{protocol_of}
+use Rattle.sci_telegram.specs.declared.message.Agreement.{Agreement}
+use Rattle.sci_telegram.specs.declared.message.Agreement.TheVariants.{NoMatch, Match}
+use Rattle.sci_telegram.specs.declared.message.Initialisation.{Initialisation}
+use Rattle.sci_telegram.specs.declared.message.Initialisation.TheVariants.{StartInitialisation, InitialisationCompleted, VersionAnswer}
+use Rattle.sci_telegram.specs.declared.message.Message.{Message}
+use Rattle.sci_telegram.specs.declared.message.Message.TheVariants as message
+use Rattle.sci_telegram.specs.declared.message.PointMessage.TheVariants.{PointPosition, Timeout}
+use Rattle.sci_telegram.specs.declared.message.Protocol.{Protocol}
+use Rattle.sci_telegram.specs.declared.message.Protocol.TheVariants as protocols
+use Rattle.sci_telegram.specs.declared.message.SignalMessage.TheVariants.{IndicatedAspect}
+use Rattle.sci_telegram.specs.declared.message.DetectionMessage.TheVariants.{OccupancyStatus}
+use Rattle.sci_telegram.specs.declared.telegram.Telegram.{Telegram}
+use Rattle.ixl_client.specs.Client.{PeerState}
+use Rattle.ixl_client.specs.declared.course.Course.{Course}
+use Rattle.ixl_client.specs.declared.course.Course.TheVariants as courses
+use Rattle.ixl_client.specs.declared.indication.ObjectState.{ObjectState}
+use Rattle.ixl_client.specs.declared.indication.ObjectState.TheVariants as states
+use Rattle.ixl_client.specs.declared.stage.Stage.{Stage}
+use Rattle.ixl_client.specs.declared.stage.Stage.TheVariants as stage
+
+-- the state of an object that a message tells, if it tells one
+abbrev pub state_in : Message → Option ObjectState
+state_in (message.Signal (IndicatedAspect aspect)) = Some (states.Aspect aspect)
+state_in (message.Point (PointPosition position)) = Some (states.Position position)
+state_in (message.Point Timeout) = Some states.Timeout
+state_in (message.Detection (OccupancyStatus occupancy)) = Some (states.Occupancy occupancy)
+state_in _ = None
+
+-- a timeout says that a move failed, and is no state to begin with
+abbrev pub is_status : ObjectState → Bool
+is_status states.Timeout = false
+is_status _ = true
+
+-- a point tells where it lies only in the initialisation and when a move has ended
+abbrev pub reports_changes : Protocol → Bool
+reports_changes protocols.Point = false
+reports_changes _ = true
+
+-- whether the state of the object at this place comes in its turn: in the initialisation the objects tell in their order
+abbrev pub is_in_turn : PeerState → ℕ → ObjectState → Stage → Bool
+is_in_turn peer place state (stage.AwaitsStatus left) = place == length peer.objects - left && is_status state
+is_in_turn peer place state stage.Completed = reports_changes peer.protocol
+is_in_turn peer place state stage.AwaitsReport = true
+is_in_turn peer place state _ = false
+
+-- the place of an object among those that the controller tells of
+abbrev pub place_of : PeerState → List ℕ → Option ℕ
+place_of peer sender = position (λ name. bytes_eq name sender) peer.objects
+
+abbrev pub report_course : PeerState → Option ℕ → Option ObjectState → Stage → Course
+report_course peer (Some place) (Some state) stage =
+    if is_in_turn peer place state stage
+    then courses.Indicates (record { place = place; state = state })
+    else courses.Violates
+report_course peer _ _ stage = courses.Violates
+
+abbrev pub is_match : Agreement → Bool
+is_match Match = true
+is_match NoMatch = false
+
+abbrev pub initial_course : PeerState → Initialisation → Stage → Course
+initial_course peer (VersionAnswer agreement version) stage.AwaitsAnswer =
+    if is_match agreement && version == peer.version then courses.Agrees else courses.Differs
+initial_course peer StartInitialisation stage.AwaitsStart = courses.Starts
+initial_course peer InitialisationCompleted (stage.AwaitsStatus left) =
+    if left == 0 then courses.Completes else courses.Violates
+initial_course peer _ _ = courses.Violates
+
+-- the sender of a telegram of the initialisation is the controller, and that of a report the object
+abbrev pub course_of : PeerState → List ℕ → Message → Stage → Course
+course_of peer sender (message.Initialisation protocol initialisation) stage =
+    if bytes_eq sender peer.name then initial_course peer initialisation stage else courses.Violates
+course_of peer sender told stage = report_course peer (place_of peer sender) (state_in told) stage
+
+abbrev pub is_same_protocol : Protocol → Protocol → Bool
+is_same_protocol protocols.TrainDetection protocols.TrainDetection = true
+is_same_protocol protocols.LightSignal protocols.LightSignal = true
+is_same_protocol protocols.Point protocols.Point = true
+is_same_protocol _ _ = false
+
+-- a telegram in the controller's protocol for this client
+abbrev pub is_for_client : PeerState → Telegram → Bool
+is_for_client peer telegram = is_same_protocol (protocol_of telegram.message) peer.protocol && bytes_eq telegram.receiver peer.own_name
+
+unfoldable pub course : PeerState → Telegram → Stage → Course
+course peer telegram stage =
+    if is_for_client peer telegram then course_of peer telegram.sender telegram.message stage else courses.Violates

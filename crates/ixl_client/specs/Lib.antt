@@ -1,0 +1,5 @@
+pub mod Client
+pub mod Course
+pub mod Part
+pub mod Step
+pub mod Way
