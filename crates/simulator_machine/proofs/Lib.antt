@@ -3,4 +3,5 @@ pub mod Signals
 pub mod Points
 pub mod Frames
 pub mod Kept
-pub mod Runs
+pub mod Broken
+pub mod Composed

@@ -16,6 +16,13 @@ same_is (suc a) (suc b) e = ap suc (same_is a b e)
 pub differs : (a b : ℕ) → is_same a b ≡ false → a ≢ b
 differs a b e same = absurd (cc (e, same_self a, ap (λ n. is_same a n) same))
 
+pub different : (a b : ℕ) → a ≢ b → is_same a b ≡ false
+different a b other = go (is_same a b) refl
+  where
+    go : (test : Bool) → is_same a b ≡ test → is_same a b ≡ false
+    go true e = absurd (other (same_is a b e))
+    go false e = e
+
 -- two numbers are the same or not
 pub same_or_not : (a b : ℕ) → (a ≡ b) ⊎ (a ≢ b)
 same_or_not a b = go (is_same a b) refl

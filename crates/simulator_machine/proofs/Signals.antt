@@ -4,7 +4,7 @@ use Rattle.std.proofs.lemmas.List.{length-append, append-nil}
 use Rattle.std.specs.Prelude.{◌≢◌}
 use Rattle.simulator_machine.specs.Lists.{last_of, IsOf}
 use Rattle.simulator_machine.specs.Link.{Down, Up, Server, Before, In, Gone, Link, LinkMove, Opens, Enters, ComesUp, Closes, Leaves, QuietEnds, LinkMay, link_after}
-use Rattle.simulator_machine.specs.Signal.{Aspect, Stop, Signal, shown_by, shown, IsLive, HasStopConfirmed, IsAtKnownStop, SignalMove, SignalLink, GivesStop, Acts, Confirms, ForgetsActs, SignalMay, aspect_given, signal_linked, acted, signal_after}
+use Rattle.simulator_machine.specs.Signal.{Aspect, Stop, Proceed, Signal, shown_by, shown, IsLive, HasStopConfirmed, IsAtKnownStop, SignalMove, SignalLink, GivesStop, Acts, Confirms, ForgetsActs, SignalMay, aspect_given, signal_linked, acted, signal_after}
 use Rattle.simulator_machine.specs.Invariant.{IsLinkSound, IsSignalSound}
 use Rattle.simulator_machine.proofs.Lists.{last_added, of_added, none_left}
 
@@ -178,3 +178,11 @@ shown_live signal other = go signal.link.server refl other
     go Before is other = absurd (other refl)
     go In is other = record { other = other; stays = λ e. cc (e, is); somewhere = inl refl }
     go Gone is other = absurd (other refl)
+
+-- so a signal at known stop shows stop
+pub known_stop_shown : (signal : Signal) → IsSignalSound signal → IsAtKnownStop signal → shown signal ≡ Stop
+known_stop_shown signal sound stop = go (shown signal) refl
+  where
+    go : (aspect : Aspect) → shown signal ≡ aspect → shown signal ≡ Stop
+    go Stop is = is
+    go (Proceed number) is = absurd (known_stop_dark (shown signal) signal sound stop (shown_live signal (λ stopped. cc (is, stopped))))

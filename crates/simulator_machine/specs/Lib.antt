@@ -5,5 +5,6 @@ pub mod Point
 pub mod Machine
 pub mod Promise
 pub mod Invariant
+pub mod Chains
 pub mod Small
 pub mod Wrong

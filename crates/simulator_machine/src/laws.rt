@@ -1,12 +1,12 @@
-//! The laws of the machine.
+//! The promise, and the invariant that it follows from.
 
-ghost use Rattle.std.specs.Prelude.{ℕ, List};
-ghost use Rattle.simulator_machine.specs.Machine.{Table, IsSound, Move, MayRun, right_rules, run, first};
-ghost use Rattle.simulator_machine.specs.Point.{Position};
+ghost use Rattle.std.specs.Prelude.{◌≡◌, ℕ, List};
+ghost use Rattle.simulator_machine.specs.Chains.{Reaches};
+ghost use Rattle.simulator_machine.specs.Invariant.{IsPointSound, IsSettled, IsSignalSound, Invariant};
+ghost use Rattle.simulator_machine.specs.Machine.{Table, IsSound, Machine, Move, May, MayRun, after, first, right_rules, run};
+ghost use Rattle.simulator_machine.specs.Point.{IsKnownAt, Point, Position, Side};
 ghost use Rattle.simulator_machine.specs.Promise.{Promise};
-ghost use Rattle.simulator_machine.specs.Signal.{Proceed};
-ghost use Rattle.simulator_machine.specs.Small.{small, LeadsTo, cleared, released, held_twice, set_up_again, point_restarts, signal_restarts};
-ghost use Rattle.simulator_machine.specs.Wrong.{Breaks, ends_unconfirmed, ended_unconfirmed, believes, believed, moves_held, moved_held, authorises_twice, authorised_twice, forgets_frozen, forgotten, ends_hold_early, hold_ended_early, sets_at_once, set_at_once, sets_blocked, set_blocked, keeps_aspect, aspect_kept};
+ghost use Rattle.simulator_machine.specs.Signal.{Aspect, IsAtKnownStop, IsLive, Signal, Stop, shown};
 
 /// After every list of moves from the first state the promise holds.
 pub fn promise_holds()
@@ -14,26 +14,28 @@ pub fn promise_holds()
         → Promise table (run right_rules table moves (first positions)) }
 {}
 
-/// Runs of a small station, computed: the theorem doesn't speak of nothing.
-pub fn some_runs_show_aspects()
-    ensures sound { IsSound small }
-    ensures cleared { LeadsTo cleared 0 (Proceed 0) }
-    ensures released { LeadsTo released 1 (Proceed 0) }
-    ensures held { LeadsTo held_twice 0 (Proceed 0) }
-    ensures again { LeadsTo set_up_again 0 (Proceed 0) }
-    ensures point { LeadsTo point_restarts 0 (Proceed 0) }
-    ensures signal { LeadsTo signal_restarts 0 (Proceed 0) }
+/// The first state has the invariant, and each move, each list of moves keeps it.
+pub fn invariant_is_kept()
+    ensures first { (table : Table) (positions : ℕ → Position) → Invariant table (first positions) }
+    ensures each { (table : Table) (machine : Machine) (move : Move) → IsSound table → Invariant table machine → May table machine move
+        → Invariant table (after table machine move) }
+    ensures run { (table : Table) (machine : Machine) (moves : List Move) → IsSound table → Invariant table machine → MayRun right_rules table moves machine
+        → Invariant table (run right_rules table moves machine) }
+    ensures reached { (table : Table) (old new : Machine) → IsSound table → Invariant table old → Reaches table old new → Invariant table new }
 {}
 
-/// Every rule is needed: with one of them changed a run of the small station breaks the promise.
-pub fn each_rule_is_needed()
-    ensures unconfirmed { Breaks ends_unconfirmed ended_unconfirmed }
-    ensures believed { Breaks believes believed }
-    ensures moved { Breaks moves_held moved_held }
-    ensures twice { Breaks authorises_twice authorised_twice }
-    ensures forgotten { Breaks forgets_frozen forgotten }
-    ensures early { Breaks ends_hold_early hold_ended_early }
-    ensures at_once { Breaks sets_at_once set_at_once }
-    ensures blocked { Breaks sets_blocked set_blocked }
-    ensures kept { Breaks keeps_aspect aspect_kept }
+/// Where the invariant holds, so does the promise.
+pub fn promise_follows()
+    ensures { (table : Table) (machine : Machine) → IsSound table → Invariant table machine → Promise table machine }
+{}
+
+/// A point that is known at a side is settled there.
+pub fn known_points_are_settled()
+    ensures { (side : Side) (point : Point) → IsPointSound point → IsKnownAt side point → IsSettled side point }
+{}
+
+/// A signal at known stop shows stop, and no other aspect could still be shown.
+pub fn known_stop_is_dark()
+    ensures shown { (signal : Signal) → IsSignalSound signal → IsAtKnownStop signal → shown signal ≡ Stop }
+    ensures live { (signal : Signal) (aspect : Aspect) → IsSignalSound signal → IsAtKnownStop signal → IsLive aspect signal → ⊥ }
 {}

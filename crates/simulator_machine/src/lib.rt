@@ -1,7 +1,15 @@
 //! The machine between the datagrams of a station and its promise: signals, points, routes and the interlocking's hold,
-//! with no clock, no numbers of datagrams and no network; and that the promise holds after every list of moves.
+//! with no clock, no network and no numbers of datagrams. The promise holds after every list of its moves.
 #![tactic(auto)]
 
+mod chains;
 mod laws;
+mod runs;
 
-pub use laws::promise_holds;
+pub use chains::{
+    equal_numbers_are_same, lists_of_moves_compose, moves_of_each_are_moves, moves_of_one_are_moves,
+};
+pub use laws::{
+    invariant_is_kept, known_points_are_settled, known_stop_is_dark, promise_follows, promise_holds,
+};
+pub use runs::{each_rule_is_needed, some_runs_show_aspects};

@@ -1,6 +1,6 @@
 use Rattle.std.proofs.Common.{rules}
-use Rattle.simulator_machine.proofs.Runs.{unconfirmed_broken, believed_broken, moved_broken, twice_broken, forgotten_broken, hold_ended_broken, at_once_broken, blocked_broken, kept_broken}
-use Rattle.simulator_machine.proofs.laws.each_rule_is_needed.Goals as goal
+use Rattle.simulator_machine.proofs.Broken.{unconfirmed_broken, believed_broken, moved_broken, twice_broken, forgotten_broken, hold_ended_broken, at_once_broken, blocked_broken, kept_broken}
+use Rattle.simulator_machine.proofs.runs.each_rule_is_needed.Goals as goal
 
 pub returns-clause-unconfirmed : goal.returns-clause-unconfirmed
 returns-clause-unconfirmed c = (search rules, unconfirmed_broken)

@@ -1,5 +1,0 @@
-use Rattle.simulator_machine.proofs.Runs.{small_sound}
-use Rattle.simulator_machine.proofs.laws.some_runs_show_aspects.Goals as goal
-
-pub returns-clause-sound : goal.returns-clause-sound
-returns-clause-sound c = small_sound

@@ -1,0 +1,30 @@
+//! Computed runs of a small station.
+
+ghost use Rattle.simulator_machine.specs.Machine.{IsSound};
+ghost use Rattle.simulator_machine.specs.Signal.{Proceed};
+ghost use Rattle.simulator_machine.specs.Small.{LeadsTo, cleared, held_twice, point_restarts, released, set_up_again, signal_restarts, small};
+ghost use Rattle.simulator_machine.specs.Wrong.{Breaks, aspect_kept, authorised_twice, authorises_twice, believed, believes, ended_unconfirmed, ends_hold_early, ends_unconfirmed, forgets_frozen, forgotten, hold_ended_early, keeps_aspect, moved_held, moves_held, set_at_once, set_blocked, sets_at_once, sets_blocked};
+
+/// Signals do show other aspects than stop: the theorem doesn't speak of nothing.
+pub fn some_runs_show_aspects()
+    ensures sound { IsSound small }
+    ensures cleared { LeadsTo cleared 0 (Proceed 0) }
+    ensures released { LeadsTo released 1 (Proceed 0) }
+    ensures held { LeadsTo held_twice 0 (Proceed 0) }
+    ensures again { LeadsTo set_up_again 0 (Proceed 0) }
+    ensures point { LeadsTo point_restarts 0 (Proceed 0) }
+    ensures signal { LeadsTo signal_restarts 0 (Proceed 0) }
+{}
+
+/// Every rule is needed: with one of them changed, a run breaks the promise.
+pub fn each_rule_is_needed()
+    ensures unconfirmed { Breaks ends_unconfirmed ended_unconfirmed }
+    ensures believed { Breaks believes believed }
+    ensures moved { Breaks moves_held moved_held }
+    ensures twice { Breaks authorises_twice authorised_twice }
+    ensures forgotten { Breaks forgets_frozen forgotten }
+    ensures early { Breaks ends_hold_early hold_ended_early }
+    ensures at_once { Breaks sets_at_once set_at_once }
+    ensures blocked { Breaks sets_blocked set_blocked }
+    ensures kept { Breaks keeps_aspect aspect_kept }
+{}
