@@ -7,7 +7,7 @@ use Rattle.simulator_machine.specs.Signal.{Signal, SignalMove, SignalMay, signal
 use Rattle.simulator_machine.specs.Point.{Point, PointMove, PointMay, point_after}
 use Rattle.simulator_machine.specs.Machine.{Table, IsSound, Machine, with_signal, with_point, Move, AtSignal, AtPoint, May, after, right_rules, run, MayRun}
 use Rattle.simulator_machine.specs.Invariant.{Invariant}
-use Rattle.simulator_machine.specs.Chains.{Reaches, chained, MayChain, signal_chained, SignalMayChain, point_chained, PointMayChain, signals_chained, points_chained, NoneFrom}
+use Rattle.simulator_machine.specs.Chains.{MovesTo, chained, MayChain, signal_chained, SignalMayChain, point_chained, PointMayChain, signals_chained, points_chained, NoneFrom}
 use Rattle.simulator_machine.proofs.Lists.{same_or_not, at_each}
 use Rattle.simulator_machine.proofs.Kept.{run_kept}
 
@@ -33,10 +33,10 @@ changed_twice place new between old = fun_ext (λ n. go n (same_or_not n place))
         changed_elsewhere place new (changed_at place between old) n other ∙ (changed_elsewhere place between old n other ∙ sym (changed_elsewhere place new old n other))
 
 module _ (table : Table) where
-  pub stays : (machine : Machine) → Reaches table machine machine
+  pub stays : (machine : Machine) → MovesTo table machine machine
   stays machine = record { moves = []; may = tt; leads = refl }
 
-  pub one_move : (machine : Machine) (move : Move) → May table machine move → Reaches table machine (after table machine move)
+  pub one_move : (machine : Machine) (move : Move) → May table machine move → MovesTo table machine (after table machine move)
   one_move machine move may = record { moves = move ∷ []; may = (may, tt); leads = refl }
 
   both_may : (moves later : List Move) (machine : Machine) → MayRun right_rules table moves machine → MayRun right_rules table later (run right_rules table moves machine)
@@ -48,14 +48,14 @@ module _ (table : Table) where
   both_run [] later machine = refl
   both_run (move ∷ moves) later machine = both_run moves later (after table machine move)
 
-  pub then_reaches : (old between new : Machine) → Reaches table old between → Reaches table between new → Reaches table old new
+  pub then_reaches : (old between new : Machine) → MovesTo table old between → MovesTo table between new → MovesTo table old new
   then_reaches old between new there onward = record {
     moves = there.moves ++ onward.moves;
     may = both_may there.moves onward.moves old there.may (subst (MayRun right_rules table onward.moves) (sym there.leads) onward.may);
     leads = both_run there.moves onward.moves old ∙ (ap (run right_rules table onward.moves) there.leads ∙ onward.leads);
   }
 
-  pub reached_kept : IsSound table → (old new : Machine) → Invariant table old → Reaches table old new → Invariant table new
+  pub reached_kept : IsSound table → (old new : Machine) → Invariant table old → MovesTo table old new → Invariant table new
   reached_kept sound old new kept reaches = subst (Invariant table) reaches.leads (run_kept table sound reaches.moves old kept reaches.may)
 
   -- ---- a family of the machine's objects, and the moves of each
@@ -65,7 +65,7 @@ module _ (table : Table) where
       (puts : (objects others : ℕ → Object) (machine : Machine) → with_family objects (with_family others machine) ≡ with_family objects machine)
       (same : (machine : Machine) → with_family (family machine) machine ≡ machine)
       (moves_one : (place : ℕ) (move : Step) (machine : Machine) → may move (family machine place)
-      → Reaches table machine (with_family (changed_at place (step move (family machine place)) (family machine)) machine)) where
+      → MovesTo table machine (with_family (changed_at place (step move (family machine place)) (family machine)) machine)) where
     -- the machine where one object has become another
     abbrev put : ℕ → Object → Machine → Machine
     put place object machine = with_family (changed_at place object (family machine)) machine
@@ -88,12 +88,12 @@ module _ (table : Table) where
         ap (λ (objects : ℕ → Object). objects n) (gets (changed_at place object (family machine)) machine) ∙ changed_elsewhere place object (family machine) n other
 
     pub chain_one : (moves : List Step) (place : ℕ) (machine : Machine) → MayChain may step moves (family machine place)
-        → Reaches table machine (put place (chained step moves (family machine place)) machine)
-    chain_one [] place machine may_all = subst (Reaches table machine) (sym (put_same place machine)) (stays machine)
+        → MovesTo table machine (put place (chained step moves (family machine place)) machine)
+    chain_one [] place machine may_all = subst (MovesTo table machine) (sym (put_same place machine)) (stays machine)
     chain_one (move ∷ moves) place machine may_all =
         then_reaches machine (put place (step move (family machine place)) machine) (put place (chained step moves (step move (family machine place))) machine)
         (moves_one place move machine may_all.0)
-        (subst (Reaches table (put place (step move (family machine place)) machine))
+        (subst (MovesTo table (put place (step move (family machine place)) machine))
         (ap (λ (object : Object). put place (chained step moves object) (put place (step move (family machine place)) machine)) (get_here place (step move (family machine place)) machine)
         ∙ put_again place (chained step moves (step move (family machine place))) (step move (family machine place)) machine)
         (chain_one moves place (put place (step move (family machine place)) machine)
@@ -104,15 +104,15 @@ module _ (table : Table) where
     each_chained moves machine = with_family (λ place. chained step (moves place) (family machine place)) machine
 
     pub chain_each : (count : ℕ) (moves : ℕ → List Step) (machine : Machine) → ((place : ℕ) → MayChain may step (moves place) (family machine place)) → NoneFrom count moves
-        → Reaches table machine (each_chained moves machine)
+        → MovesTo table machine (each_chained moves machine)
     chain_each zero moves machine may_all none =
-        subst (Reaches table machine)
+        subst (MovesTo table machine)
         (sym (ap (λ (objects : ℕ → Object). with_family objects machine)
         (fun_ext (λ place. ap (λ (steps : List Step). chained step steps (family machine place)) (none place (omega arith)))) ∙ same machine))
         (stays machine)
     chain_each (suc count) moves machine may_all none =
         then_reaches machine next (each_chained moves machine) (chain_one (moves count) count machine (may_all count))
-        (subst (Reaches table next) same_end (chain_each count rest next (λ place. rest_may place (same_or_not place count)) (λ place from. rest_none place from (same_or_not place count))))
+        (subst (MovesTo table next) same_end (chain_each count rest next (λ place. rest_may place (same_or_not place count)) (λ place from. rest_none place from (same_or_not place count))))
       where
         next : Machine
         next = put count (chained step (moves count) (family machine count)) machine
@@ -152,25 +152,25 @@ module _ (table : Table) where
 -- ---- the signals, and the points
 
 pub signal_chain : (table : Table) (machine : Machine) (place : ℕ) (moves : List SignalMove) → SignalMayChain moves (machine.signals place)
-    → Reaches table machine (with_signal place (signal_chained moves (machine.signals place)) machine)
+    → MovesTo table machine (with_signal place (signal_chained moves (machine.signals place)) machine)
 signal_chain table machine place moves may =
     chain_one table SignalMove Signal SignalMay signal_after (λ m. m.signals) (λ signals m. record m { signals = signals }) (λ signals m. refl) (λ signals others m. refl)
     (λ m. refl) (λ place move m may. one_move table m (AtSignal place move) may) moves place machine may
 
 pub point_chain : (table : Table) (machine : Machine) (place : ℕ) (moves : List PointMove) → PointMayChain moves (machine.points place)
-    → Reaches table machine (with_point place (point_chained moves (machine.points place)) machine)
+    → MovesTo table machine (with_point place (point_chained moves (machine.points place)) machine)
 point_chain table machine place moves may =
     chain_one table PointMove Point PointMay point_after (λ m. m.points) (λ points m. record m { points = points }) (λ points m. refl) (λ points others m. refl)
     (λ m. refl) (λ place move m may. one_move table m (AtPoint place move) may) moves place machine may
 
 pub signal_chains : (table : Table) (machine : Machine) (count : ℕ) (moves : ℕ → List SignalMove) → ((place : ℕ) → SignalMayChain (moves place) (machine.signals place))
-    → NoneFrom count moves → Reaches table machine (signals_chained moves machine)
+    → NoneFrom count moves → MovesTo table machine (signals_chained moves machine)
 signal_chains table machine count moves may none =
     chain_each table SignalMove Signal SignalMay signal_after (λ m. m.signals) (λ signals m. record m { signals = signals }) (λ signals m. refl) (λ signals others m. refl)
     (λ m. refl) (λ place move m may. one_move table m (AtSignal place move) may) count moves machine may none
 
 pub point_chains : (table : Table) (machine : Machine) (count : ℕ) (moves : ℕ → List PointMove) → ((place : ℕ) → PointMayChain (moves place) (machine.points place))
-    → NoneFrom count moves → Reaches table machine (points_chained moves machine)
+    → NoneFrom count moves → MovesTo table machine (points_chained moves machine)
 point_chains table machine count moves may none =
     chain_each table PointMove Point PointMay point_after (λ m. m.points) (λ points m. record m { points = points }) (λ points m. refl) (λ points others m. refl)
     (λ m. refl) (λ place move m may. one_move table m (AtPoint place move) may) count moves machine may none

@@ -5,7 +5,7 @@ use Rattle.simulator_machine.specs.Point.{Point, PointMove, PointMay, point_afte
 use Rattle.simulator_machine.specs.Machine.{Table, Machine, Move, right_rules, run, MayRun}
 
 -- A list of moves leads from one state to another.
-pub record Reaches (table : Table) (old new : Machine) : Type 0 where
+pub record MovesTo (table : Table) (old new : Machine) : Type 0 where
   pub moves : List Move
   pub may : MayRun right_rules table moves old
   pub leads : run right_rules table moves old ≡ new

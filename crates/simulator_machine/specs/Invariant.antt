@@ -8,44 +8,46 @@ use Rattle.simulator_machine.specs.Point.{Side, Point, moves_given, reports_made
 use Rattle.simulator_machine.specs.Machine.{Table, Free, Machine, is_whole, is_held}
 use Rattle.simulator_machine.specs.Promise.{IsHeldFor}
 
--- A server is out of the connection when the client's quiet time is over, and has entered it when the client is up.
 pub record IsLinkSound (link : Link) : Type 0 where
+  -- when the client's quiet time is over, no server is in the connection
   pub quiet : link.client ≡ Down → link.server ≢ In
+  -- when the client is up, the server has entered the connection
   pub up : link.client ≡ Up → link.server ≢ Before
 
--- A connection that the controller hasn't entered has no aspects; while the controller is there, it has acted on as
--- many as are confirmed.
 pub record IsSignalSound (signal : Signal) : Type 0 where
   pub link : IsLinkSound signal.link
+  -- in a connection that the controller hasn't entered it acted on no aspect, and none was given
   pub none_done : signal.link.server ≡ Before → signal.done ≡ []
   pub none_given : signal.link.server ≡ Before → signal.flight ≡ []
+  -- until the controller leaves, no more aspects are confirmed than it acted on
   pub confirmed : signal.link.server ≢ Gone → signal.confirmed ≤ length signal.done
 
--- A connection that the controller hasn't entered has no moves and no reports. There is at most one report more than
--- moves given, and while the controller is there at most one more than moves taken. Where each move has its report,
--- the point stands at the side that the last one names. A point is driven only by a controller that is there and still
--- owes the report of a move that it took.
 pub record IsPointSound (point : Point) : Type 0 where
   pub link : IsLinkSound point.link
+  -- in a connection that the controller hasn't entered no move was given, and no report made
   pub none_given : point.link.server ≡ Before → moves_given point ≡ 0
   pub none_made : point.link.server ≡ Before → reports_made point ≡ []
+  -- there is at most one report more than moves given, and at most one more than moves taken
   pub given : length (reports_made point) ≤ moves_given point + 1
   pub taken : point.link.server ≡ In → length (reports_made point) ≤ point.taken + 1
+  -- where every move given has its report, and the last report is a side, the point stands there
   pub last : length (reports_made point) ≡ moves_given point + 1 → (side : Side) → last_of None (reports_made point) ≡ Some side → point.position ≡ Some side
+  -- a point is driven only by a controller in the connection that still owes the report of a move that it took
   pub driver : point.driven ≡ true → point.link.server ≡ In
   pub owing : point.driven ≡ true → length (reports_made point) ≤ point.taken
 
--- A point is settled: it stands undriven at the side, and no move is under way to a controller that could still take it.
 pub record IsSettled (side : Side) (point : Point) : Type 0 where
+  -- the point stands undriven at the side
   pub stands : StandsUndriven side point
+  -- no move is under way that could still be taken
   pub unmoved : point.link.server ≢ Gone → point.flight ≡ 0
 
 -- a route is held for the signal, and the aspect is this route's
-abbrev pub IsBacked : Table → Machine → ℕ → Aspect → Type 0
+abbrev pub IsBacked : Table → Machine → (signal : ℕ) → Aspect → Type 0
 IsBacked table machine signal aspect = (route : ℕ) × IsHeldFor table machine signal route × (table.aspect route ≡ aspect)
 
 pub record Invariant (table : Table) (machine : Machine) : Type 0 where
-  -- each signal and each point is as said above
+  -- each signal and each point is sound
   pub signals : (signal : ℕ) → IsSignalSound (machine.signals signal)
   pub points : (point : ℕ) → IsPointSound (machine.points point)
   -- in the hold no route is set

@@ -60,8 +60,8 @@ abbrev pub point_up : Position → List Move
 point_up position = at_point opens_again ++ AtPoint 0 (Reports position) ∷ AtPoint 0 Hears ∷ []
 
 -- the point is given a move and driven to a side, and its report is heard
-abbrev pub moves_to : Side → List Move
-moves_to side =
+abbrev pub point_moved : Side → List Move
+point_moved side =
     GivesMove 0 ∷ AtPoint 0 (Takes true) ∷ AtPoint 0 (Reaches None) ∷ AtPoint 0 (Reaches (Some side)) ∷ AtPoint 0 DriveEnds ∷ AtPoint 0 (Reports (Some side)) ∷ AtPoint 0 Hears ∷ []
 
 -- a route is given authority, and its aspect is given and acted on
@@ -84,12 +84,12 @@ ready = HoldEnds ∷ at_signal 0 opens_again ++ (at_signal 1 opens_again ++ poin
 
 -- route 0 is set, its point is moved, and its signal shows its aspect
 abbrev pub cleared : List Move
-cleared = ready ++ (Sets 0 ∷ moves_to Right ++ clears 0)
+cleared = ready ++ (Sets 0 ∷ point_moved Right ++ clears 0)
 
 -- stop is shown, the authority ends, and the route is freed part by part; when its first part is freed, route 1 is set
 -- over it, and cleared when its point has moved
 abbrev pub released : List Move
-released = cleared ++ (withdraws 0 ++ (FreesPart 0 ∷ Sets 1 ∷ moves_to Left ++ (FreesPart 0 ∷ clears 1 ++ Frees 0 ∷ [])))
+released = cleared ++ (withdraws 0 ++ (FreesPart 0 ∷ Sets 1 ∷ point_moved Left ++ (FreesPart 0 ∷ clears 1 ++ Frees 0 ∷ [])))
 
 -- the interlocking is made anew while signal 0 shows the aspect of route 0, and again in the hold
 abbrev pub held_twice : List Move
@@ -118,5 +118,5 @@ cleared_anew = at_signal 0 (Closes ∷ QuietEnds ∷ []) ++ (Ends 0 ∷ Frees 0 
 -- under way
 abbrev pub signal_restarts : List Move
 signal_restarts =
-    ready ++ (Sets 0 ∷ moves_to Right ++ (Authorises 0 ∷ GivesAspect 0 ∷ at_signal 0 (Leaves ∷ [])
+    ready ++ (Sets 0 ∷ point_moved Right ++ (Authorises 0 ∷ GivesAspect 0 ∷ at_signal 0 (Leaves ∷ [])
     ++ (cleared_anew ++ (at_signal 0 (Leaves ∷ []) ++ (cleared_anew ++ (AtSignal 0 GivesStop ∷ at_signal 0 (Leaves ∷ []) ++ cleared_anew))))))

@@ -6,7 +6,7 @@ use Rattle.simulator_machine.specs.Signal.{Aspect, Stop, Proceed, Signal, aspect
 use Rattle.simulator_machine.specs.Point.{Side, Right, Takes}
 use Rattle.simulator_machine.specs.Machine.{Table, Machine, Free, Waiting, Authorised, has_authority, is_whole, with_signal, made_anew, Move, AtSignal, AtPoint, GivesMove, Sets, Authorises, Ends, FreesPart, Frees, Restarts, HoldEnds, AllKnown, May, after, Rules, right_rules, run, MayRun}
 use Rattle.simulator_machine.specs.Promise.{Promise}
-use Rattle.simulator_machine.specs.Small.{small, start, ready, cleared, moves_to, clears, withdraws, opens_again, at_signal}
+use Rattle.simulator_machine.specs.Small.{small, start, ready, cleared, point_moved, clears, withdraws, opens_again, at_signal}
 
 -- by these rules the moves can be made from the start of the small station, and break the promise
 abbrev pub Breaks : Rules → List Move → Type 0
@@ -42,7 +42,7 @@ believes = record right_rules { may = MayBelieve }
 
 -- the point is at the right when it is given a move for route 1; this route is freed, route 0 cleared, and the move taken
 abbrev pub believed : List Move
-believed = ready ++ (Sets 0 ∷ moves_to Right ++ (Frees 0 ∷ Sets 1 ∷ GivesMove 0 ∷ Frees 1 ∷ Sets 0 ∷ clears 0 ++ AtPoint 0 (Takes true) ∷ []))
+believed = ready ++ (Sets 0 ∷ point_moved Right ++ (Frees 0 ∷ Sets 1 ∷ GivesMove 0 ∷ Frees 1 ∷ Sets 0 ∷ clears 0 ++ AtPoint 0 (Takes true) ∷ []))
 
 -- ---- a point is given a move for a second route, though one with authority holds it
 

@@ -1,7 +1,7 @@
 //! How moves are put together.
 
 ghost use Rattle.std.specs.Prelude.{◌≡◌, ◌≢◌, ℕ, List, false, true};
-ghost use Rattle.simulator_machine.specs.Chains.{NoneFrom, PointMayChain, Reaches, SignalMayChain, point_chained, points_chained, signal_chained, signals_chained};
+ghost use Rattle.simulator_machine.specs.Chains.{MovesTo, NoneFrom, PointMayChain, SignalMayChain, point_chained, points_chained, signal_chained, signals_chained};
 ghost use Rattle.simulator_machine.specs.Lists.{is_same};
 ghost use Rattle.simulator_machine.specs.Machine.{Machine, May, Move, Table, after, with_point, with_signal};
 ghost use Rattle.simulator_machine.specs.Point.{PointMove};
@@ -9,25 +9,25 @@ ghost use Rattle.simulator_machine.specs.Signal.{SignalMove};
 
 /// No move leads to the same state, one move to what it leaves, and one list of moves may follow another.
 pub fn lists_of_moves_compose()
-    ensures none { (table : Table) (machine : Machine) → Reaches table machine machine }
-    ensures one { (table : Table) (machine : Machine) (move : Move) → May table machine move → Reaches table machine (after table machine move) }
-    ensures then { (table : Table) (old between new : Machine) → Reaches table old between → Reaches table between new → Reaches table old new }
+    ensures none { (table : Table) (machine : Machine) → MovesTo table machine machine }
+    ensures one { (table : Table) (machine : Machine) (move : Move) → May table machine move → MovesTo table machine (after table machine move) }
+    ensures then { (table : Table) (old between new : Machine) → MovesTo table old between → MovesTo table between new → MovesTo table old new }
 {}
 
 /// The moves of one signal, or of one point, are moves of the machine, and change nothing else of it.
 pub fn moves_of_one_are_moves()
     ensures signal { (table : Table) (machine : Machine) (place : ℕ) (moves : List SignalMove) → SignalMayChain moves (machine.signals place)
-        → Reaches table machine (with_signal place (signal_chained moves (machine.signals place)) machine) }
+        → MovesTo table machine (with_signal place (signal_chained moves (machine.signals place)) machine) }
     ensures point { (table : Table) (machine : Machine) (place : ℕ) (moves : List PointMove) → PointMayChain moves (machine.points place)
-        → Reaches table machine (with_point place (point_chained moves (machine.points place)) machine) }
+        → MovesTo table machine (with_point place (point_chained moves (machine.points place)) machine) }
 {}
 
 /// So are the moves of all signals, or of all points, each with its own, where finitely many have any.
 pub fn moves_of_each_are_moves()
     ensures signals { (table : Table) (machine : Machine) (count : ℕ) (moves : ℕ → List SignalMove) → ((place : ℕ) → SignalMayChain (moves place) (machine.signals place))
-        → NoneFrom count moves → Reaches table machine (signals_chained moves machine) }
+        → NoneFrom count moves → MovesTo table machine (signals_chained moves machine) }
     ensures points { (table : Table) (machine : Machine) (count : ℕ) (moves : ℕ → List PointMove) → ((place : ℕ) → PointMayChain (moves place) (machine.points place))
-        → NoneFrom count moves → Reaches table machine (points_chained moves machine) }
+        → NoneFrom count moves → MovesTo table machine (points_chained moves machine) }
 {}
 
 /// The test by which one signal, point or route is told from the others.

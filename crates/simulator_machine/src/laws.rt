@@ -1,7 +1,7 @@
 //! The promise, and the invariant that it follows from.
 
 ghost use Rattle.std.specs.Prelude.{◌≡◌, ℕ, List};
-ghost use Rattle.simulator_machine.specs.Chains.{Reaches};
+ghost use Rattle.simulator_machine.specs.Chains.{MovesTo};
 ghost use Rattle.simulator_machine.specs.Invariant.{IsPointSound, IsSettled, IsSignalSound, Invariant};
 ghost use Rattle.simulator_machine.specs.Machine.{Table, IsSound, Machine, Move, May, MayRun, after, first, right_rules, run};
 ghost use Rattle.simulator_machine.specs.Point.{IsKnownAt, Point, Position, Side};
@@ -21,7 +21,7 @@ pub fn invariant_is_kept()
         → Invariant table (after table machine move) }
     ensures run { (table : Table) (machine : Machine) (moves : List Move) → IsSound table → Invariant table machine → MayRun right_rules table moves machine
         → Invariant table (run right_rules table moves machine) }
-    ensures reached { (table : Table) (old new : Machine) → IsSound table → Invariant table old → Reaches table old new → Invariant table new }
+    ensures reached { (table : Table) (old new : Machine) → IsSound table → Invariant table old → MovesTo table old new → Invariant table new }
 {}
 
 /// Where the invariant holds, so does the promise.
