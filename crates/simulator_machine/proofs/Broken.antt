@@ -1,13 +1,13 @@
 -- The table of the small station is sound; and what is broken at the end of each run by a changed rule.
-use Rattle.std.proofs.Common.{◌≡◌, ℕ, zero, suc, Bool, true, false, refl}
-use Rattle.std.specs.Prelude.{not, ◌≢◌}
+use Rattle.std.proofs.Common.{◌≡◌, ℕ, zero, suc, Bool, true, false, refl, arith}
+use Rattle.std.specs.Prelude.{not, ◌≢◌, ◌∷◌, ◌++◌}
 use Rattle.simulator_machine.specs.Lists.{is_same}
 use Rattle.simulator_machine.specs.Signal.{Proceed}
 use Rattle.simulator_machine.specs.Point.{Side, Right, StandsUndriven}
-use Rattle.simulator_machine.specs.Machine.{IsSound, Machine, is_held, run}
+use Rattle.simulator_machine.specs.Machine.{IsSound, Machine, is_held, is_whole, run, right_rules, Sets}
 use Rattle.simulator_machine.specs.Promise.{Promise}
-use Rattle.simulator_machine.specs.Small.{small, small_entry, small_aspect, small_requires, start}
-use Rattle.simulator_machine.specs.Wrong.{ends_unconfirmed, ended_unconfirmed, believes, believed, moves_held, moved_held, authorises_twice, authorised_twice, forgets_frozen, forgotten, ends_hold_early, hold_ended_early, sets_at_once, set_at_once, sets_blocked, set_blocked, keeps_aspect, aspect_kept}
+use Rattle.simulator_machine.specs.Small.{small, small_entry, small_aspect, small_requires, start, ready, clears}
+use Rattle.simulator_machine.specs.Wrong.{ends_unconfirmed, ended_unconfirmed, believes, believed, moves_held, moved_held, authorises_twice, authorised_twice, forgets_frozen, forgotten, ends_hold_early, hold_ended_early, sets_at_once, set_at_once, sets_blocked, set_blocked, keeps_aspect, aspect_kept, one_way, cleared_one_way, loose, cleared_loose}
 use Rattle.simulator_machine.proofs.Lists.{same_is}
 
 pub small_sound : IsSound small
@@ -94,3 +94,25 @@ kept_broken promise =
     other_aspect zero held same = cc (held)
     other_aspect (suc zero) held same = cc (held)
     other_aspect (suc (suc route)) held same = cc (same)
+
+-- ---- tables that aren't sound
+
+-- route 0 may be set beside route 3
+pub unblocked_one_way : (other : ℕ) → is_whole ((run right_rules one_way (ready ++ Sets 3 ∷ clears 3) start).routes other) ≡ true
+    → one_way.conflict 0 other ≡ true → ⊥
+unblocked_one_way zero whole conflict = cc (whole)
+unblocked_one_way (suc zero) whole conflict = cc (whole)
+unblocked_one_way (suc (suc zero)) whole conflict = cc (whole)
+unblocked_one_way (suc (suc (suc zero))) whole conflict = cc (conflict)
+unblocked_one_way (suc (suc (suc (suc route)))) whole conflict = cc (whole)
+
+pub one_way_broken : Promise one_way (run right_rules one_way cleared_one_way start) → ⊥
+one_way_broken promise = promise.apart 1 0 3 0 (λ e. cc (e)) (λ e. cc (e)) (λ e. cc (e)) (refl, refl) (refl, refl) refl
+
+pub loose_broken : Promise loose (run right_rules loose cleared_loose start) → ⊥
+loose_broken promise =
+    let protected = promise.each 0 (λ e. cc (e))
+    in two_routes protected.route (protected.only 0 (refl, refl)) (protected.only 2 (refl, refl))
+  where
+    two_routes : (route : ℕ) → 0 ≡ route → 2 ≡ route → ⊥
+    two_routes route one other = omega (arith, one, other)

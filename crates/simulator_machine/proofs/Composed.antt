@@ -39,7 +39,7 @@ module _ (table : Table) where
   pub one_move : (machine : Machine) (move : Move) → May table machine move → MovesTo table machine (after table machine move)
   one_move machine move may = record { moves = move ∷ []; may = (may, tt); leads = refl }
 
-  both_may : (moves later : List Move) (machine : Machine) → MayRun right_rules table moves machine → MayRun right_rules table later (run right_rules table moves machine)
+  pub both_may : (moves later : List Move) (machine : Machine) → MayRun right_rules table moves machine → MayRun right_rules table later (run right_rules table moves machine)
       → MayRun right_rules table (moves ++ later) machine
   both_may [] later machine may may_later = may_later
   both_may (move ∷ moves) later machine may may_later = (may.0, both_may moves later (after table machine move) may.1 may_later)

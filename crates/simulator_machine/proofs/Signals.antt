@@ -11,10 +11,10 @@ use Rattle.simulator_machine.proofs.Lists.{last_added, of_added, none_left}
 pub link_kept : (move : LinkMove) (link : Link) → IsLinkSound link → LinkMay move link → IsLinkSound (link_after move link)
 link_kept Opens link sound may = record { quiet = λ e. absurd (cc (e)); up = λ e. absurd (cc (e)) }
 link_kept Enters link sound may = record { quiet = λ e. absurd (may.1 e); up = λ e same. cc (same) }
-link_kept ComesUp link sound may = record { quiet = λ e. absurd (cc (e)); up = λ e. may.1 }
+link_kept ComesUp link sound may = record { quiet = λ e. absurd (cc (e)); up = λ e. may }
 link_kept Closes link sound may = record { quiet = λ e. absurd (cc (e)); up = λ e. absurd (cc (e)) }
 link_kept Leaves link sound may = record { quiet = λ e same. cc (same); up = λ e same. cc (same) }
-link_kept QuietEnds link sound may = record { quiet = λ e. may.1; up = λ e. absurd (cc (e)) }
+link_kept QuietEnds link sound may = record { quiet = λ e. may; up = λ e. absurd (cc (e)) }
 
 -- a signal whose link changes, but not its server
 same_server : (signal : Signal) (link : Link) → IsSignalSound signal → link.server ≡ signal.link.server → IsLinkSound link → IsSignalSound (record signal { link = link })
@@ -81,9 +81,9 @@ signal_kept (Confirms count) signal sound may = record {
 }
 signal_kept (ForgetsActs done flight) signal sound may = record {
   link = sound.link;
-  none_done = λ e. absurd (cc (e, may.0));
-  none_given = λ e. absurd (cc (e, may.0));
-  confirmed = λ stays. absurd (stays may.0);
+  none_done = λ e. absurd (cc (e, may));
+  none_given = λ e. absurd (cc (e, may));
+  confirmed = λ stays. absurd (stays may);
 }
 
 -- ---- what is live
@@ -137,7 +137,7 @@ live_before (SignalLink move) aspect signal may live = linked_live move aspect s
 live_before GivesStop aspect signal may live = stop_live aspect signal live.other (given_live Stop aspect signal live)
 live_before Acts aspect signal may live = acted_live aspect signal signal.flight refl live
 live_before (Confirms count) aspect signal may live = record { other = live.other; stays = live.stays; somewhere = live.somewhere }
-live_before (ForgetsActs done flight) aspect signal may live = absurd (live.stays may.0)
+live_before (ForgetsActs done flight) aspect signal may live = absurd (live.stays may)
 
 -- ---- known stop
 

@@ -30,15 +30,15 @@ pub data LinkMove : Type 0 where
   -- the client's quiet time is over
   QuietEnds : LinkMove
 
--- when it can happen: a connection is begun after the quiet time, which outlasts what was sent before and every server
--- that was in a connection
+-- When it can happen. A connection is begun after the quiet time, which outlasts every server in a connection, and what
+-- was sent before it. The client is answered by a server that has entered.
 abbrev pub LinkMay : LinkMove → Link → Type 0
 LinkMay Opens link = link.client ≡ Down
 LinkMay Enters link = (link.server ≡ Before) × (link.client ≢ Down)
-LinkMay ComesUp link = (link.client ≡ Start) × (link.server ≢ Before)
+LinkMay ComesUp link = link.server ≢ Before
 LinkMay Closes link = Unit {0}
 LinkMay Leaves link = Unit {0}
-LinkMay QuietEnds link = (link.client ≡ Quiet) × (link.server ≢ In)
+LinkMay QuietEnds link = link.server ≢ In
 
 -- the link after it
 abbrev pub link_after : LinkMove → Link → Link

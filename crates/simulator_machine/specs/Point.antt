@@ -54,9 +54,9 @@ pub data PointMove : Type 0 where
   Reports : (position : Position) → PointMove
   -- the interlocking hears the next report
   Hears : PointMove
-  -- of a controller that has left, it is forgotten which moves it took
+  -- of a controller that has left, so many count as the moves that it took
   ForgetsMoves : (taken flight : ℕ) → PointMove
-  -- out of the connection, the interlocking forgets which reports it heard
+  -- so many of the reports made count as heard
   ForgetsReports : (heard coming : List Position) → PointMove
 
 -- A controller may report: it is in the connection and doesn't drive, it took as many moves as it made reports, and an

@@ -56,7 +56,7 @@ pub data SignalMove : Type 0 where
   Acts : SignalMove
   -- the interlocking learns that so many of the aspects given were acted on
   Confirms : (count : ℕ) → SignalMove
-  -- of a controller that has left, it is forgotten what it acted on
+  -- of a controller that has left, these count as the aspects given
   ForgetsActs : (done flight : List Aspect) → SignalMove
 
 -- when it can
@@ -65,7 +65,7 @@ SignalMay (SignalLink move) signal = LinkMay move signal.link
 SignalMay GivesStop signal = signal.link.client ≡ Up
 SignalMay Acts signal = signal.link.server ≡ In
 SignalMay (Confirms count) signal = (signal.link.server ≡ Gone) ⊎ (count ≤ length signal.done)
-SignalMay (ForgetsActs done flight) signal = (signal.link.server ≡ Gone) × (done ++ flight ≡ aspects_given signal)
+SignalMay (ForgetsActs done flight) signal = signal.link.server ≡ Gone
 
 abbrev pub aspect_given : Aspect → Signal → Signal
 aspect_given aspect signal = record signal { flight = signal.flight ++ aspect ∷ [] }

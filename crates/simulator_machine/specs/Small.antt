@@ -86,10 +86,14 @@ ready = HoldEnds ∷ at_signal 0 opens_again ++ (at_signal 1 opens_again ++ poin
 abbrev pub cleared : List Move
 cleared = ready ++ (Sets 0 ∷ point_moved Right ++ clears 0)
 
--- stop is shown, the authority ends, and the route is freed part by part; when its first part is freed, route 1 is set
--- over it, and cleared when its point has moved
+-- stop is given, acted on and confirmed, and the authority ends
+abbrev pub withdrawn : List Move
+withdrawn = cleared ++ withdraws 0
+
+-- the route is freed part by part; when its first part is freed, route 1 is set over it, and cleared when the point has
+-- moved
 abbrev pub released : List Move
-released = cleared ++ (withdraws 0 ++ (FreesPart 0 ∷ Sets 1 ∷ point_moved Left ++ (FreesPart 0 ∷ clears 1 ++ Frees 0 ∷ [])))
+released = withdrawn ++ (FreesPart 0 ∷ Sets 1 ∷ point_moved Left ++ (FreesPart 0 ∷ clears 1 ++ Frees 0 ∷ []))
 
 -- the interlocking is made anew while signal 0 shows the aspect of route 0, and again in the hold
 abbrev pub held_twice : List Move

@@ -1,6 +1,6 @@
 -- Machines with one rule changed, each with a run that breaks the promise: every rule is needed.
-use Rattle.std.specs.Prelude.{◌≡◌, ◌≢◌, ℕ, false, true, List, [], ◌∷◌, ◌++◌, None, Some}
-use Rattle.simulator_machine.specs.Lists.{last_of}
+use Rattle.std.specs.Prelude.{◌≡◌, ◌≢◌, ℕ, false, true, not, ◌&&◌, List, [], ◌∷◌, ◌++◌, None, Some}
+use Rattle.simulator_machine.specs.Lists.{last_of, is_same}
 use Rattle.simulator_machine.specs.Link.{Up, Leaves}
 use Rattle.simulator_machine.specs.Signal.{Aspect, Stop, Proceed, Signal, aspects_given, GivesStop, Acts}
 use Rattle.simulator_machine.specs.Point.{Side, Right, Takes}
@@ -8,9 +8,12 @@ use Rattle.simulator_machine.specs.Machine.{Table, Machine, Free, Waiting, Autho
 use Rattle.simulator_machine.specs.Promise.{Promise}
 use Rattle.simulator_machine.specs.Small.{small, start, ready, cleared, point_moved, clears, withdraws, opens_again, at_signal}
 
--- by these rules the moves can be made from the start of the small station, and break the promise
+-- by these rules the moves can be made at this table, from the start of the small station, and break the promise
+abbrev pub BreaksAt : Table → Rules → List Move → Type 0
+BreaksAt table rules moves = MayRun rules table moves start × (Promise table (run rules table moves start) → ⊥)
+
 abbrev pub Breaks : Rules → List Move → Type 0
-Breaks rules moves = MayRun rules small moves start × (Promise small (run rules small moves start) → ⊥)
+Breaks = BreaksAt small
 
 -- ---- authority is ended when stop is given, confirmed or not
 
@@ -152,3 +155,21 @@ keeps_aspect = record right_rules { after = after_keeping }
 -- route 2 is set at the signal at which route 0 was, and has another aspect
 abbrev pub aspect_kept : List Move
 aspect_kept = cleared ++ (withdraws 0 ++ Frees 0 ∷ Sets 2 ∷ clears 2)
+
+-- ---- tables that aren't sound
+
+-- route 3 conflicts with route 0, and not the other way round
+abbrev pub one_way : Table
+one_way = record small { conflict = λ a b. not (is_same a b) && not (is_same a 0 && is_same b 3) }
+
+-- route 0 is set and cleared beside route 3
+abbrev pub cleared_one_way : List Move
+cleared_one_way = (ready ++ Sets 3 ∷ clears 3) ++ (Sets 0 ∷ point_moved Right ++ clears 0)
+
+-- no routes conflict
+abbrev pub loose : Table
+loose = record small { conflict = λ a b. false }
+
+-- route 2 is set and given authority beside route 0
+abbrev pub cleared_loose : List Move
+cleared_loose = cleared ++ Sets 2 ∷ Authorises 2 ∷ []

@@ -10,8 +10,9 @@ ghost use Rattle.simulator_machine.specs.Signal.{Aspect, IsAtKnownStop, IsLive, 
 
 /// After every list of moves from the first state the promise holds.
 pub fn promise_holds()
-    ensures { (table : Table) (positions : ℕ → Position) (moves : List Move) → IsSound table → MayRun right_rules table moves (first positions)
+    ensures run { (table : Table) (positions : ℕ → Position) (moves : List Move) → IsSound table → MayRun right_rules table moves (first positions)
         → Promise table (run right_rules table moves (first positions)) }
+    ensures reached { (table : Table) (positions : ℕ → Position) (machine : Machine) → IsSound table → MovesTo table (first positions) machine → Promise table machine }
 {}
 
 /// The first state has the invariant, and each move, each list of moves keeps it.

@@ -12,4 +12,4 @@ pub use chains::{
 pub use laws::{
     invariant_is_kept, known_points_are_settled, known_stop_is_dark, promise_follows, promise_holds,
 };
-pub use runs::{each_rule_is_needed, some_runs_show_aspects};
+pub use runs::{each_premise_is_needed, each_rule_is_needed, some_runs_show_aspects};

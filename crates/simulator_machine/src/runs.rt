@@ -1,14 +1,15 @@
 //! Computed runs of a small station.
 
-ghost use Rattle.simulator_machine.specs.Machine.{IsSound};
-ghost use Rattle.simulator_machine.specs.Signal.{Proceed};
-ghost use Rattle.simulator_machine.specs.Small.{LeadsTo, cleared, held_twice, point_restarts, released, set_up_again, signal_restarts, small};
-ghost use Rattle.simulator_machine.specs.Wrong.{Breaks, aspect_kept, authorised_twice, authorises_twice, believed, believes, ended_unconfirmed, ends_hold_early, ends_unconfirmed, forgets_frozen, forgotten, hold_ended_early, keeps_aspect, moved_held, moves_held, set_at_once, set_blocked, sets_at_once, sets_blocked};
+ghost use Rattle.simulator_machine.specs.Machine.{IsSound, right_rules};
+ghost use Rattle.simulator_machine.specs.Signal.{Proceed, Stop};
+ghost use Rattle.simulator_machine.specs.Small.{LeadsTo, cleared, held_twice, point_restarts, released, set_up_again, signal_restarts, small, withdrawn};
+ghost use Rattle.simulator_machine.specs.Wrong.{Breaks, BreaksAt, aspect_kept, authorised_twice, authorises_twice, believed, believes, cleared_loose, cleared_one_way, ended_unconfirmed, ends_hold_early, ends_unconfirmed, forgets_frozen, forgotten, hold_ended_early, keeps_aspect, loose, moved_held, moves_held, one_way, set_at_once, set_blocked, sets_at_once, sets_blocked};
 
 /// Signals do show other aspects than stop: the theorem doesn't speak of nothing.
 pub fn some_runs_show_aspects()
     ensures sound { IsSound small }
     ensures cleared { LeadsTo cleared 0 (Proceed 0) }
+    ensures withdrawn { LeadsTo withdrawn 0 Stop }
     ensures released { LeadsTo released 1 (Proceed 0) }
     ensures held { LeadsTo held_twice 0 (Proceed 0) }
     ensures again { LeadsTo set_up_again 0 (Proceed 0) }
@@ -27,4 +28,10 @@ pub fn each_rule_is_needed()
     ensures at_once { Breaks sets_at_once set_at_once }
     ensures blocked { Breaks sets_blocked set_blocked }
     ensures kept { Breaks keeps_aspect aspect_kept }
+{}
+
+/// So is each premise on the table.
+pub fn each_premise_is_needed()
+    ensures both_ways { BreaksAt one_way right_rules cleared_one_way }
+    ensures one_entry { BreaksAt loose right_rules cleared_loose }
 {}
