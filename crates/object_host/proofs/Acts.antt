@@ -16,7 +16,7 @@ use Rattle.object_host.specs.Course.{course, commanding as to_object}
 use Rattle.object_host.specs.Host.{HostState, LinkCall, Part, Ticks, Closes, Sends, Receives, is_completed, keeping, silent, then_do}
 use Rattle.object_host.specs.Made.{ActsOn, AreOwn, IsMadeOf, IsOwn, call_made, calls_made, command_of, commands_of, items_taken, items_taken_by}
 use Rattle.object_host.specs.Made as made
-use Rattle.object_host.specs.Step.{acting, acting_all, beating, beginning, following, given, goes_on, hearing, host_step, is_from_peer, most_owed, paid, paying, paying_first, posting, received, violating}
+use Rattle.object_host.specs.Step.{acting, acting_all, beating, beginning, following, given, goes_on, hearing, host_step, is_admitted, most_owed, paid, paying, paying_first, posting, received, violating}
 use Rattle.object_host.specs.declared.course.Course.{Course}
 use Rattle.object_host.specs.declared.course.Course.TheVariants as courses
 use Rattle.object_host.specs.declared.input.Input.{Input}
@@ -117,7 +117,7 @@ module _ {Object : Type 0} (does : Behaviour Object) where
   acting_fate : (now : ℕ) (item : List ℕ) (read : Result Telegram SciFault) (host : HostState Object) → reading item ≡ read → Fate item (acting does now item read host)
   unfolding acting
   acting_fate now item (Err fault) host is = violating_refuses now item host
-  acting_fate now item (Ok telegram) host is = cases (is_from_peer does telegram host) where
+  acting_fate now item (Ok telegram) host is = cases (is_admitted does telegram host) where
     cases : (b : Bool) → Fate item (if b then following does now item telegram (course telegram.message host.stage) host else violating now host)
     cases true = following_fate now item telegram _ host is refl
     cases false = violating_refuses now item host

@@ -20,7 +20,7 @@ use Rattle.object_host.specs.Lawful.{IsLawful}
 use Rattle.object_host.specs.Course.{course, commanding as to_object}
 use Rattle.object_host.specs.Host.{HostState, Part, fallen, is_completed, is_outside, keeping, risen, silent, then_do}
 use Rattle.object_host.specs.Hosted.{IsHosted}
-use Rattle.object_host.specs.Step.{acting, acting_all, answering, beating, beginning, commanding, ending, following, given, goes_on, hearing, host_step, initialising, is_from_peer, most_owed, own_version, paid, paying, paying_first, posting, received, violating}
+use Rattle.object_host.specs.Step.{acting, acting_all, answering, beating, beginning, commanding, ending, following, given, goes_on, hearing, host_step, initialising, is_admitted, most_owed, paid, paying, paying_first, posting, received, violating}
 use Rattle.object_host.specs.declared.course.Course.{Course}
 use Rattle.object_host.specs.declared.course.Course.TheVariants as courses
 use Rattle.object_host.specs.declared.input.Input.{Input}
@@ -30,7 +30,7 @@ use Rattle.object_host.specs.declared.stage.Stage.{Stage}
 use Rattle.object_host.specs.declared.stage.Stage.TheVariants as stage
 
 -- the courses
-is_check : Course → Bool
+unfoldable pub is_check : Course → Bool
 is_check (courses.Checks version) = true
 is_check courses.Initialises = false
 is_check courses.Commands = false
@@ -41,6 +41,12 @@ is_command (courses.Checks version) = false
 is_command courses.Initialises = false
 is_command courses.Commands = true
 is_command courses.Violates = false
+
+unfoldable pub is_request : Course → Bool
+is_request (courses.Checks version) = false
+is_request courses.Initialises = true
+is_request courses.Commands = false
+is_request courses.Violates = false
 
 completed_no_check : (m : Message) → is_check (course m stage.Completed) ≡ false
 unfolding is_check
@@ -53,7 +59,7 @@ completed_no_check (message.Point x) = refl
 completed_no_check (message.Signal x) = refl
 completed_no_check (message.Detection x) = refl
 
-checks_early : (m : Message) (s : Stage) → is_check (course m s) ≡ true → is_completed s ≡ false
+pub checks_early : (m : Message) (s : Stage) → is_check (course m s) ≡ true → is_completed s ≡ false
 checks_early m stage.Outside holds = refl
 checks_early m stage.AwaitsCheck holds = refl
 checks_early m stage.AwaitsRequest holds = refl
@@ -84,7 +90,7 @@ late stage.AwaitsRequest holds = absurd (false≢true holds)
 late stage.Completed holds = refl
 late stage.Refused holds = absurd (false≢true holds)
 
-commands_late : (m : Message) (s : Stage) → is_command (course m s) ≡ true → is_completed s ≡ true
+pub commands_late : (m : Message) (s : Stage) → is_command (course m s) ≡ true → is_completed s ≡ true
 commands_late (message.Initialisation p x) s holds = absurd (false≢true (sym (no_command p x s) ∙ holds))
 commands_late (message.Point x) s holds = late s holds
 commands_late (message.Signal x) s holds = late s holds
@@ -97,7 +103,25 @@ completed_inside stage.AwaitsRequest holds = refl
 completed_inside stage.Completed holds = refl
 completed_inside stage.Refused holds = refl
 
-outside_early : (s : Stage) → is_outside s ≡ true → is_completed s ≡ false
+completed_no_request : (m : Message) → is_request (course m stage.Completed) ≡ false
+unfolding is_request
+completed_no_request (message.Initialisation p init.InitialisationRequest) = refl
+completed_no_request (message.Initialisation p init.StartInitialisation) = refl
+completed_no_request (message.Initialisation p init.InitialisationCompleted) = refl
+completed_no_request (message.Initialisation p (init.VersionCheck v)) = refl
+completed_no_request (message.Initialisation p (init.VersionAnswer a v)) = refl
+completed_no_request (message.Point x) = refl
+completed_no_request (message.Signal x) = refl
+completed_no_request (message.Detection x) = refl
+
+pub initialises_early : (m : Message) (s : Stage) → is_request (course m s) ≡ true → is_completed s ≡ false
+initialises_early m stage.Outside holds = refl
+initialises_early m stage.AwaitsCheck holds = refl
+initialises_early m stage.AwaitsRequest holds = refl
+initialises_early m stage.Completed holds = absurd (false≢true (sym (completed_no_request m) ∙ holds))
+initialises_early m stage.Refused holds = refl
+
+pub outside_early : (s : Stage) → is_outside s ≡ true → is_completed s ≡ false
 outside_early stage.Outside out = refl
 outside_early stage.AwaitsCheck out = refl
 outside_early stage.AwaitsRequest out = refl
@@ -168,8 +192,8 @@ module _ {Object : Type 0} (does : Behaviour Object) (law : IsLawful does) where
 
   answering_right : (now version : ℕ) (host : HostState Object) → does.is_idle host.object ≡ true → IsRight (answering does now version host).host
   unfolding answering posting
-  answering_right now version host idle = cases (version == own_version) refl where
-    cases : (b : Bool) → (version == own_version) ≡ b → IsRight (answering does now version host).host
+  answering_right now version host idle = cases (version == host.version) refl where
+    cases : (b : Bool) → (version == host.version) ≡ b → IsRight (answering does now version host).host
     cases true is = rw is (record { outside = λ out. absurd (false≢true out); idle = λ _. idle })
     cases false is = rw is (record { outside = λ out. absurd (false≢true out); idle = λ _. idle })
 
@@ -201,7 +225,7 @@ module _ {Object : Type 0} (does : Behaviour Object) (law : IsLawful does) where
       IsRight (acting does now item read host).host
   unfolding acting
   acting_right now item (Err fault) host inside right = violating_right now host inside right.idle
-  acting_right now item (Ok telegram) host inside right = cases (is_from_peer does telegram host) where
+  acting_right now item (Ok telegram) host inside right = cases (is_admitted does telegram host) where
     cases : (b : Bool) → IsRight (if b then following does now item telegram (course telegram.message host.stage) host else violating now host).host
     cases true = following_right now item telegram _ host refl inside right
     cases false = violating_right now host inside right.idle
@@ -285,11 +309,11 @@ module _ {Object : Type 0} (does : Behaviour Object) (law : IsLawful does) where
       ending_hosted _ (beating_right now input _ (paying_right now most_owed _ (given_right now input _ (begun_right now host hosted))))
 
   -- a new host
-  pub new_hosted : (identity : Identity) (first now until : ℕ) (link : LinkState) (own_name peer_name : List ℕ) (object lost kept : Object) →
+  pub new_hosted : (identity : Identity) (first now until : ℕ) (link : LinkState) (own_name peer_name : List ℕ) (version : ℕ) (object lost kept : Object) →
       link ≡ created identity first now → until ≡ alive_until link → lost ≡ does.after_loss object → kept ≡ does.after_keep until lost →
-      IsHosted does (record { link = link; stage = stage.Outside; object = kept; own_name = own_name; peer_name = peer_name })
+      IsHosted does (record { link = link; stage = stage.Outside; object = kept; own_name = own_name; peer_name = peer_name; version = version })
   unfolding created
-  new_hosted identity first now until link own_name peer_name object lost kept link_is until_is lost_is kept_is = record {
+  new_hosted identity first now until link own_name peer_name version object lost kept link_is until_is lost_is kept_is = record {
     outside = sym (ap not (ap (λ (l : LinkState). is_open l.phase) link_is));
     kept = rw (kept_is, until_is) (law.keeps (alive_until link) lost);
     idle = λ early. rw (kept_is, lost_is) (law.keep_idles until (does.after_loss object) (law.loss_idles object));

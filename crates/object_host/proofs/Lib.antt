@@ -7,4 +7,6 @@ pub mod Closed
 pub mod Between
 pub mod Made
 pub mod Acts
+pub mod Says
 pub mod Told
+pub mod Keeps

@@ -13,7 +13,7 @@ use Rattle.object_host.specs.Behaviour.{Behaviour}
 use Rattle.object_host.specs.Course.{course}
 use Rattle.object_host.specs.Host.{HostState, LinkCall, Part, Ticks, fallen, is_completed, keeping, linked, risen, said, silent, then_do}
 use Rattle.object_host.specs.Made.{AreCallsFor, AreOwn, IsMadeOf, call_made, calls_made}
-use Rattle.object_host.specs.Step.{acting, acting_all, answering, beating, beginning, commanding, following, given, goes_on, hearing, host_step, initialising, is_from_peer, most_owed, own_version, paid, paying, paying_first, posting, posting_all, received, telling_status, violating}
+use Rattle.object_host.specs.Step.{acting, acting_all, answering, beating, beginning, commanding, following, given, goes_on, hearing, host_step, initialising, is_admitted, most_owed, paid, paying, paying_first, posting, posting_all, received, telling_status, violating}
 use Rattle.object_host.specs.declared.course.Course.{Course}
 use Rattle.object_host.specs.declared.course.Course.TheVariants as courses
 use Rattle.object_host.specs.declared.input.Input.{Input}
@@ -92,7 +92,7 @@ module _ {Object : Type 0} where
   unfolding violating
   violating_part now host = record { made = made_linked now _ host; own = (tt, tt) }
 
-  posting_all_part : (now : ℕ) (reports : List Report) (host : HostState Object) → IsPart now host.link (posting_all now reports host)
+  pub posting_all_part : (now : ℕ) (reports : List Report) (host : HostState Object) → IsPart now host.link (posting_all now reports host)
   unfolding posting_all
   posting_all_part now [] host = part_silent now host
   posting_all_part now (report ∷ others) host =
@@ -101,8 +101,8 @@ module _ {Object : Type 0} where
 module _ {Object : Type 0} (does : Behaviour Object) where
   answering_part : (now version : ℕ) (host : HostState Object) → IsPart now host.link (answering does now version host)
   unfolding answering
-  answering_part now version host = cases (version == own_version) refl where
-    cases : (b : Bool) → (version == own_version) ≡ b → IsPart now host.link (answering does now version host)
+  answering_part now version host = cases (version == host.version) refl where
+    cases : (b : Bool) → (version == host.version) ≡ b → IsPart now host.link (answering does now version host)
     cases true is = rw is (as_part now host.link _ _ (posting_part now _ host) refl refl refl)
     cases false is = rw is (as_part now host.link _ _ (posting_part now _ host) refl refl refl)
 
@@ -135,7 +135,7 @@ module _ {Object : Type 0} (does : Behaviour Object) where
   pub acting_part : (now : ℕ) (item : List ℕ) (read : Result Telegram SciFault) (host : HostState Object) → IsPart now host.link (acting does now item read host)
   unfolding acting
   acting_part now item (Err fault) host = violating_part now host
-  acting_part now item (Ok telegram) host = cases (is_from_peer does telegram host) where
+  acting_part now item (Ok telegram) host = cases (is_admitted does telegram host) where
     cases : (b : Bool) → IsPart now host.link (if b then following does now item telegram (course telegram.message host.stage) host else violating now host)
     cases true = following_part now item telegram _ host
     cases false = violating_part now host

@@ -5,29 +5,28 @@ use Rattle.std.proofs.lemmas.Bool.{true≢false, false≢true}
 use Rattle.std.proofs.lemmas.List.{append-nil}
 use Rattle.sci_telegram.specs.Reading.{reading}
 use Rattle.sci_telegram.specs.declared.fault.SciFault.{SciFault}
-use Rattle.sci_telegram.specs.declared.message.Initialisation.TheVariants as init
-use Rattle.sci_telegram.specs.declared.message.Message.{Message}
-use Rattle.sci_telegram.specs.declared.message.Message.TheVariants as message
 use Rattle.sci_telegram.specs.declared.telegram.Telegram.{Telegram}
 use Rattle.rasta_core.specs.State.{LinkState, is_open}
 use Rattle.rasta_core.specs.Clock.{alive_until, settled}
 use Rattle.rasta_core.specs.Calls.{answer_to_send, receiving}
 use Rattle.object_host.specs.Behaviour.{Behaviour}
 use Rattle.object_host.specs.Course.{course}
-use Rattle.object_host.specs.Host.{HostState, LinkCall, Part, fallen, is_completed, is_outside, keeping, risen, silent, then_do}
-use Rattle.object_host.specs.Made.{IsMadeOf, call_made, calls_made, items_given, items_given_by}
-use Rattle.object_host.specs.Object.{ObjectCall, Takes, Ticks, Senses, Keeps, Pays, Loses, object_after, object_after_all, one_of, paid_in, reports_paid, telegrams_in}
-use Rattle.object_host.specs.Step.{acting, acting_all, answering, beating, beginning, commanding, ending, following, given, goes_on, hearing, host_step, initialising, is_from_peer, most_owed, own_version, paid, paying, paying_first, posting, posting_all, received, violating}
-use Rattle.object_host.specs.Told.{AreInStep, IsToldIn, calls_in_step, has_lost, item_of, loss_where}
+use Rattle.object_host.specs.Host.{HostState, Part, fallen, is_completed, is_outside, keeping, risen, silent, then_do}
+use Rattle.object_host.specs.Hosted.{IsNamedAs}
+use Rattle.object_host.specs.Made.{IsMadeOf, calls_made, items_given}
+use Rattle.object_host.specs.Object.{ObjectCall, Takes, Ticks, Senses, Keeps, Pays, Loses, object_after, contacts_in, object_after_all, one_of, paid_in, reports_paid, telegrams_in}
+use Rattle.object_host.specs.Step.{acting, acting_all, answering, beating, beginning, commanding, ending, following, given, goes_on, hearing, host_step, initialising, is_admitted, most_owed, paid, paying, paying_first, posting, posting_all, received, violating}
+use Rattle.object_host.specs.Told.{AreInStep, IsToldIn, contacts_of, has_lost, item_of, loss_where}
 use Rattle.object_host.specs.declared.course.Course.{Course}
 use Rattle.object_host.specs.declared.course.Course.TheVariants as courses
 use Rattle.object_host.specs.declared.input.Input.{Input}
 use Rattle.object_host.specs.declared.input.Input.TheVariants as inputs
 use Rattle.object_host.specs.declared.report.Report.{Report}
-use Rattle.object_host.specs.declared.stage.Stage.{Stage}
 use Rattle.object_host.specs.declared.stage.Stage.TheVariants as stage
+use Rattle.object_host.specs.declared.sense.Sense.{Sense}
+use Rattle.object_host.proofs.Says.{given_joined, given_says, items_same, map_joined}
 use Rattle.object_host.proofs.Acts.{beating_quiet, paying_quiet}
-use Rattle.object_host.proofs.Made.{acting_part, begun_link, fallen_link, given_made, made_then, paying_first_part, paying_part}
+use Rattle.object_host.proofs.Made.{begun_link, fallen_link, given_made, made_then, paying_first_part, paying_part}
 
 -- lists of calls joined
 in_step_joined : (now : ℕ) (first others : List ObjectCall) → AreInStep now first → AreInStep now others → AreInStep now (first ++ others)
@@ -49,31 +48,15 @@ telegrams_joined (Keeps moment ∷ calls) others = telegrams_joined calls others
 telegrams_joined (Pays ∷ calls) others = telegrams_joined calls others
 telegrams_joined (Loses ∷ calls) others = telegrams_joined calls others
 
-given_joined : (now : ℕ) (first others : List LinkCall) (link : LinkState) →
-    items_given now (first ++ others) link ≡ items_given now first link ++ items_given now others (calls_made now first link).link
-unfolding items_given calls_made
-given_joined now [] others link = refl
-given_joined now (call ∷ calls) others link =
-    ap (λ rest. items_given_by now call link ++ rest) (given_joined now calls others (call_made now call link).link)
-    ∙ sym (append_assoc (items_given_by now call link) _ _)
-
-completed_is : (s : Stage) → is_completed s ≡ true → s ≡ stage.Completed
-completed_is stage.Outside is = absurd (false≢true is)
-completed_is stage.AwaitsCheck is = absurd (false≢true is)
-completed_is stage.AwaitsRequest is = absurd (false≢true is)
-completed_is stage.Completed is = refl
-completed_is stage.Refused is = absurd (false≢true is)
-
--- after the initialisation a telegram is a command, or violates the order
-late_course : (m : Message) → (course m stage.Completed ≡ courses.Commands) ⊎ (course m stage.Completed ≡ courses.Violates)
-late_course (message.Initialisation p init.InitialisationRequest) = inr refl
-late_course (message.Initialisation p init.StartInitialisation) = inr refl
-late_course (message.Initialisation p init.InitialisationCompleted) = inr refl
-late_course (message.Initialisation p (init.VersionCheck v)) = inr refl
-late_course (message.Initialisation p (init.VersionAnswer a v)) = inr refl
-late_course (message.Point x) = inl refl
-late_course (message.Signal x) = inl refl
-late_course (message.Detection x) = inl refl
+contacts_joined : (first others : List ObjectCall) → contacts_in (first ++ others) ≡ contacts_in first ++ contacts_in others
+unfolding contacts_in
+contacts_joined [] others = refl
+contacts_joined (Takes at telegram ∷ calls) others = contacts_joined calls others
+contacts_joined (Ticks at ∷ calls) others = contacts_joined calls others
+contacts_joined (Senses at sense ∷ calls) others = ap (λ senses. sense ∷ senses) (contacts_joined calls others)
+contacts_joined (Keeps moment ∷ calls) others = contacts_joined calls others
+contacts_joined (Pays ∷ calls) others = contacts_joined calls others
+contacts_joined (Loses ∷ calls) others = contacts_joined calls others
 
 module _ {Object : Type 0} (does : Behaviour Object) where
   after_joined : (first others : List ObjectCall) (object : Object) →
@@ -91,31 +74,33 @@ module _ {Object : Type 0} (does : Behaviour Object) where
       ∙ sym (append_assoc (paid_in does call object) _ _)
 
   -- what an object is told from one state to another, with nothing paid
-  record AreCalls (now : ℕ) (old new : Object) (told : List Telegram) : Type 0 where
+  record AreCalls (now : ℕ) (old new : Object) (told : List Telegram) (senses : List Sense) : Type 0 where
     calls : List ObjectCall
     object_is : new ≡ object_after_all does calls old
     are_in_step : AreInStep now calls
     takes : telegrams_in calls ≡ told
+    feels : contacts_in calls ≡ senses
     none_paid : reports_paid does calls old ≡ []
 
-  told_nothing : (now : ℕ) (old new : Object) → new ≡ old → AreCalls now old new []
-  unfolding object_after_all telegrams_in reports_paid
-  told_nothing now old new same = record { calls = []; object_is = same; are_in_step = tt; takes = refl; none_paid = refl }
+  told_nothing : (now : ℕ) (old new : Object) → new ≡ old → AreCalls now old new [] []
+  unfolding object_after_all telegrams_in contacts_in reports_paid
+  told_nothing now old new same = record { calls = []; object_is = same; are_in_step = tt; takes = refl; feels = refl; none_paid = refl }
 
-  told_then : (now : ℕ) (old middle new : Object) (first others : List Telegram) → AreCalls now old middle first → AreCalls now middle new others →
-      AreCalls now old new (first ++ others)
+  told_then : (now : ℕ) (old middle new : Object) (first others : List Telegram) → AreCalls now old middle first [] → AreCalls now middle new others [] →
+      AreCalls now old new (first ++ others) []
   told_then now old middle new first others one more = record {
     calls = one.calls ++ more.calls;
     object_is = more.object_is ∙ ap (object_after_all does more.calls) one.object_is ∙ sym (after_joined one.calls more.calls old);
     are_in_step = in_step_joined now one.calls more.calls one.are_in_step more.are_in_step;
     takes = telegrams_joined one.calls more.calls ∙ ap (λ ts. ts ++ telegrams_in more.calls) one.takes ∙ ap (λ ts. first ++ ts) more.takes;
+    feels = contacts_joined one.calls more.calls ∙ ap (λ ss. ss ++ contacts_in more.calls) one.feels ∙ more.feels;
     none_paid = paid_joined one.calls more.calls old ∙ ap (λ rs. rs ++ reports_paid does more.calls (object_after_all does one.calls old)) one.none_paid
         ∙ ap (reports_paid does more.calls) (sym one.object_is) ∙ more.none_paid;
   }
 
-  told_one : (now : ℕ) (telegram : Telegram) (old : Object) → AreCalls now old (does.after_take now telegram old) (telegram ∷ [])
-  unfolding object_after_all telegrams_in reports_paid
-  told_one now telegram old = record { calls = Takes now telegram ∷ []; object_is = refl; are_in_step = (refl, tt); takes = refl; none_paid = refl }
+  told_one : (now : ℕ) (telegram : Telegram) (old : Object) → AreCalls now old (does.after_take now telegram old) (telegram ∷ []) []
+  unfolding object_after_all telegrams_in contacts_in reports_paid
+  told_one now telegram old = record { calls = Takes now telegram ∷ []; object_is = refl; are_in_step = (refl, tt); takes = refl; feels = refl; none_paid = refl }
 
   -- the parts of a step before what is owed is sent
   posting_all_object : (now : ℕ) (reports : List Report) (host : HostState Object) → (posting_all now reports host).host.object ≡ host.object
@@ -129,27 +114,27 @@ module _ {Object : Type 0} (does : Behaviour Object) where
 
   answering_object : (now version : ℕ) (host : HostState Object) → (answering does now version host).host.object ≡ host.object
   unfolding answering posting
-  answering_object now version host = cases (version == own_version) refl where
-    cases : (b : Bool) → (version == own_version) ≡ b → (answering does now version host).host.object ≡ host.object
+  answering_object now version host = cases (version == host.version) refl where
+    cases : (b : Bool) → (version == host.version) ≡ b → (answering does now version host).host.object ≡ host.object
     cases true is = rw is refl
     cases false is = rw is refl
 
-  violating_told : (now : ℕ) (host : HostState Object) → AreCalls now host.object (violating now host).host.object (violating now host).told
+  violating_told : (now : ℕ) (host : HostState Object) → AreCalls now host.object (violating now host).host.object (violating now host).told []
   unfolding violating
   violating_told now host = told_nothing now host.object _ refl
 
-  commanding_told : (now : ℕ) (telegram : Telegram) (host : HostState Object) → AreCalls now host.object (commanding does now telegram host).host.object (telegram ∷ [])
+  commanding_told : (now : ℕ) (telegram : Telegram) (host : HostState Object) → AreCalls now host.object (commanding does now telegram host).host.object (telegram ∷ []) []
   unfolding commanding violating
   commanding_told now telegram host = cases (does.accepts now telegram host.object) where
     told : HostState Object
     told = record host { object = does.after_take now telegram host.object }
 
-    cases : (b : Bool) → AreCalls now host.object (if b then silent told else violating now told).host.object (telegram ∷ [])
+    cases : (b : Bool) → AreCalls now host.object (if b then silent told else violating now told).host.object (telegram ∷ []) []
     cases true = told_one now telegram host.object
     cases false = told_one now telegram host.object
 
   following_told : (now : ℕ) (item : List ℕ) (telegram : Telegram) (c : Course) (host : HostState Object) →
-      AreCalls now host.object (following does now item telegram c host).host.object (following does now item telegram c host).told
+      AreCalls now host.object (following does now item telegram c host).host.object (following does now item telegram c host).told []
   unfolding following
   following_told now item telegram (courses.Checks version) host = told_nothing now host.object _ (answering_object now version host)
   following_told now item telegram courses.Initialises host = told_nothing now host.object _ (initialising_object now host)
@@ -157,19 +142,19 @@ module _ {Object : Type 0} (does : Behaviour Object) where
   following_told now item telegram courses.Violates host = violating_told now host
 
   acting_told : (now : ℕ) (item : List ℕ) (read : Result Telegram SciFault) (host : HostState Object) →
-      AreCalls now host.object (acting does now item read host).host.object (acting does now item read host).told
+      AreCalls now host.object (acting does now item read host).host.object (acting does now item read host).told []
   unfolding acting
   acting_told now item (Err fault) host = violating_told now host
-  acting_told now item (Ok telegram) host = cases (is_from_peer does telegram host) where
+  acting_told now item (Ok telegram) host = cases (is_admitted does telegram host) where
     made : Bool → Part Object
     made b = if b then following does now item telegram (course telegram.message host.stage) host else violating now host
 
-    cases : (b : Bool) → AreCalls now host.object (made b).host.object (made b).told
+    cases : (b : Bool) → AreCalls now host.object (made b).host.object (made b).told []
     cases true = following_told now item telegram _ host
     cases false = violating_told now host
 
   acting_all_told : (now : ℕ) (items : List (List ℕ)) (host : HostState Object) →
-      AreCalls now host.object (acting_all does now items host).host.object (acting_all does now items host).told
+      AreCalls now host.object (acting_all does now items host).host.object (acting_all does now items host).told []
   unfolding acting_all
   acting_all_told now [] host = told_nothing now host.object _ refl
   acting_all_told now (item ∷ others) host = cases (is_open host.link.phase) (acting_all_told now others first.host) where
@@ -179,8 +164,8 @@ module _ {Object : Type 0} (does : Behaviour Object) where
     made : Bool → Part Object
     made b = if b then then_do first (acting_all does now others) else silent host
 
-    cases : (b : Bool) → AreCalls now first.host.object (acting_all does now others first.host).host.object (acting_all does now others first.host).told →
-        AreCalls now host.object (made b).host.object (made b).told
+    cases : (b : Bool) → AreCalls now first.host.object (acting_all does now others first.host).host.object (acting_all does now others first.host).told [] →
+        AreCalls now host.object (made b).host.object (made b).told []
     cases true more = told_then now host.object first.host.object _ first.told _ (acting_told now item (reading item) host) more
     cases false more = told_nothing now host.object _ refl
 
@@ -191,16 +176,16 @@ module _ {Object : Type 0} (does : Behaviour Object) where
     cases true = refl
     cases false = refl
 
-  given_told : (now : ℕ) (input : Input) (host : HostState Object) → AreCalls now host.object (given does now input host).host.object (given does now input host).told
-  unfolding given hearing received object_after_all telegrams_in reports_paid
+  given_told : (now : ℕ) (input : Input) (host : HostState Object) → AreCalls now host.object (given does now input host).host.object (given does now input host).told (contacts_of input)
+  unfolding given hearing received object_after_all telegrams_in contacts_in reports_paid
   given_told now inputs.Tick host = told_nothing now host.object _ refl
   given_told now (inputs.Datagram bytes) host =
       let begun : HostState Object = risen (record host { link = (receiving now bytes.now host.link).link })
       in subst (λ o. AreCalls now o (acting_all does now (receiving now bytes.now host.link).items begun).host.object
-      (acting_all does now (receiving now bytes.now host.link).items begun).told)
+      (acting_all does now (receiving now bytes.now host.link).items begun).told [])
       (risen_object (record host { link = (receiving now bytes.now host.link).link }))
       (acting_all_told now (receiving now bytes.now host.link).items begun)
-  given_told now (inputs.Sense sense) host = record { calls = Senses now sense ∷ []; object_is = refl; are_in_step = (refl, tt); takes = refl; none_paid = refl }
+  given_told now (inputs.Sense sense) host = record { calls = Senses now sense ∷ []; object_is = refl; are_in_step = (refl, tt); takes = refl; feels = refl; none_paid = refl }
 
   -- how a step begins and ends, as calls of the object
   fallen_is : (host : HostState Object) → (fallen does host).object ≡ object_after_all does (loss_where (has_lost host)) host.object
@@ -252,8 +237,8 @@ module _ {Object : Type 0} (does : Behaviour Object) where
 
   answering_inside : (now version : ℕ) (host : HostState Object) → is_outside (answering does now version host).host.stage ≡ false
   unfolding answering
-  answering_inside now version host = cases (version == own_version) refl where
-    cases : (b : Bool) → (version == own_version) ≡ b → is_outside (answering does now version host).host.stage ≡ false
+  answering_inside now version host = cases (version == host.version) refl where
+    cases : (b : Bool) → (version == host.version) ≡ b → is_outside (answering does now version host).host.stage ≡ false
     cases true is = rw is refl
     cases false is = rw is refl
 
@@ -283,7 +268,7 @@ module _ {Object : Type 0} (does : Behaviour Object) where
       is_outside (acting does now item read host).host.stage ≡ false
   unfolding acting
   acting_inside now item (Err fault) host inside = violating_inside now host inside
-  acting_inside now item (Ok telegram) host inside = cases (is_from_peer does telegram host) where
+  acting_inside now item (Ok telegram) host inside = cases (is_admitted does telegram host) where
     cases : (b : Bool) → is_outside (if b then following does now item telegram (course telegram.message host.stage) host else violating now host).host.stage ≡ false
     cases true = following_inside now item telegram _ host inside
     cases false = violating_inside now host inside
@@ -315,123 +300,34 @@ module _ {Object : Type 0} (does : Behaviour Object) where
       in acting_all_inside now (receiving now bytes.now host.link).items (risen heard) (risen_inside heard inside)
   given_inside now (inputs.Sense sense) host inside = inside
 
-  -- once the initialisation was completed, what comes makes the host say nothing
-  record SaysNothing (now : ℕ) (link : LinkState) (part : Part Object) : Type 0 where
-    completed : is_completed part.host.stage ≡ true
-    gives_none : items_given now part.calls link ≡ []
-
-  says_nothing_then : (now : ℕ) (link : LinkState) (first : Part Object) (next : HostState Object → Part Object) → IsMadeOf now link first →
-      SaysNothing now link first → SaysNothing now first.host.link (next first.host) → SaysNothing now link (then_do first next)
-  says_nothing_then now link first next made one more = record {
-    completed = more.completed;
-    gives_none = given_joined now first.calls (next first.host).calls link
-        ∙ ap (λ xs. xs ++ items_given now (next first.host).calls (calls_made now first.calls link).link) one.gives_none
-        ∙ ap (items_given now (next first.host).calls) (sym made.link_is) ∙ more.gives_none;
-  }
-
-  violating_says : (now : ℕ) (host : HostState Object) → is_completed host.stage ≡ true → SaysNothing now host.link (violating now host)
-  unfolding violating items_given
-  violating_says now host completed = record { completed = completed; gives_none = refl }
-
-  commanding_says : (now : ℕ) (telegram : Telegram) (host : HostState Object) → is_completed host.stage ≡ true → SaysNothing now host.link (commanding does now telegram host)
-  unfolding commanding items_given
-  commanding_says now telegram host completed = cases (does.accepts now telegram host.object) where
-    told : HostState Object
-    told = record host { object = does.after_take now telegram host.object }
-
-    cases : (b : Bool) → SaysNothing now host.link (if b then silent told else violating now told)
-    cases true = record { completed = completed; gives_none = refl }
-    cases false = violating_says now told completed
-
-  following_says : (now : ℕ) (item : List ℕ) (telegram : Telegram) (c : Course) (host : HostState Object) → (c ≡ courses.Commands) ⊎ (c ≡ courses.Violates) →
-      is_completed host.stage ≡ true → SaysNothing now host.link (following does now item telegram c host)
-  unfolding following
-  following_says now item telegram c host late completed = elim late [
-    | inl is ↦ rw is (let says = commanding_says now telegram host completed in record { completed = says.completed; gives_none = says.gives_none })
-    | inr is ↦ rw is (violating_says now host completed)
-  ]
-
-  acting_says : (now : ℕ) (item : List ℕ) (read : Result Telegram SciFault) (host : HostState Object) → is_completed host.stage ≡ true →
-      SaysNothing now host.link (acting does now item read host)
-  unfolding acting
-  acting_says now item (Err fault) host completed = violating_says now host completed
-  acting_says now item (Ok telegram) host completed = cases (is_from_peer does telegram host) where
-    late : (course telegram.message host.stage ≡ courses.Commands) ⊎ (course telegram.message host.stage ≡ courses.Violates)
-    late = subst (λ s. (course telegram.message s ≡ courses.Commands) ⊎ (course telegram.message s ≡ courses.Violates)) (sym (completed_is host.stage completed)) (late_course telegram.message)
-
-    cases : (b : Bool) → SaysNothing now host.link (if b then following does now item telegram (course telegram.message host.stage) host else violating now host)
-    cases true = following_says now item telegram _ host late completed
-    cases false = violating_says now host completed
-
-  acting_all_says : (now : ℕ) (items : List (List ℕ)) (host : HostState Object) → is_completed host.stage ≡ true → SaysNothing now host.link (acting_all does now items host)
-  unfolding acting_all items_given
-  acting_all_says now [] host completed = record { completed = completed; gives_none = refl }
-  acting_all_says now (item ∷ others) host completed =
-      cases (is_open host.link.phase) (acting_all_says now others first.host says.completed)
-    where
-      first : Part Object
-      first = acting does now item (reading item) host
-
-      says : SaysNothing now host.link first
-      says = acting_says now item (reading item) host completed
-
-      cases : (b : Bool) → SaysNothing now first.host.link (acting_all does now others first.host) →
-          SaysNothing now host.link (if b then then_do first (acting_all does now others) else silent host)
-      cases true more = says_nothing_then now host.link first (acting_all does now others) (acting_part does now item (reading item) host).made says more
-      cases false more = record { completed = completed; gives_none = refl }
-
-  completed_inside : (s : Stage) → is_completed s ≡ true → is_outside s ≡ false
-  completed_inside s completed = ap is_outside (completed_is s completed)
-
-  risen_is : (host : HostState Object) → is_completed host.stage ≡ true → risen host ≡ host
-  unfolding risen
-  risen_is host completed = rw (completed_inside host.stage completed) refl
-
-  given_says : (now : ℕ) (input : Input) (host : HostState Object) → is_completed host.stage ≡ true → items_given now (given does now input host).calls host.link ≡ []
-  unfolding given hearing received items_given
-  given_says now inputs.Tick host completed = refl
-  given_says now (inputs.Datagram bytes) host completed =
-      let heard : HostState Object = record host { link = (receiving now bytes.now host.link).link }
-      in subst (λ h. items_given now (acting_all does now (receiving now bytes.now host.link).items h).calls (receiving now bytes.now host.link).link ≡ [])
-      (sym (risen_is heard completed))
-      (acting_all_says now (receiving now bytes.now host.link).items heard completed).gives_none
-  given_says now (inputs.Sense sense) host completed = refl
-
   -- what is owed is paid
-  record IsPaying (now : ℕ) (host : HostState Object) (part : Part Object) : Type 0 where
+  pub record IsPaying (now : ℕ) (host : HostState Object) (part : Part Object) : Type 0 where
     calls : List ObjectCall
     object_is : part.host.object ≡ object_after_all does calls host.object
     are_in_step : AreInStep now calls
     takes_none : telegrams_in calls ≡ []
-    stage_is : part.host.stage ≡ host.stage
-    own_name_is : part.host.own_name ≡ host.own_name
-    peer_name_is : part.host.peer_name ≡ host.peer_name
+    feels_none : contacts_in calls ≡ []
+    pub stage_is : part.host.stage ≡ host.stage
+    pub own_name_is : part.host.own_name ≡ host.own_name
+    pub peer_name_is : part.host.peer_name ≡ host.peer_name
+    pub version_is : part.host.version ≡ host.version
     reports : List Report
     gives : items_given now part.calls host.link ≡ map (item_of host) reports
     sent : is_completed host.stage ≡ true → reports ≡ reports_paid does calls host.object
     dropped : is_completed host.stage ≡ false → reports ≡ []
 
-  -- a report is sent in the names of the host
-  item_same : (report : Report) (old new : HostState Object) → new.own_name ≡ old.own_name → new.peer_name ≡ old.peer_name → item_of new report ≡ item_of old report
-  item_same report old new own_same peer_same = rw (own_same, peer_same) refl
-
-  items_same : (reports : List Report) (old new : HostState Object) → new.own_name ≡ old.own_name → new.peer_name ≡ old.peer_name →
-      map (item_of new) reports ≡ map (item_of old) reports
-  items_same [] old new own_same peer_same = refl
-  items_same (report ∷ others) old new own_same peer_same =
-      ap (λ item. item ∷ map (item_of new) others) (item_same report old new own_same peer_same)
-      ∙ ap (λ rest. item_of old report ∷ rest) (items_same others old new own_same peer_same)
-
   pays_nothing : (now : ℕ) (host : HostState Object) → IsPaying now host (silent host)
-  unfolding object_after_all telegrams_in reports_paid items_given
+  unfolding object_after_all telegrams_in contacts_in reports_paid items_given
   pays_nothing now host = record {
     calls = [];
     object_is = refl;
     are_in_step = tt;
     takes_none = refl;
+    feels_none = refl;
     stage_is = refl;
     own_name_is = refl;
     peer_name_is = refl;
+    version_is = refl;
     reports = [];
     gives = refl;
     sent = λ _. refl;
@@ -439,7 +335,7 @@ module _ {Object : Type 0} (does : Behaviour Object) where
   }
 
   pays_first : (now : ℕ) (owed : Option Report) (host : HostState Object) → does.owed host.object ≡ owed → IsPaying now host (paying_first does now owed host)
-  unfolding posting object_after_all telegrams_in reports_paid items_given
+  unfolding posting object_after_all telegrams_in contacts_in reports_paid items_given
   pays_first now None host is = pays_nothing now host
   pays_first now (Some report) host is = cases (is_completed host.stage) (is_ok (answer_to_send now host.link)) refl refl where
     posted : Part Object
@@ -452,9 +348,11 @@ module _ {Object : Type 0} (does : Behaviour Object) where
       object_is = refl;
       are_in_step = tt;
       takes_none = refl;
+      feels_none = refl;
       stage_is = refl;
       own_name_is = refl;
       peer_name_is = refl;
+      version_is = refl;
       reports = [];
       gives = refl;
       sent = λ early. absurd (true≢false (sym early ∙ completed));
@@ -465,9 +363,11 @@ module _ {Object : Type 0} (does : Behaviour Object) where
       object_is = refl;
       are_in_step = tt;
       takes_none = refl;
+      feels_none = refl;
       stage_is = refl;
       own_name_is = refl;
       peer_name_is = refl;
+      version_is = refl;
       reports = report ∷ [];
       gives = ap (λ b. (if b then item_of host report ∷ [] else []) ++ []) accepted;
       sent = λ _. ap (λ (o : Option Report). one_of o ++ []) (sym is);
@@ -478,18 +378,16 @@ module _ {Object : Type 0} (does : Behaviour Object) where
       object_is = refl;
       are_in_step = tt;
       takes_none = refl;
+      feels_none = refl;
       stage_is = refl;
       own_name_is = refl;
       peer_name_is = refl;
+      version_is = refl;
       reports = [];
       gives = ap (λ b. (if b then item_of host report ∷ [] else []) ++ []) accepted;
       sent = λ _. refl;
       dropped = λ _. refl;
     }
-
-  map_joined : {A B : Type 0} (f : A → B) (first others : List A) → map f (first ++ others) ≡ map f first ++ map f others
-  map_joined f [] others = refl
-  map_joined f (one ∷ more) others = ap (λ rest. f one ∷ rest) (map_joined f more others)
 
   pays_then : (now : ℕ) (host : HostState Object) (first : Part Object) (next : HostState Object → Part Object) → IsMadeOf now host.link first →
       IsPaying now host first → IsPaying now first.host (next first.host) → IsPaying now host (then_do first next)
@@ -498,9 +396,11 @@ module _ {Object : Type 0} (does : Behaviour Object) where
     object_is = more.object_is ∙ ap (object_after_all does more.calls) one.object_is ∙ sym (after_joined one.calls more.calls host.object);
     are_in_step = in_step_joined now one.calls more.calls one.are_in_step more.are_in_step;
     takes_none = telegrams_joined one.calls more.calls ∙ ap (λ ts. ts ++ telegrams_in more.calls) one.takes_none ∙ more.takes_none;
+    feels_none = contacts_joined one.calls more.calls ∙ ap (λ ss. ss ++ contacts_in more.calls) one.feels_none ∙ more.feels_none;
     stage_is = more.stage_is ∙ one.stage_is;
     own_name_is = more.own_name_is ∙ one.own_name_is;
     peer_name_is = more.peer_name_is ∙ one.peer_name_is;
+    version_is = more.version_is ∙ one.version_is;
     reports = one.reports ++ more.reports;
     gives = given_joined now first.calls (next first.host).calls host.link
         ∙ ap (λ xs. xs ++ items_given now (next first.host).calls (calls_made now first.calls host.link).link) one.gives
@@ -514,7 +414,7 @@ module _ {Object : Type 0} (does : Behaviour Object) where
     dropped = λ early. ap (λ rs. rs ++ more.reports) (one.dropped early) ∙ more.dropped (ap is_completed one.stage_is ∙ early);
   }
 
-  pays_all : (now : ℕ) (more : ℕ) (host : HostState Object) → IsPaying now host (paying does now more host)
+  pub pays_all : (now : ℕ) (more : ℕ) (host : HostState Object) → IsPaying now host (paying does now more host)
   unfolding paying
   pays_all now zero host = pays_nothing now host
   pays_all now (suc more) host = cases (goes_on now (does.owed host.object) host) (pays_all now more first.host) where
@@ -529,17 +429,18 @@ module _ {Object : Type 0} (does : Behaviour Object) where
     cases false next = one
 
   -- the end of a step
-  record IsEnded (old new : HostState Object) : Type 0 where
+  pub record IsEnded (old new : HostState Object) : Type 0 where
     object_is : new.object ≡ old.object
-    stage_is : new.stage ≡ old.stage
-    own_name_is : new.own_name ≡ old.own_name
-    peer_name_is : new.peer_name ≡ old.peer_name
+    pub stage_is : new.stage ≡ old.stage
+    pub own_name_is : new.own_name ≡ old.own_name
+    pub peer_name_is : new.peer_name ≡ old.peer_name
+    pub version_is : new.version ≡ old.version
 
-  beating_same : (now : ℕ) (input : Input) (host : HostState Object) → IsEnded host (beating now input host).host
+  pub beating_same : (now : ℕ) (input : Input) (host : HostState Object) → IsEnded host (beating now input host).host
   unfolding beating
-  beating_same now inputs.Tick host = record { object_is = refl; stage_is = refl; own_name_is = refl; peer_name_is = refl }
-  beating_same now (inputs.Datagram bytes) host = record { object_is = refl; stage_is = refl; own_name_is = refl; peer_name_is = refl }
-  beating_same now (inputs.Sense sense) host = record { object_is = refl; stage_is = refl; own_name_is = refl; peer_name_is = refl }
+  beating_same now inputs.Tick host = record { object_is = refl; stage_is = refl; own_name_is = refl; peer_name_is = refl; version_is = refl }
+  beating_same now (inputs.Datagram bytes) host = record { object_is = refl; stage_is = refl; own_name_is = refl; peer_name_is = refl; version_is = refl }
+  beating_same now (inputs.Sense sense) host = record { object_is = refl; stage_is = refl; own_name_is = refl; peer_name_is = refl; version_is = refl }
 
   beating_gives : (now : ℕ) (input : Input) (host : HostState Object) → items_given now (beating now input host).calls host.link ≡ []
   unfolding beating items_given
@@ -547,17 +448,12 @@ module _ {Object : Type 0} (does : Behaviour Object) where
   beating_gives now (inputs.Datagram bytes) host = refl
   beating_gives now (inputs.Sense sense) host = refl
 
-  -- the end leaves the names
-  record HasNames (old new : HostState Object) : Type 0 where
-    own_name_is : new.own_name ≡ old.own_name
-    peer_name_is : new.peer_name ≡ old.peer_name
-
-  ending_names : (host : HostState Object) → HasNames host (ending does host)
+  pub ending_names : (host : HostState Object) → IsNamedAs host (ending does host)
   unfolding keeping fallen
   ending_names host = cases (not (is_outside host.stage) && not (is_open host.link.phase)) where
-    cases : (b : Bool) → HasNames host (keeping does (if b then record host { stage = stage.Outside; object = does.after_loss host.object } else host))
-    cases true = record { own_name_is = refl; peer_name_is = refl }
-    cases false = record { own_name_is = refl; peer_name_is = refl }
+    cases : (b : Bool) → IsNamedAs host (keeping does (if b then record host { stage = stage.Outside; object = does.after_loss host.object } else host))
+    cases true = record { own_name = refl; peer_name = refl; version = refl }
+    cases false = record { own_name = refl; peer_name = refl; version = refl }
 
   stays_open : (host : HostState Object) → is_open (ending does host).link.phase ≡ true → has_lost host ≡ false
   unfolding keeping
@@ -567,6 +463,14 @@ module _ {Object : Type 0} (does : Behaviour Object) where
       cases : (b : Bool) → (b && false) ≡ false
       cases true = refl
       cases false = refl
+
+  pub open_stage : (host : HostState Object) → is_open (ending does host).link.phase ≡ true → (ending does host).stage ≡ host.stage
+  unfolding keeping fallen
+  open_stage host opened = cases (is_outside host.stage) (is_open host.link.phase) (sym (ap (λ (l : LinkState). is_open l.phase) (fallen_link does host)) ∙ opened) where
+    cases : (o p : Bool) → p ≡ true → (keeping does (if not o && not p then record host { stage = stage.Outside; object = does.after_loss host.object } else host)).stage ≡ host.stage
+    cases true p opened = refl
+    cases false true opened = refl
+    cases false false opened = absurd (false≢true opened)
 
   falls_closed : (host : HostState Object) → is_outside host.stage ≡ false → is_open (ending does host).link.phase ≡ false → has_lost host ≡ true
   unfolding keeping
@@ -588,8 +492,9 @@ module _ {Object : Type 0} (does : Behaviour Object) where
       in let during : List ObjectCall = comes.calls ++ payment.calls
       in let beat = beating_same now input told.host
       in let names = ending_names done.host
-      in let own_name_is = names.own_name_is ∙ beat.own_name_is ∙ payment.own_name_is
-      in let peer_name_is = names.peer_name_is ∙ beat.peer_name_is ∙ payment.peer_name_is
+      in let own_name_is = names.own_name ∙ beat.own_name_is ∙ payment.own_name_is
+      in let peer_name_is = names.peer_name ∙ beat.peer_name_is ∙ payment.peer_name_is
+      in let says = given_says does now input begun
       in let middle : told.host.object ≡ object_after_all does during begun.object =
       payment.object_is ∙ ap (object_after_all does payment.calls) comes.object_is ∙ sym (after_joined comes.calls payment.calls begun.object)
       in let paid_during : reports_paid does during begun.object ≡ reports_paid does payment.calls heard.host.object =
@@ -629,13 +534,20 @@ module _ {Object : Type 0} (does : Behaviour Object) where
             ∙ sym (ap (λ ts. (heard.told ++ ts) ++ (beating now input told.host).told) (paying_quiet does now most_owed heard.host).tells_none
             ∙ ap (λ ts. (heard.told ++ []) ++ ts) (beating_quiet does now input told.host).tells_none
             ∙ append-nil (heard.told ++ []));
+        senses = contacts_joined comes.calls payment.calls ∙ ap (λ ss. ss ++ contacts_in payment.calls) comes.feels
+            ∙ ap (λ ss. contacts_of input ++ ss) payment.feels_none ∙ append-nil (contacts_of input);
         stays = stays_open done.host;
         falls = λ inside closed. falls_closed done.host (ap is_outside (beat.stage_is ∙ payment.stage_is) ∙ given_inside now input begun inside) closed;
-        own = items_given now heard.calls begun.link;
+        own = says.own;
         reports = payment.reports;
         gives = ap (items_given now done.calls) (sym (begun_link does now host)) ∙ given_in_all
-            ∙ ap (λ xs. items_given now heard.calls begun.link ++ xs) (sym (items_same payment.reports heard.host (ending does done.host) own_name_is peer_name_is));
-        own_is_early = λ completed. given_says now input begun completed;
+            ∙ ap (λ xs. xs ++ map (item_of heard.host) payment.reports) says.gives
+            ∙ ap (λ xs. xs ++ map (item_of heard.host) payment.reports)
+            (sym (items_same says.own begun (ending does done.host) (own_name_is ∙ says.own_name_is) (peer_name_is ∙ says.peer_name_is)))
+            ∙ ap (λ xs. map (item_of (ending does done.host)) says.own ++ xs) (sym (items_same payment.reports heard.host (ending does done.host) own_name_is peer_name_is))
+            ∙ sym (map_joined (item_of (ending does done.host)) says.own payment.reports);
+        says = says.said_is;
+        stage_is = λ opened. open_stage done.host opened ∙ beat.stage_is ∙ payment.stage_is;
         paid = cases payment paid_in_all (is_completed heard.host.stage) refl;
       }
     where

@@ -21,6 +21,8 @@ pub record HostState (Object : Type 0) : Type 0 where
   -- the names of the controller and of its peer, the interlocking
   pub own_name : List ℕ
   pub peer_name : List ℕ
+  -- the version of the telegrams that it speaks
+  pub version : ℕ
 
 -- a call that a host makes of its link; a server opens none
 pub data LinkCall : Type 0 where

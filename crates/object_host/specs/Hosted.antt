@@ -17,15 +17,22 @@ pub record IsHosted {Object : Type 0} (does : Behaviour Object) (host : HostStat
   -- outside, in Start and in the initialisation the object is idle
   pub idle : is_completed host.stage ≡ false → does.is_idle host.object ≡ true
 
+-- the same controller for the same peer, in the same version of the telegrams
+pub record IsNamedAs {Object : Type 0} (old new : HostState Object) : Type 0 where
+  pub own_name : new.own_name ≡ old.own_name
+  pub peer_name : new.peer_name ≡ old.peer_name
+  pub version : new.version ≡ old.version
+
 -- a host of a new link: its object is as after a loss
-unfoldable pub new_host : {Object : Type 0} → Behaviour Object → Identity → List ℕ → List ℕ → ℕ → ℕ → Object → HostState Object
-new_host does identity own_name peer_name first_sequence_number now object =
+unfoldable pub new_host : {Object : Type 0} → Behaviour Object → Identity → List ℕ → List ℕ → ℕ → ℕ → Object → ℕ → HostState Object
+new_host does identity own_name peer_name first_sequence_number now object version =
     keeping does (record {
       link = created identity first_sequence_number now;
       stage = stage.Outside;
       object = does.after_loss object;
       own_name = own_name;
       peer_name = peer_name;
+      version = version;
     })
 
 -- a host as its callers see it, with the datagrams that its last step handed out

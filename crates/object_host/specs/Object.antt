@@ -48,6 +48,12 @@ module _ {Object : Type 0} where
   reports_paid does [] object = []
   reports_paid does (first ∷ others) object = paid_in does first object ++ reports_paid does others (object_after does first object)
 
+-- the contacts among calls, in order
+unfoldable pub contacts_in : List ObjectCall → List Sense
+contacts_in [] = []
+contacts_in (Senses now sense ∷ others) = sense ∷ contacts_in others
+contacts_in (_ ∷ others) = contacts_in others
+
 -- the telegrams among calls, in order
 unfoldable pub telegrams_in : List ObjectCall → List Telegram
 telegrams_in [] = []

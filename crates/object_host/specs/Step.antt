@@ -1,6 +1,6 @@
 -- A step of a host, in its order: the clock with the object's tick, the input, the owed reports, the link's tick, and
 -- what the object is told of its link at the end.
-use Rattle.std.specs.Prelude.{ℕ, zero, suc, ◌+◌, ◌==◌, ◌&&◌, ◌||◌, not, Bool, true, false, List, [], ◌∷◌, Option, Some, None, Result, Ok, Err, is_ok, if◌then◌else◌}
+use Rattle.std.specs.Prelude.{ℕ, zero, suc, ◌+◌, ◌==◌, nat_le, ◌&&◌, ◌||◌, not, Bool, true, false, List, [], ◌∷◌, Option, Some, None, Result, Ok, Err, is_ok, if◌then◌else◌}
 use Rattle.std.specs.Str.{bytes_eq}
 use Rattle.sci_telegram.specs.Messages.{protocol_of}
 use Rattle.sci_telegram.specs.Reading.{reading}
@@ -8,6 +8,10 @@ use Rattle.sci_telegram.specs.Telegrams.{writing}
 use Rattle.sci_telegram.specs.declared.fault.SciFault.{SciFault}
 use Rattle.sci_telegram.specs.declared.message.Agreement.TheVariants.{NoMatch, Match}
 use Rattle.sci_telegram.specs.declared.message.Initialisation.TheVariants.{StartInitialisation, InitialisationCompleted, VersionAnswer}
+use Rattle.sci_telegram.specs.declared.message.Aspect.TheVariants.{Slow}
+use Rattle.sci_telegram.specs.declared.message.Message.{Message}
+use Rattle.sci_telegram.specs.declared.message.Message.TheVariants.{Signal}
+use Rattle.sci_telegram.specs.declared.message.SignalMessage.TheVariants.{IndicateAspect, IndicatedAspect}
 use Rattle.sci_telegram.specs.declared.message.Protocol.{Protocol}
 use Rattle.sci_telegram.specs.declared.message.Protocol.TheVariants as protocols
 use Rattle.sci_telegram.specs.declared.telegram.Telegram.{Telegram}
@@ -26,10 +30,6 @@ use Rattle.object_host.specs.declared.stage.Stage.TheVariants as stage
 use Rattle.object_host.specs.declared.input.Input.{Input}
 use Rattle.object_host.specs.declared.input.Input.TheVariants as inputs
 
--- the version of the telegrams
-abbrev pub own_version : ℕ
-own_version = 1
-
 -- how many objects a controller has at most, and so how many reports its initial status
 abbrev pub most_objects : ℕ
 most_objects = 16
@@ -44,6 +44,12 @@ is_same_protocol protocols.LightSignal protocols.LightSignal = true
 is_same_protocol protocols.Point protocols.Point = true
 is_same_protocol _ _ = false
 
+-- telegrams of a version: the aspect slow came with version 2
+abbrev pub is_in_version : ℕ → Message → Bool
+is_in_version version (Signal (IndicateAspect Slow)) = nat_le 2 version
+is_in_version version (Signal (IndicatedAspect Slow)) = nat_le 2 version
+is_in_version version _ = true
+
 -- a report and those behind it; where there is none, those behind it are none
 abbrev pub report_then : Option Report → List Report → List Report
 report_then None others = []
@@ -56,6 +62,10 @@ module _ {Object : Type 0} where
       is_same_protocol (protocol_of telegram.message) does.protocol
       && bytes_eq telegram.sender host.peer_name
       && bytes_eq telegram.receiver host.own_name
+
+  -- a telegram that is looked at further: from the peer, and one that the version has
+  abbrev pub is_admitted : Behaviour Object → Telegram → HostState Object → Bool
+  is_admitted does telegram host = is_from_peer does telegram host && is_in_version host.version telegram.message
 
   -- a report goes to the peer, where the link accepts it
   unfoldable pub posting : ℕ → Report → HostState Object → Part Object
@@ -74,9 +84,9 @@ module _ {Object : Type 0} where
   -- the version is answered; nothing more is taken where it is another one
   unfoldable pub answering : Behaviour Object → ℕ → ℕ → HostState Object → Part Object
   answering does now version host =
-      if version == own_version
-      then at_stage stage.AwaitsRequest (posting now (said does (VersionAnswer Match own_version)) host)
-      else at_stage stage.Refused (posting now (said does (VersionAnswer NoMatch own_version)) host)
+      if version == host.version
+      then at_stage stage.AwaitsRequest (posting now (said does (VersionAnswer Match host.version)) host)
+      else at_stage stage.Refused (posting now (said does (VersionAnswer NoMatch host.version)) host)
 
   -- the reports of the initial status from a place on, up to the first place that has none
   unfoldable pub initial_status : Behaviour Object → ℕ → ℕ → Object → List Report
@@ -104,11 +114,11 @@ module _ {Object : Type 0} where
   following does now item telegram courses.Commands host = acting_on item (telegram ∷ []) (commanding does now telegram host)
   following does now item telegram courses.Violates host = violating now host
 
-  -- an item that was taken: whether it is a telegram, whom it is from and for, and then the order
+  -- an item that was taken: whether it is a telegram of this version, whom it is from and for, and then the order
   unfoldable pub acting : Behaviour Object → ℕ → List ℕ → Result Telegram SciFault → HostState Object → Part Object
   acting does now item (Err fault) host = violating now host
   acting does now item (Ok telegram) host =
-      if is_from_peer does telegram host
+      if is_admitted does telegram host
       then following does now item telegram (course telegram.message host.stage) host
       else violating now host
 

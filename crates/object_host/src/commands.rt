@@ -5,7 +5,7 @@ ghost use Rattle.rasta_core.specs.Calls.{MayStep, IsAt};
 ghost use Rattle.rasta_core.specs.Outbox.{HasRoomFor, posted};
 ghost use Rattle.object_host.specs.Course.{course};
 ghost use Rattle.object_host.specs.Made.{AreItems};
-ghost use Rattle.object_host.specs.Step.{acting, acting_all, commanding, following, is_from_peer, is_same_protocol, posting};
+ghost use Rattle.object_host.specs.Step.{acting, acting_all, commanding, following, is_admitted, is_from_peer, is_in_version, is_same_protocol, posting};
 ghost use Rattle.sci_telegram.specs.Reading.{reading};
 
 use crate::controller::Controller;
@@ -13,7 +13,10 @@ use crate::course::Course;
 use crate::host::Host;
 use rasta_core::{Millis, Outbox};
 use rasta_pdu::Item;
-use sci_telegram::{Protocol, Telegram};
+use sci_telegram::{Aspect, Message, Protocol, SignalMessage, Telegram};
+
+/// The first version of the telegrams that has the aspect slow.
+const FIRST_WITH_SLOW: u8 = 2;
 
 impl<C: Controller> Host<C> {
     /// The object is told a telegram. One that doesn't fit closes the link.
@@ -61,6 +64,13 @@ impl<C: Controller> Host<C> {
             && telegram.receiver.bytes() == self.own_name.bytes()
     }
 
+    /// Whether a telegram is looked at further: from the peer, and one that the version has.
+    fn admits(&self, telegram: &Telegram) -> bool
+        ensures { result ≡ is_admitted C.behaviour telegram.now self.now }
+    {
+        self.is_from_peer(telegram) && is_in_version(self.version, &telegram.message)
+    }
+
     /// An item that was taken.
     #[tactic(auto, unfolding(crate::specs::Step::acting))]
     fn act(&mut self, now: Millis, item: &Item, outbox: &mut Outbox)
@@ -73,7 +83,7 @@ impl<C: Controller> Host<C> {
         ensures items { AreItems (acting C.behaviour now item.now (reading item.now) self.old).calls }
     {
         match sci_telegram::read(item.bytes()) {
-            Ok(telegram) if self.is_from_peer(&telegram) => self.follow(now, &telegram, outbox),
+            Ok(telegram) if self.admits(&telegram) => self.follow(now, &telegram, outbox),
             _ => self.violate(now, outbox),
         }
     }
@@ -96,6 +106,19 @@ impl<C: Controller> Host<C> {
             }
             self.act(now, item, outbox);
         }
+    }
+}
+
+/// Whether a version has this message: the aspect slow came with version 2.
+fn is_in_version(version: u8, message: &Message) -> bool
+    ensures { result ≡ is_in_version version message.now }
+{
+    match message {
+        Message::Signal(
+            SignalMessage::IndicateAspect(Aspect::Slow)
+            | SignalMessage::IndicatedAspect(Aspect::Slow),
+        ) => FIRST_WITH_SLOW <= version,
+        _ => true,
     }
 }
 

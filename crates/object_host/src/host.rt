@@ -23,6 +23,7 @@ pub(crate) struct Host<C: Controller> {
     pub(crate) object: C,
     pub(crate) own_name: Name,
     pub(crate) peer_name: Name,
+    pub(crate) version: u8,
 }
 
 impl<C: Controller> Model for Host<C> {
@@ -30,7 +31,7 @@ impl<C: Controller> Model for Host<C> {
 
     ghost Value = { HostState C };
 
-    ghost view = { λ h. record { link = h.link; stage = h.stage; object = h.object; own_name = h.own_name; peer_name = h.peer_name } };
+    ghost view = { λ h. record { link = h.link; stage = h.stage; object = h.object; own_name = h.own_name; peer_name = h.peer_name; version = h.version } };
 }
 
 impl<C: Controller> Host<C> {

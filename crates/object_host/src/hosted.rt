@@ -51,7 +51,8 @@ impl<C: Controller> Hosted<C> {
     ghost use Rattle.object_host.specs.Hosted.{empty_outbox, new_host};
 
     /// A controller of these names and identities, with a link that isn't in a connection. Its PDUs are numbered
-    /// from `first_sequence_number` on, and `now` is its clock. The object is as after a loss.
+    /// from `first_sequence_number` on, and `now` is its clock. The object is as after a loss. `version` is the version
+    /// of the telegrams: version 2 has the aspect slow, version 1 doesn't.
     #[tactic(auto, unfolding(crate::specs::Hosted::new_host, crate::specs::Host::keeping))]
     pub fn new(
         alloc: Global,
@@ -63,8 +64,9 @@ impl<C: Controller> Hosted<C> {
         first_sequence_number: u32,
         now: Millis,
         object: C,
+        version: u8,
     ) -> Result<Hosted<C>, AllocError>
-        ensures { IfOk result (λ hosted. hosted ≡ record { host = new_host C.behaviour (record { role = Server; own = own; partner = partner; key = key }) own_name peer_name first_sequence_number now object; outbox = empty_outbox }) }
+        ensures { IfOk result (λ hosted. hosted ≡ record { host = new_host C.behaviour (record { role = Server; own = own; partner = partner; key = key }) own_name peer_name first_sequence_number now object version; outbox = empty_outbox }) }
     {
         let link = Link::server(alloc, own, partner, key, first_sequence_number, now)?;
         let outbox = Outbox::for_links(alloc, OWN_LINKS)?;
@@ -77,6 +79,7 @@ impl<C: Controller> Hosted<C> {
             object,
             own_name,
             peer_name,
+            version,
         };
         Ok(Hosted { host, outbox })
     }

@@ -12,9 +12,6 @@ use crate::stage::Stage;
 use rasta_core::{Millis, Outbox};
 use sci_telegram::{Agreement, Initialisation};
 
-/// The version of the telegrams, which both ends tell.
-const OWN_VERSION: u8 = 1;
-
 /// How many objects a controller has at most.
 const MOST_OBJECTS: usize = 16;
 
@@ -30,14 +27,14 @@ impl<C: Controller> Host<C> {
         ensures few { length (answering C.behaviour now version self.old).pdus ≤ 1 }
         ensures items { AreItems (answering C.behaviour now version self.old).calls }
     {
-        let (agreement, stage) = if version == OWN_VERSION {
+        let (agreement, stage) = if version == self.version {
             (Agreement::Match, Stage::AwaitsRequest)
         } else {
             (Agreement::NoMatch, Stage::Refused)
         };
         let answer = self.say(Initialisation::VersionAnswer {
             agreement,
-            version: OWN_VERSION,
+            version: self.version,
         });
         let _ = self.post(now, &answer, outbox);
         self.stage = stage;

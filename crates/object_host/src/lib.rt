@@ -20,7 +20,8 @@ pub use controller::Controller;
 pub use hosted::Hosted;
 pub use input::Input;
 pub use laws::{
-    own_calls_open_nothing, step_is_calls, step_is_told_to_the_object, step_tells_what_was_taken,
+    own_calls_open_nothing, step_is_calls, step_is_told_to_the_object, step_settles_first,
+    step_tells_what_was_taken, steps_keep_a_host,
 };
 pub use report::Report;
 pub use sense::Sense;

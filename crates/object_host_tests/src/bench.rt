@@ -23,13 +23,11 @@ pub(crate) const OPENED_AT: Millis = 100000;
 /// How many datagrams a step hands out at most in these tests.
 const MANY: usize = 64;
 
-/// The version of the telegrams.
-const VERSION: u8 = 1;
-
 /// Both ends, and what each has said.
 #[derive(Drop)]
 pub(crate) struct Bench<C: Controller> {
     protocol: Protocol,
+    version: u8,
     station: Link,
     outbox: Outbox,
     inbox: Inbox,
@@ -45,17 +43,28 @@ pub(crate) fn name(rt: &impl Abort, text: &str) -> Name {
 }
 
 impl<C: Controller> Bench<C> {
+    /// Both ends, with the first version of the telegrams.
     pub(crate) fn new(rt: &impl Abort, alloc: Global, object: C) -> Result<Bench<C>, Fail> {
+        Bench::of_version(rt, alloc, object, 1)
+    }
+
+    pub(crate) fn of_version(
+        rt: &impl Abort,
+        alloc: Global,
+        object: C,
+        version: u8,
+    ) -> Result<Bench<C>, Fail> {
         let protocol = object.protocol();
         let own = name(rt, "OC1");
         let peer = name(rt, "IXL1");
         Ok(Bench {
             protocol,
+            version,
             station: Link::client(alloc, STATION, CONTROLLER, KEY, 0, MADE_AT)?,
             outbox: Outbox::for_links(alloc, 1)?,
             inbox: Inbox::new(),
             hosted: Hosted::new(
-                alloc, CONTROLLER, STATION, own, peer, KEY, 0, MADE_AT, object,
+                alloc, CONTROLLER, STATION, own, peer, KEY, 0, MADE_AT, object, version,
             )?,
             sent: Vec::new(alloc),
             heard: Vec::new(alloc),
@@ -64,12 +73,21 @@ impl<C: Controller> Bench<C> {
 
     /// A controller whose initialisation was completed at 100000, and of which the station heard all.
     pub(crate) fn ready(rt: &impl Abort, alloc: Global, object: C) -> Result<Bench<C>, Fail> {
-        let mut bench = Bench::new(rt, alloc, object)?;
+        Bench::ready_in_version(rt, alloc, object, 1)
+    }
+
+    pub(crate) fn ready_in_version(
+        rt: &impl Abort,
+        alloc: Global,
+        object: C,
+        version: u8,
+    ) -> Result<Bench<C>, Fail> {
+        let mut bench = Bench::of_version(rt, alloc, object, version)?;
         bench.connect(rt)?;
         bench.say(
             rt,
             OPENED_AT,
-            bench.initialisation(Initialisation::VersionCheck { version: VERSION }),
+            bench.initialisation(Initialisation::VersionCheck { version }),
         )?;
         bench.exchange(rt, OPENED_AT)?;
         bench.say(
@@ -225,7 +243,7 @@ impl<C: Controller> Bench<C> {
     pub(crate) fn hears_of_one_version(&mut self, rt: &impl Abort) {
         let answer = Initialisation::VersionAnswer {
             agreement: Agreement::Match,
-            version: VERSION,
+            version: self.version,
         };
         self.hears(rt, "OC1", self.initialisation(answer));
     }

@@ -7,3 +7,5 @@ mod bench;
 mod detection;
 #[cfg(test)]
 mod point;
+#[cfg(test)]
+mod signal;

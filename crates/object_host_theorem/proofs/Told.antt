@@ -234,9 +234,9 @@ module _ {Object : Type 0} (does : Behaviour Object) (names : Names)
     run_holds [] world holds may = holds
     run_holds (event ∷ others) world holds may = run_holds others (happened does event world) (event_holds event world holds may.0) may.1
 
-    pub begun_holds : (start : Start) (own_name peer_name : List ℕ) (object : Object) → Sound (started names start) → Holds (begun does names start own_name peer_name object)
+    pub begun_holds : (start : Start) (own_name peer_name : List ℕ) (object : Object) (version : ℕ) → Sound (started names start) → Holds (begun does names start own_name peer_name object version)
     unfolding commands_of
-    begun_holds start own_name peer_name object sound = record { sound = sound; dropped = []; beginning = refl; whole = λ _. refl; told = refl }
+    begun_holds start own_name peer_name object version sound = record { sound = sound; dropped = []; beginning = refl; whole = λ _. refl; told = refl }
 
     pub holds_told : (world : World Object) → Holds world → AreSafe world.ends → (connection : ℕ) →
         world.ends.client.connection ≡ Some connection → world.ends.server.connection ≡ Some connection → IsTold world

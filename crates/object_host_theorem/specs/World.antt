@@ -25,6 +25,8 @@ pub record World (Object : Type 0) : Type 0 where
   pub object : Object
   pub own_name : List ℕ
   pub peer_name : List ℕ
+  -- the version of the telegrams that the host speaks
+  pub version : ℕ
   -- the items that the host acted on in its last connection, and the telegrams that the object was told there
   pub acted : List (List ℕ)
   pub told : List Telegram
@@ -81,6 +83,7 @@ module _ {Object : Type 0} where
     object = world.object;
     own_name = world.own_name;
     peer_name = world.peer_name;
+    version = world.version;
   }
 
   -- the step that the host makes at its clock
@@ -101,7 +104,7 @@ module _ {Object : Type 0} where
   -- the host is made anew; what was told in its last connection stays until the next one
   unfoldable pub host_restarted : Behaviour Object → ℕ → ℕ → Object → World Object → World Object
   host_restarted does clock first_sequence_number object world =
-      let made = new_host does world.ends.server.link.identity world.own_name world.peer_name first_sequence_number clock object
+      let made = new_host does world.ends.server.link.identity world.own_name world.peer_name first_sequence_number clock object world.version
       in record world {
         ends = restarted role.Server clock first_sequence_number world.ends;
         stage = made.stage;
@@ -137,15 +140,16 @@ module _ {Object : Type 0} where
   MayRun does names (first ∷ others) world = May does names first world × MayRun does names others (happened does first world)
 
   -- at the beginning nothing was sent or told
-  abbrev pub begun : Behaviour Object → Names → Start → List ℕ → List ℕ → Object → World Object
-  begun does names start own_name peer_name object =
-      let made = new_host does (identity_of role.Server names) own_name peer_name start.server_first start.server_clock object
+  abbrev pub begun : Behaviour Object → Names → Start → List ℕ → List ℕ → Object → ℕ → World Object
+  begun does names start own_name peer_name object version =
+      let made = new_host does (identity_of role.Server names) own_name peer_name start.server_first start.server_clock object version
       in record {
         ends = started names start;
         stage = made.stage;
         object = made.object;
         own_name = own_name;
         peer_name = peer_name;
+        version = version;
         acted = [];
         told = [];
       }

@@ -17,9 +17,9 @@ use rasta_core::{
 /// After every list of events, in a connection that is the last of both ends, the object was told what a beginning of
 /// the items commands that the client's `send` accepted there, in order and each once.
 pub fn told_is_given<C: Controller>()
-    ensures { (names : Names) (start : Start) (own_name peer_name : List ℕ) (object : C) (events : List (Event C)) → AreNames names
-        → MayRun C.behaviour names events (begun C.behaviour names start own_name peer_name object)
-        → IsToldInConnection (run C.behaviour events (begun C.behaviour names start own_name peer_name object)) }
+    ensures { (names : Names) (start : Start) (own_name peer_name : List ℕ) (object : C) (version : ℕ) (events : List (Event C)) → AreNames names
+        → MayRun C.behaviour names events (begun C.behaviour names start own_name peer_name object version)
+        → IsToldInConnection (run C.behaviour events (begun C.behaviour names start own_name peer_name object version)) }
 {
     starts_in_time();
     links_are_settled();

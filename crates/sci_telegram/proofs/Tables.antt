@@ -15,7 +15,7 @@ use Rattle.sci_telegram.specs.declared.message.Side.TheVariants as sides
 use Rattle.sci_telegram.specs.declared.message.Position.{Position}
 use Rattle.sci_telegram.specs.declared.message.Position.TheVariants as positions
 use Rattle.sci_telegram.specs.declared.message.Aspect.{Aspect}
-use Rattle.sci_telegram.specs.declared.message.Aspect.TheVariants.{Stop, Proceed}
+use Rattle.sci_telegram.specs.declared.message.Aspect.TheVariants.{Stop, Proceed, Slow}
 use Rattle.sci_telegram.specs.declared.message.Occupancy.{Occupancy}
 use Rattle.sci_telegram.specs.declared.message.Occupancy.TheVariants.{Clear, Occupied}
 use Rattle.sci_telegram.specs.declared.message.Initialisation.TheVariants.{InitialisationRequest, StartInitialisation, InitialisationCompleted, VersionCheck, VersionAnswer}
@@ -70,10 +70,12 @@ position_again positions.NoEndPosition = refl
 pub aspect_takes : (byte : ℕ) (x : Aspect) → aspect_at byte ≡ Some x → byte ≡ aspect_byte x
 aspect_takes byte Stop e = grind (arith, nat_tests)
 aspect_takes byte Proceed e = grind (arith, nat_tests)
+aspect_takes byte Slow e = grind (arith, nat_tests)
 
 pub aspect_again : (x : Aspect) → aspect_at (aspect_byte x) ≡ Some x
 aspect_again Stop = refl
 aspect_again Proceed = refl
+aspect_again Slow = refl
 
 pub occupancy_takes : (byte : ℕ) (x : Occupancy) → occupancy_at byte ≡ Some x → byte ≡ occupancy_byte x
 occupancy_takes byte Clear e = grind (arith, nat_tests)
@@ -236,6 +238,7 @@ aspect_in_again : (aspect : Aspect) → aspect_in (aspect_byte aspect ∷ replic
 unfolding aspect_in
 aspect_in_again Stop = refl
 aspect_in_again Proceed = refl
+aspect_in_again Slow = refl
 
 -- what was read of a payload is written so
 pub record Carries (p : Protocol) (k : Kind) (bytes : List ℕ) (m : Message) : Type 0 where

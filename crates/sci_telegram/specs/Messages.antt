@@ -9,7 +9,7 @@ use Rattle.sci_telegram.specs.declared.message.Side.TheVariants as sides
 use Rattle.sci_telegram.specs.declared.message.Position.{Position}
 use Rattle.sci_telegram.specs.declared.message.Position.TheVariants as positions
 use Rattle.sci_telegram.specs.declared.message.Aspect.{Aspect}
-use Rattle.sci_telegram.specs.declared.message.Aspect.TheVariants.{Stop, Proceed}
+use Rattle.sci_telegram.specs.declared.message.Aspect.TheVariants.{Stop, Proceed, Slow}
 use Rattle.sci_telegram.specs.declared.message.Occupancy.{Occupancy}
 use Rattle.sci_telegram.specs.declared.message.Occupancy.TheVariants.{Clear, Occupied}
 use Rattle.sci_telegram.specs.declared.message.Initialisation.TheVariants.{InitialisationRequest, StartInitialisation, InitialisationCompleted, VersionCheck, VersionAnswer}
@@ -63,6 +63,7 @@ position_byte positions.NoEndPosition = 3
 abbrev pub aspect_byte : Aspect → ℕ
 aspect_byte Stop = 0x01
 aspect_byte Proceed = 0x04
+aspect_byte Slow = 0x06
 
 abbrev pub occupancy_byte : Occupancy → ℕ
 occupancy_byte Clear = 1

@@ -16,7 +16,7 @@ use Rattle.sci_telegram.specs.declared.message.Side.TheVariants as sides
 use Rattle.sci_telegram.specs.declared.message.Position.{Position}
 use Rattle.sci_telegram.specs.declared.message.Position.TheVariants as positions
 use Rattle.sci_telegram.specs.declared.message.Aspect.{Aspect}
-use Rattle.sci_telegram.specs.declared.message.Aspect.TheVariants.{Stop, Proceed}
+use Rattle.sci_telegram.specs.declared.message.Aspect.TheVariants.{Stop, Proceed, Slow}
 use Rattle.sci_telegram.specs.declared.message.Occupancy.{Occupancy}
 use Rattle.sci_telegram.specs.declared.message.Occupancy.TheVariants.{Clear, Occupied}
 use Rattle.sci_telegram.specs.declared.message.Initialisation.TheVariants.{InitialisationRequest, StartInitialisation, InitialisationCompleted, VersionCheck, VersionAnswer}
@@ -70,7 +70,7 @@ position_at byte =
     if byte == 3 then Some positions.NoEndPosition else None
 
 abbrev pub aspect_at : ℕ → Option Aspect
-aspect_at byte = if byte == 0x01 then Some Stop else if byte == 0x04 then Some Proceed else None
+aspect_at byte = if byte == 0x01 then Some Stop else if byte == 0x04 then Some Proceed else if byte == 0x06 then Some Slow else None
 
 abbrev pub occupancy_at : ℕ → Option Occupancy
 occupancy_at byte = if byte == 1 then Some Clear else if byte == 2 then Some Occupied else None

@@ -26,6 +26,8 @@ const STOP: u8 = 0x01;
 
 const PROCEED: u8 = 0x04;
 
+const SLOW: u8 = 0x06;
+
 const CLEAR: u8 = 1;
 
 const OCCUPIED: u8 = 2;
@@ -117,6 +119,7 @@ pub(crate) fn aspect_byte(aspect: Aspect) -> u8
     match aspect {
         Aspect::Stop => STOP,
         Aspect::Proceed => PROCEED,
+        Aspect::Slow => SLOW,
     }
 }
 
@@ -126,6 +129,7 @@ pub(crate) fn aspect_at(byte: u8) -> Option<Aspect>
     match byte {
         STOP => Some(Aspect::Stop),
         PROCEED => Some(Aspect::Proceed),
+        SLOW => Some(Aspect::Slow),
         _ => None,
     }
 }

@@ -42,6 +42,8 @@ pub enum Position {
 pub enum Aspect {
     Stop,
     Proceed,
+    /// Proceed at low speed. Telegrams of version 1 don't have it.
+    Slow,
 }
 
 /// Whether a train is detected in a section.

@@ -36,6 +36,23 @@ fn example_both_ways(rt: HostRuntime) -> Result<(), Fail> {
     Ok(())
 }
 
+/// Slow differs from proceed by its first byte alone, and in both directions.
+#[test]
+fn slow_both_ways(rt: HostRuntime) -> Result<(), Fail> {
+    let mut bytes = PROCEED;
+    bytes[43] = 0x06;
+    let slow = SignalMessage::IndicateAspect(Aspect::Slow);
+    let command = telegram("IXL1", "S1", Message::Signal(slow))?;
+    assert_eq!(rt; write(&command).bytes(), bytes.as_slice());
+    assert_eq!(rt; read(&bytes), Ok(command));
+    bytes[1] = 0x03;
+    let slow = SignalMessage::IndicatedAspect(Aspect::Slow);
+    let report = telegram("IXL1", "S1", Message::Signal(slow))?;
+    assert_eq!(rt; write(&report).bytes(), bytes.as_slice());
+    assert_eq!(rt; read(&bytes), Ok(report));
+    Ok(())
+}
+
 #[test]
 fn faults_of_changed_bytes(rt: HostRuntime) {
     for (place, byte, fault) in [
@@ -48,6 +65,7 @@ fn faults_of_changed_bytes(rt: HostRuntime) {
         (22, 0x20, SciFault::Name),
         (42, 0x00, SciFault::Name),
         (43, 0x05, SciFault::Value),
+        (43, 0x07, SciFault::Value),
         (60, 0xFE, SciFault::Value),
     ] {
         assert_eq!(rt; changed(place, byte), Err(fault), "{byte} at {place}");

@@ -1,7 +1,7 @@
 -- A signal over time: what it shows and owes after every list of calls, in terms of the calls alone.
 use Rattle.std.specs.Prelude.{ℕ, Bool, true, false, List, [], ◌∷◌, Option, Some, None}
 use Rattle.sci_telegram.specs.declared.message.Aspect.{Aspect}
-use Rattle.sci_telegram.specs.declared.message.Aspect.TheVariants.{Stop, Proceed}
+use Rattle.sci_telegram.specs.declared.message.Aspect.TheVariants.{Stop}
 use Rattle.object_host.specs.Object.{ObjectCall, Takes, Keeps, Pays, Loses}
 use Rattle.signal_ctl.specs.Signal.{indicates}
 

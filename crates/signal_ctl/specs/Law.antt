@@ -4,7 +4,7 @@ use Rattle.std.proofs.Common.{ap}
 use Rattle.std.proofs.Math.Nat.{le_refl}
 use Rattle.std.proofs.lemmas.Bool.{le-ltb, false≢true}
 use Rattle.sci_telegram.specs.declared.message.Aspect.{Aspect}
-use Rattle.sci_telegram.specs.declared.message.Aspect.TheVariants.{Stop, Proceed}
+use Rattle.sci_telegram.specs.declared.message.Aspect.TheVariants.{Stop, Proceed, Slow}
 use Rattle.object_host.specs.Lawful.{IsLawful}
 use Rattle.signal_ctl.specs.Lamp.{standing}
 use Rattle.signal_ctl.specs.Signal.{SignalState, signal_behaviour, is_stop, told}
@@ -12,10 +12,12 @@ use Rattle.signal_ctl.specs.Signal.{SignalState, signal_behaviour, is_stop, told
 stops : (aspect : Aspect) (until now : ℕ) → until ≤ now → is_stop (standing aspect until now) ≡ true
 stops Stop until now past = refl
 stops Proceed until now past = ap (λ (before : Bool). is_stop (if before then Proceed else Stop)) (le-ltb now until past)
+stops Slow until now past = ap (λ (before : Bool). is_stop (if before then Slow else Stop)) (le-ltb now until past)
 
 idles : (aspect : Aspect) (until now : ℕ) → is_stop aspect ≡ true → is_stop (standing aspect until now) ≡ true
 idles Stop until now idle = refl
 idles Proceed until now idle = absurd (false≢true idle)
+idles Slow until now idle = absurd (false≢true idle)
 
 leaves : (aspect : Option Aspect) (signal : SignalState) → (told aspect signal).lamp.until ≡ signal.lamp.until
 leaves None signal = refl

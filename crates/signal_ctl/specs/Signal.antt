@@ -1,7 +1,7 @@
 -- A signal as the object of a host: its lamp, and what it owes. The rules are this project's own.
 use Rattle.std.specs.Prelude.{ℕ, ◌==◌, Bool, true, false, Option, Some, None, if◌then◌else◌}
 use Rattle.sci_telegram.specs.declared.message.Aspect.{Aspect}
-use Rattle.sci_telegram.specs.declared.message.Aspect.TheVariants.{Stop, Proceed}
+use Rattle.sci_telegram.specs.declared.message.Aspect.TheVariants.{Stop}
 use Rattle.sci_telegram.specs.declared.message.Message.{Message}
 use Rattle.sci_telegram.specs.declared.message.Message.TheVariants.{Signal}
 use Rattle.sci_telegram.specs.declared.message.Protocol.TheVariants as protocols
@@ -17,7 +17,7 @@ pub record SignalState : Type 0 where
 
 abbrev pub is_stop : Aspect → Bool
 is_stop Stop = true
-is_stop Proceed = false
+is_stop _ = false
 
 -- it takes an aspect to indicate, and nothing else
 abbrev pub indicates : Message → Option Aspect

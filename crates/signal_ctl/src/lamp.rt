@@ -62,9 +62,10 @@ impl Lamp {
     pub fn shown(&self, now: u64) -> Aspect
         ensures { result ≡ aspect_shown self.now now }
     {
-        match self.indicated {
-            Aspect::Proceed if now < self.until => Aspect::Proceed,
-            Aspect::Proceed | Aspect::Stop => Aspect::Stop,
+        if now < self.until {
+            self.indicated
+        } else {
+            Aspect::Stop
         }
     }
 
@@ -103,5 +104,22 @@ mod tests {
         assert_eq!(rt; lamp.indicated(), Aspect::Stop);
         lamp.indicate(Aspect::Proceed);
         assert_eq!(rt; lamp.shown(8999), Aspect::Proceed);
+    }
+
+    #[test]
+    fn shows_the_aspect_taken_last(rt: HostRuntime) {
+        let mut lamp = Lamp::new();
+        lamp.keep(5000);
+        for aspect in [
+            Aspect::Proceed,
+            Aspect::Slow,
+            Aspect::Proceed,
+            Aspect::Stop,
+            Aspect::Slow,
+        ] {
+            lamp.indicate(aspect);
+            assert_eq!(rt; lamp.shown(4999), aspect);
+            assert_eq!(rt; lamp.shown(5000), Aspect::Stop);
+        }
     }
 }

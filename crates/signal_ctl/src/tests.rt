@@ -62,7 +62,7 @@ fn initialisation(what: Initialisation) -> Message {
 fn hosted(alloc: Global) -> Result<Option<Hosted<Signal>>, Fail> {
     let own = name(b"S1")?;
     let peer = name(b"IXL1")?;
-    Ok(Hosted::new(alloc, 2, 1, own, peer, KEY, 7, 0, Signal::new()).ok())
+    Ok(Hosted::new(alloc, 2, 1, own, peer, KEY, 7, 0, Signal::new(), 1).ok())
 }
 
 impl Bench {

@@ -14,7 +14,7 @@ use Rattle.rasta_core.specs.identity.Role.{Role}
 use Rattle.rasta_core.specs.Safe.{AreSafe}
 use Rattle.signal_ctl.specs.Lamp.{standing}
 use Rattle.sci_telegram.specs.declared.message.Aspect.{Aspect}
-use Rattle.sci_telegram.specs.declared.message.Aspect.TheVariants.{Stop, Proceed}
+use Rattle.sci_telegram.specs.declared.message.Aspect.TheVariants.{Stop, Proceed, Slow}
 use Rattle.simulator_pair.specs.Pair.{PairState, indicated_after, indicated_by, lamp_after, proceed_item, shown, stepped, stop_item, unless_closed}
 use Rattle.simulator_pair.specs.Events.{connection_of, copy_of, happens}
 use Rattle.simulator_pair.specs.Lamp.{IsLit, StopHolds, aspect_due, aspect_taken, last_aspect}
@@ -169,6 +169,7 @@ not_before until now past = grind (arith, nat_tests)
 dark_at : (aspect : Aspect) (until now : ℕ) → until ≤ now → standing aspect until now ≡ Stop
 dark_at Stop until now past = refl
 dark_at Proceed until now past = rw (not_before until now past) refl
+dark_at Slow until now past = rw (not_before until now past) refl
 
 pub lit_shows : (pair : PairState) → IsLit pair → shown pair ≡ aspect_due pair.ends.server
 lit_shows pair lit = by_phase (is_open pair.ends.server.link.phase) refl where
@@ -233,6 +234,10 @@ due_proceed end due = by_phase (is_open end.link.phase) refl where
   aspect_stands : (aspect : Aspect) (until now : ℕ) → standing aspect until now ≡ Proceed → aspect ≡ Proceed
   aspect_stands Stop until now e = e
   aspect_stands Proceed until now e = refl
+  aspect_stands Slow until now e = not_slow (nat_lt now until) e where
+    not_slow : (before : Bool) → (if before then Slow else Stop) ≡ Proceed → Slow ≡ Proceed
+    not_slow true f = f
+    not_slow false f = cc
 
   by_phase : (inside : Bool) → is_open end.link.phase ≡ inside → last_aspect end.taken ≡ Proceed
   by_phase inside e = by_inside inside (sym (ap (λ (b : Bool). if b then last_aspect end.taken else Stop) e) ∙ aspect_stands (aspect_taken end) (alive_until end.link) (reading_of end.clock) due)

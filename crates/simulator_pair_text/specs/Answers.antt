@@ -2,7 +2,7 @@
 use Rattle.std.specs.Prelude.{ℕ, ◌/◌, length, if◌then◌else◌, List, ◌++◌, codes, Result, Ok, Err}
 use Rattle.std.specs.Fmt.{decimal}
 use Rattle.sci_telegram.specs.declared.message.Aspect.{Aspect}
-use Rattle.sci_telegram.specs.declared.message.Aspect.TheVariants.{Stop, Proceed}
+use Rattle.sci_telegram.specs.declared.message.Aspect.TheVariants.{Stop, Proceed, Slow}
 use Rattle.rasta_core.specs.State.{is_up}
 use Rattle.rasta_core.specs.Ends.{EndState}
 use Rattle.simulator_pair.specs.Pair.{PairState, shown}
@@ -39,6 +39,7 @@ answer_text (No n) = codes "no " ++ decimal n
 abbrev pub aspect_text : Aspect → List ℕ
 aspect_text Stop = codes "stop"
 aspect_text Proceed = codes "proceed"
+aspect_text Slow = codes "slow"
 
 -- what can be seen of an end
 abbrev pub seen_of_end : EndState → EndSeen

@@ -82,6 +82,7 @@ impl fmt::Display for Picture {
         let lamp = match self.lamp {
             Aspect::Stop => "stop",
             Aspect::Proceed => "proceed",
+            Aspect::Slow => "slow",
         };
         let client = self.client;
         let server = self.server;
