@@ -1,13 +1,14 @@
 -- Lists of moves follow one another, and the moves of one signal or point, or of each, are moves of the machine.
 use Rattle.std.proofs.Common.{◌≡◌, ℕ, zero, suc, ◌≤◌, List, [], ◌∷◌, ◌++◌, ◌⊎◌, inl, inr, refl, sym, ap, subst, ◌∙◌, arith}
 use Rattle.std.proofs.Math.Path.{fun_ext}
-use Rattle.std.specs.Prelude.{◌≢◌}
+use Rattle.std.specs.Prelude.{◌≢◌, map}
 use Rattle.simulator_machine.specs.Lists.{changed_at}
-use Rattle.simulator_machine.specs.Signal.{Signal, SignalMove, SignalMay, signal_after}
-use Rattle.simulator_machine.specs.Point.{Point, PointMove, PointMay, point_after}
+use Rattle.simulator_machine.specs.Link.{Link, LinkMove, Opens, Enters, ComesUp, Closes, Leaves, QuietEnds, LinkMay, link_after}
+use Rattle.simulator_machine.specs.Signal.{SignalLink, signal_linked, Signal, SignalMove, SignalMay, signal_after}
+use Rattle.simulator_machine.specs.Point.{PointLink, point_linked, Point, PointMove, PointMay, point_after}
 use Rattle.simulator_machine.specs.Machine.{Table, IsSound, Machine, with_signal, with_point, Move, AtSignal, AtPoint, May, after, right_rules, run, MayRun}
 use Rattle.simulator_machine.specs.Invariant.{Invariant}
-use Rattle.simulator_machine.specs.Chains.{MovesTo, chained, MayChain, signal_chained, SignalMayChain, point_chained, PointMayChain, signals_chained, points_chained, NoneFrom}
+use Rattle.simulator_machine.specs.Chains.{link_chained, LinkMayChain, MovesTo, chained, MayChain, signal_chained, SignalMayChain, point_chained, PointMayChain, signals_chained, points_chained, NoneFrom}
 use Rattle.simulator_machine.proofs.Lists.{same_or_not, at_each}
 use Rattle.simulator_machine.proofs.Kept.{run_kept}
 
@@ -174,3 +175,65 @@ pub point_chains : (table : Table) (machine : Machine) (count : ℕ) (moves : �
 point_chains table machine count moves may none =
     chain_each table PointMove Point PointMay point_after (λ m. m.points) (λ points m. record m { points = points }) (λ points m. refl) (λ points others m. refl)
     (λ m. refl) (λ place move m may. one_move table m (AtPoint place move) may) count moves machine may none
+
+-- ---- the moves of a link
+
+module _ (Object : Type 0) (may : LinkMove → Object → Type 0) (step : LinkMove → Object → Object) (link : Object → Link)
+    (lifts : (move : LinkMove) (object : Object) → LinkMay move (link object) → may move object)
+    (does : (move : LinkMove) (object : Object) → link (step move object) ≡ link_after move (link object)) where
+  linked_may : (moves : List LinkMove) (object : Object) → LinkMayChain moves (link object) → MayChain may step moves object
+  linked_may [] object may_all = tt
+  linked_may (move ∷ moves) object may_all =
+      (lifts move object may_all.0, linked_may moves (step move object) (subst (LinkMayChain moves) (sym (does move object)) may_all.1))
+
+  linked_chain : (moves : List LinkMove) (object : Object) → link (chained step moves object) ≡ link_chained moves (link object)
+  linked_chain [] object = refl
+  linked_chain (move ∷ moves) object = linked_chain moves (step move object) ∙ ap (link_chained moves) (does move object)
+
+-- a list of steps under another name
+renamed_may : (Step Other State : Type 0) (may : Other → State → Type 0) (step : Other → State → State) (name : Step → Other) (steps : List Step) (state : State)
+    → MayChain (λ one. may (name one)) (λ one. step (name one)) steps state → MayChain may step (map name steps) state
+renamed_may Step Other State may step name [] state may_all = tt
+renamed_may Step Other State may step name (one ∷ steps) state may_all =
+    (may_all.0, renamed_may Step Other State may step name steps (step (name one) state) may_all.1)
+
+renamed_chain : (Step Other State : Type 0) (step : Other → State → State) (name : Step → Other) (steps : List Step) (state : State)
+    → chained step (map name steps) state ≡ chained (λ one. step (name one)) steps state
+renamed_chain Step Other State step name [] state = refl
+renamed_chain Step Other State step name (one ∷ steps) state = renamed_chain Step Other State step name steps (step (name one) state)
+
+signal_link_after : (move : LinkMove) (signal : Signal) → (signal_linked move signal).link ≡ link_after move signal.link
+signal_link_after Opens signal = refl
+signal_link_after Enters signal = refl
+signal_link_after ComesUp signal = refl
+signal_link_after Closes signal = refl
+signal_link_after Leaves signal = refl
+signal_link_after QuietEnds signal = refl
+
+point_link_after : (move : LinkMove) (point : Point) → (point_linked move point).link ≡ link_after move point.link
+point_link_after Opens point = refl
+point_link_after Enters point = refl
+point_link_after ComesUp point = refl
+point_link_after Closes point = refl
+point_link_after Leaves point = refl
+point_link_after QuietEnds point = refl
+
+pub signal_links_may : (moves : List LinkMove) (signal : Signal) → LinkMayChain moves signal.link → SignalMayChain (map SignalLink moves) signal
+signal_links_may moves signal may =
+    renamed_may LinkMove SignalMove Signal SignalMay signal_after SignalLink moves signal
+    (linked_may Signal (λ move s. LinkMay move s.link) signal_linked (λ s. s.link) (λ move s may. may) signal_link_after moves signal may)
+
+pub signal_links : (moves : List LinkMove) (signal : Signal) → (signal_chained (map SignalLink moves) signal).link ≡ link_chained moves signal.link
+signal_links moves signal =
+    ap (λ (s : Signal). s.link) (renamed_chain LinkMove SignalMove Signal signal_after SignalLink moves signal)
+    ∙ linked_chain Signal (λ move s. LinkMay move s.link) signal_linked (λ s. s.link) (λ move s may. may) signal_link_after moves signal
+
+pub point_links_may : (moves : List LinkMove) (point : Point) → LinkMayChain moves point.link → PointMayChain (map PointLink moves) point
+point_links_may moves point may =
+    renamed_may LinkMove PointMove Point PointMay point_after PointLink moves point
+    (linked_may Point (λ move p. LinkMay move p.link) point_linked (λ p. p.link) (λ move p may. may) point_link_after moves point may)
+
+pub point_links : (moves : List LinkMove) (point : Point) → (point_chained (map PointLink moves) point).link ≡ link_chained moves point.link
+point_links moves point =
+    ap (λ (p : Point). p.link) (renamed_chain LinkMove PointMove Point point_after PointLink moves point)
+    ∙ linked_chain Point (λ move p. LinkMay move p.link) point_linked (λ p. p.link) (λ move p may. may) point_link_after moves point

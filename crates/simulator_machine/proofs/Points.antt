@@ -4,7 +4,7 @@ use Rattle.std.proofs.lemmas.List.{length-append, append-nil}
 use Rattle.std.specs.Prelude.{◌≢◌}
 use Rattle.simulator_machine.specs.Lists.{last_of}
 use Rattle.simulator_machine.specs.Link.{Up, Server, Before, In, Gone, Link, LinkMove, Opens, Enters, ComesUp, Closes, Leaves, QuietEnds, LinkMay, link_after}
-use Rattle.simulator_machine.specs.Point.{Side, Position, Point, moves_given, reports_made, IsKnownAt, PointMove, PointLink, Takes, DriveEnds, Reaches, Reports, Hears, ForgetsMoves, ForgetsReports, MayReport, PointMay, point_linked, heard_next, move_given, point_after}
+use Rattle.simulator_machine.specs.Point.{Side, Position, Point, moves_given, reports_made, IsKnownAt, PointMove, PointLink, Takes, DriveEnds, Reaches, Reports, Hears, RecountsMoves, RecountsReports, MayReport, PointMay, point_linked, heard_next, move_given, point_after}
 use Rattle.simulator_machine.specs.Invariant.{IsLinkSound, IsPointSound, IsSettled}
 use Rattle.simulator_machine.proofs.Lists.{last_added, none_left}
 use Rattle.simulator_machine.proofs.Signals.{link_kept}
@@ -151,7 +151,7 @@ point_kept (Reaches position) point sound may = record {
 }
 point_kept (Reports position) point sound may = reports_kept position point sound may
 point_kept Hears point sound may = hears_kept point.coming point refl sound
-point_kept (ForgetsMoves taken flight) point sound may = record {
+point_kept (RecountsMoves taken flight) point sound may = record {
   link = sound.link;
   none_given = λ e. absurd (cc (e, may.0));
   none_made = sound.none_made;
@@ -161,7 +161,7 @@ point_kept (ForgetsMoves taken flight) point sound may = record {
   driver = sound.driver;
   owing = λ e. absurd (undriven_out point sound (λ inside. cc (inside, may.0)) e);
 }
-point_kept (ForgetsReports heard coming) point sound may = same_reports heard coming point sound may
+point_kept (RecountsReports heard coming) point sound may = same_reports heard coming point sound may
 
 -- ---- settled
 
@@ -186,9 +186,9 @@ settled_kept DriveEnds side point may settled = record { stands = record { stand
 settled_kept (Reaches position) side point may settled = absurd (cc (may, settled.stands.undriven))
 settled_kept (Reports position) side point may settled = record { stands = record { stands = settled.stands.stands; undriven = settled.stands.undriven }; unmoved = settled.unmoved }
 settled_kept Hears side point may settled = hears_settled point.coming side point settled
-settled_kept (ForgetsMoves taken flight) side point may settled =
+settled_kept (RecountsMoves taken flight) side point may settled =
     record { stands = record { stands = settled.stands.stands; undriven = settled.stands.undriven }; unmoved = λ stays. absurd (stays may.0) }
-settled_kept (ForgetsReports heard coming) side point may settled =
+settled_kept (RecountsReports heard coming) side point may settled =
     record { stands = record { stands = settled.stands.stands; undriven = settled.stands.undriven }; unmoved = settled.unmoved }
 
 -- where a point is known it is settled

@@ -4,7 +4,7 @@ use Rattle.std.proofs.lemmas.List.{length-append, append-nil}
 use Rattle.std.specs.Prelude.{◌≢◌}
 use Rattle.simulator_machine.specs.Lists.{last_of, IsOf}
 use Rattle.simulator_machine.specs.Link.{Down, Up, Server, Before, In, Gone, Link, LinkMove, Opens, Enters, ComesUp, Closes, Leaves, QuietEnds, LinkMay, link_after}
-use Rattle.simulator_machine.specs.Signal.{Aspect, Stop, Proceed, Signal, shown_by, shown, IsLive, HasStopConfirmed, IsAtKnownStop, SignalMove, SignalLink, GivesStop, Acts, Confirms, ForgetsActs, SignalMay, aspect_given, signal_linked, acted, signal_after}
+use Rattle.simulator_machine.specs.Signal.{Aspect, Stop, Proceed, Signal, shown_by, shown, IsLive, HasStopConfirmed, IsAtKnownStop, SignalMove, SignalLink, GivesStop, Acts, Confirms, Recounts, SignalMay, aspect_given, signal_linked, acted, signal_after}
 use Rattle.simulator_machine.specs.Invariant.{IsLinkSound, IsSignalSound}
 use Rattle.simulator_machine.proofs.Lists.{last_added, of_added, none_left}
 
@@ -79,7 +79,7 @@ signal_kept (Confirms count) signal sound may = record {
   none_given = sound.none_given;
   confirmed = counted count signal may;
 }
-signal_kept (ForgetsActs done flight) signal sound may = record {
+signal_kept (Recounts done flight) signal sound may = record {
   link = sound.link;
   none_done = λ e. absurd (cc (e, may));
   none_given = λ e. absurd (cc (e, may));
@@ -137,7 +137,7 @@ live_before (SignalLink move) aspect signal may live = linked_live move aspect s
 live_before GivesStop aspect signal may live = stop_live aspect signal live.other (given_live Stop aspect signal live)
 live_before Acts aspect signal may live = acted_live aspect signal signal.flight refl live
 live_before (Confirms count) aspect signal may live = record { other = live.other; stays = live.stays; somewhere = live.somewhere }
-live_before (ForgetsActs done flight) aspect signal may live = absurd (live.stays may)
+live_before (Recounts done flight) aspect signal may live = absurd (live.stays may)
 
 -- ---- known stop
 

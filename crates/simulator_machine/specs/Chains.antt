@@ -1,5 +1,6 @@
 -- Lists of moves from one state of the machine to another, and at one of its signals or points.
 use Rattle.std.specs.Prelude.{◌≡◌, ◌≤◌, ℕ, List, [], ◌∷◌}
+use Rattle.simulator_machine.specs.Link.{Link, LinkMove, LinkMay, link_after}
 use Rattle.simulator_machine.specs.Signal.{Signal, SignalMove, SignalMay, signal_after}
 use Rattle.simulator_machine.specs.Point.{Point, PointMove, PointMay, point_after}
 use Rattle.simulator_machine.specs.Machine.{Table, Machine, Move, right_rules, run, MayRun}
@@ -19,6 +20,13 @@ chained after (step ∷ steps) state = chained after steps (after step state)
 abbrev pub MayChain : {Step State : Type 0} → (Step → State → Type 0) → (Step → State → State) → List Step → State → Type 0
 MayChain may after [] state = Unit {0}
 MayChain may after (step ∷ steps) state = may step state × MayChain may after steps (after step state)
+
+-- a list of moves of one link
+abbrev pub link_chained : List LinkMove → Link → Link
+link_chained = chained link_after
+
+abbrev pub LinkMayChain : List LinkMove → Link → Type 0
+LinkMayChain = MayChain LinkMay link_after
 
 -- a list of moves at one signal
 abbrev pub signal_chained : List SignalMove → Signal → Signal

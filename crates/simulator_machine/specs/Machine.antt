@@ -16,20 +16,22 @@ pub record Table : Type 0 where
   -- two routes conflict
   pub conflict : (route other : ℕ) → Bool
 
--- What the theorem needs of a table: conflict goes both ways, and two routes that begin at one signal conflict.
+-- What the theorem needs of a table.
 pub record IsSound (table : Table) : Type 0 where
+  -- conflict goes both ways
   pub both_ways : (a b : ℕ) → table.conflict a b ≡ true → table.conflict b a ≡ true
+  -- two routes that begin at one signal conflict
   pub one_entry : (a b : ℕ) → a ≢ b → table.entry a ≡ table.entry b → table.conflict a b ≡ true
 
 -- how far a route is
 pub data Phase : Type 0 where
   -- it isn't set
   Free : Phase
-  -- it is set, and had no authority since
+  -- it is set, and has had no authority since
   Waiting : Phase
   -- it has authority
   Authorised : Phase
-  -- its authority has ended; the route is whole, or some of it is freed
+  -- its authority has ended, and the route is still whole or partly freed
   Ended : (whole : Bool) → Phase
 
 abbrev pub has_authority : Phase → Bool
@@ -55,12 +57,12 @@ pub record Machine : Type 0 where
   pub signals : ℕ → Signal
   pub points : ℕ → Point
   pub routes : ℕ → Phase
-  -- the interlocking was made anew, and holds: it sets no routes
+  -- the interlocking was made anew, and its hold isn't over
   pub holding : Bool
-  -- the routes that were held when it was made anew
+  -- the routes that were held when it was last made anew outside a hold
   pub frozen : ℕ → Bool
 
--- a route is held: it has authority; in the hold, it was held when the interlocking was made anew
+-- a route is held: in the hold it is frozen, and otherwise it has authority
 abbrev pub is_held : Machine → ℕ → Bool
 is_held machine route = if machine.holding then machine.frozen route else has_authority (machine.routes route)
 

@@ -6,7 +6,7 @@ use Rattle.simulator_machine.specs.Link.{Up, In, Gone, Link, LinkMove, Opens, Le
 pub data Side : Type 0 where
   Left Right : Side
 
--- an end position, or none: a point that stands in between, a report of a move that didn't reach its end
+-- an end position, or none, where a point stands in between or a move didn't reach its end
 abbrev pub Position : Type 0
 Position = Option Side
 
@@ -54,10 +54,10 @@ pub data PointMove : Type 0 where
   Reports : (position : Position) → PointMove
   -- the interlocking hears the next report
   Hears : PointMove
-  -- of a controller that has left, so many count as the moves that it took
-  ForgetsMoves : (taken flight : ℕ) → PointMove
-  -- so many of the reports made count as heard
-  ForgetsReports : (heard coming : List Position) → PointMove
+  -- the moves of a controller that has left are counted anew: how many of them it took
+  RecountsMoves : (taken flight : ℕ) → PointMove
+  -- the reports made are counted anew: how many of them were heard
+  RecountsReports : (heard coming : List Position) → PointMove
 
 -- A controller may report: it is in the connection and doesn't drive, it took as many moves as it made reports, and an
 -- end position that it reports is where the point stands.
@@ -75,8 +75,8 @@ PointMay DriveEnds point = Unit {0}
 PointMay (Reaches position) point = point.driven ≡ true
 PointMay (Reports position) point = MayReport position point
 PointMay Hears point = Unit {0}
-PointMay (ForgetsMoves taken flight) point = (point.link.server ≡ Gone) × (taken + flight ≡ moves_given point)
-PointMay (ForgetsReports heard coming) point = heard ++ coming ≡ reports_made point
+PointMay (RecountsMoves taken flight) point = (point.link.server ≡ Gone) × (taken + flight ≡ moves_given point)
+PointMay (RecountsReports heard coming) point = heard ++ coming ≡ reports_made point
 
 -- a new connection has no moves and no reports yet; a controller that leaves switches its motor off
 abbrev pub point_linked : LinkMove → Point → Point
@@ -100,5 +100,5 @@ point_after DriveEnds point = record point { driven = false }
 point_after (Reaches position) point = record point { position = position }
 point_after (Reports position) point = record point { coming = point.coming ++ position ∷ [] }
 point_after Hears point = heard_next point.coming point
-point_after (ForgetsMoves taken flight) point = record point { taken = taken; flight = flight }
-point_after (ForgetsReports heard coming) point = record point { heard = heard; coming = coming }
+point_after (RecountsMoves taken flight) point = record point { taken = taken; flight = flight }
+point_after (RecountsReports heard coming) point = record point { heard = heard; coming = coming }

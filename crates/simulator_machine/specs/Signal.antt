@@ -56,8 +56,8 @@ pub data SignalMove : Type 0 where
   Acts : SignalMove
   -- the interlocking learns that so many of the aspects given were acted on
   Confirms : (count : ℕ) → SignalMove
-  -- of a controller that has left, these count as the aspects given
-  ForgetsActs : (done flight : List Aspect) → SignalMove
+  -- the aspects of a controller that has left are counted anew
+  Recounts : (done flight : List Aspect) → SignalMove
 
 -- when it can
 abbrev pub SignalMay : SignalMove → Signal → Type 0
@@ -65,7 +65,7 @@ SignalMay (SignalLink move) signal = LinkMay move signal.link
 SignalMay GivesStop signal = signal.link.client ≡ Up
 SignalMay Acts signal = signal.link.server ≡ In
 SignalMay (Confirms count) signal = (signal.link.server ≡ Gone) ⊎ (count ≤ length signal.done)
-SignalMay (ForgetsActs done flight) signal = signal.link.server ≡ Gone
+SignalMay (Recounts done flight) signal = signal.link.server ≡ Gone
 
 abbrev pub aspect_given : Aspect → Signal → Signal
 aspect_given aspect signal = record signal { flight = signal.flight ++ aspect ∷ [] }
@@ -85,4 +85,4 @@ signal_after (SignalLink move) signal = signal_linked move signal
 signal_after GivesStop signal = aspect_given Stop signal
 signal_after Acts signal = acted signal.flight signal
 signal_after (Confirms count) signal = record signal { confirmed = count }
-signal_after (ForgetsActs done flight) signal = record signal { done = done; flight = flight }
+signal_after (Recounts done flight) signal = record signal { done = done; flight = flight }

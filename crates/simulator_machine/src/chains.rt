@@ -1,11 +1,12 @@
 //! How moves are put together.
 
-ghost use Rattle.std.specs.Prelude.{◌≡◌, ◌≢◌, ℕ, List, false, true};
-ghost use Rattle.simulator_machine.specs.Chains.{MovesTo, NoneFrom, PointMayChain, SignalMayChain, point_chained, points_chained, signal_chained, signals_chained};
+ghost use Rattle.std.specs.Prelude.{◌≡◌, ◌≢◌, ℕ, List, false, map, true};
+ghost use Rattle.simulator_machine.specs.Chains.{LinkMayChain, MovesTo, NoneFrom, PointMayChain, SignalMayChain, link_chained, point_chained, points_chained, signal_chained, signals_chained};
+ghost use Rattle.simulator_machine.specs.Link.{LinkMove};
 ghost use Rattle.simulator_machine.specs.Lists.{is_same};
 ghost use Rattle.simulator_machine.specs.Machine.{Machine, May, Move, Table, after, with_point, with_signal};
-ghost use Rattle.simulator_machine.specs.Point.{PointMove};
-ghost use Rattle.simulator_machine.specs.Signal.{SignalMove};
+ghost use Rattle.simulator_machine.specs.Point.{Point, PointLink, PointMove};
+ghost use Rattle.simulator_machine.specs.Signal.{Signal, SignalLink, SignalMove};
 
 /// No move leads to the same state, one move to what it leaves, and one list of moves may follow another.
 pub fn lists_of_moves_compose()
@@ -20,6 +21,14 @@ pub fn moves_of_one_are_moves()
         → MovesTo table machine (with_signal place (signal_chained moves (machine.signals place)) machine) }
     ensures point { (table : Table) (machine : Machine) (place : ℕ) (moves : List PointMove) → PointMayChain moves (machine.points place)
         → MovesTo table machine (with_point place (point_chained moves (machine.points place)) machine) }
+{}
+
+/// The moves of a link are moves of the signal, or of the point, that has it.
+pub fn moves_of_links_are_moves()
+    ensures signal { (moves : List LinkMove) (signal : Signal) → LinkMayChain moves signal.link → SignalMayChain (map SignalLink moves) signal }
+    ensures signal_link { (moves : List LinkMove) (signal : Signal) → (signal_chained (map SignalLink moves) signal).link ≡ link_chained moves signal.link }
+    ensures point { (moves : List LinkMove) (point : Point) → LinkMayChain moves point.link → PointMayChain (map PointLink moves) point }
+    ensures point_link { (moves : List LinkMove) (point : Point) → (point_chained (map PointLink moves) point).link ≡ link_chained moves point.link }
 {}
 
 /// So are the moves of all signals, or of all points, each with its own, where finitely many have any.

@@ -1,9 +1,9 @@
 //! The promise, and the invariant that it follows from.
 
-ghost use Rattle.std.specs.Prelude.{◌≡◌, ℕ, List};
+ghost use Rattle.std.specs.Prelude.{◌≡◌, ℕ, List, false, true};
 ghost use Rattle.simulator_machine.specs.Chains.{MovesTo};
 ghost use Rattle.simulator_machine.specs.Invariant.{IsPointSound, IsSettled, IsSignalSound, Invariant};
-ghost use Rattle.simulator_machine.specs.Machine.{Table, IsSound, Machine, Move, May, MayRun, after, first, right_rules, run};
+ghost use Rattle.simulator_machine.specs.Machine.{Table, IsSound, Machine, Move, May, MayRun, after, first, has_authority, made_anew, right_rules, run};
 ghost use Rattle.simulator_machine.specs.Point.{IsKnownAt, Point, Position, Side};
 ghost use Rattle.simulator_machine.specs.Promise.{Promise};
 ghost use Rattle.simulator_machine.specs.Signal.{Aspect, IsAtKnownStop, IsLive, Signal, Stop, shown};
@@ -39,4 +39,11 @@ pub fn known_points_are_settled()
 pub fn known_stop_is_dark()
     ensures shown { (signal : Signal) → IsSignalSound signal → IsAtKnownStop signal → shown signal ≡ Stop }
     ensures live { (signal : Signal) (aspect : Aspect) → IsSignalSound signal → IsAtKnownStop signal → IsLive aspect signal → ⊥ }
+{}
+
+/// The frozen routes are those that had authority when the interlocking was made anew outside a hold; made anew in the
+/// hold, it keeps them.
+pub fn restarts_freeze_held_routes()
+    ensures outside { (machine : Machine) (route : ℕ) → machine.holding ≡ false → (made_anew machine).frozen route ≡ has_authority (machine.routes route) }
+    ensures again { (machine : Machine) (route : ℕ) → machine.holding ≡ true → (made_anew machine).frozen route ≡ machine.frozen route }
 {}

@@ -7,9 +7,11 @@ mod laws;
 mod runs;
 
 pub use chains::{
-    equal_numbers_are_same, lists_of_moves_compose, moves_of_each_are_moves, moves_of_one_are_moves,
+    equal_numbers_are_same, lists_of_moves_compose, moves_of_each_are_moves,
+    moves_of_links_are_moves, moves_of_one_are_moves,
 };
 pub use laws::{
-    invariant_is_kept, known_points_are_settled, known_stop_is_dark, promise_follows, promise_holds,
+    invariant_is_kept, known_points_are_settled, known_stop_is_dark, promise_follows,
+    promise_holds, restarts_freeze_held_routes,
 };
 pub use runs::{each_premise_is_needed, each_rule_is_needed, some_runs_show_aspects};
