@@ -3,3 +3,5 @@ pub mod Waiting
 pub mod Steps
 pub mod Keeping
 pub mod Few
+pub mod Verdicts
+pub mod Refusals

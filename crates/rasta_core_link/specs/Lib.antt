@@ -5,5 +5,6 @@ pub mod Clock
 pub mod Sending
 pub mod Opening
 pub mod Receiving
+pub mod Verdicts
 pub mod Calls
 pub mod Outbox

@@ -1,8 +1,11 @@
 //! The calls of a link that take a clock reading. Each asks that the clock hasn't fallen since the last call,
 //! and that the outbox has room for 24 datagrams.
 
-ghost use Rattle.std.specs.Prelude.{◌≡◌, ◌≤◌, [], length};
+ghost use Rattle.std.specs.Prelude.{◌≡◌, ◌≤◌, true, [], length};
 ghost use Rattle.rasta_core_link.specs.Outbox.{HasRoomFor, posted};
+ghost use Rattle.rasta_core_link.specs.Sending.{entered};
+ghost use Rattle.rasta_core_link.specs.Verdicts.{IsVerdict, is_refusal, refused};
+ghost use Rattle.rasta_pdu.specs.Reading.{reading};
 
 use crate::fault::SendFault;
 use crate::link::{Link, Millis};
@@ -97,7 +100,7 @@ impl Link {
     }
 
     /// A datagram has come. The inbox is emptied first, and then has the items that it brought.
-    #[tactic(auto, using(crate::proofs::Few::calls, crate::proofs::Keeping::kept), unfolding(crate::specs::Calls::receiving, crate::specs::Calls::hearing_bytes))]
+    #[tactic(auto, using(crate::proofs::Few::calls, crate::proofs::Keeping::kept, crate::proofs::Verdicts::verdicts, crate::proofs::Refusals::refusals), unfolding(crate::specs::Calls::receiving, crate::specs::Calls::hearing_bytes))]
     pub fn receive(
         &mut self,
         now: Millis,
@@ -112,6 +115,10 @@ impl Link {
         ensures posted { outbox.new ≡ posted self.old.identity.key (receiving now datagram.now self.old).pdus outbox.old }
         ensures items { inbox.new.items ≡ (receiving now datagram.now self.old).items }
         ensures verdict { result ≡ (receiving now datagram.now self.old).verdict }
+        // It is the first in the order of the tests.
+        ensures table { IsVerdict result (reading self.old.identity.key datagram.now) (entered now self.old).link }
+        // A refusal changes nothing but what the clock rules change; in a connection WrongState closes.
+        ensures refused { is_refusal result ≡ true → receiving now datagram.now self.old ≡ refused result (entered now self.old) }
         // A call that brings items hands out nothing.
         ensures few { length (receiving now datagram.now self.old).pdus ≤ 22 }
         ensures items_alone { 1 ≤ length inbox.new.items → (receiving now datagram.now self.old).pdus ≡ [] }
