@@ -1,14 +1,13 @@
 -- Every part of a call keeps the clock and the identity of the link.
 use Rattle.std.proofs.Common.{◌≡◌, ℕ, refl, ◌∙◌, Bool, true, false, List, Result, Ok, Err}
-use Rattle.std.specs.Prelude.{if◌then◌else◌, nat_le, nat_lt, ◌==◌, ◌&&◌, not, is_ok, nat_eq}
-use Rattle.std.specs.Cmp.Lexicographic.{pointwise}
-use Rattle.rasta_core_link.specs.Parameters.{connection_limit, heartbeat_interval, sequence_range, own_version, window_size}
-use Rattle.rasta_core_link.specs.State.{LinkState, is_open, is_up, is_client}
-use Rattle.rasta_core_link.specs.Clock.{settled, alive_until, state_at}
-use Rattle.rasta_core_link.specs.Sending.{Step, silent, then_do, sending, telling, closing, limited, entered, beating, giving, is_told}
-use Rattle.rasta_core_link.specs.Opening.{own_opening, may_open, beginning, requesting, meeting, judging, granting, joining}
-use Rattle.rasta_core_link.specs.Receiving.{Receipt, refusing, ahead, taking, repeating, answering, missing, handing, bringing, in_turn, admission, admitting, is_stale, confirms, testing, is_opening_again, connected, answers_request, asking, resting, by_state, hearing}
-use Rattle.rasta_core_link.specs.Calls.{IsAt, opening, ticking, closing_by, acceptance, sending_item, hearing_bytes, receiving}
+use Rattle.std.specs.Prelude.{if◌then◌else◌, nat_lt, ◌==◌, not}
+use Rattle.rasta_core_link.specs.Parameters.{sequence_range}
+use Rattle.rasta_core_link.specs.State.{LinkState}
+use Rattle.rasta_core_link.specs.Clock.{settled, state_at}
+use Rattle.rasta_core_link.specs.Sending.{Step, sending, telling, closing, limited, entered, beating, giving, is_told}
+use Rattle.rasta_core_link.specs.Opening.{own_opening, beginning, requesting, meeting, judging, granting, joining}
+use Rattle.rasta_core_link.specs.Receiving.{Receipt, refusing, ahead, taking, repeating, answering, missing, handing, bringing, in_turn, admission, admitting, is_stale, confirms, testing, connected, asking, resting, by_state, hearing}
+use Rattle.rasta_core_link.specs.Calls.{IsAt, opening, ticking, closing_by, sending_item, hearing_bytes, receiving}
 use Rattle.rasta_core_link.specs.declared.phase.State.{State}
 use Rattle.rasta_core_link.specs.declared.phase.State.TheVariants as state
 use Rattle.rasta_core_link.specs.declared.reason.Reason.{Reason}

@@ -5,3 +5,4 @@ pub mod Keeping
 pub mod Few
 pub mod Verdicts
 pub mod Refusals
+pub mod WorkedLimit

@@ -3,8 +3,8 @@ use Rattle.std.proofs.Common.{◌≡◌, ℕ, Bool, true, false, List, [], ◌++
 use Rattle.std.specs.Prelude.{if◌then◌else◌, nat_lt, ◌==◌, not}
 use Rattle.rasta_core_link.specs.Parameters.{sequence_range}
 use Rattle.rasta_core_link.specs.State.{LinkState, is_client}
-use Rattle.rasta_core_link.specs.Clock.{state_at, open_state}
-use Rattle.rasta_core_link.specs.Sending.{Step, silent, telling, entered, closed}
+use Rattle.rasta_core_link.specs.Clock.{state_at}
+use Rattle.rasta_core_link.specs.Sending.{silent, entered, closed}
 use Rattle.rasta_core_link.specs.Opening.{granting, joining}
 use Rattle.rasta_core_link.specs.Receiving.{Receipt, refusing, violating, accepting, ahead, missing, handing, bringing, in_turn, admission, admitting, is_stale, confirms, testing, is_opening_again, connected, answers_request, asking, resting, by_state, hearing, taking}
 use Rattle.rasta_core_link.specs.Calls.{hearing_bytes, receiving}

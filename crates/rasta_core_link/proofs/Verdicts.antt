@@ -1,5 +1,5 @@
 -- The verdict of each call is that of the table of tests.
-use Rattle.std.proofs.Common.{◌≡◌, ◌≢◌, ℕ, ◌∙◌, ◌<◌, Bool, true, false, List, [], ◌∷◌, ◌⊎◌, inl, inr, Result, Ok, Err, refl, sym, ap, subst, arith}
+use Rattle.std.proofs.Common.{◌≡◌, ◌≢◌, ℕ, ◌<◌, Bool, true, false, List, [], ◌∷◌, ◌⊎◌, inl, inr, Result, Ok, Err, refl, sym, subst, arith}
 use Rattle.std.specs.Prelude.{if◌then◌else◌, nat_le, nat_lt, ◌==◌, ◌&&◌, not}
 use Rattle.std.proofs.lemmas.Bool.Decides.{nat_tests}
 use Rattle.rasta_core_link.specs.Parameters.{sequence_range, expiry}
@@ -9,7 +9,7 @@ use Rattle.rasta_core_link.specs.Clock.{state_at, open_state, alive_until, quiet
 use Rattle.rasta_core_link.specs.Receiving.{Receipt, refusing, violating, ahead, missing, handing, bringing, in_turn, admission, admitting, is_stale, confirms, testing, is_opening_again, connected, answers_request, asking, resting, by_state, hearing, taking}
 use Rattle.rasta_core_link.specs.Calls.{hearing_bytes, receiving}
 use Rattle.rasta_core_link.specs.Sending.{entered}
-use Rattle.rasta_core_link.specs.Verdicts.{Test, ForAnother, FromAnother, InExpired, InQuiet, OutOfPlace, OpensAgain, OpensAnew, AnswersAnother, TooFar, TooOld, ConfirmsAnother, NotAllowed, NotAwaited, AfterMissing, tests, tests_in_connection, verdict_of, IsRequest, IsResponse, IsDisconnection, IsClient, IsTested, IsOutOfPlace, IsNotAllowed, IsInTurn, Fails, IsFirst, IsVerdict}
+use Rattle.rasta_core_link.specs.Verdicts.{Test, ForAnother, FromAnother, InExpired, InQuiet, OutOfPlace, OpensAgain, OpensAnew, AnswersAnother, TooFar, TooOld, ConfirmsAnother, NotAllowed, NotAwaited, AfterMissing, tests, tests_in_connection, verdict_of, IsRequest, IsClient, IsTested, IsOutOfPlace, IsInTurn, Fails, IsFirst, IsVerdict}
 use Rattle.rasta_core_link.specs.declared.identity.Role.{Role}
 use Rattle.rasta_core_link.specs.declared.identity.Role.TheVariants as role
 use Rattle.rasta_core_link.specs.declared.phase.Phase.{Phase}
@@ -37,7 +37,6 @@ other_number x y e = grind (arith, e, nat_tests)
 
 same_number : (x y : ℕ) → not (x == y) ≡ false → x ≢ y → ⊥
 same_number x y e n = grind (arith, e, n, nat_tests)
-
 
 less : (x y : ℕ) → nat_lt x y ≡ true → x < y
 less x y e = grind (arith, e, nat_tests)
@@ -214,10 +213,12 @@ unfolding connected
 in_connection (ConnectionRequest o) role.Client present pdu link e is rest =
     inl (client_up present (ConnectionRequest o) is tt, refused_as (is_opening_again pdu link) link (client_again pdu link e))
 in_connection (ConnectionRequest o) role.Server present pdu link e is rest =
-    inr (server_up present (ConnectionRequest o) is,
-    tested (Fails present role.Server (ConnectionRequest o) pdu link) OpensAgain (OpensAnew ∷ AnswersAnother ∷ tests_in_connection)
-    (is_opening_again pdu link) link (violating link)
-    (λ a. (is, tt, (again_one pdu link a).0, (again_one pdu link a).1)) (λ a f. not_again pdu link e a f.2 f.3) (λ a. inl ((is, tt), refl)))
+    inr (
+      server_up present (ConnectionRequest o) is,
+      tested (Fails present role.Server (ConnectionRequest o) pdu link) OpensAgain (OpensAnew ∷ AnswersAnother ∷ tests_in_connection)
+          (is_opening_again pdu link) link (violating link)
+          (λ a. (is, tt, (again_one pdu link a).0, (again_one pdu link a).1)) (λ a f. not_again pdu link e a f.2 f.3) (λ a. inl ((is, tt), refl)),
+    )
 in_connection (ConnectionResponse o) who present pdu link e is rest = others (ConnectionResponse o) who present pdu link _ is (λ r. r) (rest (λ r. r))
 in_connection RetransmissionRequest who present pdu link e is rest = others RetransmissionRequest who present pdu link _ is (λ r. r) (rest (λ r. r))
 in_connection RetransmissionResponse who present pdu link e is rest = others RetransmissionResponse who present pdu link _ is (λ r. r) (rest (λ r. r))
@@ -252,7 +253,7 @@ unanswered pdu link e = choose (pdu.confirmed_sequence_number == link.own_first)
 
 answering : (body : Body) (pdu : Pdu) (link : LinkState) (taken : Receipt) → taken.verdict ≡ verdict.Taken → (IsOutOfPlace state.Start body role.Client → ⊥) → (IsRequest body → ⊥)
     → IsFirst (Fails state.Start role.Client body pdu link) (OutOfPlace ∷ OpensAgain ∷ OpensAnew ∷ AnswersAnother ∷ tests_in_connection)
-        (if answers_request pdu link then taken else refusing verdict.BadConfirm link).verdict
+    (if answers_request pdu link then taken else refusing verdict.BadConfirm link).verdict
 answering body pdu link taken is place other = inr (place, inr ((λ f. f.0), inr ((λ f. f.0), choose (answers_request pdu link) refl)))
   where
     choose : (b : Bool) → answers_request pdu link ≡ b
@@ -274,7 +275,7 @@ in_start (RetransmittedData _) pdu link = inl ((tt, (λ f. f), λ f. f), refl)
 
 granted : (who : Role) (o : Opening) (pdu : Pdu) (link : LinkState) (taken : Receipt) → taken.verdict ≡ verdict.Taken
     → IsFirst (Fails state.Down who (ConnectionRequest o) pdu link) (OutOfPlace ∷ OpensAgain ∷ OpensAnew ∷ AnswersAnother ∷ tests_in_connection)
-        (if is_client who then refusing verdict.WrongState link else taken).verdict
+    (if is_client who then refusing verdict.WrongState link else taken).verdict
 granted role.Client o pdu link taken is = inl ((λ r. tt), refl)
 granted role.Server o pdu link taken is =
     inr ((λ f. f tt), inr ((λ f. f.0), inr ((λ f. f.0), inr ((λ f. f.1), rw is (untested state.Down role.Server (ConnectionRequest o) pdu link (λ f. f))))))
@@ -296,14 +297,14 @@ in_down (RetransmittedData _) pdu link = inl ((λ f. absurd f), refl)
 in_start_of : (who : Role) (pdu : Pdu) (link : LinkState) → link.identity.role ≡ who
     → (IsTested state.Start who → (IsRequest pdu.body → ⊥) → IsFirst (Fails state.Start who pdu.body pdu link) tests_in_connection (testing pdu link).verdict)
     → IsFirst (Fails state.Start who pdu.body pdu link) (OutOfPlace ∷ OpensAgain ∷ OpensAnew ∷ AnswersAnother ∷ tests_in_connection)
-        (if is_client who then asking pdu.body pdu link else connected pdu.body pdu link).verdict
+    (if is_client who then asking pdu.body pdu link else connected pdu.body pdu link).verdict
 in_start_of role.Client pdu link e rest = in_start pdu.body pdu link
 in_start_of role.Server pdu link e rest = in_connection pdu.body role.Server state.Start pdu link e tt (rest tt)
 
 in_state : (present : State) (pdu : Pdu) (link : LinkState)
     → ((who : Role) → IsTested present who → (IsRequest pdu.body → ⊥) → IsFirst (Fails present who pdu.body pdu link) tests_in_connection (testing pdu link).verdict)
     → IsFirst (Fails present link.identity.role pdu.body pdu link) (InExpired ∷ InQuiet ∷ OutOfPlace ∷ OpensAgain ∷ OpensAnew ∷ AnswersAnother ∷ tests_in_connection)
-        (by_state present pdu link).verdict
+    (by_state present pdu link).verdict
 unfolding by_state
 in_state state.Expired pdu link rest = inl (refl, refl)
 in_state state.Quiet pdu link rest = inr ((λ e. cc), inl (refl, refl))
@@ -336,6 +337,7 @@ in_numbers_of pdu link who =
     untested_state : (who : Role) → IsTested state.Expired who → ⊥
     untested_state role.Client is = is
     untested_state role.Server is = is
+
     quiet : (who : Role) → IsTested state.Quiet who → ⊥
     quiet role.Client is = is
     quiet role.Server is = is

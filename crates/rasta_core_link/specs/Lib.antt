@@ -8,3 +8,4 @@ pub mod Receiving
 pub mod Verdicts
 pub mod Calls
 pub mod Outbox
+pub mod Worked

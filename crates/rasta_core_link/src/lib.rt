@@ -8,6 +8,7 @@ mod clock;
 mod fault;
 mod header;
 mod identity;
+mod laws;
 mod link;
 mod opening;
 mod outbox;
@@ -21,12 +22,10 @@ mod window;
 
 pub use fault::SendFault;
 pub use identity::{Identity, Role};
+pub use laws::full_connection_closes;
 pub use link::{Link, Millis};
 pub use outbox::Outbox;
 pub use phase::State;
 pub use reason::Reason;
 pub use receiving::Inbox;
 pub use verdict::Verdict;
-
-#[cfg(test)]
-mod tests;

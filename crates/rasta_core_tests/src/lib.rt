@@ -1,0 +1,13 @@
+//! Tests of one end of a link, with expected values from the protocol.
+#![tactic(auto)]
+
+#[cfg(test)]
+mod bench;
+#[cfg(test)]
+mod clock;
+#[cfg(test)]
+mod opening;
+#[cfg(test)]
+mod retransmission;
+#[cfg(test)]
+mod verdicts;
