@@ -13,15 +13,16 @@ use Rattle.layout.specs.declared.ids.RouteId.{RouteId}
 use Rattle.layout.specs.Entries.{RouteEntry, Plan}
 use Rattle.control_table.specs.Topology.{IsRoute}
 use Rattle.control_table.specs.Path.{Passage, sections, Path, same_section}
-use Rattle.control_table.specs.Sides.{other, Requires}
-use Rattle.control_table.specs.Table.{LeadsOver, RouteRequires, InLayoutOrder, AreSections, AreRequired, SameEntry, ShareSection, RequireDifferently, Conflict}
+use Rattle.control_table.specs.Sides.{other, PathUses, Requires}
+use Rattle.control_table.specs.declared.sides.FlankProtection.{FlankProtection}
+use Rattle.control_table.specs.Table.{LeadsOver, RouteRequires, InLayoutOrder, AreSections, AreRequired, AreProtections, SameEntry, ShareSection, RequireDifferently, Conflict}
 use Rattle.control_table.specs.Judging.{needs, has_need, lists, TableRow, rows_of, IsRowAt, entry_of, enters_at, same_entry, has_section, share_section, require_differently, conflicts}
 use Rattle.control_table.proofs.Joints.{OneBeyond}
 use Rattle.control_table.proofs.Judged.{none-some}
 use Rattle.control_table.proofs.Members.{any-decides, has-decides, some-injective}
 use Rattle.control_table.proofs.Same.{section-decides, signal-decides, route-decides, other-differs, differ-other}
 use Rattle.control_table.proofs.PathLaws.{one-path, some_and-decides}
-use Rattle.control_table.proofs.SideLaws.{option_map-some, has_need-decides}
+use Rattle.control_table.proofs.SideLaws.{option_map-some, has_need-decides, protections-from, protections-to}
 use Rattle.control_table.proofs.OrderLaws.{ordered, ordered-from, ordered-to}
 use Rattle.control_table.proofs.TableLaws.{RowFacts, table-row, place_at, lists-decides, rows-length}
 
@@ -66,6 +67,14 @@ requires-is l one a r row at h p s =
 
 pub required-are : (l : Plan) (one : OneBeyond l) (a : RouteId) (r : RouteEntry) (row : TableRow) → IsRoute l a r → RowFacts l a r row → AreRequired l a row.required
 required-are l one a r row at h = record { points = requires-is l one a r row at h; order = subst InLayoutOrder (sym h.required) (ordered (needs l h.path)) }
+
+pub protections-are : (l : Plan) (one : OneBeyond l) (a : RouteId) (r : RouteEntry) (row : TableRow) → IsRoute l a r → RowFacts l a r row → AreProtections l a row.protections
+protections-are l one a r row at h q p =
+    let C : List FlankProtection → Type 0 = λ ps. Contains ps (record { flank = q; point = p }) in
+    let U : Side → List Passage → Type 0 = λ s path. PathUses path p s in (
+      λ c. let is = protections-from l h.path (record { flank = q; point = p }) (subst C h.protections c) in (r, h.path, at, h.is_path, is.0, is.1, is.2, is.3),
+      λ k. subst C (sym h.protections) (protections-to l one h.path q p k.4 k.5 (subst (U k.4) (same-path l one a r k.0 row h k.1 at k.2 k.3) k.6) k.7),
+    )
 
 leads-is : (l : Plan) (one : OneBeyond l) (a : RouteId) (r : RouteEntry) (row : TableRow) → IsRoute l a r → RowFacts l a r row → (s : SectionId) → Contains row.sections s ↔ LeadsOver l a s
 leads-is l one a r row at h s =

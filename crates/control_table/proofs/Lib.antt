@@ -9,3 +9,4 @@ pub mod OrderLaws
 pub mod TableLaws
 pub mod ConflictLaws
 pub mod RouteLaws
+pub mod There

@@ -1,5 +1,5 @@
 -- The computed requirements of a path are those of the definition, and the tests decide what they are named after.
-use Rattle.std.proofs.Common.{◌≡◌, ◌⊎◌, Bool, true, false, not, ◌&&◌, ◌||◌, ◌==◌, List, [], Option, Some, None, refl, sym, ap, subst, ◌∙◌, inl, inr, ⊎_elim}
+use Rattle.std.proofs.Common.{◌≡◌, ◌⊎◌, Bool, true, false, not, ◌&&◌, ◌||◌, ◌==◌, List, [], ◌∷◌, map, Option, Some, None, refl, sym, ap, subst, ◌∙◌, inl, inr, ⊎_elim}
 use Rattle.std.proofs.lemmas.Bool.{false≢true}
 use Rattle.std.proofs.lemmas.Bool.Decides.{Decides-and, Decides-or, Decides-not, Decides-like, Decides-at}
 use Rattle.std.specs.Bool.{Decides}
@@ -18,11 +18,12 @@ use Rattle.layout.specs.declared.port.End.TheVariants as end
 use Rattle.layout.specs.declared.entries.Signal.{Signal}
 use Rattle.layout.specs.Entries.{RouteEntry, Plan}
 use Rattle.control_table.specs.Path.{Passage}
+use Rattle.control_table.specs.declared.sides.FlankProtection.{FlankProtection}
 use Rattle.control_table.specs.declared.sides.Protection.{Protection}
 use Rattle.control_table.specs.declared.sides.Protection.TheVariants as protection
 use Rattle.control_table.specs.Topology.{Joined, StandsAt}
-use Rattle.control_table.specs.Sides.{leg_at, leg, other, Uses, OnPath, Guards, Requires, IsGuarded, FlanksGuarded, NoneAtBothSides, PointsNamed, WritesOnlyRequired, FlankNamed}
-use Rattle.control_table.specs.Judging.{is_port, is_end, joined_to, side_of, leg_used, point_of, used_of, used, leg_at_port, leg_of_another, guarded_by, protection_by, protection_from, protection_behind, protection_of, has_signal, flank_need, needs_at, needs, is_open_leg, is_open_at, flanks_guarded, same_need, has_need, consistent, names_point, is_over, on_path, is_named, points_written, points_right, flank_right, flank_written}
+use Rattle.control_table.specs.Sides.{leg_at, leg, other, Uses, PathUses, OnPath, Guards, Requires, IsGuarded, FlanksGuarded, NoneAtBothSides, PointsNamed, WritesOnlyRequired, FlankNamed}
+use Rattle.control_table.specs.Judging.{is_port, is_end, joined_to, side_of, leg_used, point_of, used_of, used, leg_at_port, leg_of_another, guarded_by, protection_by, protection_from, protection_behind, protection_of, has_signal, flank_need, needs_at, needs, protections_at, protections, is_open_leg, is_open_at, flanks_guarded, same_need, has_need, consistent, names_point, is_over, on_path, is_named, points_written, points_right, flank_right, flank_written}
 use Rattle.control_table.proofs.Joints.{OneBeyond, joined-found}
 use Rattle.control_table.proofs.Judged.{none-some, false-from}
 use Rattle.control_table.proofs.Members.{contains-none, contains-here, contains-there, contains-cases, any-decides, all-decides, has-decides, flat_map-from, flat_map-to, get-contains, contains-get, some-injective}
@@ -183,6 +184,48 @@ flank-to l one p s q t h =
     ap (protection_behind l p) (one (leg p (other s)) (leg q (other t)) h.1) ∙ ap (protection_by (has_signal l.signals (leg q (other t)))) (leg_of_another-is p q (other t) h.0) ∙ ap (protection.By q) (other-other t) in
     let C : Protection → Type 0 = λ x. Contains (flank_need x) (q, t) in
     subst C (sym is) (contains-here (q, t) [])
+
+-- ---- which points guard which
+
+abbrev guard : PointId → PointId × Side → FlankProtection
+guard p m = record { flank = m.0; point = p }
+
+guard-from : (p : PointId) (ns : List (PointId × Side)) (x : FlankProtection) → Contains (map (guard p) ns) x → (t : Side) × Contains ns (x.flank, t) × (p ≡ x.point)
+guard-from p [] x c = absurd (contains-none x c)
+guard-from p (m ∷ ns) x c =
+    let F : PointId → Type 0 = λ q. Contains (m ∷ ns) (q, m.1) in
+    ⊎_elim (λ e. (m.1, subst F (ap (λ (y : FlankProtection). y.flank) e) (contains-here m ns), ap (λ (y : FlankProtection). y.point) e)) (λ later. let on = guard-from p ns x later in (on.0, contains-there m (x.flank, on.0) ns on.1, on.2))
+    (contains-cases (guard p m) x (map (guard p) ns) c)
+
+guard-to : (p : PointId) (ns : List (PointId × Side)) (n : PointId × Side) → Contains ns n → Contains (map (guard p) ns) (guard p n)
+guard-to p [] n c = absurd (contains-none n c)
+guard-to p (m ∷ ns) n c =
+    let H : FlankProtection → Type 0 = λ y. Contains (map (guard p) (m ∷ ns)) y in
+    ⊎_elim (λ e. subst H (ap (guard p) e) (contains-here (guard p m) (map (guard p) ns))) (λ later. contains-there (guard p m) (guard p n) (map (guard p) ns) (guard-to p ns n later)) (contains-cases m n ns c)
+
+guards-at : (l : Plan) (g : Passage) (o : Option (PointId × Side)) (x : FlankProtection) → used g ≡ o → Contains (protections_at l o) x → (s : Side) × (t : Side) × Uses g x.point s × Guards l x.flank t x.point s
+guards-at l g None x u c = absurd (contains-none x c)
+guards-at l g (Some n) x u c =
+    let on = guard-from n.0 (flank_need (protection_of l n.0 n.1)) x c in
+    let G : PointId → Type 0 = λ p. Uses g p n.1 × Guards l x.flank on.0 p n.1 in
+    let is = subst G on.2 (used-uses g n u, flank-from l n.0 n.1 (x.flank, on.0) on.1) in
+    (n.1, on.0, is.0, is.1)
+
+pub protections-from : (l : Plan) (path : List Passage) (x : FlankProtection) → Contains (protections l path) x → (s : Side) × (t : Side) × PathUses path x.point s × Guards l x.flank t x.point s
+unfolding protections
+protections-from l path x c =
+    let a = flat_map-from (λ g. protections_at l (used g)) path x c in
+    let is = guards-at l a.0 (used a.0) x refl a.2 in
+    (is.0, is.1, (a.0, a.1, is.2), is.3)
+
+pub protections-to : (l : Plan) (one : OneBeyond l) (path : List Passage) (q p : PointId) (s t : Side) → PathUses path p s → Guards l q t p s → Contains (protections l path) (record { flank = q; point = p })
+unfolding protections
+protections-to l one path q p s t uses guards =
+    let g = uses.0 in
+    let x : FlankProtection = record { flank = q; point = p } in
+    let C : Option (PointId × Side) → Type 0 = λ o. Contains (protections_at l o) x in
+    let here : C (Some (p, s)) = guard-to p (flank_need (protection_of l p s)) (q, t) (flank-to l one p s q t guards) in
+    flat_map-to (λ g. protections_at l (used g)) path g x uses.1 (subst C (sym (uses-used g p s uses.2)) here)
 
 -- ---- all that a path requires
 

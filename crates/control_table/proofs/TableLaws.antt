@@ -18,7 +18,7 @@ use Rattle.control_table.specs.Path.{Passage, elements, sections, ComesOnce, Sig
 use Rattle.control_table.specs.Sides.{FlanksGuarded, NoneAtBothSides, PointsNamed, WritesOnlyRequired, FlankNamed, WritesRequired}
 use Rattle.control_table.specs.Table.{Lists, ExtrasListed, SoundRoute, Sound}
 use Rattle.control_table.specs.Faults.{BeforePointMissing, BeforeSignalPlace, IsFaultOf, ToldAt, IsFirstFault}
-use Rattle.control_table.specs.Judging.{is_element, ◌>>=◌, Fails, path_of, all_different, sections_of, needs, points_written, points_right, flank_right, flank_written, flanks_guarded, consistent, in_layout_order, required_of, signals_placed, names_route, lists, extras_listed, TableRow, row_of, rows_from, rows_of}
+use Rattle.control_table.specs.Judging.{is_element, ◌>>=◌, Fails, path_of, all_different, sections_of, needs, protections, points_written, points_right, flank_right, flank_written, flanks_guarded, consistent, in_layout_order, required_of, signals_placed, names_route, lists, extras_listed, TableRow, row_of, rows_from, rows_of}
 use Rattle.control_table.proofs.Joints.{OneBeyond}
 use Rattle.control_table.proofs.Judged.{none-some, err-ok, ok-injective, err-injective, ok-from, err-from, passed, failed_or_passed}
 use Rattle.control_table.proofs.Members.{all-decides, has-decides, some-injective}
@@ -140,6 +140,7 @@ pub record RowFacts (l : Plan) (a : RouteId) (r : RouteEntry) (row : TableRow) :
   pub listed : ExtrasListed l a r
   pub sections : row.sections ≡ sections l path
   pub required : row.required ≡ in_layout_order (needs l path)
+  pub protections : row.protections ≡ protections l path
 
 abbrev row_listed : FaultyRoute → Plan → RouteEntry → TableRow → Result TableRow TableFault
 row_listed place l r row = if not (extras_listed l.routes place.id r.extra) then Err (NotSymmetric place) else Ok row
@@ -148,7 +149,7 @@ abbrev row_placed : FaultyRoute → Plan → RouteEntry → List Passage → Tab
 row_placed place l r path row = if not (signals_placed l r path) then Err (SignalPlace place) else row_listed place l r row
 
 abbrev row_with : FaultyRoute → Plan → RouteEntry → List Passage → List SectionId → Result TableRow TableFault
-row_with place l r path ss = required_of place l r path >>= λ ns. row_placed place l r path (record { sections = ss; required = ns })
+row_with place l r path ss = required_of place l r path >>= λ ns. row_placed place l r path (record { sections = ss; required = ns; protections = protections l path })
 
 abbrev row_on : FaultyRoute → Plan → RouteEntry → List Passage → Result TableRow TableFault
 row_on place l r path = sections_of place l path >>= λ ss. row_with place l r path ss
@@ -160,9 +161,9 @@ row-found place l one r row e =
     let path = a.0 in
     let b = ok-from (sections_of place l path) (row_with place l r path) row a.2 in
     let once = taken (all_different is_element (elements path) && all_different same_section (sections l path)) (sections l path) b.0 (PathRepeats place) b.1 in
-    let c = ok-from (required_of place l r path) (λ ns. row_placed place l r path (record { sections = b.0; required = ns })) row b.2 in
+    let c = ok-from (required_of place l r path) (λ ns. row_placed place l r path (record { sections = b.0; required = ns; protections = protections l path })) row b.2 in
     let kept = required-found place l one r path c.0 c.1 in
-    let made : TableRow = record { sections = b.0; required = c.0 } in
+    let made : TableRow = record { sections = b.0; required = c.0; protections = protections l path } in
     let placed = passed (signals_placed l r path) (SignalPlace place) (row_listed place l r made) row c.2 in
     let listed = passed (extras_listed l.routes place.id r.extra) (NotSymmetric place) (Ok made) row placed.1 in
     let same : made ≡ row = ok-injective made row listed.1 in
@@ -173,6 +174,7 @@ row-found place l one r row e =
       listed = (extras-decide l place.id r).0 listed.0;
       sections = ap (λ (x : TableRow). x.sections) (sym same) ∙ sym once.1;
       required = ap (λ (x : TableRow). x.required) (sym same) ∙ sym kept.1;
+      protections = ap (λ (x : TableRow). x.protections) (sym same);
     }
 
 pub row-fault : (place : FaultyRoute) (l : Plan) (one : OneBeyond l) (r : RouteEntry) (f : TableFault) (C : TableFault → Type 0) → row_of place l r ≡ Err f → ((g : TableFault) → IsFaultOf l place r g → C g) → C f
@@ -187,12 +189,12 @@ row-fault place l one r f C e told =
     ⊎_elim (λ h. required-fault place l one r path f C h (follows, comes) told) (λ c.
     let kept = (required-found place l one r path c.0 c.1).0 in
     let before : BeforeSignalPlace l r path = ((((((follows, comes), kept.points), kept.only), kept.flank), kept.guarded), kept.consistent) in
-    let made : TableRow = record { sections = b.0; required = c.0 } in
+    let made : TableRow = record { sections = b.0; required = c.0; protections = protections l path } in
     ⊎_elim (λ h. subst C h.1 (told (SignalPlace place) (refl, path, before, false-not (signals_placed l r path) (signals-decide l one r path) h.0))) (λ placed.
     ⊎_elim (λ h. subst C h.1 (told (NotSymmetric place) (refl, path, (before, (signals-decide l one r path).0 placed.0), false-not (extras_listed l.routes place.id r.extra) (extras-decide l place.id r) h.0))) (λ listed. absurd (err-ok f made (sym listed.1)))
     (failed_or_passed (extras_listed l.routes place.id r.extra) (NotSymmetric place) f (Ok made) placed.1))
     (failed_or_passed (signals_placed l r path) (SignalPlace place) f (row_listed place l r made) c.2))
-    (err-from (required_of place l r path) (λ ns. row_placed place l r path (record { sections = b.0; required = ns })) f b.2))
+    (err-from (required_of place l r path) (λ ns. row_placed place l r path (record { sections = b.0; required = ns; protections = protections l path })) f b.2))
     (err-from (sections_of place l path) (row_with place l r path) f a.2))
     (err-from (path_of place l r) (row_on place l r) f e)
 

@@ -1,5 +1,5 @@
 -- How the tests on a table are computed, in the order in which their faults are told.
-use Rattle.std.specs.Prelude.{◌≡◌, ℕ, suc, ◌==◌, ◌-◌, ◌&&◌, ◌||◌, nat_lt, length, Bool, true, false, not, List, [], ◌∷◌, Option, Some, None, Result, Ok, Err, slice_get, if◌then◌else◌}
+use Rattle.std.specs.Prelude.{◌≡◌, ℕ, suc, ◌==◌, ◌-◌, ◌&&◌, ◌||◌, nat_lt, length, map, Bool, true, false, not, List, [], ◌∷◌, Option, Some, None, Result, Ok, Err, slice_get, if◌then◌else◌}
 use Rattle.std.specs.Option.{option_map, option_or, ok_or}
 use Rattle.std.specs.List.{list_any, list_all, flat_map, prefix_len, insert, fold}
 use Rattle.sci_telegram.specs.declared.message.Side.{Side}
@@ -22,6 +22,7 @@ use Rattle.layout.specs.Entries.{RouteEntry, Plan}
 use Rattle.control_table.specs.declared.fault.FaultyRoute.{FaultyRoute}
 use Rattle.control_table.specs.declared.fault.TableFault.{TableFault}
 use Rattle.control_table.specs.declared.fault.TableFault.TheVariants.{PathBroken, PathRepeats, PointMissing, PointWrong, FlankMissing, FlankOpen, FlankContradicts, SignalPlace, NotSymmetric, OutOfMemory}
+use Rattle.control_table.specs.declared.sides.FlankProtection.{FlankProtection}
 use Rattle.control_table.specs.declared.sides.Protection.{Protection}
 use Rattle.control_table.specs.declared.sides.Protection.TheVariants as protection
 use Rattle.layout.specs.Known.{same_port, same_element, end_number}
@@ -174,6 +175,14 @@ needs_at l (Some n) = n ∷ flank_need (protection_of l n.0 n.1)
 unfoldable pub needs : Plan → List Passage → List (PointId × Side)
 needs l path = flat_map (λ g. needs_at l (used g)) path
 
+-- which points guard which
+abbrev pub protections_at : Plan → Option (PointId × Side) → List FlankProtection
+protections_at l None = []
+protections_at l (Some n) = map (λ m. record { flank = m.0; point = n.0 }) (flank_need (protection_of l n.0 n.1))
+
+unfoldable pub protections : Plan → List Passage → List FlankProtection
+protections l path = flat_map (λ g. protections_at l (used g)) path
+
 abbrev pub is_open_leg : Protection → Bool
 is_open_leg protection.Open = true
 is_open_leg _ = false
@@ -301,17 +310,18 @@ extras_listed routes a extra = list_all (λ b. not (b.0 == a.0) && lists routes 
 
 -- ---- the rows of the table
 
--- what a route needs: its sections in path order, its required points in layout order
+-- what a route needs: its sections in path order, its required points in layout order, and which of them guard which
 pub record TableRow : Type 0 where
   pub sections : List SectionId
   pub required : List (PointId × Side)
+  pub protections : List FlankProtection
 
 unfoldable pub row_of : FaultyRoute → Plan → RouteEntry → Result TableRow TableFault
 row_of place l r = do
   path ← path_of place l r
   sections ← sections_of place l path
   required ← required_of place l r path
-  if not (signals_placed l r path) then Err (SignalPlace place) else if not (extras_listed l.routes place.id r.extra) then Err (NotSymmetric place) else Ok (record { sections = sections; required = required })
+  if not (signals_placed l r path) then Err (SignalPlace place) else if not (extras_listed l.routes place.id r.extra) then Err (NotSymmetric place) else Ok (record { sections = sections; required = required; protections = protections l path })
 
 -- the rows of the routes from the n-th on, or the first fault
 unfoldable pub rows_from : Plan → ℕ → List RouteEntry → Result (List TableRow) TableFault

@@ -32,6 +32,10 @@ leg p s = record { element = element.Point p; end = leg_at s }
 abbrev pub Uses : Passage → PointId → Side → Type 0
 Uses g p s = (g.left.element ≡ element.Point p) × ((g.left.end ≡ leg_at s) ⊎ ((g.left.end ≡ end.Tip) × (g.entered.end ≡ leg_at s)))
 
+-- A path uses the leg of a point at a side.
+abbrev pub PathUses : List Passage → PointId → Side → Type 0
+PathUses path p s = (g : Passage) × Contains path g × Uses g p s
+
 -- A point lies on a path.
 abbrev pub OnPath : List Passage → PointId → Type 0
 OnPath path p = (g : Passage) × (s : Side) × Contains path g × Uses g p s

@@ -6,9 +6,10 @@ use Rattle.layout.specs.declared.ids.SectionId.{SectionId}
 use Rattle.layout.specs.declared.ids.PointId.{PointId}
 use Rattle.layout.specs.declared.ids.RouteId.{RouteId}
 use Rattle.layout.specs.Entries.{RouteEntry, Plan}
+use Rattle.control_table.specs.declared.sides.FlankProtection.{FlankProtection}
 use Rattle.control_table.specs.Topology.{IsRoute}
 use Rattle.control_table.specs.Path.{Passage, Path, sections}
-use Rattle.control_table.specs.Sides.{Requires, FlanksGuarded, NoneAtBothSides, WritesRequired}
+use Rattle.control_table.specs.Sides.{Guards, PathUses, Requires, FlanksGuarded, NoneAtBothSides, WritesRequired}
 
 -- A route lists another as an extra conflict.
 abbrev pub Lists : Plan → RouteId → RouteId → Type 0
@@ -52,6 +53,15 @@ AreSections l a ss = (r : RouteEntry) × (path : List Passage) × IsRoute l a r 
 pub record AreRequired (l : Plan) (a : RouteId) (ns : List (PointId × Side)) : Type 0 where
   pub points : (p : PointId) (s : Side) → Contains ns (p, s) ↔ RouteRequires l a p s
   pub order : InLayoutOrder ns
+
+-- A point protects another on a route: the other lies on the path of the route, and its unused leg is joined to a leg
+-- of this point, which guards it by lying at its other side.
+abbrev pub Protects : Plan → RouteId → PointId → PointId → Type 0
+Protects l a q p = (r : RouteEntry) × (path : List Passage) × IsRoute l a r × Path l r path × (s : Side) × (t : Side) × PathUses path p s × Guards l q t p s
+
+-- All points that protect others on a route, with those that they protect.
+abbrev pub AreProtections : Plan → RouteId → List FlankProtection → Type 0
+AreProtections l a ps = (q p : PointId) → Contains ps (record { flank = q; point = p }) ↔ Protects l a q p
 
 -- Two routes have the same entry signal.
 abbrev pub SameEntry : Plan → RouteId → RouteId → Type 0

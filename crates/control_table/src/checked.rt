@@ -2,7 +2,8 @@
 
 ghost use Rattle.std.specs.Prelude.{◌≡◌, ◌↔◌, ◌<◌, length, IsTrue, IfOk, IfErr};
 ghost use Rattle.layout.specs.Once.{Once};
-ghost use Rattle.control_table.specs.Table.{Sound, AreSections, AreRequired, Conflict};
+ghost use Rattle.layout.specs.Station.{IsStation};
+ghost use Rattle.control_table.specs.Table.{Sound, AreSections, AreRequired, AreProtections, Conflict};
 ghost use Rattle.control_table.specs.Faults.{IsFirstFault};
 ghost use Rattle.control_table.specs.Judging.{IsRowAt};
 ghost use Rattle.control_table.specs.declared.fault.TableFault.TheVariants.{OutOfMemory};
@@ -10,6 +11,7 @@ ghost use Rattle.control_table.specs.declared.fault.TableFault.TheVariants.{OutO
 use crate::conflicts::conflicts;
 use crate::fault::TableFault;
 use crate::row::{Row, copy_rows, rows};
+use crate::sides::FlankProtection;
 use layout::{Layout, PointId, RouteId, SectionId};
 use sci_telegram::Side;
 use std::alloc::{AllocError, Global};
@@ -26,18 +28,20 @@ impl Model for Checked {
     ghost use Rattle.std.specs.Prelude.{◌≡◌, Ok};
     ghost use Rattle.layout.specs.Entries.{Plan};
     ghost use Rattle.layout.specs.Once.{Once};
+    ghost use Rattle.layout.specs.Station.{IsStation};
     ghost use Rattle.control_table.specs.Judging.{rows_of};
 
     ghost Value = { Plan };
 
     ghost view = { λ c. c.layout };
 
-    ghost invariant = { λ c. Once c.layout × (rows_of c.layout ≡ Ok c.rows.items) };
+    ghost invariant = { λ c. (Once c.layout × IsStation c.layout) × (rows_of c.layout ≡ Ok c.rows.items) };
 }
 
-/// In no layout a port is joined twice.
-fn joins_once(layout: &Layout)
-    ensures { Once layout.now }
+/// In no layout a port is joined twice, and every layout is a station.
+fn is_station(layout: &Layout)
+    ensures once { Once layout.now }
+    ensures station { IsStation layout.now }
 {
     layout.joints();
 }
@@ -51,7 +55,7 @@ pub fn check(alloc: Global, layout: Layout) -> Result<Checked, TableFault>
     ensures refuses { IfErr result (IsFirstFault layout) }
     ensures complete { Sound layout → IfErr result (λ f. f ≡ OutOfMemory) }
 {
-    joins_once(&layout);
+    is_station(&layout);
     match rows(alloc, &layout) {
         Ok(rows) => Ok(Checked { layout, rows }),
         Err(fault) => Err(fault),
@@ -64,6 +68,8 @@ impl Checked {
     pub fn layout(&self) -> &Layout
         ensures entries { result.now ≡ self.now }
         ensures sound { Sound self.now }
+        ensures once { Once self.now }
+        ensures station { IsStation self.now }
     {
         &self.layout
     }
@@ -92,6 +98,15 @@ impl Checked {
         ensures { AreRequired self.now route result.now }
     {
         &self.row_at(route).required
+    }
+
+    /// Which required point guards the unused leg of which point on the path of a route, in the order of
+    /// the path.
+    pub fn protections(&self, route: RouteId) -> &[FlankProtection]
+        requires { route.0 < length self.now.routes }
+        ensures { AreProtections self.now route result.now }
+    {
+        &self.row_at(route).protections
     }
 
     /// Whether two routes conflict: they aren't one, and have the same entry signal, share a section,

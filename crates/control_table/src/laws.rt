@@ -1,12 +1,20 @@
 //! What holds of every layout.
 
-ghost use Rattle.std.specs.Prelude.{◌≢◌};
+ghost use Rattle.std.specs.Prelude.{◌≡◌, ◌≢◌, ◌≤◌, List, length, Some};
+ghost use Rattle.std.specs.List.{All};
+ghost use Rattle.sci_telegram.specs.declared.message.Side.{Side};
 ghost use Rattle.sci_telegram.specs.declared.message.Side.TheVariants.{Left, Right};
 ghost use Rattle.layout.specs.declared.ids.PointId.{PointId};
 ghost use Rattle.layout.specs.declared.ids.RouteId.{RouteId};
-ghost use Rattle.layout.specs.Entries.{Plan};
+ghost use Rattle.layout.specs.declared.ids.SectionId.{SectionId};
+ghost use Rattle.layout.specs.declared.port.Element.TheVariants as element;
+ghost use Rattle.layout.specs.Entries.{Plan, RouteEntry};
 ghost use Rattle.layout.specs.Once.{Once};
-ghost use Rattle.control_table.specs.Table.{Conflict, RouteRequires, SameEntry, Sound};
+ghost use Rattle.layout.specs.Station.{HasPoint, HasSection, IsStation};
+ghost use Rattle.control_table.specs.Topology.{IsRoute, section_of};
+ghost use Rattle.control_table.specs.Path.{Passage, Path};
+ghost use Rattle.control_table.specs.Sides.{OnPath};
+ghost use Rattle.control_table.specs.Table.{AreSections, Conflict, LeadsOver, RouteRequires, SameEntry, Sound};
 
 /// Two routes conflict whichever of them is named first.
 pub fn conflicts_go_both_ways()
@@ -22,4 +30,19 @@ pub fn routes_of_one_entry_conflict()
 /// sides.
 pub fn points_are_required_at_one_side()
     ensures { (l : Plan) (a : RouteId) (p : PointId) → Once l → Sound l → RouteRequires l a p Left → RouteRequires l a p Right → ⊥ }
+{}
+
+/// A route of a station leads over 1 to 64 sections, all of which are there.
+pub fn a_route_leads_over_sections_that_are_there()
+    ensures { (l : Plan) → IsStation l → (a : RouteId) (ss : List SectionId) → AreSections l a ss → (1 ≤ length ss) × (length ss ≤ 64) × All (HasSection l) ss }
+{}
+
+/// The points that a route of a station requires are there.
+pub fn required_points_are_there()
+    ensures { (l : Plan) → IsStation l → (a : RouteId) (p : PointId) (s : Side) → RouteRequires l a p s → HasPoint l p }
+{}
+
+/// A route of a station leads over the section of each point on its path.
+pub fn a_route_leads_over_the_sections_of_its_points()
+    ensures { (l : Plan) → IsStation l → (a : RouteId) (r : RouteEntry) (path : List Passage) (p : PointId) → IsRoute l a r → Path l r path → OnPath path p → (s : SectionId) × (section_of l (element.Point p) ≡ Some s) × LeadsOver l a s }
 {}

@@ -20,5 +20,8 @@ mod written;
 pub use checked::{Checked, check};
 pub use fault::{FaultyRoute, TableFault};
 pub use laws::{
-    conflicts_go_both_ways, points_are_required_at_one_side, routes_of_one_entry_conflict,
+    a_route_leads_over_sections_that_are_there, a_route_leads_over_the_sections_of_its_points,
+    conflicts_go_both_ways, points_are_required_at_one_side, required_points_are_there,
+    routes_of_one_entry_conflict,
 };
+pub use sides::FlankProtection;

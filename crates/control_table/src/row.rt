@@ -7,7 +7,7 @@ use crate::fault::{FaultyRoute, TableFault};
 use crate::order::in_layout_order;
 use crate::passage::{Passage, passages};
 use crate::sections::{elements, elements_differ, sections, sections_differ};
-use crate::sides::{consistent, flanks_guarded, needs};
+use crate::sides::{FlankProtection, consistent, flanks_guarded, needs, protections};
 use crate::signals::{extras_listed, port_of, signals_placed};
 use crate::written::{flank_written, points_written, written_right};
 use layout::{Layout, PointId, Route, RouteId, SectionId};
@@ -22,6 +22,8 @@ pub(crate) struct Row {
     pub(crate) sections: Vec<SectionId>,
     /// The points that it requires, each with its side, in layout order.
     pub(crate) required: Vec<(PointId, Side)>,
+    /// Which point guards which point on its path.
+    pub(crate) protections: Vec<FlankProtection>,
 }
 
 impl Model for Row {
@@ -29,7 +31,7 @@ impl Model for Row {
 
     ghost Value = { TableRow };
 
-    ghost view = { λ r. record { sections = r.sections.items; required = r.required.items } };
+    ghost view = { λ r. record { sections = r.sections.items; required = r.required.items; protections = r.protections.items } };
 }
 
 impl Row {
@@ -39,7 +41,12 @@ impl Row {
     {
         let sections = Vec::from_slice(alloc, &self.sections)?;
         let required = Vec::from_slice(alloc, &self.required)?;
-        Ok(Row { sections, required })
+        let protections = Vec::from_slice(alloc, &self.protections)?;
+        Ok(Row {
+            sections,
+            required,
+            protections,
+        })
     }
 }
 
@@ -141,7 +148,12 @@ fn row_of(
     if !extras_listed(layout.routes(), place.id, route.extra()) {
         return Err(TableFault::NotSymmetric(*place));
     }
-    Ok(Row { sections, required })
+    let protections = protections(alloc, layout, &path)?;
+    Ok(Row {
+        sections,
+        required,
+        protections,
+    })
 }
 
 /// The rows of routes, or the first fault of the first faulty one.

@@ -2,7 +2,7 @@
 
 ghost use Rattle.std.specs.Prelude.{◌≡◌, IfOk};
 ghost use Rattle.control_table.specs.Sides.{leg_at, other};
-ghost use Rattle.control_table.specs.Judging.{side_of, leg_used, used, leg_of_another, guarded_by, protection_from, protection_of, needs, is_open_at, flanks_guarded, same_side, has_need, consistent};
+ghost use Rattle.control_table.specs.Judging.{side_of, leg_used, used, leg_of_another, guarded_by, protection_from, protection_of, needs, protections, is_open_at, flanks_guarded, same_side, has_need, consistent};
 
 use crate::passage::Passage;
 use crate::topology::{has_signal, is_end, joined_to};
@@ -62,6 +62,15 @@ pub(crate) fn used(passage: &Passage) -> Option<(PointId, Side)>
         Element::Point(point) => leg_used(passage).map(|side| (point, side)),
         _ => None,
     }
+}
+
+/// A point on the path of a route, and the point that guards its unused leg.
+#[derive(Clone, Copy, Debug, PartialEq, Eq)]
+pub struct FlankProtection {
+    /// The point that protects. It may itself lie on the path.
+    pub flank: PointId,
+    /// The point on the path.
+    pub point: PointId,
 }
 
 /// What protects the flank of a path at the leg of a point that the path doesn't use.
@@ -135,6 +144,26 @@ pub(crate) fn needs(
         }
     }
     Ok(needs)
+}
+
+/// Which point guards the unused leg of which point on the path, in the order of the path.
+#[tactic(auto, unfolding(crate::specs::Judging::protections))]
+pub(crate) fn protections(
+    alloc: Global,
+    layout: &Layout,
+    path: &[Passage],
+) -> Result<Vec<FlankProtection>, AllocError>
+    ensures { IfOk result (λ v. v.items ≡ protections layout.now path.now) }
+{
+    let mut protections = Vec::new(alloc);
+    for passage in path {
+        if let Some((point, side)) = used(passage) {
+            if let Protection::By(flank, _) = protection_of(layout, point, side) {
+                protections.push(FlankProtection { flank, point })?;
+            }
+        }
+    }
+    Ok(protections)
 }
 
 /// Whether an unused leg of the passage is open.

@@ -4,3 +4,9 @@ pub mod TextLemmas
 pub mod KnownLemmas
 pub mod OnceLemmas
 pub mod OncePlan
+pub mod Steps
+pub mod Directory
+pub mod StationEntries
+pub mod ReportedOnce
+pub mod TextIds
+pub mod StationPlan

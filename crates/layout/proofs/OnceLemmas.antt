@@ -1,5 +1,5 @@
 -- What was noted without a fault stands once, and an entry keeps the name and the identity that are written.
-use Rattle.std.proofs.Common.{◌≡◌, ◌≢◌, ℕ, zero, suc, ◌<◌, Bool, true, false, List, [], ◌∷◌, ◌++◌, length, map, get_or, is_some, Result, Ok, Err, if◌then◌else◌, refl, sym, ap, ◌∙◌, append_assoc, arith, rules}
+use Rattle.std.proofs.Common.{◌≡◌, AllPairs, flat_map, ℕ, zero, suc, ◌<◌, Bool, true, false, List, [], ◌∷◌, ◌++◌, length, map, get_or, is_some, Result, Ok, Err, if◌then◌else◌, refl, sym, ap, ◌∙◌, append_assoc, arith, rules}
 use Rattle.std.proofs.lemmas.Bool.{false≢true}
 use Rattle.std.proofs.lemmas.Bool.Decides.{Decides-eqb}
 use Rattle.std.proofs.lemmas.Slice.Eq.{bytes_eq-Decides}
@@ -36,27 +36,34 @@ pub same_ok : {A : Type 0} (x y : A) → read_as x ≡ read_as y → x ≡ y
 same_ok x y h = search rules
 
 -- a test that has to have failed
-was_false : {A : Type 0} (b : Bool) (e : LayoutFault) (x y : A) → (if b then Err e else Ok x) ≡ Ok y → (b ≡ false) × (x ≡ y)
+pub was_false : {A : Type 0} (b : Bool) (e : LayoutFault) (x y : A) → (if b then Err e else Ok x) ≡ Ok y → (b ≡ false) × (x ≡ y)
 was_false true e x y h = search rules
 was_false false e x y h = (refl, same_ok x y h)
 
-module _ {K : Type 0} (same : K → K → Bool) (reflexive : (k : K) → same k k ≡ true) where
+-- no key is the same as an earlier one
+abbrev pub Apart : {K : Type 0} → (K → K → Bool) → List K → Type 0
+Apart same keys = AllPairs (λ a b. same b a ≡ false) keys
+
+pub apart_distinct : {K : Type 0} (same : K → K → Bool) → ((k : K) → same k k ≡ true) → (keys : List K) → Apart same keys → Distinct keys
+apart_distinct same reflexive keys h i j d below within = λ e. false≢true (sym (h i j d below within) ∙ (ap (same (get_or keys j d)) e ∙ reflexive (get_or keys j d)))
+
+module _ {K : Type 0} (same : K → K → Bool) where
   -- a key that none of the known ones equals differs from each
-  apart : (known : List (K × Place)) (key : K) → NonePasses (same key) known → (i : ℕ) (d : K) → i < length (keys_of known) → get_or (keys_of known) i d ≢ key
+  apart : (known : List (K × Place)) (key : K) → NonePasses (same key) known → (i : ℕ) (d : K) → i < length (keys_of known) → same key (get_or (keys_of known) i d) ≡ false
   apart [] key none i d lt = absurd (omega arith)
-  apart (e ∷ es) key none zero d lt = λ h. false≢true (sym none.0 ∙ (ap (same key) h ∙ reflexive key))
+  apart (e ∷ es) key none zero d lt = none.0
   apart (e ∷ es) key none (suc i) d lt = apart es key none.1 i d (omega arith)
 
   pub key_once : (twice : Double) (known : List (K × Place)) (key : K) (place : Place) (more : List (K × Place)) → note_key same twice known key place ≡ Ok more
-      → Distinct (keys_of known) → (keys_of more ≡ keys_of known ++ key ∷ []) × Distinct (keys_of more)
+      → Apart same (keys_of known) → (keys_of more ≡ keys_of known ++ key ∷ []) × Apart same (keys_of more)
   key_once twice known key place more h once =
       let new = was_false (is_some (lookup (same key) known)) _ (known ++ (key, place) ∷ []) more h in
       let keys : keys_of more ≡ keys_of known ++ key ∷ [] = rw (← new.1) (map-append (λ e. e.0) known ((key, place) ∷ [])) in
       let none = none_passes_from_lookup (same key) known (not_known same known key new.0) in
-      (keys, rw keys (all_pairs_push (λ a b. a ≢ b) (keys_of known) key once (λ i d lt. apart known key none i d lt)))
+      (keys, rw keys (all_pairs_push (λ a b. same b a ≡ false) (keys_of known) key once (λ i d lt. apart known key none i d lt)))
 
   pub each_once : (twice : Double) (table : TableName) (n : ℕ) (keys : List K) (known more : List (K × Place)) → note_each same twice table n keys known ≡ Ok more
-      → Distinct (keys_of known) → (keys_of more ≡ keys_of known ++ keys) × Distinct (keys_of more)
+      → Apart same (keys_of known) → (keys_of more ≡ keys_of known ++ keys) × Apart same (keys_of more)
   unfolding note_each
   each_once twice table n [] known more h once =
       let e : known ≡ more = same_ok known more h in
@@ -69,7 +76,7 @@ module _ {K : Type 0} (same : K → K → Bool) (reflexive : (k : K) → same k 
       (rest.0 ∙ (ap (λ ks. ks ++ keys) noted.0 ∙ append_assoc (keys_of known) (key ∷ []) keys), rest.1)
 
   pub all_once : (twice : Double) (place : Place) (keys : List K) (known more : List (K × Place)) → note_all same twice place keys known ≡ Ok more
-      → Distinct (keys_of known) → (keys_of more ≡ keys_of known ++ keys) × Distinct (keys_of more)
+      → Apart same (keys_of known) → (keys_of more ≡ keys_of known ++ keys) × Apart same (keys_of more)
   unfolding note_all
   all_once twice place [] known more h once =
       let e : known ≡ more = same_ok known more h in
@@ -95,22 +102,27 @@ same_element-refl (Border b) = (Decides-eqb b.0 b.0).1 refl
 pub same_port-refl : (p : Port) → same_port p p ≡ true
 same_port-refl p = rw (same_element-refl p.element) ((Decides-eqb _ _).1 refl)
 
-pub nothing_twice : {A : Type 0} → Distinct {A = A} []
-nothing_twice i j d ij lt = absurd (omega arith)
+pub nothing_twice : {A : Type 0} (same : A → A → Bool) → Apart same []
+nothing_twice same i j d ij lt = absurd (omega arith)
 
--- joined ports
-pub joints_once : (n : ℕ) (joints : List Joint) (known more : List (Port × Place)) → note_lists same_port double.Joint ports_joined named.Joint n joints known ≡ Ok more
-    → Distinct (keys_of known) → (keys_of more ≡ keys_of known ++ joined_ports joints) × Distinct (keys_of more)
-unfolding note_lists
-joints_once n [] known more h once =
-    let e : known ≡ more = same_ok known more h in
-    rw (← e) (sym (append-nil (keys_of known)), once)
-joints_once n (joint ∷ joints) known more h once =
-    let place : Place = record { table = named.Joint; entry = n } in
-    let first = came_from (note_all same_port double.Joint place (ports_joined joint) known) (λ m. note_lists same_port double.Joint ports_joined named.Joint (suc n) joints m) more h in
-    let noted = all_once same_port same_port-refl double.Joint place (ports_joined joint) known first.0 first.1 once in
-    let rest = joints_once (suc n) joints first.0 more first.2 noted.1 in
-    (rest.0 ∙ (ap (λ ks. ks ++ joined_ports joints) noted.0 ∙ append_assoc (keys_of known) (ports_joined joint) (joined_ports joints)), rest.1)
+-- the keys of the entries of a table, one list after the other
+module _ {K A : Type 0} (same : K → K → Bool) (keys_in : A → List K) where
+  pub lists_once : (twice : Double) (table : TableName) (n : ℕ) (xs : List A) (known more : List (K × Place)) → note_lists same twice keys_in table n xs known ≡ Ok more
+      → Apart same (keys_of known) → (keys_of more ≡ keys_of known ++ flat_map keys_in xs) × Apart same (keys_of more)
+  unfolding note_lists
+  lists_once twice table n [] known more h once =
+      let e : known ≡ more = same_ok known more h in
+      rw (← e) (sym (append-nil (keys_of known)), once)
+  lists_once twice table n (x ∷ xs) known more h once =
+      let place : Place = record { table = table; entry = n } in
+      let first = came_from (note_all same twice place (keys_in x) known) (λ m. note_lists same twice keys_in table (suc n) xs m) more h in
+      let noted = all_once same twice place (keys_in x) known first.0 first.1 once in
+      let rest = lists_once twice table (suc n) xs first.0 more first.2 noted.1 in
+      (rest.0 ∙ (ap (λ ks. ks ++ flat_map keys_in xs) noted.0 ∙ append_assoc (keys_of known) (keys_in x) (flat_map keys_in xs)), rest.1)
+
+pub joined-flat : (joints : List Joint) → flat_map ports_joined joints ≡ joined_ports joints
+joined-flat [] = refl
+joined-flat (joint ∷ joints) = ap (λ ports. joint.first ∷ joint.second ∷ ports) (joined-flat joints)
 
 -- what a step keeps of each entry is kept of the list
 pub each_keeps : {A B C : Type 0} (step : Place → A → Result B LayoutFault) (f : A → C) (g : B → C) → ((place : Place) (x : A) (y : B) → step place x ≡ Ok y → g y ≡ f x)

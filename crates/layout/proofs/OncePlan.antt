@@ -15,18 +15,18 @@ use Rattle.layout.specs.Written.{DetectorText, RouteText, LayoutText}
 use Rattle.layout.specs.Reading.{◌>>=◌, each_of, all_of}
 use Rattle.layout.specs.Known.{same_name, same_port, note_key, note_each}
 use Rattle.layout.specs.Limits.{limits_of, all_within}
-use Rattle.layout.specs.Doubles.{same_id, ground_of, directory_of, ids_of, reported_of, joined_of, signalled_of}
+use Rattle.layout.specs.Doubles.{ports_joined, same_id, ground_of, directory_of, ids_of, reported_of, joined_of, signalled_of}
 use Rattle.layout.specs.Resolving.{section_named, signal_named, exit_named, port_named, side_named, route_named, track_named, point_named, joint_named, signal_entry, detector_entry, route_entry, section_reported, plan_of, names_of, entries_of, ports_once}
 use Rattle.layout.specs.Once.{Distinct, all_names, all_ids, joined_ports, Once}
-use Rattle.layout.proofs.OnceLemmas.{came_from, read_as, same_ok, key_once, each_once, joints_once, same_name-refl, same_id-refl, same_port-refl, nothing_twice, each_keeps}
+use Rattle.layout.proofs.OnceLemmas.{came_from, read_as, same_ok, Apart, apart_distinct, key_once, each_once, lists_once, joined-flat, same_name-refl, same_id-refl, same_port-refl, nothing_twice, each_keeps}
 
 -- all names of a text, and all identities
-unfoldable names_in : LayoutText → List (List ℕ)
+unfoldable pub names_in : LayoutText → List (List ℕ)
 names_in text =
     text.station.name ∷ (text.sections ++ (map (λ t. t.name) text.tracks ++ (map (λ p. p.name) text.points ++ (text.borders
     ++ (map (λ s. s.name) text.signals ++ (map (λ d. d.name) text.detectors ++ map (λ r. r.name) text.routes))))))
 
-unfoldable ids_in : LayoutText → List ℕ
+unfoldable pub ids_in : LayoutText → List ℕ
 ids_in text = text.station.id ∷ (map (λ p. p.id) text.points ++ (map (λ s. s.id) text.signals ++ map (λ d. d.id) text.detectors))
 
 -- lists that were put behind one another one by one
@@ -43,47 +43,47 @@ grouped_all k a b c d e f g = append_assoc ((k ∷ (a ++ (b ++ (c ++ d)))) ++ e)
 -- the names of the directory, of what lies on the ground first
 module _ (text : LayoutText) where
   ground-once : (known : List (List ℕ × Place)) → ground_of text ≡ Ok known
-      → (keys_of known ≡ text.station.name ∷ (text.sections ++ (map (λ t. t.name) text.tracks ++ (map (λ p. p.name) text.points ++ text.borders)))) × Distinct (keys_of known)
+      → (keys_of known ≡ text.station.name ∷ (text.sections ++ (map (λ t. t.name) text.tracks ++ (map (λ p. p.name) text.points ++ text.borders)))) × Apart same_name (keys_of known)
   unfolding ground_of
   ground-once known h =
       let one = came_from (note_key same_name double.Name [] text.station.name (record { table = named.Station; entry = 1 })) (λ v0. note_each same_name double.Name named.Section 1 text.sections v0 >>= λ v1. note_each same_name double.Name named.Track 1 (map (λ x. x.name) text.tracks) v1 >>= λ v2. note_each same_name double.Name named.Point 1 (map (λ x. x.name) text.points) v2 >>= λ v3. note_each same_name double.Name named.Border 1 text.borders v3) known h in
       let two = came_from (note_each same_name double.Name named.Section 1 text.sections one.0) (λ v1. note_each same_name double.Name named.Track 1 (map (λ x. x.name) text.tracks) v1 >>= λ v2. note_each same_name double.Name named.Point 1 (map (λ x. x.name) text.points) v2 >>= λ v3. note_each same_name double.Name named.Border 1 text.borders v3) known one.2 in
       let three = came_from (note_each same_name double.Name named.Track 1 (map (λ x. x.name) text.tracks) two.0) (λ v2. note_each same_name double.Name named.Point 1 (map (λ x. x.name) text.points) v2 >>= λ v3. note_each same_name double.Name named.Border 1 text.borders v3) known two.2 in
       let four = came_from (note_each same_name double.Name named.Point 1 (map (λ x. x.name) text.points) three.0) (λ v3. note_each same_name double.Name named.Border 1 text.borders v3) known three.2 in
-      let k1 = key_once same_name same_name-refl double.Name [] text.station.name _ one.0 one.1 nothing_twice in
-      let k2 = each_once same_name same_name-refl double.Name named.Section 1 text.sections one.0 two.0 two.1 k1.1 in
-      let k3 = each_once same_name same_name-refl double.Name named.Track 1 _ two.0 three.0 three.1 k2.1 in
-      let k4 = each_once same_name same_name-refl double.Name named.Point 1 _ three.0 four.0 four.1 k3.1 in
-      let k5 = each_once same_name same_name-refl double.Name named.Border 1 text.borders four.0 known four.2 k4.1 in
+      let k1 = key_once same_name double.Name [] text.station.name _ one.0 one.1 (nothing_twice same_name) in
+      let k2 = each_once same_name double.Name named.Section 1 text.sections one.0 two.0 two.1 k1.1 in
+      let k3 = each_once same_name double.Name named.Track 1 _ two.0 three.0 three.1 k2.1 in
+      let k4 = each_once same_name double.Name named.Point 1 _ three.0 four.0 four.1 k3.1 in
+      let k5 = each_once same_name double.Name named.Border 1 text.borders four.0 known four.2 k4.1 in
       (rw (k5.0, k4.0, k3.0, k2.0, k1.0) (grouped text.station.name text.sections _ _ text.borders), k5.1)
 
-  directory-once : (known : List (List ℕ × Place)) → directory_of text ≡ Ok known → (keys_of known ≡ names_in text) × Distinct (keys_of known)
+  directory-once : (known : List (List ℕ × Place)) → directory_of text ≡ Ok known → (keys_of known ≡ names_in text) × Apart same_name (keys_of known)
   unfolding directory_of names_in
   directory-once known h =
       let one = came_from (ground_of text) (λ v0. note_each same_name double.Name named.Signal 1 (map (λ x. x.name) text.signals) v0 >>= λ v1. note_each same_name double.Name named.Detector 1 (map (λ x. x.name) text.detectors) v1 >>= λ v2. note_each same_name double.Name named.Route 1 (map (λ x. x.name) text.routes) v2) known h in
       let two = came_from (note_each same_name double.Name named.Signal 1 (map (λ x. x.name) text.signals) one.0) (λ v1. note_each same_name double.Name named.Detector 1 (map (λ x. x.name) text.detectors) v1 >>= λ v2. note_each same_name double.Name named.Route 1 (map (λ x. x.name) text.routes) v2) known one.2 in
       let three = came_from (note_each same_name double.Name named.Detector 1 (map (λ x. x.name) text.detectors) two.0) (λ v2. note_each same_name double.Name named.Route 1 (map (λ x. x.name) text.routes) v2) known two.2 in
       let k1 = ground-once one.0 one.1 in
-      let k2 = each_once same_name same_name-refl double.Name named.Signal 1 _ one.0 two.0 two.1 k1.1 in
-      let k3 = each_once same_name same_name-refl double.Name named.Detector 1 _ two.0 three.0 three.1 k2.1 in
-      let k4 = each_once same_name same_name-refl double.Name named.Route 1 _ three.0 known three.2 k3.1 in
+      let k2 = each_once same_name double.Name named.Signal 1 _ one.0 two.0 two.1 k1.1 in
+      let k3 = each_once same_name double.Name named.Detector 1 _ two.0 three.0 three.1 k2.1 in
+      let k4 = each_once same_name double.Name named.Route 1 _ three.0 known three.2 k3.1 in
       (rw (k4.0, k3.0, k2.0, k1.0) (grouped_all text.station.name text.sections _ _ text.borders _ _ _), k4.1)
 
-  ids-once : (known : List (ℕ × Place)) → ids_of text ≡ Ok known → (keys_of known ≡ ids_in text) × Distinct (keys_of known)
+  ids-once : (known : List (ℕ × Place)) → ids_of text ≡ Ok known → (keys_of known ≡ ids_in text) × Apart same_id (keys_of known)
   unfolding ids_of ids_in
   ids-once known h =
       let one = came_from (note_key same_id double.Name [] text.station.id (record { table = named.Station; entry = 1 })) (λ v0. note_each same_id double.Name named.Point 1 (map (λ x. x.id) text.points) v0 >>= λ v1. note_each same_id double.Name named.Signal 1 (map (λ x. x.id) text.signals) v1 >>= λ v2. note_each same_id double.Name named.Detector 1 (map (λ x. x.id) text.detectors) v2) known h in
       let two = came_from (note_each same_id double.Name named.Point 1 (map (λ x. x.id) text.points) one.0) (λ v1. note_each same_id double.Name named.Signal 1 (map (λ x. x.id) text.signals) v1 >>= λ v2. note_each same_id double.Name named.Detector 1 (map (λ x. x.id) text.detectors) v2) known one.2 in
       let three = came_from (note_each same_id double.Name named.Signal 1 (map (λ x. x.id) text.signals) two.0) (λ v2. note_each same_id double.Name named.Detector 1 (map (λ x. x.id) text.detectors) v2) known two.2 in
-      let k1 = key_once same_id same_id-refl double.Name [] text.station.id _ one.0 one.1 nothing_twice in
-      let k2 = each_once same_id same_id-refl double.Name named.Point 1 _ one.0 two.0 two.1 k1.1 in
-      let k3 = each_once same_id same_id-refl double.Name named.Signal 1 _ two.0 three.0 three.1 k2.1 in
-      let k4 = each_once same_id same_id-refl double.Name named.Detector 1 _ three.0 known three.2 k3.1 in
+      let k1 = key_once same_id double.Name [] text.station.id _ one.0 one.1 (nothing_twice same_id) in
+      let k2 = each_once same_id double.Name named.Point 1 _ one.0 two.0 two.1 k1.1 in
+      let k3 = each_once same_id double.Name named.Signal 1 _ two.0 three.0 three.1 k2.1 in
+      let k4 = each_once same_id double.Name named.Detector 1 _ three.0 known three.2 k3.1 in
       (rw (k4.0, k3.0, k2.0, k1.0) (grouped_ids text.station.id (map (λ x. x.id) text.points) (map (λ x. x.id) text.signals) (map (λ x. x.id) text.detectors)), k4.1)
 
 -- each entry keeps its name and its identity
 module _ (directory : List (List ℕ × Place)) (place : Place) where
-  track-keeps : (x : WrittenTrack) (y : Track) → track_named directory place x ≡ Ok y → y.name ≡ x.name
+  pub track-keeps : (x : WrittenTrack) (y : Track) → track_named directory place x ≡ Ok y → y.name ≡ x.name
   unfolding track_named
   track-keeps x y h =
       let one = came_from (section_named directory place x.section) (λ v0. Ok (record { name = x.name; section = v0 })) y h in
@@ -91,7 +91,7 @@ module _ (directory : List (List ℕ × Place)) (place : Place) where
       let e : y ≡ made = sym (same_ok made y one.2) in
       ap (λ e. e.name) e
 
-  point-keeps : (x : WrittenPoint) (y : Point) → point_named directory place x ≡ Ok y → (y.name ≡ x.name) × (y.id ≡ x.id)
+  pub point-keeps : (x : WrittenPoint) (y : Point) → point_named directory place x ≡ Ok y → (y.name ≡ x.name) × (y.id ≡ x.id)
   unfolding point_named
   point-keeps x y h =
       let one = came_from (section_named directory place x.section) (λ v0. Ok (record { name = x.name; id = x.id; section = v0 })) y h in
@@ -99,7 +99,7 @@ module _ (directory : List (List ℕ × Place)) (place : Place) where
       let e : y ≡ made = sym (same_ok made y one.2) in
       (ap (λ e. e.name) e, ap (λ e. e.id) e)
 
-  signal-keeps : (x : WrittenSignal) (y : Signal) → signal_entry directory place x ≡ Ok y → (y.name ≡ x.name) × (y.id ≡ x.id)
+  pub signal-keeps : (x : WrittenSignal) (y : Signal) → signal_entry directory place x ≡ Ok y → (y.name ≡ x.name) × (y.id ≡ x.id)
   unfolding signal_entry
   signal-keeps x y h =
       let one = came_from (port_named directory place x.at) (λ v0. Ok (record { name = x.name; id = x.id; at = v0 })) y h in
@@ -107,7 +107,7 @@ module _ (directory : List (List ℕ × Place)) (place : Place) where
       let e : y ≡ made = sym (same_ok made y one.2) in
       (ap (λ e. e.name) e, ap (λ e. e.id) e)
 
-  detector-keeps : (x : DetectorText) (y : DetectorEntry) → detector_entry directory place x ≡ Ok y → (y.name ≡ x.name) × (y.id ≡ x.id)
+  pub detector-keeps : (x : DetectorText) (y : DetectorEntry) → detector_entry directory place x ≡ Ok y → (y.name ≡ x.name) × (y.id ≡ x.id)
   unfolding detector_entry
   detector-keeps x y h =
       let one = came_from (all_of (section_named directory place) x.sections) (λ v0. Ok (record { name = x.name; id = x.id; sections = v0 })) y h in
@@ -115,7 +115,7 @@ module _ (directory : List (List ℕ × Place)) (place : Place) where
       let e : y ≡ made = sym (same_ok made y one.2) in
       (ap (λ e. e.name) e, ap (λ e. e.id) e)
 
-  route-keeps : (x : RouteText) (y : RouteEntry) → route_entry directory place x ≡ Ok y → y.name ≡ x.name
+  pub route-keeps : (x : RouteText) (y : RouteEntry) → route_entry directory place x ≡ Ok y → y.name ≡ x.name
   unfolding route_entry
   route-keeps x y h =
       let one = came_from (signal_named directory place x.entry) (λ v0. exit_named directory place x.exit >>= λ v1. all_of (port_named directory place) x.path >>= λ v2. all_of (side_named directory place) x.points >>= λ v3. all_of (side_named directory place) x.flank >>= λ v4. all_of (section_named directory place) x.approach >>= λ v5. all_of (route_named directory place) x.extra >>= λ v6. Ok (record { name = x.name; entry = v0; exit = v1; path = v2; points = v3; flank = v4; approach = v5; extra = v6 })) y h in
@@ -130,7 +130,7 @@ module _ (directory : List (List ℕ × Place)) (place : Place) where
       ap (λ e. e.name) e
 
 -- so does the layout
-plan-keeps : (directory : List (List ℕ × Place)) (text : LayoutText) (plan : Plan) → plan_of directory text ≡ Ok plan → (all_names plan ≡ names_in text) × (all_ids plan ≡ ids_in text)
+pub plan-keeps : (directory : List (List ℕ × Place)) (text : LayoutText) (plan : Plan) → plan_of directory text ≡ Ok plan → (all_names plan ≡ names_in text) × (all_ids plan ≡ ids_in text)
 unfolding plan_of all_names all_ids names_in ids_in
 plan-keeps directory text plan h =
     let one = came_from (each_of (track_named directory) named.Track 1 text.tracks) (λ v0. each_of (point_named directory) named.Point 1 text.points >>= λ v1. each_of (joint_named directory) named.Joint 1 text.joints >>= λ v2. each_of (signal_entry directory) named.Signal 1 text.signals >>= λ v3. each_of (detector_entry directory) named.Detector 1 text.detectors >>= λ v4. each_of (route_entry directory) named.Route 1 text.routes >>= λ v5. Ok (record { station = text.station; sections = text.sections; tracks = v0; points = v1; borders = text.borders; joints = v2; signals = v3; detectors = v4; routes = v5 })) plan h in
@@ -157,12 +157,13 @@ unfolding ports_once joined_of signalled_of
 ports-once plan h =
     let one = came_from (joined_of plan.joints) (λ v0. signalled_of plan.signals >>= λ v1. Ok tt) tt h in
     let two = came_from (signalled_of plan.signals) (λ v1. Ok tt) tt one.2 in
-    let joined = joints_once 1 plan.joints [] one.0 one.1 nothing_twice in
-    let signalled = each_once same_port same_port-refl double.Joint named.Signal 1 (map (λ s. s.at) plan.signals) [] two.0 two.1 nothing_twice in
-    (rw (← joined.0) joined.1, rw (← signalled.0) signalled.1)
+    let joined = lists_once same_port ports_joined double.Joint named.Joint 1 plan.joints [] one.0 one.1 (nothing_twice same_port) in
+    let signalled = each_once same_port double.Joint named.Signal 1 (map (λ s. s.at) plan.signals) [] two.0 two.1 (nothing_twice same_port) in
+    let ports = joined.0 ∙ joined-flat plan.joints in
+    (rw (← ports) (apart_distinct same_port same_port-refl (keys_of one.0) joined.1), rw (← signalled.0) (apart_distinct same_port same_port-refl (keys_of two.0) signalled.1))
 
 -- what the directory and the identities are
-names-once : (text : LayoutText) (known : List (List ℕ × Place)) → names_of text ≡ Ok known → Distinct (names_in text) × Distinct (ids_in text)
+pub names-once : (text : LayoutText) (known : List (List ℕ × Place)) → names_of text ≡ Ok known → Apart same_name (names_in text) × Distinct (ids_in text)
 unfolding names_of
 names-once text known h =
     let one = came_from (limits_of text) (λ v0. directory_of text >>= λ v1. ids_of text >>= λ v2. Ok v1) known h in
@@ -170,7 +171,7 @@ names-once text known h =
     let three = came_from (ids_of text) (λ v2. Ok two.0) known two.2 in
     let names = directory-once text two.0 two.1 in
     let ids = ids-once text three.0 three.1 in
-    (rw (← names.0) names.1, rw (← ids.0) ids.1)
+    (rw (← names.0) names.1, rw (← ids.0) (apart_distinct same_id same_id-refl (keys_of three.0) ids.1))
 
 pub once_of : (text : LayoutText) (plan : Plan) → entries_of text ≡ Ok plan → ports_once plan ≡ Ok tt → Once plan
 unfolding entries_of
@@ -184,7 +185,7 @@ once_of text plan h ports =
     let kept = plan-keeps one.0 text plan (three.1 ∙ ap read_as e) in
     let at = ports-once plan ports in
     record {
-      names = rw kept.0 once.0;
+      names = rw kept.0 (apart_distinct same_name same_name-refl (names_in text) once.0);
       ids = rw kept.1 once.1;
       joined = at.0;
       signalled = at.1;

@@ -8,4 +8,5 @@ pub mod Known
 pub mod Doubles
 pub mod Resolving
 pub mod Once
+pub mod Station
 pub mod Messages

@@ -5,6 +5,7 @@ ghost use Rattle.toml.specs.View.{table_view};
 ghost use Rattle.layout.specs.Reading.{Gives};
 ghost use Rattle.layout.specs.Limits.{all_within};
 ghost use Rattle.layout.specs.Once.{Once};
+ghost use Rattle.layout.specs.Station.{IsStation};
 ghost use Rattle.layout.specs.Resolving.{names_of, entries_of, ports_once, layout_of, layout_in, section_reported};
 ghost use Rattle.layout.specs.declared.fault.TableName.TheVariants as named;
 
@@ -57,7 +58,8 @@ impl Model for Draft {
 
 /// The layout of one station: what stands where, and which routes there are. An entry is named by its
 /// place in its list, counted from 0. No name and no identity is used twice, no port is joined twice, and
-/// no two signals stand at one.
+/// no two signals stand at one. It is a station: it names only what is there, keeps every limit, and
+/// reports each section once.
 #[derive(Debug, Drop)]
 pub struct Layout {
     draft: Draft,
@@ -66,12 +68,13 @@ pub struct Layout {
 impl Model for Layout {
     ghost use Rattle.layout.specs.Entries.{Plan};
     ghost use Rattle.layout.specs.Once.{Once};
+    ghost use Rattle.layout.specs.Station.{IsStation};
 
     ghost Value = { Plan };
 
     ghost view = { λ l. l.draft };
 
-    ghost invariant = { λ l. Once l.draft };
+    ghost invariant = { λ l. Once l.draft × IsStation l.draft };
 }
 
 /// Tests that a section is reported by some detector.
@@ -145,6 +148,7 @@ fn ports_once(alloc: Global, draft: &Draft) -> Result<(), LayoutFault>
 fn layout_of(alloc: Global, document: &Table) -> Result<Layout, LayoutFault>
     ensures read { Gives (λ l. l) result (layout_of (table_view document.now)) }
     ensures once { IfOk result (λ l. Once l) }
+    ensures station { IfOk result (λ l. IsStation l) }
 {
     let written = written(alloc, document)?;
     let draft = entries_of(alloc, &written)?;
@@ -213,6 +217,7 @@ impl Layout {
     pub fn read(alloc: Global, text: &str) -> Result<Layout, LayoutFault>
         ensures read { Gives (λ l. l) result (layout_in text.now) }
         ensures once { IfOk result (λ l. Once l) }
+        ensures station { IfOk result (λ l. IsStation l) }
     {
         let document = document(alloc, text)?;
         layout_of(alloc, &document)
@@ -261,10 +266,12 @@ impl Layout {
         &self.draft.borders
     }
 
-    /// The joints. In no layout a name, an identity, a joined port or a signal's port stands twice.
+    /// The joints. In no layout a name, an identity, a joined port or a signal's port stands twice. Every
+    /// layout is a station: it names only what is there, keeps every limit, and reports each section once.
     pub fn joints(&self) -> &[Joint]
         ensures lent { result.now ≡ self.now.joints }
         ensures once { Once self.now }
+        ensures station { IsStation self.now }
     {
         &self.draft.joints
     }

@@ -1,0 +1,15 @@
+use Rattle.std.proofs.Common.{sym, ap, ◌∙◌, subst}
+use Rattle.control_table.specs.Table.{AreProtections}
+use Rattle.control_table.specs.Judging.{TableRow}
+use Rattle.control_table.proofs.Joints.{one-beyond}
+use Rattle.control_table.proofs.ConflictLaws.{get-below, row-facts, protections-are}
+use Rattle.control_table.proofs.checked.Checked.protections.Goals as goal
+
+pub returns : goal.returns
+returns c =
+    let l = c.args.self.now in
+    let row = c.row_at.result.now in
+    let found = get-below l.routes c.args.route.0 c.requires in
+    let one = one-beyond l c.row_at.ensures.once in
+    let facts = row-facts l one c.args.route found.0 row found.1 c.row_at.ensures.row in
+    subst (AreProtections c.args.self.now c.args.route) (sym (c.deref.ensures.value ∙ ap (λ (x : TableRow). x.protections) c.behind-self.view_is)) (protections-are l one c.args.route found.0 row found.1 facts)

@@ -1,0 +1,110 @@
+-- The identities that a text writes are those of nodes.
+use Rattle.std.proofs.Common.{◌≡◌, ℕ, suc, ◌≤◌, ◌&&◌, Bool, true, false, ℤ, pos, negsuc, List, [], ◌∷◌, map, All, codes, Option, Some, None, nat_le, Result, Ok, Err, if◌then◌else◌, refl, sym, ap, subst, ◌∙◌, arith, rules}
+use Rattle.std.proofs.lemmas.Bool.Decides.{Decides-and}
+use Rattle.std.proofs.lemmas.List.Elements.{All-nil, All-cons, All-append, All-map, All-weaker}
+use Rattle.toml.specs.Data.{Data, Members, as_integer, get_member}
+use Rattle.layout.specs.declared.fault.LayoutFault.{LayoutFault}
+use Rattle.layout.specs.declared.fault.LayoutFault.TheVariants.{WrongKind}
+use Rattle.layout.specs.declared.fault.Place.{Place}
+use Rattle.layout.specs.declared.fault.TableName.{TableName}
+use Rattle.layout.specs.declared.fault.TableName.TheVariants as named
+use Rattle.layout.specs.declared.entries.Station.{Station}
+use Rattle.layout.specs.declared.written.WrittenPoint.{WrittenPoint}
+use Rattle.layout.specs.declared.written.WrittenSignal.{WrittenSignal}
+use Rattle.layout.specs.Written.{DetectorText, LayoutText}
+use Rattle.layout.specs.Reading.{Read, ◌>>=◌, each_of}
+use Rattle.layout.specs.Values.{field_at, array_at, table_at, name_at, id_of, id_at}
+use Rattle.layout.specs.Text.{key_place, name_field, id_field, port_field, names_field, key_or_none, station_at, track_at, point_at, joint_at, signal_at, detector_at, route_at, items_at, entries_at, station_in, text_of}
+use Rattle.layout.specs.Station.{IsNodeId}
+use Rattle.layout.proofs.OnceLemmas.{came_from, same_ok}
+use Rattle.layout.proofs.Steps.{le-decides, passed, each-all}
+use Rattle.layout.proofs.OncePlan.{ids_in}
+
+id-of-node : (place : Place) (o : Option ℤ) (n : ℕ) → id_of place o ≡ Ok n → IsNodeId n
+id-of-node place None n h = search rules
+id-of-node place (Some (pos k)) n h =
+    let is = passed (nat_le 1 k && nat_le k 4294967295) (WrongKind place) k n h in
+    subst IsNodeId is.1 ((Decides-and (nat_le 1 k) (nat_le k 4294967295) (le-decides 1 k) (le-decides k 4294967295)).0 is.0)
+id-of-node place (Some (negsuc k)) n h = search rules
+
+id-field-node : (key : List ℕ) (place : Place) (fields : Members) (n : ℕ) → id_field key place fields ≡ Ok n → IsNodeId n
+unfolding id_field
+id-field-node key place fields n h =
+    let d = came_from (field_at key place fields) _ n h in
+    id-of-node place (as_integer d.0) n d.2
+
+station-node : (place : Place) (d : Data) (s : Station) → station_at place d ≡ Ok s → IsNodeId s.id
+unfolding station_at
+station-node place d s h =
+    let fields = came_from (table_at place d) _ s h in
+    let name = came_from (name_field (codes "name") place fields.0) _ s fields.2 in
+    let id = came_from (id_field (codes "id") place fields.0) _ s name.2 in
+    let key = came_from (key_or_none place (get_member (codes "key") fields.0)) (λ key. Ok (record { name = name.0; id = id.0; key = key })) s id.2 in
+    let made : Station = record { name = name.0; id = id.0; key = key.0 } in
+    subst (λ s. IsNodeId s.id) (same_ok made s key.2) (id-field-node (codes "id") place fields.0 id.0 id.1)
+
+point-node : (place : Place) (d : Data) (p : WrittenPoint) → Unit {0} → point_at place d ≡ Ok p → IsNodeId p.id
+unfolding point_at
+point-node place d p _ h =
+    let fields = came_from (table_at place d) _ p h in
+    let name = came_from (name_field (codes "name") place fields.0) _ p fields.2 in
+    let id = came_from (id_field (codes "id") place fields.0) _ p name.2 in
+    let section = came_from (name_field (codes "section") place fields.0) (λ s. Ok (record { name = name.0; id = id.0; section = s })) p id.2 in
+    let made : WrittenPoint = record { name = name.0; id = id.0; section = section.0 } in
+    subst (λ p. IsNodeId p.id) (same_ok made p section.2) (id-field-node (codes "id") place fields.0 id.0 id.1)
+
+signal-node : (place : Place) (d : Data) (s : WrittenSignal) → Unit {0} → signal_at place d ≡ Ok s → IsNodeId s.id
+unfolding signal_at
+signal-node place d s _ h =
+    let fields = came_from (table_at place d) _ s h in
+    let name = came_from (name_field (codes "name") place fields.0) _ s fields.2 in
+    let id = came_from (id_field (codes "id") place fields.0) _ s name.2 in
+    let at = came_from (port_field (codes "at") place fields.0) (λ at. Ok (record { name = name.0; id = id.0; at = at })) s id.2 in
+    let made : WrittenSignal = record { name = name.0; id = id.0; at = at.0 } in
+    subst (λ s. IsNodeId s.id) (same_ok made s at.2) (id-field-node (codes "id") place fields.0 id.0 id.1)
+
+detector-node : (place : Place) (d : Data) (x : DetectorText) → Unit {0} → detector_at place d ≡ Ok x → IsNodeId x.id
+unfolding detector_at
+detector-node place d x _ h =
+    let fields = came_from (table_at place d) _ x h in
+    let name = came_from (name_field (codes "name") place fields.0) _ x fields.2 in
+    let id = came_from (id_field (codes "id") place fields.0) _ x name.2 in
+    let sections = came_from (names_field (codes "sections") place fields.0) (λ ss. Ok (record { name = name.0; id = id.0; sections = ss })) x id.2 in
+    let made : DetectorText = record { name = name.0; id = id.0; sections = sections.0 } in
+    subst (λ x. IsNodeId x.id) (same_ok made x sections.2) (id-field-node (codes "id") place fields.0 id.0 id.1)
+
+entries-node : {A : Type 0} (key : List ℕ) (table : TableName) (entry : Place → Data → Read A) (P : A → Type 0) → ((place : Place) (d : Data) (x : A) → Unit {0} → entry place d ≡ Ok x → P x)
+    → (document : Members) (xs : List A) → entries_at key table entry document ≡ Ok xs → All P xs
+unfolding entries_at
+entries-node key table entry P makes document xs h =
+    let items = came_from (items_at key table document) _ xs h in
+    each-all entry (λ _. Unit {0}) P makes table 1 items.0 xs (λ k d lt. tt) items.2
+
+the-station-node : (document : Members) (s : Station) → station_in document ≡ Ok s → IsNodeId s.id
+unfolding station_in
+the-station-node document s h =
+    let d = came_from (field_at (codes "station") (key_place named.Station) document) _ s h in
+    let fields = came_from (table_at (key_place named.Station) d.0) (λ _. station_at (record { table = named.Station; entry = 1 }) d.0) s d.2 in
+    station-node (record { table = named.Station; entry = 1 }) d.0 s fields.2
+
+pub text-nodes : (document : Members) (text : LayoutText) → text_of document ≡ Ok text → All IsNodeId (ids_in text)
+unfolding text_of ids_in
+text-nodes document text h =
+    let station = came_from (station_in document) _ text h in
+    let sections = came_from (entries_at (codes "section") named.Section name_at document) _ text station.2 in
+    let tracks = came_from (entries_at (codes "track") named.Track track_at document) _ text sections.2 in
+    let points = came_from (entries_at (codes "point") named.Point point_at document) _ text tracks.2 in
+    let borders = came_from (entries_at (codes "border") named.Border name_at document) _ text points.2 in
+    let joints = came_from (entries_at (codes "joint") named.Joint joint_at document) _ text borders.2 in
+    let signals = came_from (entries_at (codes "signal") named.Signal signal_at document) _ text joints.2 in
+    let detectors = came_from (entries_at (codes "detector") named.Detector detector_at document) _ text signals.2 in
+    let routes = came_from (entries_at (codes "route") named.Route route_at document) _ text detectors.2 in
+    let made : LayoutText = record { station = station.0; sections = sections.0; tracks = tracks.0; points = points.0; borders = borders.0; joints = joints.0; signals = signals.0; detectors = detectors.0; routes = routes.0 } in
+    let of_points = entries-node (codes "point") named.Point point_at (λ p. IsNodeId p.id) point-node document points.0 points.1 in
+    let of_signals = entries-node (codes "signal") named.Signal signal_at (λ s. IsNodeId s.id) signal-node document signals.0 signals.1 in
+    let of_detectors = entries-node (codes "detector") named.Detector detector_at (λ d. IsNodeId d.id) detector-node document detectors.0 detectors.1 in
+    let ids : All IsNodeId (ids_in made) =
+    All-cons IsNodeId station.0.id _ (the-station-node document station.0 station.1)
+    (All-append IsNodeId (map (λ p. p.id) points.0) _ (All-map IsNodeId (λ p. p.id) points.0 of_points)
+    (All-append IsNodeId (map (λ s. s.id) signals.0) (map (λ d. d.id) detectors.0) (All-map IsNodeId (λ s. s.id) signals.0 of_signals) (All-map IsNodeId (λ d. d.id) detectors.0 of_detectors))) in
+    subst (λ t. All IsNodeId (ids_in t)) (same_ok made text routes.2) ids
