@@ -1,3 +1,5 @@
 pub mod Runs
 pub mod Views
 pub mod Projection
+pub mod Order
+pub mod Quiet

@@ -1,6 +1,6 @@
 -- Each link of a world has a run of its own.
 use Rattle.std.proofs.Common.{◌≡◌, ◌≢◌, refl, sym, subst, ap, ◌∙◌, inl, inr, ℕ, ◌<◌, Bool, true, false, List, [], ◌∷◌, ◌++◌, length, Ok}
-use Rattle.std.specs.Prelude.{◌⊎◌, ◌==◌}
+use Rattle.std.specs.Prelude.{◌⊎◌, ◌==◌, if◌then◌else◌}
 use Rattle.rasta_core_link.specs.declared.identity.Role.{Role}
 use Rattle.rasta_core_link.specs.declared.identity.Role.TheVariants.{Client, Server}
 use Rattle.rasta_core_run.specs.Bag.{is_copy}
@@ -13,22 +13,14 @@ use Rattle.rasta_core_time.specs.Invariant.{InFlight, Timely}
 use Rattle.rasta_core_run.specs.Events.{AreForeign, Calls, Elsewhere, Event, IsAmong, Loses, MayCall, MayRun, Passes, Restarts, Start, run, started}
 use Rattle.rasta_pdu.specs.Reading.{reading}
 use Rattle.rasta_pdu.specs.SafetyCode.{IsIntact}
-use Rattle.rasta_core_network.specs.Links.{AreLinks, CallsOn, IsAmongAll, IsRun, Links, LinksEvent, LinksStart, LosesAny, MayCallOn, MayHappenTo, MayRunLinks, OnLink, PassesFor, RestartsOn, WasSent, begun, happened_to, run_links, seen, sent_by, sent_on, start_of, without_oldest_of_all}
-use Rattle.rasta_core_network.proofs.Runs.{goes_on}
-use Rattle.rasta_core_network.proofs.Views.{all_later, among_link, itself, loses_one, other_call, other_lost, other_number, other_restart, own_call, own_lost, own_restart, same_number}
+use Rattle.rasta_core_network.specs.EachLink.{AreTimely}
+use Rattle.rasta_core_network.specs.Links.{AreLinks, CallsOn, IsAmongAll, Links, LinksEvent, LinksStart, LosesAny, MayCallOn, MayHappenTo, MayRunLinks, OnLink, PassesFor, RestartsOn, WasSent, begun, events_on, happened_to, is_oldest_on, run_links, run_on, seen, sent_by, sent_on, start_of, without_oldest_of_all}
+use Rattle.rasta_core_network.proofs.Runs.{may_then, run_then}
+use Rattle.rasta_core_network.proofs.Views.{all_later, among_link, itself, loses_other, loses_own, other_call, other_lost, other_number, other_restart, own_call, own_lost, own_restart, same_number}
 
--- the laws of time for one link
-pub record Laws : Type 0 where
-  pub starts : (names : Names) (start : Start) → AreNames names → Timely names (started names start)
-  pub runs : (names : Names) (events : List Event) (ends : Ends) → AreNames names → Timely names ends → MayRun names events ends → Timely names (run events ends)
-
--- each link has had a run, and each datagram is of one of the links
-pub record AreRuns (count : ℕ) (names : ℕ → Names) (start : LinksStart) (links : Links) : Type 0 where
-  pub each : (link : ℕ) → link < count → IsRun (names link) (start_of link start) (seen link links)
-  pub numbered : Each (λ one. one.link < count) links.sent
-
-timely_after : Laws → (names : Names) (start : Start) (ends : Ends) → AreNames names → IsRun names start ends → Timely names ends
-timely_after laws names start ends are is = subst (λ (e : Ends). Timely names e) is.same (laws.runs names is.events (started names start) are (laws.starts names start are) is.may)
+-- every list of events of two ends keeps time
+abbrev pub KeepsTime : Type 0
+KeepsTime = (names : Names) (events : List Event) (ends : Ends) → AreNames names → Timely names ends → MayRun names events ends → Timely names (run events ends)
 
 -- ---- one datagram
 
@@ -66,11 +58,11 @@ foreign mine theirs who ends bytes datagram key servers client timely among same
     read = ap (λ k. reading k bytes) key ∙ ap (reading theirs.key) (sym same) ∙ flies.read
 
 -- what comes to an end of a link was sent on it, or isn't intact, or is of another link
-receives : Laws → (count : ℕ) (names : ℕ → Names) (start : LinksStart) (links : Links) → AreLinks count names → AreRuns count names start links
-    → (link : ℕ) → link < count → (who : Role) (bytes : List ℕ) (connection : ℕ)
-    → ((one : OnLink) × WasSent links bytes connection one) ⊎ (IsIntact (names link).key bytes → ⊥) → MayCall (names link) who (Receives bytes connection) (seen link links)
-receives laws count names start links are is link below who bytes connection (inr damaged) = inr (inl damaged)
-receives laws count names start links are is link below who bytes connection (inl (one, sent)) = by_link (one.link == link) refl where
+receives : (count : ℕ) (names : ℕ → Names) (links : Links) → AreLinks count names → AreTimely count names links → (link : ℕ) → link < count
+    → (who : Role) (bytes : List ℕ) (connection : ℕ) → ((one : OnLink) × WasSent links bytes connection one) ⊎ (IsIntact (names link).key bytes → ⊥)
+    → MayCall (names link) who (Receives bytes connection) (seen link links)
+receives count names links are is link below who bytes connection (inr damaged) = inr (inl damaged)
+receives count names links are is link below who bytes connection (inl (one, sent)) = by_link (one.link == link) refl where
   by_link : (mine : Bool) → (one.link == link) ≡ mine → MayCall (names link) who (Receives bytes connection) (seen link links)
   by_link true e = inl (
     one.datagram,
@@ -84,50 +76,51 @@ receives laws count names start links are is link below who bytes connection (in
   by_link false e =
       let theirs = among_numbered count one links.sent sent.among is.numbered
       in let apart = are.apart link one.link below theirs (λ same. other_number one.link link e (sym same))
-      in let timely = timely_after laws (names one.link) (start_of one.link start) (seen one.link links) (are.each one.link theirs) (is.each one.link theirs)
-      in inr (inr (foreign (names link) (names one.link) who (seen one.link links) bytes one.datagram (are.one_key link one.link below theirs) apart.0 apart.1 timely
+      in inr (inr (foreign (names link) (names one.link) who (seen one.link links) bytes one.datagram (are.one_key link one.link below theirs) apart.0 apart.1 (is.each one.link theirs)
       (among_link one.link one links.sent (itself one.link) sent.among) sent.bytes_same))
 
-may_call : Laws → (count : ℕ) (names : ℕ → Names) (start : LinksStart) (links : Links) → AreLinks count names → AreRuns count names start links
-    → (link : ℕ) → link < count → (who : Role) (call : Call) → MayCallOn (names link) call links → MayCall (names link) who call (seen link links)
-may_call laws count names start links are is link below who Ticks may = tt
-may_call laws count names start links are is link below who Opens may = tt
-may_call laws count names start links are is link below who (Closes why) may = tt
-may_call laws count names start links are is link below who (Sends item) may = may
-may_call laws count names start links are is link below who (Receives bytes connection) may = receives laws count names start links are is link below who bytes connection may
+may_call : (count : ℕ) (names : ℕ → Names) (links : Links) → AreLinks count names → AreTimely count names links → (link : ℕ) → link < count
+    → (who : Role) (call : Call) → MayCallOn (names link) call links → MayCall (names link) who call (seen link links)
+may_call count names links are is link below who Ticks may = tt
+may_call count names links are is link below who Opens may = tt
+may_call count names links are is link below who (Closes why) may = tt
+may_call count names links are is link below who (Sends item) may = may
+may_call count names links are is link below who (Receives bytes connection) may = receives count names links are is link below who bytes connection may
 
 -- ---- each event
 
-each_after : Laws → (count : ℕ) (names : ℕ → Names) (start : LinksStart) (event : LinksEvent) (links : Links) → AreLinks count names → AreRuns count names start links
-    → MayHappenTo count names event links → (link : ℕ) → link < count → IsRun (names link) (start_of link start) (seen link (happened_to event links))
-each_after laws count names start (CallsOn at who call) links are is may link below = by_link (link == at) refl where
-  by_link : (mine : Bool) → (link == at) ≡ mine → IsRun (names link) (start_of link start) (seen link (happened_to (CallsOn at who call) links))
-  by_link true e =
-      let same = same_number link at e
-      in let may_own : MayCallOn (names link) call links = subst (λ (l : ℕ). MayCallOn (names l) call links) (sym same) may.1
-      in let view : seen link (happened_to (CallsOn at who call) links) ≡ seen link (happened_to (CallsOn link who call) links) = ap (λ (l : ℕ). seen link (happened_to (CallsOn l who call) links)) (sym same)
-      in goes_on (names link) (start_of link start) (seen link links) _ (Calls who call ∷ []) (is.each link below)
-      (may_call laws count names start links are is link below who call may_own, tt)
-      (sym (view ∙ own_call link who call links))
-  by_link false e =
-      goes_on (names link) (start_of link start) (seen link links) _ (Elsewhere (length (sent_by who call (seen at links))) ∷ []) (is.each link below) (tt, tt)
-      (sym (other_call at link who call links e))
-each_after laws count names start (PassesFor elapsed of_clients of_servers) links are is may link below =
-    goes_on (names link) (start_of link start) (seen link links) _ (Passes elapsed (of_clients link) (of_servers link) ∷ []) (is.each link below) (may link below, tt)
-    (sym (all_later link elapsed of_clients of_servers links))
-each_after laws count names start (LosesAny bytes) links are is may link below = elim (loses_one link bytes links.sent) [
-  | inl own ↦ goes_on (names link) (start_of link start) (seen link links) _ (Loses bytes ∷ []) (is.each link below) (tt, tt) (sym (own_lost link bytes links own))
-  | inr other ↦ goes_on (names link) (start_of link start) (seen link links) _ [] (is.each link below) tt (sym (other_lost link bytes links other))
-]
-each_after laws count names start (RestartsOn at who clock first) links are is may link below = by_link (link == at) refl where
-  by_link : (mine : Bool) → (link == at) ≡ mine → IsRun (names link) (start_of link start) (seen link (happened_to (RestartsOn at who clock first) links))
-  by_link true e =
-      let same = same_number link at e
-      in let view : seen link (happened_to (RestartsOn at who clock first) links) ≡ seen link (happened_to (RestartsOn link who clock first) links) = ap (λ (l : ℕ). seen link (happened_to (RestartsOn l who clock first) links)) (sym same)
-      in goes_on (names link) (start_of link start) (seen link links) _ (Restarts who clock first ∷ []) (is.each link below) (tt, tt)
-      (sym (view ∙ own_restart link who clock first links))
-  by_link false e =
-      goes_on (names link) (start_of link start) (seen link links) _ [] (is.each link below) tt (sym (other_restart at link who clock first links e))
+-- by whether an event is at this link
+pub by_link : (P : List Event → Type 0) (mine : Bool) (own others : List Event) → (mine ≡ true → P own) → (mine ≡ false → P others) → P (if mine then own else others)
+by_link P true own others if_own if_others = if_own refl
+by_link P false own others if_own if_others = if_others refl
+
+-- what a link sees after an event is what the events that it is to the link make of what it saw before
+pub sees : (link : ℕ) (event : LinksEvent) (links : Links) → seen link (happened_to event links) ≡ run (events_on link event links) (seen link links)
+sees link (CallsOn at who call) links =
+    by_link (λ events. seen link (happened_to (CallsOn at who call) links) ≡ run events (seen link links)) (link == at) (Calls who call ∷ []) (Elsewhere (length (sent_by who call (seen at links))) ∷ [])
+    (λ e. ap (λ (l : ℕ). seen link (happened_to (CallsOn l who call) links)) (sym (same_number link at e)) ∙ own_call link who call links)
+    (λ e. other_call at link who call links e)
+sees link (PassesFor elapsed of_clients of_servers) links = all_later link elapsed of_clients of_servers links
+sees link (LosesAny bytes) links =
+    by_link (λ events. seen link (happened_to (LosesAny bytes) links) ≡ run events (seen link links)) (is_oldest_on link bytes links.sent) (Loses bytes ∷ []) []
+    (λ e. own_lost link bytes links (loses_own link bytes links.sent e))
+    (λ e. other_lost link bytes links (loses_other link bytes links.sent e))
+sees link (RestartsOn at who clock first) links =
+    by_link (λ events. seen link (happened_to (RestartsOn at who clock first) links) ≡ run events (seen link links)) (link == at) (Restarts who clock first ∷ []) []
+    (λ e. ap (λ (l : ℕ). seen link (happened_to (RestartsOn l who clock first) links)) (sym (same_number link at e)) ∙ own_restart link who clock first links)
+    (λ e. other_restart at link who clock first links e)
+
+pub may_happen : (count : ℕ) (names : ℕ → Names) (event : LinksEvent) (links : Links) → AreLinks count names → AreTimely count names links
+    → MayHappenTo count names event links → (link : ℕ) → link < count → MayRun (names link) (events_on link event links) (seen link links)
+may_happen count names (CallsOn at who call) links are is may link below =
+    by_link (λ events. MayRun (names link) events (seen link links)) (link == at) (Calls who call ∷ []) (Elsewhere (length (sent_by who call (seen at links))) ∷ [])
+    (λ e. (may_call count names links are is link below who call (subst (λ (l : ℕ). MayCallOn (names l) call links) (sym (same_number link at e)) may.1), tt))
+    (λ e. (tt, tt))
+may_happen count names (PassesFor elapsed of_clients of_servers) links are is may link below = (may link below, tt)
+may_happen count names (LosesAny bytes) links are is may link below =
+    by_link (λ events. MayRun (names link) events (seen link links)) (is_oldest_on link bytes links.sent) (Loses bytes ∷ []) [] (λ e. (tt, tt)) (λ e. tt)
+may_happen count names (RestartsOn at who clock first) links are is may link below =
+    by_link (λ events. MayRun (names link) events (seen link links)) (link == at) (Restarts who clock first ∷ []) [] (λ e. (tt, tt)) (λ e. tt)
 
 -- ---- the numbers of links
 
@@ -154,21 +147,40 @@ numbered_after count names (PassesFor elapsed of_clients of_servers) links may n
 numbered_after count names (LosesAny bytes) links may numbered = numbered_lost count bytes links.sent numbered
 numbered_after count names (RestartsOn at who clock first) links may numbered = numbered
 
+-- ---- every event keeps time at each link
+
+pub begins : ((names : Names) (start : Start) → AreNames names → Timely names (started names start)) → (count : ℕ) (names : ℕ → Names) (start : LinksStart) → AreLinks count names
+    → AreTimely count names (begun names start)
+begins starts count names start are = record { each = λ link below. starts (names link) (start_of link start) (are.each link below); numbered = tt }
+
+pub time_kept : KeepsTime → (count : ℕ) (names : ℕ → Names) (event : LinksEvent) (links : Links) → AreLinks count names → AreTimely count names links
+    → MayHappenTo count names event links → AreTimely count names (happened_to event links)
+time_kept keeps count names event links are is may = record {
+  each = λ link below. subst (λ (ends : Ends). Timely (names link) ends) (sym (sees link event links))
+      (keeps (names link) (events_on link event links) (seen link links) (are.each link below) (is.each link below) (may_happen count names event links are is may link below));
+  numbered = numbered_after count names event links may is.numbered;
+}
+
+pub run_keeps_time : KeepsTime → (count : ℕ) (names : ℕ → Names) (events : List LinksEvent) (links : Links) → AreLinks count names → AreTimely count names links
+    → MayRunLinks count names events links → AreTimely count names (run_links events links)
+run_keeps_time keeps count names [] links are is may = is
+run_keeps_time keeps count names (first ∷ others) links are is may =
+    run_keeps_time keeps count names others (happened_to first links) are (time_kept keeps count names first links are is may.0) may.1
+
 -- ---- every list of events
 
-runs_from : Laws → (count : ℕ) (names : ℕ → Names) (start : LinksStart) (events : List LinksEvent) (links : Links) → AreLinks count names → AreRuns count names start links
-    → MayRunLinks count names events links → AreRuns count names start (run_links events links)
-runs_from laws count names start [] links are is may = is
-runs_from laws count names start (first ∷ others) links are is may =
-    runs_from laws count names start others (happened_to first links) are (record {
-      each = each_after laws count names start first links are is may.0;
-      numbered = numbered_after count names first links may.0 is.numbered;
-    }) may.1
+pub run_seen : (link : ℕ) (events : List LinksEvent) (links : Links) → seen link (run_links events links) ≡ run (run_on link events links) (seen link links)
+run_seen link [] links = refl
+run_seen link (first ∷ others) links =
+    run_seen link others (happened_to first links)
+    ∙ ap (λ (ends : Ends). run (run_on link others (happened_to first links)) ends) (sees link first links)
+    ∙ sym (run_then (events_on link first links) (run_on link others (happened_to first links)) (seen link links))
 
-pub each_is_run : Laws → (count : ℕ) (names : ℕ → Names) (start : LinksStart) (events : List LinksEvent) → AreLinks count names → MayRunLinks count names events (begun names start)
-    → (link : ℕ) → link < count → IsRun (names link) (start_of link start) (seen link (run_links events (begun names start)))
-each_is_run laws count names start events are may =
-    (runs_from laws count names start events (begun names start) are (record {
-      each = λ link below. record { events = []; may = tt; same = refl };
-      numbered = tt;
-    }) may).each
+pub may_run : KeepsTime → (count : ℕ) (names : ℕ → Names) (events : List LinksEvent) (links : Links) → AreLinks count names → AreTimely count names links
+    → MayRunLinks count names events links → (link : ℕ) → link < count → MayRun (names link) (run_on link events links) (seen link links)
+may_run keeps count names [] links are is may link below = tt
+may_run keeps count names (first ∷ others) links are is may link below =
+    may_then (names link) (events_on link first links) (run_on link others (happened_to first links)) (seen link links)
+    (may_happen count names first links are is may.0 link below)
+    (subst (λ (ends : Ends). MayRun (names link) (run_on link others (happened_to first links)) ends) (sees link first links)
+    (may_run keeps count names others (happened_to first links) are (time_kept keeps count names first links are is may.0) may.1 link below))

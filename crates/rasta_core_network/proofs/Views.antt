@@ -9,7 +9,7 @@ use Rattle.rasta_core_run.specs.Bag.{is_copy, without_oldest}
 use Rattle.rasta_core_run.specs.Ends.{Sent, EndState, Call}
 use Rattle.rasta_core_run.specs.Run.{Ends, called, later, lost, restarted}
 use Rattle.rasta_core_run.specs.Events.{Elsewhere, IsAmong, happened}
-use Rattle.rasta_core_network.specs.Links.{IsAmongAll, Links, CallsOn, PassesFor, LosesAny, RestartsOn, OnLink, TwoEnds, happened_to, of_link, seen, sent_by, sent_on, without_oldest_of_all}
+use Rattle.rasta_core_network.specs.Links.{IsAmongAll, Links, is_oldest_on, CallsOn, PassesFor, LosesAny, RestartsOn, OnLink, TwoEnds, happened_to, of_link, seen, sent_by, sent_on, without_oldest_of_all}
 
 pub same_number : (one other : ℕ) → (one == other) ≡ true → one ≡ other
 same_number one other told = grind (arith, nat_tests)
@@ -138,17 +138,27 @@ LosesOwn link bytes sent = of_link link (without_oldest_of_all bytes sent) ≡ w
 abbrev pub LosesOther : ℕ → List ℕ → List OnLink → Type 0
 LosesOther link bytes sent = of_link link (without_oldest_of_all bytes sent) ≡ of_link link sent
 
-pub loses_one : (link : ℕ) (bytes : List ℕ) (sent : List OnLink) → LosesOwn link bytes sent ⊎ LosesOther link bytes sent
-loses_one link bytes [] = inr refl
-loses_one link bytes (first ∷ others) = by_both (is_copy bytes first.datagram) (first.link == link) refl refl (loses_one link bytes others) where
-  by_both : (copy mine : Bool) → is_copy bytes first.datagram ≡ copy → (first.link == link) ≡ mine → LosesOwn link bytes others ⊎ LosesOther link bytes others
-      → LosesOwn link bytes (first ∷ others) ⊎ LosesOther link bytes (first ∷ others)
-  by_both true true e f inner = inl (rw (e, f) (rw e refl))
-  by_both true false e f inner = inr (rw (e, f) refl)
-  by_both false true e f (inl own) = inl (rw (e, f) (rw e (ap (λ (rest : List Sent). first.datagram ∷ rest) own)))
-  by_both false true e f (inr other) = inr (rw (e, f) (ap (λ (rest : List Sent). first.datagram ∷ rest) other))
-  by_both false false e f (inl own) = inl (rw (e, f) own)
-  by_both false false e f (inr other) = inr (rw (e, f) other)
+pub loses_own : (link : ℕ) (bytes : List ℕ) (sent : List OnLink) → is_oldest_on link bytes sent ≡ true → LosesOwn link bytes sent
+loses_own link bytes [] told = refl
+loses_own link bytes (first ∷ others) told = by_both (is_copy bytes first.datagram) (first.link == link) refl refl told (loses_own link bytes others) where
+  by_both : (copy mine : Bool) → is_copy bytes first.datagram ≡ copy → (first.link == link) ≡ mine
+      → (if copy then mine else is_oldest_on link bytes others) ≡ true
+      → (is_oldest_on link bytes others ≡ true → LosesOwn link bytes others) → LosesOwn link bytes (first ∷ others)
+  by_both true true e f here inner = rw (e, f) (rw e refl)
+  by_both true false e f here inner = absurd (cc here)
+  by_both false true e f here inner = rw (e, f) (rw e (ap (λ (rest : List Sent). first.datagram ∷ rest) (inner here)))
+  by_both false false e f here inner = rw (e, f) (inner here)
+
+pub loses_other : (link : ℕ) (bytes : List ℕ) (sent : List OnLink) → is_oldest_on link bytes sent ≡ false → LosesOther link bytes sent
+loses_other link bytes [] told = refl
+loses_other link bytes (first ∷ others) told = by_both (is_copy bytes first.datagram) (first.link == link) refl refl told (loses_other link bytes others) where
+  by_both : (copy mine : Bool) → is_copy bytes first.datagram ≡ copy → (first.link == link) ≡ mine
+      → (if copy then mine else is_oldest_on link bytes others) ≡ false
+      → (is_oldest_on link bytes others ≡ false → LosesOther link bytes others) → LosesOther link bytes (first ∷ others)
+  by_both true true e f here inner = absurd (cc here)
+  by_both true false e f here inner = rw (e, f) refl
+  by_both false true e f here inner = rw (e, f) (ap (λ (rest : List Sent). first.datagram ∷ rest) (inner here))
+  by_both false false e f here inner = rw (e, f) (inner here)
 
 pub own_lost : (link : ℕ) (bytes : List ℕ) (links : Links) → LosesOwn link bytes links.sent → seen link (happened_to (LosesAny bytes) links) ≡ lost bytes (seen link links)
 unfolding lost

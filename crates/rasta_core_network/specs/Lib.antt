@@ -1,1 +1,3 @@
 pub mod Links
+-- an invariant, for the proofs
+pub mod EachLink

@@ -1,12 +1,12 @@
 -- Many links over one list of datagrams. The links of a world have the numbers below their count.
-use Rattle.std.specs.Prelude.{◌≡◌, ◌≢◌, ℕ, ◌+◌, ◌<◌, ◌≤◌, ◌==◌, true, List, [], ◌∷◌, ◌++◌, length, map, ◌⊎◌, if◌then◌else◌}
+use Rattle.std.specs.Prelude.{◌≡◌, ◌≢◌, Bool, true, false, ℕ, ◌+◌, ◌<◌, ◌≤◌, ◌==◌, List, [], ◌∷◌, ◌++◌, length, map, ◌⊎◌, if◌then◌else◌}
 use Rattle.rasta_core_link.specs.Outbox.{spellings}
 use Rattle.rasta_core_link.specs.declared.identity.Role.{Role}
 use Rattle.rasta_core_link.specs.declared.identity.Role.TheVariants as role
 use Rattle.rasta_core_run.specs.Bag.{is_copy, lifetime}
 use Rattle.rasta_core_run.specs.Ends.{Sent, EndState, Call, Ticks, Opens, Closes, Sends, Receives, outcome, end_after, end_later, handed_out}
 use Rattle.rasta_core_run.specs.Run.{Ends, called, end_of, restarted}
-use Rattle.rasta_core_run.specs.Events.{Event, IsWithinDrift, MayRun, Start, new_end, run, started}
+use Rattle.rasta_core_run.specs.Events.{Calls, Elsewhere, Event, IsWithinDrift, Loses, Passes, Restarts, Start, new_end}
 use Rattle.rasta_core_run.specs.Names.{AreNames, Names}
 use Rattle.rasta_pdu.specs.declared.key.Key.{Key}
 use Rattle.rasta_pdu.specs.Items.{IsItem}
@@ -92,6 +92,19 @@ happened_to (LosesAny bytes) links = record links { sent = without_oldest_of_all
 happened_to (RestartsOn link who clock first_sequence_number) links =
     with_ends link (restarted who clock first_sequence_number (seen link links)) links
 
+-- whether the oldest copy of these bytes was sent on this link
+abbrev pub is_oldest_on : ℕ → List ℕ → List OnLink → Bool
+is_oldest_on link bytes [] = false
+is_oldest_on link bytes (first ∷ later) = if is_copy bytes first.datagram then first.link == link else is_oldest_on link bytes later
+
+-- What an event of a world is to one of its links: events of two ends. An event at another link is only that so many
+-- datagrams are sent elsewhere.
+abbrev pub events_on : ℕ → LinksEvent → Links → List Event
+events_on link (CallsOn at who call) links = if link == at then Calls who call ∷ [] else Elsewhere (length (sent_by who call (seen at links))) ∷ []
+events_on link (PassesFor elapsed of_clients of_servers) links = Passes elapsed (of_clients link) (of_servers link) ∷ []
+events_on link (LosesAny bytes) links = if is_oldest_on link bytes links.sent then Loses bytes ∷ [] else []
+events_on link (RestartsOn at who clock first_sequence_number) links = if link == at then Restarts who clock first_sequence_number ∷ [] else []
+
 -- the names of the links: one key, and no server has a name that another link uses; clients may share theirs
 pub record AreLinks (count : ℕ) (names : ℕ → Names) : Type 0 where
   pub each : (link : ℕ) → link < count → AreNames (names link)
@@ -140,6 +153,16 @@ abbrev pub MayRunLinks : ℕ → (ℕ → Names) → List LinksEvent → Links �
 MayRunLinks count names [] links = Unit {0}
 MayRunLinks count names (first ∷ others) links = MayHappenTo count names first links × MayRunLinks count names others (happened_to first links)
 
+-- what a list of events of a world is to one of its links
+abbrev pub run_on : ℕ → List LinksEvent → Links → List Event
+run_on link [] links = []
+run_on link (first ∷ others) links = events_on link first links ++ run_on link others (happened_to first links)
+
+-- an event that doesn't make the client of this link anew
+abbrev pub LeavesClientOf : ℕ → LinksEvent → Type 0
+LeavesClientOf link (RestartsOn at role.Client clock first_sequence_number) = link ≢ at
+LeavesClientOf link _ = Unit {0}
+
 -- a world at its beginning: true time, and the clock and the first sequence number of each end
 pub record LinksStart : Type 0 where
   pub time : ℕ
@@ -167,9 +190,3 @@ begun names start = record {
   };
   sent = [];
 }
-
--- two ends after a run of events that may happen to them
-pub record IsRun (names : Names) (start : Start) (ends : Ends) : Type 0 where
-  pub events : List Event
-  pub may : MayRun names events (started names start)
-  pub same : run events (started names start) ≡ ends

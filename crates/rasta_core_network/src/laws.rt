@@ -1,13 +1,80 @@
-//! Each link of a world, seen by itself.
+//! Each link of a world, seen by itself: event by event, and after every list of events.
 
-ghost use Rattle.std.specs.Prelude.{ℕ, ◌-◌, ◌^◌, ◌<◌, List};
-ghost use Rattle.rasta_core_network.specs.Links.{AreLinks, IsRun, Links, LinksEvent, LinksStart, MayRunLinks, begun, run_links, seen, star, start_of};
-ghost use Rattle.rasta_core_run.specs.Safe.{AreSafe};
+ghost use Rattle.std.specs.Prelude.{◌≡◌, ℕ, ◌-◌, ◌^◌, ◌<◌, List};
+ghost use Rattle.rasta_core_link.specs.declared.identity.Role.TheVariants as role;
+ghost use Rattle.rasta_core_network.specs.EachLink.{AreOrdered, AreTimely};
+ghost use Rattle.rasta_core_network.specs.Links.{AreLinks, LeavesClientOf, Links, LinksEvent, LinksStart, MayHappenTo, MayRunLinks, RestartsOn, begun, events_on, happened_to, run_links, run_on, seen, star, start_of};
+ghost use Rattle.rasta_core_run.specs.Events.{IsRun, MayRun, run};
 ghost use Rattle.rasta_core_run.specs.Names.{Names};
+ghost use Rattle.rasta_core_run.specs.Safe.{AreSafe};
+ghost use Rattle.rasta_core_run.specs.Sentences.{IsIn, IsOut};
+ghost use Rattle.rasta_core_time.specs.Invariant.{HasBeenOut};
 ghost use Rattle.rasta_pdu.specs.declared.key.Key.{Key};
 
-use rasta_core_theorem::link_is_safe;
-use rasta_core_time::{every_run_keeps_time, starts_in_time};
+use rasta_core_theorem::{every_event_keeps_order, every_run_keeps_order, link_is_safe};
+use rasta_core_time::{
+    every_event_keeps_time, every_run_keeps_time, quiet_is_counted, starts_in_time,
+};
+
+/// What a link sees after an event of a world is what the events that this is to the link make of what it saw before,
+/// and each of these may happen to it; and so it is for every list of events.
+pub fn each_link_sees_its_events()
+    ensures event { (link : ℕ) (event : LinksEvent) (links : Links)
+        → seen link (happened_to event links) ≡ run (events_on link event links) (seen link links) }
+    ensures run { (link : ℕ) (events : List LinksEvent) (links : Links)
+        → seen link (run_links events links) ≡ run (run_on link events links) (seen link links) }
+    ensures may_happen { (count : ℕ) (names : ℕ → Names) (event : LinksEvent) (links : Links) → AreLinks count names → AreTimely count names links
+        → MayHappenTo count names event links → (link : ℕ) → link < count → MayRun (names link) (events_on link event links) (seen link links) }
+    ensures may_run { (count : ℕ) (names : ℕ → Names) (events : List LinksEvent) (links : Links) → AreLinks count names → AreTimely count names links
+        → MayRunLinks count names events links → (link : ℕ) → link < count → MayRun (names link) (run_on link events links) (seen link links) }
+{
+    every_run_keeps_time();
+}
+
+/// Each link of a world keeps time: at the beginning, and over every event and every list of events that may happen.
+pub fn links_keep_time()
+    ensures starts { (count : ℕ) (names : ℕ → Names) (start : LinksStart) → AreLinks count names → AreTimely count names (begun names start) }
+    ensures kept { (count : ℕ) (names : ℕ → Names) (event : LinksEvent) (links : Links) → AreLinks count names → AreTimely count names links
+        → MayHappenTo count names event links → AreTimely count names (happened_to event links) }
+    ensures run { (count : ℕ) (names : ℕ → Names) (events : List LinksEvent) (links : Links) → AreLinks count names → AreTimely count names links
+        → MayRunLinks count names events links → AreTimely count names (run_links events links) }
+{
+    starts_in_time();
+    every_run_keeps_time();
+}
+
+/// Each link of a world is in order: at the beginning, and over every event and every list of events that may happen.
+pub fn links_keep_order()
+    ensures starts { (count : ℕ) (names : ℕ → Names) (start : LinksStart) → AreOrdered count names (begun names start) }
+    ensures kept { (count : ℕ) (names : ℕ → Names) (event : LinksEvent) (links : Links) → AreLinks count names → AreTimely count names links
+        → AreOrdered count names links → MayHappenTo count names event links → AreOrdered count names (happened_to event links) }
+    ensures run { (count : ℕ) (names : ℕ → Names) (events : List LinksEvent) (links : Links) → AreLinks count names → AreTimely count names links
+        → AreOrdered count names links → MayRunLinks count names events links → AreOrdered count names (run_links events links) }
+{
+    every_event_keeps_order();
+    every_run_keeps_order();
+    every_run_keeps_time();
+}
+
+/// How long the client of a link has been outside: since its creation or since it closed, on its own clock, over every
+/// event of the world, at this link or at another.
+pub fn links_count_their_quiet()
+    ensures made { (count : ℕ) (names : ℕ → Names) (start : LinksStart) → AreLinks count names → (link : ℕ) → link < count
+        → HasBeenOut (names link) (start.client_clock link) (seen link (begun names start)) }
+    ensures made_anew { (count : ℕ) (names : ℕ → Names) (link clock first : ℕ) (links : Links) → AreTimely count names links → link < count
+        → HasBeenOut (names link) clock (seen link (happened_to (RestartsOn link role.Client clock first) links)) }
+    ensures left { (count : ℕ) (names : ℕ → Names) (event : LinksEvent) (links : Links) → AreLinks count names → AreTimely count names links
+        → MayHappenTo count names event links → (link : ℕ) → link < count → LeavesClientOf link event
+        → IsIn role.Client (seen link links) → IsOut role.Client (seen link (happened_to event links))
+        → HasBeenOut (names link) (seen link (happened_to event links)).client.link.closed_at (seen link (happened_to event links)) }
+    ensures kept { (count : ℕ) (names : ℕ → Names) (since : ℕ) (event : LinksEvent) (links : Links) → AreLinks count names → AreTimely count names links
+        → MayHappenTo count names event links → (link : ℕ) → link < count → LeavesClientOf link event
+        → HasBeenOut (names link) since (seen link links) → IsOut role.Client (seen link (happened_to event links))
+        → HasBeenOut (names link) since (seen link (happened_to event links)) }
+{
+    quiet_is_counted();
+    every_run_keeps_time();
+}
 
 /// After every list of events of a world, each of its links has had a run of its own, of events that may happen to two
 /// ends: so it is safe.
@@ -19,8 +86,8 @@ pub fn each_link_is_a_run()
         → MayRunLinks count names events (begun names start) → (link : ℕ) → link < count
         → AreSafe (seen link (run_links events (begun names start))) }
 {
-    starts_in_time();
-    every_run_keeps_time();
+    each_link_sees_its_events();
+    links_keep_time();
     link_is_safe();
 }
 

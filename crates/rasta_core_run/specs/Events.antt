@@ -112,3 +112,9 @@ started names start = record {
   sent = [];
   moment = start.moment;
 }
+
+-- two ends after a run of events that may happen to them
+pub record IsRun (names : Names) (start : Start) (ends : Ends) : Type 0 where
+  pub events : List Event
+  pub may : MayRun names events (started names start)
+  pub same : run events (started names start) ≡ ends

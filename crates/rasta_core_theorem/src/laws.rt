@@ -41,6 +41,15 @@ pub fn every_event_keeps_order()
     connection_begins();
 }
 
+/// Every list of events keeps it.
+pub fn every_run_keeps_order()
+    ensures { (names : Names) (events : List Event) (ends : Ends) → AreNames names → Timely names ends → Ordered names ends
+        → MayRun names events ends → Ordered names (run events ends) }
+{
+    every_event_keeps_time();
+    every_event_keeps_order();
+}
+
 /// In a connection that is the last of both ends, what was taken is a beginning of what the partner gave, and what is
 /// held for confirmed was taken.
 pub fn order_is_safe()

@@ -1,13 +1,18 @@
-use Rattle.std.proofs.Common.{subst}
+use Rattle.std.proofs.Common.{◌≡◌, ◌<◌, ℕ, List, refl, sym, subst}
+use Rattle.rasta_core_run.specs.Events.{IsRun}
 use Rattle.rasta_core_run.specs.Safe.{AreSafe}
-use Rattle.rasta_core_network.specs.Links.{start_of}
-use Rattle.rasta_core_network.proofs.Projection.{each_is_run}
+use Rattle.rasta_core_network.specs.Links.{begun, run_on, start_of}
 use Rattle.rasta_core_network.proofs.laws.each_link_is_a_run.Goals as goal
 
 pub returns-clause-runs : goal.returns-clause-runs
-returns-clause-runs c = each_is_run (record { starts = c.starts_in_time.ensures; runs = c.every_run_keeps_time.ensures })
+returns-clause-runs c = λ count names start events are may link below. record {
+  events = run_on link events (begun names start);
+  may = c.each_link_sees_its_events.ensures.may_run count names events (begun names start) are (c.links_keep_time.ensures.starts count names start are) may link below;
+  same = sym (c.each_link_sees_its_events.ensures.run link events (begun names start));
+}
 
 pub returns-clause-safe : goal.returns-clause-safe
 returns-clause-safe c = λ count names start events are may link below.
-    let is = each_is_run (record { starts = c.starts_in_time.ensures; runs = c.every_run_keeps_time.ensures }) count names start events are may link below
-    in subst AreSafe is.same (c.link_is_safe.ensures (names link) (start_of link start) is.events (are.each link below) is.may)
+    subst AreSafe (sym (c.each_link_sees_its_events.ensures.run link events (begun names start)))
+    (c.link_is_safe.ensures (names link) (start_of link start) (run_on link events (begun names start)) (are.each link below)
+    (c.each_link_sees_its_events.ensures.may_run count names events (begun names start) are (c.links_keep_time.ensures.starts count names start are) may link below))
