@@ -1,17 +1,23 @@
 //! Each link of a world, seen by itself: event by event, and after every list of events.
 
 ghost use Rattle.std.specs.Prelude.{◌≡◌, ℕ, ◌-◌, ◌^◌, ◌<◌, List};
+ghost use Rattle.rasta_core_link.specs.declared.identity.Role.{Role};
 ghost use Rattle.rasta_core_link.specs.declared.identity.Role.TheVariants as role;
 ghost use Rattle.rasta_core_network.specs.EachLink.{AreOrdered, AreTimely};
 ghost use Rattle.rasta_core_network.specs.Links.{AreLinks, LeavesClientOf, Links, LinksEvent, LinksStart, MayHappenTo, MayRunLinks, RestartsOn, begun, events_on, happened_to, run_links, run_on, seen, star, start_of};
 ghost use Rattle.rasta_core_run.specs.Events.{IsRun, MayRun, run};
+ghost use Rattle.rasta_core_run.specs.Given.{IsGiven};
 ghost use Rattle.rasta_core_run.specs.Names.{Names};
+ghost use Rattle.rasta_core_run.specs.Newest.{IsNewest};
 ghost use Rattle.rasta_core_run.specs.Safe.{AreSafe};
 ghost use Rattle.rasta_core_run.specs.Sentences.{IsIn, IsOut};
 ghost use Rattle.rasta_core_time.specs.Invariant.{HasBeenOut};
 ghost use Rattle.rasta_pdu.specs.declared.key.Key.{Key};
 
-use rasta_core_theorem::{every_event_keeps_order, every_run_keeps_order, link_is_safe};
+use rasta_core_theorem::{
+    every_event_keeps_order, every_run_keeps_order, given_was_sent, link_is_safe,
+    newest_tells_the_connection,
+};
 use rasta_core_time::{
     every_event_keeps_time, every_run_keeps_time, quiet_is_counted, starts_in_time,
 };
@@ -54,6 +60,29 @@ pub fn links_keep_order()
     every_event_keeps_order();
     every_run_keeps_order();
     every_run_keeps_time();
+}
+
+/// What was sent on a link tells the last connection of each of its ends, and what it gave there: at the beginning, over
+/// every event of the world, and over every list of events.
+pub fn links_can_be_read_off()
+    ensures connection_starts { (names : ℕ → Names) (start : LinksStart) (link : ℕ) (who : Role) → IsNewest who (seen link (begun names start)) }
+    ensures connection_kept { (count : ℕ) (names : ℕ → Names) (event : LinksEvent) (links : Links) → AreLinks count names → AreTimely count names links
+        → MayHappenTo count names event links → (link : ℕ) → link < count → (who : Role) → IsNewest who (seen link links)
+        → IsNewest who (seen link (happened_to event links)) }
+    ensures connection_run { (count : ℕ) (names : ℕ → Names) (events : List LinksEvent) (links : Links) → AreLinks count names → AreTimely count names links
+        → MayRunLinks count names events links → (link : ℕ) → link < count → (who : Role) → IsNewest who (seen link links)
+        → IsNewest who (seen link (run_links events links)) }
+    ensures given_starts { (names : ℕ → Names) (start : LinksStart) (link : ℕ) (who : Role) → IsGiven (names link) who (seen link (begun names start)) }
+    ensures given_kept { (count : ℕ) (names : ℕ → Names) (event : LinksEvent) (links : Links) → AreLinks count names → AreTimely count names links
+        → MayHappenTo count names event links → (link : ℕ) → link < count → ((who : Role) → IsGiven (names link) who (seen link links))
+        → (who : Role) → IsGiven (names link) who (seen link (happened_to event links)) }
+    ensures given_run { (count : ℕ) (names : ℕ → Names) (events : List LinksEvent) (links : Links) → AreLinks count names → AreTimely count names links
+        → MayRunLinks count names events links → (link : ℕ) → link < count → ((who : Role) → IsGiven (names link) who (seen link links))
+        → (who : Role) → IsGiven (names link) who (seen link (run_links events links)) }
+{
+    each_link_sees_its_events();
+    newest_tells_the_connection();
+    given_was_sent();
 }
 
 /// How long the client of a link has been outside: since its creation or since it closed, on its own clock, over every

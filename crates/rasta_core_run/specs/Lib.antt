@@ -7,3 +7,4 @@ pub mod Events
 pub mod Sentences
 pub mod Safe
 pub mod Given
+pub mod Newest

@@ -1,10 +1,11 @@
 -- Each call at an end keeps the order of both.
-use Rattle.std.proofs.Common.{◌≡◌, ℕ, Bool, true, false, ◌&&◌, if◌then◌else◌, List, [], Option, Some, None, refl, ap, subst, ◌∙◌}
+use Rattle.std.proofs.Common.{◌≡◌, ℕ, ◌≤◌, length, Bool, true, false, ◌&&◌, if◌then◌else◌, List, [], Option, Some, None, refl, ap, subst, ◌∙◌}
+use Rattle.std.specs.Prelude.{is_ok}
 use Rattle.rasta_core_link.specs.State.{LinkState, is_client}
 use Rattle.rasta_core_link.specs.Clock.{state_at}
 use Rattle.rasta_core_link.specs.Sending.{Step, entered}
 use Rattle.rasta_core_link.specs.Opening.{may_open, is_down}
-use Rattle.rasta_core_link.specs.Calls.{opens, opening, ticking, closing_by, sending_item}
+use Rattle.rasta_core_link.specs.Calls.{answer_to_send, opens, opening, ticking, closing_by, sending_item}
 use Rattle.rasta_core_link.specs.declared.identity.Identity.{Identity}
 use Rattle.rasta_core_link.specs.declared.identity.Role.{Role}
 use Rattle.rasta_core_link.specs.declared.identity.Role.TheVariants as role
@@ -25,6 +26,7 @@ use Rattle.rasta_core_time.proofs.CallsKept.{ends_ready, ends_clock}
 use Rattle.rasta_core_theorem.specs.Ordered.{IsAlone, AreTogether, Ordered, unbegun, alone, together}
 use Rattle.rasta_core_theorem.proofs.OrderLaws.{Laws}
 use Rattle.rasta_core_theorem.proofs.Outside.{entered_identity}
+use Rattle.rasta_core_theorem.proofs.Few.{none_few, one_few}
 use Rattle.rasta_core_theorem.proofs.Made.{client_together, server_together, client_alone, server_rests, client_asked}
 use Rattle.rasta_core_theorem.proofs.Comes.{deed_pdus, deed_silent, server_out, nothing_yet, server_earlier}
 use Rattle.rasta_pdu.specs.Values.{IsPdu}
@@ -44,23 +46,23 @@ module _ (law : Laws) (names : Names) (ends : Ends) (timely : Timely names ends)
   server_key = ap (λ (i : Identity). i.key) timely.server.identity
 
   -- a call of the client that enters nothing
-  pub client_call : (made : Outcome) → made.enters ≡ None → Each IsPdu made.pdus
+  pub client_call : (made : Outcome) → made.enters ≡ None → Each IsPdu made.pdus → length made.given ≤ length made.pdus
       → ((is : AreTogether names ends) → GoesOn is.client is.server made.link made.pdus made.given made.taken)
       → ((is : IsAlone names ends) → EarlyGoesOn is.client made.link made.pdus × (made.given ≡ []) × (made.taken ≡ []))
       → Ordered names ends → Ordered names (made_at role.Client made ends)
   unfolding end_after
-  client_call made none are goes goes_alone (unbegun is) = unbegun (ap (λ enters. newer enters ends.client.connection) none ∙ is)
-  client_call made none are goes goes_alone (alone is) = let on = goes_alone is in alone (client_alone law names ends made none are is client_key on.1 on.2 on.0)
-  client_call made none are goes goes_alone (together is) = together (client_together law names ends made none are is client_key (goes is))
+  client_call made none are few goes goes_alone (unbegun is) = unbegun (ap (λ enters. newer enters ends.client.connection) none ∙ is)
+  client_call made none are few goes goes_alone (alone is) = let on = goes_alone is in alone (client_alone law names ends made none are few is client_key on.1 on.2 on.0)
+  client_call made none are few goes goes_alone (together is) = together (client_together law names ends made none are few is client_key (goes is))
 
   -- a call of the server that enters nothing
-  pub server_call : (made : Outcome) → made.enters ≡ None → Each IsPdu made.pdus
+  pub server_call : (made : Outcome) → made.enters ≡ None → Each IsPdu made.pdus → length made.given ≤ length made.pdus
       → ((is : AreTogether names ends) → GoesOn is.server is.client made.link made.pdus made.given made.taken)
       → ((is : IsAlone names ends) → made.pdus ≡ [])
       → Ordered names ends → Ordered names (made_at role.Server made ends)
-  server_call made none are goes silent_alone (unbegun is) = unbegun is
-  server_call made none are goes silent_alone (alone is) = alone (server_rests names ends made none (silent_alone is) is)
-  server_call made none are goes silent_alone (together is) = together (server_together law names ends made none are is server_key (goes is))
+  server_call made none are few goes silent_alone (unbegun is) = unbegun is
+  server_call made none are few goes silent_alone (alone is) = alone (server_rests names ends made none (silent_alone is) is)
+  server_call made none are few goes silent_alone (together is) = together (server_together law names ends made none are few is server_key (goes is))
 
   pub swap : (is : AreTogether names ends) → InOrder is.server is.client
   swap is = record { there = is.order.back; back = is.order.there }
@@ -80,7 +82,7 @@ module _ (law : Laws) (names : Names) (ends : Ends) (timely : Timely names ends)
 
   pub ticks_client : Ordered names ends → Ordered names (called role.Client Ticks ends)
   unfolding called outcome
-  ticks_client = client_call _ refl (step_pdus ends.client.link false (ticking now ends.client.link) does)
+  ticks_client = client_call _ refl (step_pdus ends.client.link false (ticking now ends.client.link) does) (none_few (ticking now ends.client.link).pdus)
       (λ is. law.ticking_on now ends.client.link is.client is.server is.order is.client_plays)
       (λ is. (law.early_ticking now ends.client.link is.client is.early is.plays, refl, refl))
     where
@@ -92,7 +94,7 @@ module _ (law : Laws) (names : Names) (ends : Ends) (timely : Timely names ends)
 
   pub closes_client : (why : Reason) → Ordered names ends → Ordered names (called role.Client (Closes why) ends)
   unfolding called outcome
-  closes_client why = client_call _ refl (step_pdus ends.client.link false (closing_by now why ends.client.link) does)
+  closes_client why = client_call _ refl (step_pdus ends.client.link false (closing_by now why ends.client.link) does) (none_few (closing_by now why ends.client.link).pdus)
       (λ is. law.closing_on now ends.client.link is.client is.server is.order is.client_plays why)
       (λ is. (law.early_closing now ends.client.link is.client is.early is.plays why, refl, refl))
     where
@@ -104,7 +106,7 @@ module _ (law : Laws) (names : Names) (ends : Ends) (timely : Timely names ends)
 
   pub sends_client : (item : List ℕ) → MayCall names role.Client (Sends item) ends → Ordered names ends → Ordered names (called role.Client (Sends item) ends)
   unfolding called outcome
-  sends_client item may = client_call _ refl (step_pdus ends.client.link false (sending_item now item ends.client.link) does)
+  sends_client item may = client_call _ refl (step_pdus ends.client.link false (sending_item now item ends.client.link) does) (one_few (is_ok (answer_to_send now ends.client.link)) item (sending_item now item ends.client.link).pdus (law.sending_carries now item ends.client.link))
       (λ is. law.sending_on now ends.client.link is.client is.server is.order is.client_plays item)
       (λ is. (law.early_sending now ends.client.link is.client is.early is.plays item, law.early_accepts now ends.client.link is.client is.early is.plays item, refl))
     where
@@ -138,7 +140,7 @@ module _ (law : Laws) (names : Names) (ends : Ends) (timely : Timely names ends)
       go true is = alone (client_asked law names ends _ ends.moment (ap (λ (b : Bool). if b then Some ends.moment else None) is)
           (step_pdus ends.client.link (opens now ends.client.link) (opening now ends.client.link) does) client_key refl refl (server_earlier names ends timely) (nothing_yet names ends timely)
           (law.opening_asks now ends.client.link is))
-      go false is = client_call _ (ap (λ (b : Bool). if b then Some ends.moment else None) is) (step_pdus ends.client.link (opens now ends.client.link) (opening now ends.client.link) does)
+      go false is = client_call _ (ap (λ (b : Bool). if b then Some ends.moment else None) is) (step_pdus ends.client.link (opens now ends.client.link) (opening now ends.client.link) does) (none_few (opening now ends.client.link).pdus)
           (λ one. law.opening_not now ends.client.link one.client one.server one.order one.client_plays is)
           (λ one. (law.opening_not_early now ends.client.link one.client one.early one.plays is, refl, refl)) ordered
 
@@ -146,7 +148,7 @@ module _ (law : Laws) (names : Names) (ends : Ends) (timely : Timely names ends)
 
   pub ticks_server : Ordered names ends → Ordered names (called role.Server Ticks ends)
   unfolding called outcome
-  ticks_server = server_call _ refl (step_pdus ends.server.link false (ticking now ends.server.link) does)
+  ticks_server = server_call _ refl (step_pdus ends.server.link false (ticking now ends.server.link) does) (none_few (ticking now ends.server.link).pdus)
       (λ is. law.ticking_on now ends.server.link is.server is.client (swap is) is.server_plays)
       (λ is. step_silent ends.server.link false (ticking now ends.server.link) does (server_out names ends timely is) refl)
     where
@@ -158,7 +160,7 @@ module _ (law : Laws) (names : Names) (ends : Ends) (timely : Timely names ends)
 
   pub closes_server : (why : Reason) → Ordered names ends → Ordered names (called role.Server (Closes why) ends)
   unfolding called outcome
-  closes_server why = server_call _ refl (step_pdus ends.server.link false (closing_by now why ends.server.link) does)
+  closes_server why = server_call _ refl (step_pdus ends.server.link false (closing_by now why ends.server.link) does) (none_few (closing_by now why ends.server.link).pdus)
       (λ is. law.closing_on now ends.server.link is.server is.client (swap is) is.server_plays why)
       (λ is. step_silent ends.server.link false (closing_by now why ends.server.link) does (server_out names ends timely is) refl)
     where
@@ -170,7 +172,7 @@ module _ (law : Laws) (names : Names) (ends : Ends) (timely : Timely names ends)
 
   pub sends_server : (item : List ℕ) → MayCall names role.Server (Sends item) ends → Ordered names ends → Ordered names (called role.Server (Sends item) ends)
   unfolding called outcome
-  sends_server item may = server_call _ refl (step_pdus ends.server.link false (sending_item now item ends.server.link) does)
+  sends_server item may = server_call _ refl (step_pdus ends.server.link false (sending_item now item ends.server.link) does) (one_few (is_ok (answer_to_send now ends.server.link)) item (sending_item now item ends.server.link).pdus (law.sending_carries now item ends.server.link))
       (λ is. law.sending_on now ends.server.link is.server is.client (swap is) is.server_plays item)
       (λ is. step_silent ends.server.link false (sending_item now item ends.server.link) does (server_out names ends timely is) refl)
     where
@@ -182,7 +184,7 @@ module _ (law : Laws) (names : Names) (ends : Ends) (timely : Timely names ends)
 
   pub opens_server : Ordered names ends → Ordered names (called role.Server Opens ends)
   unfolding called outcome
-  opens_server = server_call _ (ap (λ (b : Bool). if b then Some ends.moment else None) never) (step_pdus ends.server.link (opens now ends.server.link) (opening now ends.server.link) does)
+  opens_server = server_call _ (ap (λ (b : Bool). if b then Some ends.moment else None) never) (step_pdus ends.server.link (opens now ends.server.link) (opening now ends.server.link) does) (none_few (opening now ends.server.link).pdus)
       (λ is. law.opening_not now ends.server.link is.server is.client (swap is) is.server_plays never)
       (λ is. step_silent ends.server.link (opens now ends.server.link) (opening now ends.server.link) does (server_out names ends timely is) never)
     where

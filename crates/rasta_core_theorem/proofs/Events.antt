@@ -1,5 +1,6 @@
 -- Every event keeps the order of two ends, and so does every run.
-use Rattle.std.proofs.Common.{◌≡◌, ℕ, ◌+◌, ◌≤◌, inl, inr, true, List, [], ◌∷◌, ◌++◌, length, Some, None, refl, sym, ap, subst, ◌∙◌}
+use Rattle.std.proofs.Common.{◌≡◌, ℕ, ◌+◌, ◌≤◌, ◌<◌, ◌^◌, inl, inr, true, List, [], ◌∷◌, ◌++◌, length, Some, None, refl, sym, ap, subst, ◌∙◌, arith}
+use Rattle.std.proofs.lemmas.List.{length-append}
 use Rattle.rasta_core_link.specs.Parameters.{stops_at_greatest}
 use Rattle.rasta_core_link.specs.State.{LinkState, is_open, confirmed_items}
 use Rattle.rasta_core_link.specs.Calls.{created}
@@ -9,6 +10,7 @@ use Rattle.rasta_core_link.specs.declared.identity.Role.TheVariants as role
 use Rattle.rasta_core_run.specs.Bag.{is_copy, without_oldest}
 use Rattle.rasta_core_run.specs.Ends.{Sent, EndState, Call, Ticks, Opens, Closes, Sends, Receives, reading_of, end_later, end_restarted}
 use Rattle.rasta_core_run.specs.Run.{Ends, called, later, lost, restarted}
+use Rattle.rasta_core_order.specs.Order.{InOrder}
 use Rattle.rasta_core_order.specs.Part.{Part}
 use Rattle.rasta_core_order.specs.Playing.{Keeps, Plays, joined, asking, left}
 use Rattle.rasta_core_order.specs.Beginning.{PlaysEarly, gone}
@@ -17,9 +19,8 @@ use Rattle.rasta_core_run.specs.Names.{Names, AreNames}
 use Rattle.rasta_core_time.specs.Invariant.{Timely}
 use Rattle.rasta_core_run.specs.Events.{Event, Calls, Passes, Loses, Restarts, Elsewhere, May, MayCall, happened, run, MayRun, Start, started}
 use Rattle.rasta_core_time.proofs.Called.{ReadIsIntact}
-use Rattle.rasta_core_theorem.specs.Ordered.{IsSpelledIn, Ordered, unbegun, alone, together}
-use Rattle.rasta_core_run.specs.Safe.{AreCounted, AreSafe, IsCounted, IsSafe}
-use Rattle.rasta_core_run.specs.Safe.{counts, made_anew}
+use Rattle.rasta_core_theorem.specs.Ordered.{AreTogether, IsSpelledIn, Ordered, unbegun, alone, together}
+use Rattle.rasta_core_run.specs.Safe.{AreCounted, AreFew, AreSafe, IsCounted, IsFew, IsSafe, counts, made_anew}
 use Rattle.rasta_core_theorem.proofs.Tests.{by_test}
 use Rattle.rasta_core_theorem.proofs.OrderLaws.{Laws, SafeLaws}
 use Rattle.rasta_core_theorem.proofs.Calls.{ticks_client, closes_client, sends_client, opens_client, ticks_server, closes_server, sends_server, opens_server}
@@ -55,6 +56,8 @@ passed law names elapsed of_client of_server ends (together is) = together (reco
   client_taken = is.client_taken;
   server_given = is.server_given;
   server_taken = is.server_taken;
+  client_few = is.client_few;
+  server_few = is.server_few;
   client_flow = is.client_flow;
   server_flow = is.server_flow;
 })
@@ -95,6 +98,8 @@ lost_kept names bytes ends (together is) = together (record {
   client_taken = is.client_taken;
   server_given = is.server_given;
   server_taken = is.server_taken;
+  client_few = is.client_few;
+  server_few = is.server_few;
   client_flow = flow_without names role.Client is.connection is.client.flow bytes ends.sent is.client_flow;
   server_flow = flow_without names role.Server is.connection is.server.flow bytes ends.sent is.server_flow;
 })
@@ -144,6 +149,8 @@ restarted_kept law names role.Client clock first ends (together is) = together (
   client_taken = is.client_taken;
   server_given = is.server_given;
   server_taken = is.server_taken;
+  client_few = is.client_few;
+  server_few = is.server_few;
   client_flow = is.client_flow;
   server_flow = is.server_flow;
 })
@@ -160,6 +167,8 @@ restarted_kept law names role.Server clock first ends (together is) = together (
   client_taken = is.client_taken;
   server_given = is.server_given;
   server_taken = is.server_taken;
+  client_few = is.client_few;
+  server_few = is.server_few;
   client_flow = is.client_flow;
   server_flow = is.server_flow;
 })
@@ -192,6 +201,8 @@ elsewhere_kept names count ends (together is) = together (record {
   client_taken = is.client_taken;
   server_given = is.server_given;
   server_taken = is.server_taken;
+  client_few = is.client_few;
+  server_few = is.server_few;
   client_flow = is.client_flow;
   server_flow = is.server_flow;
 })
@@ -244,34 +255,66 @@ some_same a b e = cc
 not_none : (connection : ℕ) → None ≡ Some connection → ⊥
 not_none connection e = cc
 
-kept_counted : (end : EndState) (own : Part) → Keeps end.link own → own.given ≡ end.given → own.taken ≡ end.taken → IsCounted end
-kept_counted end own keeps given_is taken_is =
-    counts (keeps.given ∙ ap (λ (items : List (List ℕ)). stops_at_greatest (length items)) given_is)
-    (keeps.taken ∙ ap (λ (items : List (List ℕ)). stops_at_greatest (length items)) taken_is)
+-- a count of fewer items than PDUs may be sent stops nowhere
+small : (count : ℕ) → count < 2 ^ 31 → stops_at_greatest count ≡ count
+small count few = omega (arith, few)
 
-plays_counted : (end : EndState) (own other : Part) → Plays end.link own other → own.given ≡ end.given → own.taken ≡ end.taken → IsCounted end
-plays_counted end own other (joined has) given_is taken_is = kept_counted end own has.inside.keeps given_is taken_is
-plays_counted end own other (asking still) given_is taken_is = kept_counted end own still.inside.keeps given_is taken_is
-plays_counted end own other (left shut keeps) given_is taken_is = elim keeps [
-  | inl kept ↦ kept_counted end own kept given_is taken_is
+kept_counted : (end : EndState) (own : Part) → Keeps end.link own → own.given ≡ end.given → own.taken ≡ end.taken → IsFew end → IsCounted end
+kept_counted end own keeps given_is taken_is few =
+    counts (keeps.given ∙ ap (λ (items : List (List ℕ)). stops_at_greatest (length items)) given_is ∙ small (length end.given) few.given)
+    (keeps.taken ∙ ap (λ (items : List (List ℕ)). stops_at_greatest (length items)) taken_is ∙ small (length end.taken) few.taken)
+
+plays_counted : (end : EndState) (own other : Part) → Plays end.link own other → own.given ≡ end.given → own.taken ≡ end.taken → IsFew end → IsCounted end
+plays_counted end own other (joined has) given_is taken_is few = kept_counted end own has.inside.keeps given_is taken_is few
+plays_counted end own other (asking still) given_is taken_is few = kept_counted end own still.inside.keeps given_is taken_is few
+plays_counted end own other (left shut keeps) given_is taken_is few = elim keeps [
+  | inl kept ↦ kept_counted end own kept given_is taken_is few
   | inr new ↦ made_anew shut new.given new.taken
 ]
 
-pub ordered_counted : (names : Names) (ends : Ends) → Ordered names ends → AreCounted ends
-ordered_counted names ends (unbegun is) connection of_client of_server = absurd (not_none connection (sym is ∙ of_client))
-ordered_counted names ends (alone is) connection of_client of_server =
-    absurd (is.not_of_server (of_server ∙ ap (λ (c : ℕ). Some c) (some_same connection is.connection (sym of_client ∙ is.of_client))))
-ordered_counted names ends (together is) connection of_client of_server = (
-  plays_counted ends.client is.client is.server is.client_plays is.client_given is.client_taken,
-  plays_counted ends.server is.server is.client is.server_plays is.server_given is.server_taken,
+-- what was taken is a beginning of what was given, and each item given has a PDU
+some_few : SafeLaws → (own other : Part) (end : EndState) → InOrder own other → own.given ≡ end.given → own.taken ≡ end.taken → length own.given ≤ length own.flow → length other.given ≤ length other.flow → IsFew end
+some_few law own other end order given_is taken_is few other_few =
+    let first = law.beginning other own order.back
+    in let given : length own.given ≡ length end.given = ap (λ (items : List (List ℕ)). length items) given_is
+    in let taken : length own.taken ≡ length end.taken = ap (λ (items : List (List ℕ)). length items) taken_is
+    in let both : length other.given ≡ length own.taken + length first.0 = ap (λ (items : List (List ℕ)). length items) first.1 ∙ length-append own.taken first.0
+    in record {
+      given = omega (arith, given, few, order.there.counts.fits);
+      taken = omega (arith, taken, both, other_few, order.back.counts.fits);
+    }
+
+together_few : SafeLaws → (names : Names) (ends : Ends) → AreTogether names ends → IsFew ends.client × IsFew ends.server
+together_few law names ends is = (
+  some_few law is.client is.server ends.client is.order is.client_given is.client_taken is.client_few is.server_few,
+  some_few law is.server is.client ends.server (law.swapped is.client is.server is.order) is.server_given is.server_taken is.server_few is.client_few,
 )
 
-pub ordered_safe : SafeLaws → (names : Names) (ends : Ends) → Ordered names ends → AreSafe ends
-ordered_safe law names ends (unbegun is) connection of_client of_server = absurd (not_none connection (sym is ∙ of_client))
-ordered_safe law names ends (alone is) connection of_client of_server =
+-- in a connection that is the last of both ends, they are together
+of_both : (names : Names) (ends : Ends) (connection : ℕ) → Ordered names ends → ends.client.connection ≡ Some connection → ends.server.connection ≡ Some connection → AreTogether names ends
+of_both names ends connection (unbegun is) of_client of_server = absurd (not_none connection (sym is ∙ of_client))
+of_both names ends connection (alone is) of_client of_server =
     absurd (is.not_of_server (of_server ∙ ap (λ (c : ℕ). Some c) (some_same connection is.connection (sym of_client ∙ is.of_client))))
-ordered_safe law names ends (together is) connection of_client of_server = (there, back)
+of_both names ends connection (together is) of_client of_server = is
+
+pub ordered_few : SafeLaws → (names : Names) (ends : Ends) → Ordered names ends → AreFew ends
+ordered_few law names ends ordered connection of_client of_server = together_few law names ends (of_both names ends connection ordered of_client of_server)
+
+pub ordered_counted : SafeLaws → (names : Names) (ends : Ends) → Ordered names ends → AreCounted ends
+ordered_counted law names ends ordered connection of_client of_server =
+    let is = of_both names ends connection ordered of_client of_server
+    in let few = together_few law names ends is
+    in (
+      plays_counted ends.client is.client is.server is.client_plays is.client_given is.client_taken few.0,
+      plays_counted ends.server is.server is.client is.server_plays is.server_given is.server_taken few.1,
+    )
+
+pub ordered_safe : SafeLaws → (names : Names) (ends : Ends) → Ordered names ends → AreSafe ends
+ordered_safe law names ends ordered connection of_client of_server = (there, back)
   where
+    is : AreTogether names ends
+    is = of_both names ends connection ordered of_client of_server
+
     there : IsSafe ends.client ends.server
     there =
         let first = law.beginning is.client is.server is.order.there

@@ -30,7 +30,7 @@ items_given-append names who connection (first ∷ later) other =
     here : List (List ℕ)
     here = if is_of who connection first then items_in (reading names.key first.bytes) else []
 
-same_self : (who : Role) → is_same who who ≡ true
+pub same_self : (who : Role) → is_same who who ≡ true
 same_self role.Client = refl
 same_self role.Server = refl
 

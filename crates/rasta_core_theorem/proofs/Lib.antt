@@ -1,5 +1,8 @@
 pub mod OrderLaws
 pub mod Flows
+pub mod Few
+pub mod Entering
+pub mod Newest
 pub mod Made
 pub mod Comes
 pub mod Calls

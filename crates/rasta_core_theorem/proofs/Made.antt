@@ -1,5 +1,5 @@
 -- From what a call does at one end to the order of both after it.
-use Rattle.std.proofs.Common.{◌≡◌, ℕ, List, [], ◌++◌, Option, Some, None, sym, ap, ◌∙◌}
+use Rattle.std.proofs.Common.{◌≡◌, ℕ, ◌≤◌, List, [], ◌++◌, length, Option, Some, None, sym, ap, ◌∙◌}
 use Rattle.rasta_core_link.specs.Outbox.{spellings}
 use Rattle.rasta_core_link.specs.declared.identity.Role.TheVariants as role
 use Rattle.rasta_core_run.specs.Ends.{Sent, Outcome, end_after, newer, kept}
@@ -11,6 +11,7 @@ use Rattle.rasta_core_run.specs.Names.{Names}
 use Rattle.rasta_core_time.proofs.Finishing.{made_at}
 use Rattle.rasta_core_theorem.specs.Ordered.{IsAlone, AreTogether}
 use Rattle.rasta_core_theorem.proofs.OrderLaws.{Laws}
+use Rattle.rasta_core_theorem.proofs.Few.{empty_few, longer_few}
 use Rattle.rasta_core_theorem.proofs.Flows.{flow_longer, flow_kept, flow_new}
 use Rattle.rasta_pdu.specs.Values.{IsPdu}
 
@@ -18,7 +19,7 @@ use Rattle.rasta_pdu.specs.Values.{IsPdu}
 same_lists : (enters : Option ℕ) (old new more : List (List ℕ)) (part : List (List ℕ)) → enters ≡ None → part ≡ old → new ≡ part ++ more → new ≡ kept enters old ++ more
 same_lists enters old new more part none is grown = grown ∙ ap (λ front. front ++ more) is ∙ ap (λ e. kept e old ++ more) (sym none)
 
-module _ (law : Laws) (names : Names) (ends : Ends) (made : Outcome) (none : made.enters ≡ None) (are : Each IsPdu made.pdus) where
+module _ (law : Laws) (names : Names) (ends : Ends) (made : Outcome) (none : made.enters ≡ None) (are : Each IsPdu made.pdus) (few : length made.given ≤ length made.pdus) where
   pub client_together : (is : AreTogether names ends) → ends.client.link.identity.key ≡ names.key → GoesOn is.client is.server made.link made.pdus made.given made.taken
       → AreTogether names (made_at role.Client made ends)
   unfolding end_after
@@ -35,6 +36,8 @@ module _ (law : Laws) (names : Names) (ends : Ends) (made : Outcome) (none : mad
     client_taken = same_lists made.enters ends.client.taken goes.part.taken made.taken is.client.taken none is.client_taken goes.taken;
     server_given = is.server_given;
     server_taken = is.server_taken;
+    client_few = longer_few is.client.given made.given goes.part.given is.client.flow made.pdus goes.part.flow goes.given goes.flow is.client_few few;
+    server_few = is.server_few;
     client_flow = flow_longer law.written names role.Client is.connection ends.time (newer made.enters ends.client.connection) ends.client.link.identity.key is.client.flow goes.part.flow made.pdus ends.sent key goes.flow are is.client_flow;
     server_flow = flow_kept names role.Server is.connection ends.time role.Client (newer made.enters ends.client.connection) is.server.flow (spellings ends.client.link.identity.key made.pdus) ends.sent (λ e. cc) is.server_flow;
   }
@@ -55,6 +58,8 @@ module _ (law : Laws) (names : Names) (ends : Ends) (made : Outcome) (none : mad
     client_taken = is.client_taken;
     server_given = same_lists made.enters ends.server.given goes.part.given made.given is.server.given none is.server_given goes.given;
     server_taken = same_lists made.enters ends.server.taken goes.part.taken made.taken is.server.taken none is.server_taken goes.taken;
+    client_few = is.client_few;
+    server_few = longer_few is.server.given made.given goes.part.given is.server.flow made.pdus goes.part.flow goes.given goes.flow is.server_few few;
     client_flow = flow_kept names role.Client is.connection ends.time role.Server (newer made.enters ends.server.connection) is.client.flow (spellings ends.server.link.identity.key made.pdus) ends.sent (λ e. cc) is.client_flow;
     server_flow = flow_longer law.written names role.Server is.connection ends.time (newer made.enters ends.server.connection) ends.server.link.identity.key is.server.flow goes.part.flow made.pdus ends.sent key goes.flow are is.server_flow;
   }
@@ -130,6 +135,8 @@ server_granted law names ends made is enters are key no_given no_taken none gran
   client_taken = is.early.taken ∙ sym is.taken;
   server_given = grants.given ∙ sym (nothing made.enters ends.server.given made.given enters no_given);
   server_taken = grants.taken ∙ sym (nothing made.enters ends.server.taken made.taken enters no_taken);
+  client_few = empty_few is.client.given is.client.flow is.early.given;
+  server_few = empty_few grants.part.given grants.part.flow grants.given;
   client_flow = flow_kept names role.Client is.connection ends.time role.Server (newer made.enters ends.server.connection) is.client.flow (spellings ends.server.link.identity.key made.pdus) ends.sent (λ e. cc) is.flow;
   server_flow = flow_new law.written names role.Server is.connection ends.time (newer made.enters ends.server.connection) ends.server.link.identity.key grants.part.flow made.pdus ends.sent key grants.flow are none;
 }

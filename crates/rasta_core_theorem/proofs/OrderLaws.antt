@@ -28,6 +28,8 @@ use Rattle.rasta_pdu.specs.declared.fault.PduFault.{PduFault}
 use Rattle.rasta_pdu.specs.declared.pdu.Pdu.{Pdu}
 
 pub record Laws : Type 0 where
+  -- an item that is accepted is sent
+  pub sending_carries : (now : ℕ) (item : List ℕ) (link : LinkState) → carried (sending_item now item link).pdus ≡ accepted (answer_to_send now link) item
   -- what is written is read
   pub written : WrittenIsRead
   -- what an end outside takes is an opening

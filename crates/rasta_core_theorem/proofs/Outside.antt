@@ -50,11 +50,11 @@ opening_stays : (link : LinkState) → IsShut link → may_open link ≡ false �
 opening_stays link shut may = by_test (λ (step : Step). IsShut step.link) (may_open link) (requesting link) (silent link) (λ e. cc) (λ e. shut)
 
 -- it opens only where it enters
-no_opening : (moment : ℕ) (test : Bool) → (if test then Some moment else None) ≡ None → test ≡ false
+pub no_opening : (moment : ℕ) (test : Bool) → (if test then Some moment else None) ≡ None → test ≡ false
 no_opening moment true enters = cc
 no_opening moment false enters = refl
 
-no_taking : (connection : ℕ) (link : LinkState) (what : Verdict) → IsShut link → entered_by link what connection ≡ None → is_taken what ≡ false
+pub no_taking : (connection : ℕ) (link : LinkState) (what : Verdict) → IsShut link → entered_by link what connection ≡ None → is_taken what ≡ false
 no_taking connection link what shut enters = by_taking (is_taken what) refl where
   entry : (inside taken : Bool) → inside ≡ false → taken ≡ true → (if not inside && taken then Some connection else None) ≡ Some connection
   entry true taken o t = cc

@@ -35,6 +35,7 @@ use Rattle.rasta_core_time.proofs.Called.{ReadIsIntact, read_is, bytes_do, bytes
 use Rattle.rasta_core_theorem.specs.Ordered.{IsAlone, AreTogether, Ordered, unbegun, alone, together}
 use Rattle.rasta_core_theorem.proofs.OrderLaws.{Laws}
 use Rattle.rasta_core_theorem.proofs.Outside.{entered_identity}
+use Rattle.rasta_core_theorem.proofs.Few.{none_few}
 use Rattle.rasta_core_theorem.proofs.Made.{server_granted}
 use Rattle.rasta_core_theorem.proofs.Comes.{deed_pdus, deed_silent, client_enters_none, items_for, Comes, comes, of_last, in_flow, server_out, nothing_comes, nothing_sent, IsGranted, deed_grants}
 use Rattle.rasta_core_theorem.proofs.Calls.{client_call, server_call, swap, server_key}
@@ -59,7 +60,7 @@ open_where_taken true took e t = refl
 open_where_taken false true e t = absurd (cc (e))
 open_where_taken false false e t = absurd (cc (t))
 
-taken_is : (what : Verdict) → is_taken what ≡ true → what ≡ verdict.Taken
+pub taken_is : (what : Verdict) → is_taken what ≡ true → what ≡ verdict.Taken
 taken_is what e = grind (arith, e)
 
 -- a PDU for an end
@@ -170,7 +171,7 @@ module _ (law : Laws) (intact : ReadIsIntact) (names : Names) (are : AreNames na
     pub receives_client : Ordered names ends → Ordered names (called role.Client (Receives bytes connection) ends)
     unfolding called outcome
     receives_client = client_call law names ends timely _ (ap (λ (b : Bool). if b then Some connection else None) enters_none)
-        (deed_pdus _ _ _ _ _ _ _ _ its.deed) client_hears
+        (deed_pdus _ _ _ _ _ _ _ _ its.deed) (none_few (receiving (reading_of ends.client.clock) bytes ends.client.link).pdus) client_hears
         (λ is. (
           client_hears_alone is,
           refl,
@@ -326,5 +327,5 @@ module _ (law : Laws) (intact : ReadIsIntact) (names : Names) (are : AreNames na
         go : (b : Bool) → (not (is_open ends.server.link.phase) && is_taken (receiving (reading_of ends.server.clock) bytes ends.server.link).verdict) ≡ b
             → Ordered names (made_at role.Server receipt_made ends)
         go true e = server_entered e ordered
-        go false e = server_call law names ends timely receipt_made (ap (λ (b : Bool). if b then Some connection else None) e) (deed_pdus _ _ _ _ _ _ _ _ server_does.deed) (server_hears e)
+        go false e = server_call law names ends timely receipt_made (ap (λ (b : Bool). if b then Some connection else None) e) (deed_pdus _ _ _ _ _ _ _ _ server_does.deed) (none_few receipt_made.pdus) (server_hears e)
             (λ is. deed_silent _ _ _ _ _ _ _ _ server_does.deed (server_out names ends timely is) e) ordered

@@ -1,5 +1,5 @@
 -- The order of items between two ends, joined to what is kept of them: who is in which connection, and what was sent.
-use Rattle.std.specs.Prelude.{◌≡◌, ℕ, List, [], Some, None, Ok}
+use Rattle.std.specs.Prelude.{◌≡◌, ℕ, ◌≤◌, List, [], length, Some, None, Ok}
 use Rattle.rasta_core_link.specs.declared.identity.Role.{Role}
 use Rattle.rasta_core_link.specs.declared.identity.Role.TheVariants as role
 use Rattle.rasta_core_run.specs.Ends.{Sent}
@@ -44,6 +44,9 @@ pub record AreTogether (names : Names) (ends : Ends) : Type 0 where
   pub client_taken : client.taken ≡ ends.client.taken
   pub server_given : server.given ≡ ends.server.given
   pub server_taken : server.taken ≡ ends.server.taken
+  -- each of the items that an end gave has a PDU of its own
+  pub client_few : length client.given ≤ length client.flow
+  pub server_few : length server.given ≤ length server.flow
   pub client_flow : Each (IsSpelledIn names role.Client connection client.flow) ends.sent
   pub server_flow : Each (IsSpelledIn names role.Server connection server.flow) ends.sent
 

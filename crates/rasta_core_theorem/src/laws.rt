@@ -13,15 +13,16 @@ ghost use Rattle.rasta_core_run.specs.Sentences.{IsOpening, IsOut, freshness, re
 ghost use Rattle.rasta_core_run.specs.Given.{IsGiven};
 ghost use Rattle.rasta_core_theorem.specs.Ordered.{Ordered};
 ghost use Rattle.rasta_pdu.specs.SafetyCode.{IsIntact};
-ghost use Rattle.rasta_core_run.specs.Safe.{AreCounted, AreSafe, IsIdle};
+ghost use Rattle.rasta_core_run.specs.Newest.{IsNewest};
+ghost use Rattle.rasta_core_run.specs.Safe.{AreCounted, AreFew, AreSafe, DoesNothing, IsIdle};
 
 use rasta_core_order::{
     calls_carry_what_they_accept, calls_keep_order, client_alone, connection_begins,
     hearing_keeps_order, order_is_safe as parts_are_safe, partner_stays,
 };
 use rasta_core_time::{
-    every_event_keeps_time, every_run_keeps_time, items_are_fresh, opening_is_new, own_connection,
-    starts_in_time,
+    every_event_keeps_time, every_run_keeps_time, items_are_fresh, one_connection, opening_is_new,
+    own_connection, starts_in_time,
 };
 use rasta_pdu::{read_was_written, written_is_read};
 
@@ -39,6 +40,7 @@ pub fn every_event_keeps_order()
     partner_stays();
     client_alone();
     connection_begins();
+    calls_carry_what_they_accept();
 }
 
 /// Every list of events keeps it.
@@ -59,11 +61,15 @@ pub fn order_is_safe()
     partner_stays();
 }
 
-/// In a connection that is the last of both ends, `Link::given` and `Link::taken` count the items that the end gave and
-/// took there, until it is made anew.
+/// In a connection that is the last of both ends, `Link::given` and `Link::taken` are how many items the end gave and
+/// took there, until it is made anew; and these are fewer than 2^31.
 pub fn items_are_counted()
-    ensures { (names : Names) (ends : Ends) → Ordered names ends → AreCounted ends }
-{}
+    ensures counted { (names : Names) (ends : Ends) → Ordered names ends → AreCounted ends }
+    ensures few { (names : Names) (ends : Ends) → Ordered names ends → AreFew ends }
+{
+    parts_are_safe();
+    partner_stays();
+}
 
 /// The link is safe after every list of events.
 pub fn link_is_safe()
@@ -106,9 +112,12 @@ pub fn what_is_taken()
 }
 
 /// What an end gave in its last connection are the items of the data PDUs that it sent there, in order; repetitions
-/// aren't counted again.
+/// aren't counted again. It is so at the beginning, every list of events keeps it, and so it is after every run.
 pub fn given_was_sent()
-    ensures { (names : Names) (start : Start) (events : List Event) → AreNames names → MayRun names events (started names start)
+    ensures starts { (names : Names) (start : Start) (who : Role) → IsGiven names who (started names start) }
+    ensures kept { (names : Names) (events : List Event) (ends : Ends) → AreNames names → Timely names ends → ((who : Role) → IsGiven names who ends)
+        → MayRun names events ends → (who : Role) → IsGiven names who (run events ends) }
+    ensures run { (names : Names) (start : Start) (events : List Event) → AreNames names → MayRun names events (started names start)
         → (who : Role) → IsGiven names who (run events (started names start)) }
 {
     written_is_read();
@@ -124,13 +133,28 @@ pub fn given_was_sent()
     every_event_keeps_time();
 }
 
-/// An end that is outside, and enters no connection in a call, is outside after it; and a server enters one only from
-/// outside.
+/// An end that is outside, and enters no connection in a call, is outside after it, and has sent nothing and given and
+/// taken no item in it; and a server enters one only from outside.
 pub fn outside_until_it_enters()
     ensures stays { (call : Call) (moment : ℕ) (end : EndState) → is_open end.link.phase ≡ false → (outcome call moment end).enters ≡ None
         → is_open (outcome call moment end).link.phase ≡ false }
+    ensures nothing { (call : Call) (moment : ℕ) (end : EndState) → is_open end.link.phase ≡ false → (outcome call moment end).enters ≡ None
+        → DoesNothing (outcome call moment end) }
     ensures server { (call : Call) (moment connection : ℕ) (end : EndState) → end.link.identity.role ≡ role.Server
         → (outcome call moment end).enters ≡ Some connection → is_open end.link.phase ≡ false }
 {
     connection_begins();
+}
+
+/// An end's last connection is that of the newest datagram that it sent: at the beginning, after every event, and after
+/// every list of events. So it can be read off what was sent, also where the end was made anew since.
+pub fn newest_tells_the_connection()
+    ensures starts { (names : Names) (start : Start) (who : Role) → IsNewest who (started names start) }
+    ensures kept { (names : Names) (event : Event) (ends : Ends) (who : Role) → Timely names ends → IsNewest who ends → IsNewest who (happened event ends) }
+    ensures run { (names : Names) (events : List Event) (ends : Ends) (who : Role) → AreNames names → Timely names ends → IsNewest who ends
+        → MayRun names events ends → IsNewest who (run events ends) }
+{
+    connection_begins();
+    one_connection();
+    every_event_keeps_time();
 }

@@ -21,3 +21,4 @@ pub mod Conclusions
 pub mod Runs
 pub mod Copies
 pub mod Scenario
+pub mod Joined

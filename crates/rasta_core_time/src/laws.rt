@@ -76,10 +76,14 @@ pub fn items_are_fresh()
         → IsDelivered ends bytes connection datagram → (receipt_at who bytes ends).items ≢ [] → ends.time < datagram.at + freshness }
 {}
 
-/// Two ends that are inside a connection are in the same one, and so is the server, or was, where the client is up.
+/// Two ends that are inside a connection are in the same one: a server inside is in the client's last one, and where the
+/// client is up the server is in its connection, or was.
 pub fn one_connection()
     ensures inside { (names : Names) (ends : Ends) → Timely names ends → IsIn role.Client ends → IsIn role.Server ends
         → ends.server.connection ≡ ends.client.connection }
+    ensures server { (names : Names) (ends : Ends) → Timely names ends → IsIn role.Server ends → ends.server.connection ≡ ends.client.connection }
+    ensures some { (names : Names) (ends : Ends) (who : Role) → Timely names ends → IsIn who ends
+        → (connection : ℕ) × ((end_of who ends).connection ≡ Some connection) }
     ensures up { (names : Names) (ends : Ends) → Timely names ends → is_up ends.client.link.phase ≡ true
         → ends.server.connection ≡ ends.client.connection }
 {}

@@ -8,6 +8,7 @@ returns-clause-starts c = starts
 pub returns-clause-kept : goal.returns-clause-kept
 returns-clause-kept c =
     let laws : Laws = record {
+      sending_carries = c.calls_carry_what_they_accept.ensures.sending;
       written = c.written_is_read.ensures.read;
       taken_opening = c.opening_is_new.ensures;
       settled_plays = c.calls_keep_order.ensures.settling;

@@ -1,3 +1,4 @@
+use Rattle.rasta_core_theorem.proofs.Entering.{does_nothing}
 use Rattle.rasta_core_theorem.proofs.Outside.{enters_from_outside, stays_outside}
 use Rattle.rasta_core_theorem.proofs.laws.outside_until_it_enters.Goals as goal
 
@@ -6,3 +7,6 @@ returns-clause-stays c = stays_outside (record { entering = c.connection_begins.
 
 pub returns-clause-server : goal.returns-clause-server
 returns-clause-server c = enters_from_outside
+
+pub returns-clause-nothing : goal.returns-clause-nothing
+returns-clause-nothing c = does_nothing (record { entering = c.connection_begins.ensures.entering; hearing = c.connection_begins.ensures.hearing })

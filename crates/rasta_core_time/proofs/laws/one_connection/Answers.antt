@@ -1,4 +1,5 @@
 use Rattle.rasta_core_time.proofs.Conclusions.{same_connection, up_connection}
+use Rattle.rasta_core_time.proofs.Joined.{server_connection, some_connection}
 use Rattle.rasta_core_time.proofs.laws.one_connection.Goals as goal
 
 pub returns-clause-inside : goal.returns-clause-inside
@@ -6,3 +7,9 @@ returns-clause-inside c = same_connection
 
 pub returns-clause-up : goal.returns-clause-up
 returns-clause-up c = up_connection
+
+pub returns-clause-server : goal.returns-clause-server
+returns-clause-server c = server_connection
+
+pub returns-clause-some : goal.returns-clause-some
+returns-clause-some c = some_connection

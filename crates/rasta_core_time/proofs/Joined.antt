@@ -1,0 +1,17 @@
+-- In which connection an end is.
+use Rattle.std.proofs.Common.{◌≡◌, ℕ, Some, sym, ◌∙◌}
+use Rattle.rasta_core_link.specs.declared.identity.Role.{Role}
+use Rattle.rasta_core_link.specs.declared.identity.Role.TheVariants as role
+use Rattle.rasta_core_run.specs.Names.{Names}
+use Rattle.rasta_core_run.specs.Run.{Ends, end_of}
+use Rattle.rasta_core_run.specs.Sentences.{IsIn}
+use Rattle.rasta_core_time.specs.Invariant.{Timely}
+use Rattle.rasta_core_time.proofs.Sounds.{inside_open}
+
+pub some_connection : (names : Names) (ends : Ends) (who : Role) → Timely names ends → IsIn who ends → (connection : ℕ) × ((end_of who ends).connection ≡ Some connection)
+some_connection names ends role.Client is inside = (is.newest, is.ends_timed.client.in_newest (inside_open ends.client.link inside))
+some_connection names ends role.Server is inside = (is.newest, is.ends_timed.server.in_newest (inside_open ends.server.link inside))
+
+pub server_connection : (names : Names) (ends : Ends) → Timely names ends → IsIn role.Server ends → ends.server.connection ≡ ends.client.connection
+server_connection names ends is inside =
+    is.ends_timed.server.in_newest (inside_open ends.server.link inside) ∙ sym (is.ends_timed.begun (inside_open ends.server.link inside))
