@@ -4,7 +4,11 @@ use Rattle.std.specs.Prelude.{not, ◌≢◌, ◌∷◌, ◌++◌}
 use Rattle.simulator_machine.specs.Lists.{is_same}
 use Rattle.simulator_machine.specs.Signal.{Proceed}
 use Rattle.simulator_machine.specs.Point.{Side, Right, StandsUndriven}
-use Rattle.simulator_machine.specs.Machine.{IsSound, Machine, is_held, is_whole, run, right_rules, Sets}
+use Rattle.simulator_machine.specs.Table.{IsSound}
+use Rattle.simulator_machine.specs.Route.{is_whole}
+use Rattle.simulator_machine.specs.Machine.{Machine, is_held}
+use Rattle.simulator_machine.specs.Moves.{Sets}
+use Rattle.simulator_machine.specs.Run.{run, right_rules}
 use Rattle.simulator_machine.specs.Promise.{Promise}
 use Rattle.simulator_machine.specs.Small.{small, small_entry, small_aspect, small_requires, start, ready, clears}
 use Rattle.simulator_machine.specs.Wrong.{ends_unconfirmed, ended_unconfirmed, believes, believed, moves_held, moved_held, authorises_twice, authorised_twice, forgets_frozen, forgotten, ends_hold_early, hold_ended_early, sets_at_once, set_at_once, sets_blocked, set_blocked, keeps_aspect, aspect_kept, one_way, cleared_one_way, loose, cleared_loose}

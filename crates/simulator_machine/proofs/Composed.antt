@@ -6,7 +6,10 @@ use Rattle.simulator_machine.specs.Lists.{changed_at}
 use Rattle.simulator_machine.specs.Link.{Link, LinkMove, Opens, Enters, ComesUp, Closes, Leaves, QuietEnds, LinkMay, link_after}
 use Rattle.simulator_machine.specs.Signal.{SignalLink, signal_linked, Signal, SignalMove, SignalMay, signal_after}
 use Rattle.simulator_machine.specs.Point.{PointLink, point_linked, Point, PointMove, PointMay, point_after}
-use Rattle.simulator_machine.specs.Machine.{Table, IsSound, Machine, with_signal, with_point, Move, AtSignal, AtPoint, May, after, right_rules, run, MayRun}
+use Rattle.simulator_machine.specs.Table.{Table, IsSound}
+use Rattle.simulator_machine.specs.Machine.{Machine, with_signal, with_point}
+use Rattle.simulator_machine.specs.Moves.{Move, AtSignal, AtPoint, May, after}
+use Rattle.simulator_machine.specs.Run.{right_rules, run, MayRun}
 use Rattle.simulator_machine.specs.Invariant.{Invariant}
 use Rattle.simulator_machine.specs.Chains.{link_chained, LinkMayChain, MovesTo, chained, MayChain, signal_chained, SignalMayChain, point_chained, PointMayChain, signals_chained, points_chained, NoneFrom}
 use Rattle.simulator_machine.proofs.Lists.{same_or_not, at_each}

@@ -4,7 +4,9 @@ use Rattle.std.specs.Prelude.{◌≢◌, if◌then◌else◌}
 use Rattle.simulator_machine.specs.Lists.{changed_at}
 use Rattle.simulator_machine.specs.Signal.{Aspect, Signal, IsLive}
 use Rattle.simulator_machine.specs.Point.{Side, Point}
-use Rattle.simulator_machine.specs.Machine.{Table, IsSound, Phase, Free, Waiting, Authorised, Ended, Machine, has_authority, is_whole, is_held, with_signal, with_point, with_route}
+use Rattle.simulator_machine.specs.Table.{Table, IsSound}
+use Rattle.simulator_machine.specs.Route.{Phase, Free, Waiting, Authorised, Ended, has_authority, is_whole}
+use Rattle.simulator_machine.specs.Machine.{Machine, is_held, with_signal, with_point, with_route}
 use Rattle.simulator_machine.specs.Invariant.{IsSignalSound, IsPointSound, IsSettled, IsBacked, Invariant}
 use Rattle.simulator_machine.proofs.Lists.{at_each}
 

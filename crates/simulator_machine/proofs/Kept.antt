@@ -4,7 +4,11 @@ use Rattle.std.specs.Prelude.{◌≢◌}
 use Rattle.simulator_machine.specs.Link.{In, Closes}
 use Rattle.simulator_machine.specs.Signal.{Aspect, SignalLink, signal_after, aspect_given, shown, IsLive, IsAtKnownStop, HasStopConfirmed}
 use Rattle.simulator_machine.specs.Point.{Side, Position, PointLink, point_after, move_given}
-use Rattle.simulator_machine.specs.Machine.{Table, IsSound, Phase, Free, Waiting, Authorised, Ended, Machine, has_authority, has_ended, is_whole, is_held, with_signal, with_route, made_anew, Move, AtSignal, AtPoint, GivesMove, Sets, Authorises, GivesAspect, Ends, FreesPart, Frees, Restarts, HoldEnds, MaySet, AllKnown, May, after, right_rules, run, MayRun, unlinked, first}
+use Rattle.simulator_machine.specs.Table.{Table, IsSound}
+use Rattle.simulator_machine.specs.Route.{Phase, Free, Waiting, Authorised, Ended, has_authority, has_ended, is_whole}
+use Rattle.simulator_machine.specs.Machine.{Machine, is_held, with_signal, with_route, made_anew}
+use Rattle.simulator_machine.specs.Moves.{Move, AtSignal, AtPoint, GivesMove, Sets, Authorises, GivesAspect, Ends, FreesPart, Frees, Restarts, HoldEnds, MaySet, AllKnown, May, after}
+use Rattle.simulator_machine.specs.Run.{right_rules, run, MayRun, unlinked, first}
 use Rattle.simulator_machine.specs.Promise.{ShowsOther, IsHeldFor, IsProtected, Promise}
 use Rattle.simulator_machine.specs.Invariant.{IsLinkSound, IsSettled, IsBacked, Invariant}
 use Rattle.simulator_machine.proofs.Lists.{same_or_not}

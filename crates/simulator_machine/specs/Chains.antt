@@ -3,7 +3,10 @@ use Rattle.std.specs.Prelude.{◌≡◌, ◌≤◌, ℕ, List, [], ◌∷◌}
 use Rattle.simulator_machine.specs.Link.{Link, LinkMove, LinkMay, link_after}
 use Rattle.simulator_machine.specs.Signal.{Signal, SignalMove, SignalMay, signal_after}
 use Rattle.simulator_machine.specs.Point.{Point, PointMove, PointMay, point_after}
-use Rattle.simulator_machine.specs.Machine.{Table, Machine, Move, right_rules, run, MayRun}
+use Rattle.simulator_machine.specs.Table.{Table}
+use Rattle.simulator_machine.specs.Machine.{Machine}
+use Rattle.simulator_machine.specs.Moves.{Move}
+use Rattle.simulator_machine.specs.Run.{right_rules, run, MayRun}
 
 -- A list of moves leads from one state to another.
 pub record MovesTo (table : Table) (old new : Machine) : Type 0 where

@@ -5,7 +5,9 @@ use Rattle.simulator_machine.specs.Lists.{last_of}
 use Rattle.simulator_machine.specs.Link.{Down, Up, Before, In, Gone, Link}
 use Rattle.simulator_machine.specs.Signal.{Aspect, Signal, IsLive}
 use Rattle.simulator_machine.specs.Point.{Side, Point, moves_given, reports_made, StandsUndriven}
-use Rattle.simulator_machine.specs.Machine.{Table, Free, Machine, is_whole, is_held}
+use Rattle.simulator_machine.specs.Table.{Table}
+use Rattle.simulator_machine.specs.Route.{Free, is_whole}
+use Rattle.simulator_machine.specs.Machine.{Machine, is_held}
 use Rattle.simulator_machine.specs.Promise.{IsHeldFor}
 
 pub record IsLinkSound (link : Link) : Type 0 where

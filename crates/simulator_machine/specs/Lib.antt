@@ -2,7 +2,11 @@ pub mod Lists
 pub mod Link
 pub mod Signal
 pub mod Point
+pub mod Table
+pub mod Route
 pub mod Machine
+pub mod Moves
+pub mod Run
 pub mod Promise
 pub mod Invariant
 pub mod Chains

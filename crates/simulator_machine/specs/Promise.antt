@@ -2,7 +2,8 @@
 use Rattle.std.specs.Prelude.{◌≡◌, ◌≢◌, ℕ, true}
 use Rattle.simulator_machine.specs.Signal.{Stop, shown}
 use Rattle.simulator_machine.specs.Point.{Side, StandsUndriven}
-use Rattle.simulator_machine.specs.Machine.{Table, Machine, is_held}
+use Rattle.simulator_machine.specs.Table.{Table}
+use Rattle.simulator_machine.specs.Machine.{Machine, is_held}
 
 -- a signal shows an aspect other than stop
 abbrev pub ShowsOther : Machine → ℕ → Type 0

@@ -4,7 +4,10 @@ use Rattle.simulator_machine.specs.Lists.{is_same}
 use Rattle.simulator_machine.specs.Link.{LinkMove, QuietEnds, Opens, Enters, ComesUp, Closes, Leaves}
 use Rattle.simulator_machine.specs.Signal.{Aspect, Proceed, SignalLink, GivesStop, Acts, Confirms, shown}
 use Rattle.simulator_machine.specs.Point.{Side, Left, Right, Position, PointLink, Takes, DriveEnds, Reaches, Reports, Hears}
-use Rattle.simulator_machine.specs.Machine.{Table, Machine, Move, AtSignal, AtPoint, GivesMove, Sets, Authorises, GivesAspect, Ends, FreesPart, Frees, Restarts, HoldEnds, right_rules, run, MayRun, first}
+use Rattle.simulator_machine.specs.Table.{Table}
+use Rattle.simulator_machine.specs.Machine.{Machine}
+use Rattle.simulator_machine.specs.Moves.{Move, AtSignal, AtPoint, GivesMove, Sets, Authorises, GivesAspect, Ends, FreesPart, Frees, Restarts, HoldEnds}
+use Rattle.simulator_machine.specs.Run.{right_rules, run, MayRun, first}
 
 -- the routes 0 and 2 begin at signal 0, all others at signal 1
 abbrev pub small_entry : ℕ → ℕ

@@ -4,7 +4,11 @@ use Rattle.simulator_machine.specs.Lists.{last_of, is_same}
 use Rattle.simulator_machine.specs.Link.{Up, Leaves}
 use Rattle.simulator_machine.specs.Signal.{Aspect, Stop, Proceed, Signal, aspects_given, GivesStop, Acts}
 use Rattle.simulator_machine.specs.Point.{Side, Right, Takes}
-use Rattle.simulator_machine.specs.Machine.{Table, Machine, Free, Waiting, Authorised, has_authority, is_whole, with_signal, made_anew, Move, AtSignal, AtPoint, GivesMove, Sets, Authorises, Ends, FreesPart, Frees, Restarts, HoldEnds, AllKnown, May, after, Rules, right_rules, run, MayRun}
+use Rattle.simulator_machine.specs.Table.{Table}
+use Rattle.simulator_machine.specs.Route.{Free, Waiting, Authorised, has_authority, is_whole}
+use Rattle.simulator_machine.specs.Machine.{Machine, with_signal, made_anew}
+use Rattle.simulator_machine.specs.Moves.{Move, AtSignal, AtPoint, GivesMove, Sets, Authorises, Ends, FreesPart, Frees, Restarts, HoldEnds, AllKnown, May, after}
+use Rattle.simulator_machine.specs.Run.{Rules, right_rules, run, MayRun}
 use Rattle.simulator_machine.specs.Promise.{Promise}
 use Rattle.simulator_machine.specs.Small.{small, start, ready, cleared, point_moved, clears, withdraws, opens_again, at_signal}
 

@@ -4,7 +4,9 @@ ghost use Rattle.std.specs.Prelude.{◌≡◌, ◌≢◌, ℕ, List, false, map,
 ghost use Rattle.simulator_machine.specs.Chains.{LinkMayChain, MovesTo, NoneFrom, PointMayChain, SignalMayChain, link_chained, point_chained, points_chained, signal_chained, signals_chained};
 ghost use Rattle.simulator_machine.specs.Link.{LinkMove};
 ghost use Rattle.simulator_machine.specs.Lists.{is_same};
-ghost use Rattle.simulator_machine.specs.Machine.{Machine, May, Move, Table, after, with_point, with_signal};
+ghost use Rattle.simulator_machine.specs.Table.{Table};
+ghost use Rattle.simulator_machine.specs.Machine.{Machine, with_point, with_signal};
+ghost use Rattle.simulator_machine.specs.Moves.{May, Move, after};
 ghost use Rattle.simulator_machine.specs.Point.{Point, PointLink, PointMove};
 ghost use Rattle.simulator_machine.specs.Signal.{Signal, SignalLink, SignalMove};
 

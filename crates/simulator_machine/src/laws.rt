@@ -3,7 +3,11 @@
 ghost use Rattle.std.specs.Prelude.{◌≡◌, ℕ, List, false, true};
 ghost use Rattle.simulator_machine.specs.Chains.{MovesTo};
 ghost use Rattle.simulator_machine.specs.Invariant.{IsPointSound, IsSettled, IsSignalSound, Invariant};
-ghost use Rattle.simulator_machine.specs.Machine.{Table, IsSound, Machine, Move, May, MayRun, after, first, has_authority, made_anew, right_rules, run};
+ghost use Rattle.simulator_machine.specs.Table.{Table, IsSound};
+ghost use Rattle.simulator_machine.specs.Route.{has_authority};
+ghost use Rattle.simulator_machine.specs.Machine.{Machine, made_anew};
+ghost use Rattle.simulator_machine.specs.Moves.{Move, May, after};
+ghost use Rattle.simulator_machine.specs.Run.{MayRun, first, right_rules, run};
 ghost use Rattle.simulator_machine.specs.Point.{IsKnownAt, Point, Position, Side};
 ghost use Rattle.simulator_machine.specs.Promise.{Promise};
 ghost use Rattle.simulator_machine.specs.Signal.{Aspect, IsAtKnownStop, IsLive, Signal, Stop, shown};

@@ -1,6 +1,7 @@
 //! Computed runs of a small station.
 
-ghost use Rattle.simulator_machine.specs.Machine.{IsSound, right_rules};
+ghost use Rattle.simulator_machine.specs.Table.{IsSound};
+ghost use Rattle.simulator_machine.specs.Run.{right_rules};
 ghost use Rattle.simulator_machine.specs.Signal.{Proceed, Stop};
 ghost use Rattle.simulator_machine.specs.Small.{LeadsTo, cleared, held_twice, point_restarts, released, set_up_again, signal_restarts, small, withdrawn};
 ghost use Rattle.simulator_machine.specs.Wrong.{Breaks, BreaksAt, aspect_kept, authorised_twice, authorises_twice, believed, believes, cleared_loose, cleared_one_way, ended_unconfirmed, ends_hold_early, ends_unconfirmed, forgets_frozen, forgotten, hold_ended_early, keeps_aspect, loose, moved_held, moves_held, one_way, set_at_once, set_blocked, sets_at_once, sets_blocked};

@@ -1,4 +1,4 @@
-use Rattle.simulator_machine.specs.Machine.{right_rules, run, first}
+use Rattle.simulator_machine.specs.Run.{right_rules, run, first}
 use Rattle.simulator_machine.proofs.Kept.{first_kept, run_kept, promised}
 use Rattle.simulator_machine.proofs.Composed.{reached_kept}
 use Rattle.simulator_machine.proofs.laws.promise_holds.Goals as goal

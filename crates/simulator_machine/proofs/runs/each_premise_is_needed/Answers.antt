@@ -1,6 +1,6 @@
 use Rattle.std.proofs.Common.{rules, refl, ◌∷◌, ◌++◌}
 use Rattle.simulator_machine.specs.Point.{Right}
-use Rattle.simulator_machine.specs.Machine.{Sets}
+use Rattle.simulator_machine.specs.Moves.{Sets}
 use Rattle.simulator_machine.specs.Small.{ready, clears, point_moved, start}
 use Rattle.simulator_machine.specs.Wrong.{one_way}
 use Rattle.simulator_machine.proofs.Broken.{unblocked_one_way, one_way_broken, loose_broken}
