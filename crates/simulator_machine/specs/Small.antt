@@ -75,10 +75,6 @@ clears route = Authorises route ∷ GivesAspect route ∷ AtSignal (small_entry 
 abbrev pub withdraws : (route : ℕ) → List Move
 withdraws route = AtSignal (small_entry route) GivesStop ∷ AtSignal (small_entry route) Acts ∷ AtSignal (small_entry route) (Confirms 2) ∷ Ends route ∷ []
 
--- a node is made anew, and its link comes up again
-abbrev pub restarted : List LinkMove
-restarted = Leaves ∷ Closes ∷ opens_again
-
 -- ---- runs
 
 -- the first hold ends, and all links come up
@@ -108,13 +104,17 @@ set_up_again =
     held_twice ++ (at_signal 0 (Leaves ∷ []) ++ (at_signal 1 (Leaves ∷ []) ++ (at_point (Leaves ∷ []) ++ (HoldEnds ∷ at_signal 0 opens_again ++ (point_up (Some Right) ++ Sets 0 ∷ clears 0)))))
 
 -- route 0 is set and its point given a move. The point's controller is made anew while the move is under way, while it
--- drives the point, and while its report is under way; then the route is cleared
+-- drives the point, and while its report is under way; then the route is cleared, and the controller made anew once more
 abbrev pub point_restarts : List Move
 point_restarts =
     ready ++ (Sets 0 ∷ GivesMove 0 ∷ at_point (Leaves ∷ Closes ∷ []) ++ (point_up (Some Left)
     ++ (GivesMove 0 ∷ AtPoint 0 (Takes true) ∷ AtPoint 0 (Reaches None) ∷ at_point (Leaves ∷ Closes ∷ []) ++ (point_up None
     ++ (GivesMove 0 ∷ AtPoint 0 (Takes true) ∷ AtPoint 0 (Reaches (Some Right)) ∷ AtPoint 0 DriveEnds ∷ AtPoint 0 (Reports (Some Right)) ∷ at_point (Leaves ∷ Closes ∷ [])
-    ++ (point_up (Some Right) ++ clears 0))))))
+    ++ (point_up (Some Right) ++ (clears 0 ++ at_point (Leaves ∷ []))))))))
+
+-- the signal's controller is made anew while it shows the aspect of route 0
+abbrev pub lost : List Move
+lost = cleared ++ at_signal 0 (Leaves ∷ [])
 
 -- the link of signal 0 is lost; when its quiet time is over, the authority of route 0 ends, and the route is freed, set
 -- and cleared anew

@@ -3,7 +3,7 @@
 ghost use Rattle.simulator_machine.specs.Table.{IsSound};
 ghost use Rattle.simulator_machine.specs.Run.{right_rules};
 ghost use Rattle.simulator_machine.specs.Signal.{Proceed, Stop};
-ghost use Rattle.simulator_machine.specs.Small.{LeadsTo, cleared, held_twice, point_restarts, released, set_up_again, signal_restarts, small, withdrawn};
+ghost use Rattle.simulator_machine.specs.Small.{LeadsTo, cleared, held_twice, lost, point_restarts, released, set_up_again, signal_restarts, small, withdrawn};
 ghost use Rattle.simulator_machine.specs.Wrong.{Breaks, BreaksAt, aspect_kept, authorised_twice, authorises_twice, believed, believes, cleared_loose, cleared_one_way, ended_unconfirmed, ends_hold_early, ends_unconfirmed, forgets_frozen, forgotten, hold_ended_early, keeps_aspect, loose, moved_held, moves_held, one_way, set_at_once, set_blocked, sets_at_once, sets_blocked};
 
 /// Signals do show other aspects than stop: the theorem doesn't speak of nothing.
@@ -15,6 +15,7 @@ pub fn some_runs_show_aspects()
     ensures held { LeadsTo held_twice 0 (Proceed 0) }
     ensures again { LeadsTo set_up_again 0 (Proceed 0) }
     ensures point { LeadsTo point_restarts 0 (Proceed 0) }
+    ensures lost { LeadsTo lost 0 Stop }
     ensures signal { LeadsTo signal_restarts 0 (Proceed 0) }
 {}
 
