@@ -103,27 +103,47 @@ abbrev pub set_up_again : List Move
 set_up_again =
     held_twice ++ (at_signal 0 (Leaves ∷ []) ++ (at_signal 1 (Leaves ∷ []) ++ (at_point (Leaves ∷ []) ++ (HoldEnds ∷ at_signal 0 opens_again ++ (point_up (Some Right) ++ Sets 0 ∷ clears 0)))))
 
--- route 0 is set and its point given a move. The point's controller is made anew while the move is under way, while it
--- drives the point, and while its report is under way; then the route is cleared, and the controller made anew once more
-abbrev pub point_restarts : List Move
-point_restarts =
-    ready ++ (Sets 0 ∷ GivesMove 0 ∷ at_point (Leaves ∷ Closes ∷ []) ++ (point_up (Some Left)
-    ++ (GivesMove 0 ∷ AtPoint 0 (Takes true) ∷ AtPoint 0 (Reaches None) ∷ at_point (Leaves ∷ Closes ∷ []) ++ (point_up None
-    ++ (GivesMove 0 ∷ AtPoint 0 (Takes true) ∷ AtPoint 0 (Reaches (Some Right)) ∷ AtPoint 0 DriveEnds ∷ AtPoint 0 (Reports (Some Right)) ∷ at_point (Leaves ∷ Closes ∷ [])
-    ++ (point_up (Some Right) ++ (clears 0 ++ at_point (Leaves ∷ []))))))))
+-- ---- a controller made anew in each stage
 
--- the signal's controller is made anew while it shows the aspect of route 0
-abbrev pub lost : List Move
-lost = cleared ++ at_signal 0 (Leaves ∷ [])
+-- the point's link is lost and comes up again; the point is moved and route 0 cleared
+abbrev pub point_recovers : Position → List Move
+point_recovers position = at_point (Leaves ∷ Closes ∷ []) ++ (point_up position ++ (point_moved Right ++ clears 0))
 
--- the link of signal 0 is lost; when its quiet time is over, the authority of route 0 ends, and the route is freed, set
--- and cleared anew
-abbrev pub cleared_anew : List Move
-cleared_anew = at_signal 0 (Closes ∷ QuietEnds ∷ []) ++ (Ends 0 ∷ Frees 0 ∷ at_signal 0 (Opens ∷ Enters ∷ ComesUp ∷ []) ++ Sets 0 ∷ clears 0)
+-- route 0 is set, and its point's controller made anew while the move is under way
+abbrev pub move_lost : List Move
+move_lost = ready ++ (Sets 0 ∷ GivesMove 0 ∷ point_recovers (Some Left))
 
--- the signal's controller is made anew while the aspect of route 0 is under way, while it shows it, and while stop is
--- under way
-abbrev pub signal_restarts : List Move
-signal_restarts =
-    ready ++ (Sets 0 ∷ point_moved Right ++ (Authorises 0 ∷ GivesAspect 0 ∷ at_signal 0 (Leaves ∷ [])
-    ++ (cleared_anew ++ (at_signal 0 (Leaves ∷ []) ++ (cleared_anew ++ (AtSignal 0 GivesStop ∷ at_signal 0 (Leaves ∷ []) ++ cleared_anew))))))
+-- while it drives the point
+abbrev pub drive_lost : List Move
+drive_lost = ready ++ (Sets 0 ∷ GivesMove 0 ∷ AtPoint 0 (Takes true) ∷ AtPoint 0 (Reaches None) ∷ point_recovers None)
+
+-- while its report is under way
+abbrev pub report_lost : List Move
+report_lost =
+    ready ++ (Sets 0 ∷ GivesMove 0 ∷ AtPoint 0 (Takes true) ∷ AtPoint 0 (Reaches (Some Right)) ∷ AtPoint 0 DriveEnds ∷ AtPoint 0 (Reports (Some Right))
+    ∷ point_recovers (Some Right))
+
+-- while the signal shows the route's aspect: it goes on showing it
+abbrev pub point_lost : List Move
+point_lost = cleared ++ at_point (Leaves ∷ [])
+
+-- the signal's link is lost; when its quiet time is over, the authority of route 0 ends, and the route is freed, set and
+-- cleared anew
+abbrev pub signal_recovers : List Move
+signal_recovers =
+    at_signal 0 (Leaves ∷ Closes ∷ QuietEnds ∷ []) ++ (Ends 0 ∷ Frees 0 ∷ at_signal 0 (Opens ∷ Enters ∷ ComesUp ∷ []) ++ Sets 0 ∷ clears 0)
+
+-- the signal's controller is made anew while the aspect is under way
+abbrev pub aspect_lost : List Move
+aspect_lost = ready ++ (Sets 0 ∷ point_moved Right ++ (Authorises 0 ∷ GivesAspect 0 ∷ signal_recovers))
+
+-- while it shows the aspect: it then shows stop
+abbrev pub signal_lost : List Move
+signal_lost = cleared ++ at_signal 0 (Leaves ∷ [])
+
+abbrev pub shown_lost : List Move
+shown_lost = cleared ++ signal_recovers
+
+-- while stop is under way
+abbrev pub stop_lost : List Move
+stop_lost = cleared ++ AtSignal 0 GivesStop ∷ signal_recovers

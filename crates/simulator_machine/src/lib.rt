@@ -14,4 +14,7 @@ pub use laws::{
     invariant_is_kept, known_points_are_settled, known_stop_is_dark, promise_follows,
     promise_holds, restarts_freeze_held_routes,
 };
-pub use runs::{each_premise_is_needed, each_rule_is_needed, some_runs_show_aspects};
+pub use runs::{
+    each_premise_is_needed, each_rule_is_needed, routes_are_cleared_after_restarts,
+    some_runs_show_aspects,
+};

@@ -3,7 +3,7 @@
 ghost use Rattle.simulator_machine.specs.Table.{IsSound};
 ghost use Rattle.simulator_machine.specs.Run.{right_rules};
 ghost use Rattle.simulator_machine.specs.Signal.{Proceed, Stop};
-ghost use Rattle.simulator_machine.specs.Small.{LeadsTo, cleared, held_twice, lost, point_restarts, released, set_up_again, signal_restarts, small, withdrawn};
+ghost use Rattle.simulator_machine.specs.Small.{LeadsTo, aspect_lost, cleared, drive_lost, held_twice, move_lost, point_lost, released, report_lost, set_up_again, shown_lost, signal_lost, small, stop_lost, withdrawn};
 ghost use Rattle.simulator_machine.specs.Wrong.{Breaks, BreaksAt, aspect_kept, authorised_twice, authorises_twice, believed, believes, cleared_loose, cleared_one_way, ended_unconfirmed, ends_hold_early, ends_unconfirmed, forgets_frozen, forgotten, hold_ended_early, keeps_aspect, loose, moved_held, moves_held, one_way, set_at_once, set_blocked, sets_at_once, sets_blocked};
 
 /// Signals do show other aspects than stop: the theorem doesn't speak of nothing.
@@ -14,9 +14,18 @@ pub fn some_runs_show_aspects()
     ensures released { LeadsTo released 1 (Proceed 0) }
     ensures held { LeadsTo held_twice 0 (Proceed 0) }
     ensures again { LeadsTo set_up_again 0 (Proceed 0) }
-    ensures point { LeadsTo point_restarts 0 (Proceed 0) }
-    ensures lost { LeadsTo lost 0 Stop }
-    ensures signal { LeadsTo signal_restarts 0 (Proceed 0) }
+{}
+
+/// So they do when the controller of the point or of the signal was made anew, in whatever stage.
+pub fn routes_are_cleared_after_restarts()
+    ensures move_lost { LeadsTo move_lost 0 (Proceed 0) }
+    ensures drive_lost { LeadsTo drive_lost 0 (Proceed 0) }
+    ensures report_lost { LeadsTo report_lost 0 (Proceed 0) }
+    ensures point_lost { LeadsTo point_lost 0 (Proceed 0) }
+    ensures aspect_lost { LeadsTo aspect_lost 0 (Proceed 0) }
+    ensures signal_lost { LeadsTo signal_lost 0 Stop }
+    ensures shown_lost { LeadsTo shown_lost 0 (Proceed 0) }
+    ensures stop_lost { LeadsTo stop_lost 0 (Proceed 0) }
 {}
 
 /// Every rule is needed: with one of them changed, a run breaks the promise.
