@@ -17,6 +17,7 @@ pub use Rattle.rasta_core_run.specs.Sentences
 pub use Rattle.rasta_core_run.specs.Safe
 pub use Rattle.rasta_core_run.specs.Given
 pub use Rattle.rasta_core_run.specs.Newest
+pub use Rattle.rasta_core_run.specs.Steps
 pub use Rattle.rasta_core_time.specs.Invariant
 pub use Rattle.rasta_core_theorem.specs.Ordered
 pub use Rattle.rasta_core_network.specs.Links

@@ -8,3 +8,4 @@ pub mod Sentences
 pub mod Safe
 pub mod Given
 pub mod Newest
+pub mod Steps

@@ -4,10 +4,11 @@ ghost use Rattle.std.specs.Prelude.{◌≡◌, ◌≢◌, ◌⊎◌, ℕ, ◌+�
 ghost use Rattle.rasta_core_link.specs.declared.identity.Role.{Role};
 ghost use Rattle.rasta_core_link.specs.declared.identity.Role.TheVariants as role;
 ghost use Rattle.rasta_core_link.specs.State.{is_open};
-ghost use Rattle.rasta_core_run.specs.Ends.{Sent, Call, EndState, Receives, is_taken, outcome};
+ghost use Rattle.rasta_core_run.specs.Ends.{Sent, Call, EndState, Receives, is_taken, outcome, reading_of};
+ghost use Rattle.rasta_core_run.specs.Steps.{EnterNone, IsAfter, StaysIn, calls_at};
 ghost use Rattle.rasta_core_run.specs.Run.{Ends, end_of, called};
 ghost use Rattle.rasta_core_run.specs.Events.{AreForeign, Event, IsDelivered, May, MayRun, Start, happened, run, started};
-ghost use Rattle.rasta_core_run.specs.Names.{AreNames, Names};
+ghost use Rattle.rasta_core_run.specs.Names.{AreNames, Names, partner_of};
 ghost use Rattle.rasta_core_time.specs.Invariant.{Timely};
 ghost use Rattle.rasta_core_run.specs.Sentences.{IsOpening, IsOut, freshness, receipt_at};
 ghost use Rattle.rasta_core_run.specs.Given.{IsGiven};
@@ -158,3 +159,14 @@ pub fn newest_tells_the_connection()
     one_connection();
     every_event_keeps_time();
 }
+
+/// A step of a node at one end is a list of calls at its clock: the end's link is what these calls make of it, its
+/// partner and true time are as they were, and where none of them enters a connection the end has given and taken what
+/// they give and take.
+pub fn calls_at_one_clock()
+    ensures end { (who : Role) (calls : List Call) (ends : Ends) → IsAfter calls (end_of who ends) (end_of who (run (calls_at who calls) ends)) }
+    ensures items { (who : Role) (calls : List Call) (ends : Ends) → EnterNone (reading_of (end_of who ends).clock) calls (end_of who ends).link
+        → StaysIn calls (end_of who ends) (end_of who (run (calls_at who calls) ends)) }
+    ensures partner { (who : Role) (calls : List Call) (ends : Ends) → end_of (partner_of who) (run (calls_at who calls) ends) ≡ end_of (partner_of who) ends }
+    ensures time { (who : Role) (calls : List Call) (ends : Ends) → (run (calls_at who calls) ends).time ≡ ends.time }
+{}
