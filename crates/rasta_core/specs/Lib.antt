@@ -21,6 +21,7 @@ pub use Rattle.rasta_core_run.specs.Steps
 pub use Rattle.rasta_core_time.specs.Invariant
 pub use Rattle.rasta_core_theorem.specs.Ordered
 pub use Rattle.rasta_core_network.specs.Links
+pub use Rattle.rasta_core_network.specs.Nodes
 pub use Rattle.rasta_core_network.specs.EachLink
 pub use Rattle.rasta_core_link.specs.declared.identity
 pub use Rattle.rasta_core_link.specs.declared.reason

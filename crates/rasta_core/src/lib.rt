@@ -7,14 +7,15 @@ pub use rasta_core_link::{
     Identity, Inbox, Link, Millis, Outbox, Reason, Role, SendFault, State, Verdict,
 };
 pub use rasta_core_network::{
-    each_link_is_a_run, each_link_sees_its_events, links_can_be_read_off, links_count_their_quiet,
-    links_keep_order, links_keep_time, links_of_one_client,
+    a_node_makes_a_step, a_node_restarts, each_link_is_a_run, each_link_sees_its_events,
+    links_can_be_read_off, links_count_their_quiet, links_keep_order, links_keep_time,
+    links_of_one_client,
 };
 pub use rasta_core_run::Sent;
 pub use rasta_core_theorem::{
-    every_event_keeps_order, every_run_keeps_order, given_was_sent, items_are_counted,
-    link_is_safe, newest_tells_the_connection, order_is_safe, outside_until_it_enters,
-    what_is_taken,
+    calls_at_one_clock, calls_follow_calls, every_event_keeps_order, every_run_keeps_order,
+    given_was_sent, items_are_counted, link_is_safe, newest_tells_the_connection, order_is_safe,
+    outside_until_it_enters, what_is_taken,
 };
 pub use rasta_core_time::{
     alone_after_quiet, alone_after_waiting, copies_are_delivered, every_event_keeps_time,

@@ -3,3 +3,4 @@ pub mod Views
 pub mod Projection
 pub mod Order
 pub mod Quiet
+pub mod Nodes

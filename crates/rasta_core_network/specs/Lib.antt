@@ -1,3 +1,4 @@
 pub mod Links
+pub mod Nodes
 -- an invariant, for the proofs
 pub mod EachLink

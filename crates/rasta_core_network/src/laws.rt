@@ -1,22 +1,26 @@
 //! Each link of a world, seen by itself: event by event, and after every list of events.
 
-ghost use Rattle.std.specs.Prelude.{◌≡◌, ℕ, ◌-◌, ◌^◌, ◌<◌, List};
+ghost use Rattle.std.specs.Prelude.{◌≡◌, ℕ, ◌-◌, ◌^◌, ◌<◌, List, if◌then◌else◌};
 ghost use Rattle.rasta_core_link.specs.declared.identity.Role.{Role};
 ghost use Rattle.rasta_core_link.specs.declared.identity.Role.TheVariants as role;
 ghost use Rattle.rasta_core_network.specs.EachLink.{AreOrdered, AreTimely};
 ghost use Rattle.rasta_core_network.specs.Links.{AreLinks, LeavesClientOf, Links, LinksEvent, LinksStart, MayHappenTo, MayRunLinks, RestartsOn, begun, events_on, happened_to, run_links, run_on, seen, star, start_of};
+ghost use Rattle.rasta_core_network.specs.Nodes.{NodeCall, at_link, calls_of, is_among, restarts_of};
+ghost use Rattle.rasta_core_run.specs.Ends.{reading_of};
 ghost use Rattle.rasta_core_run.specs.Events.{IsRun, MayRun, run};
 ghost use Rattle.rasta_core_run.specs.Given.{IsGiven};
-ghost use Rattle.rasta_core_run.specs.Names.{Names};
+ghost use Rattle.rasta_core_run.specs.Names.{Names, partner_of};
 ghost use Rattle.rasta_core_run.specs.Newest.{IsNewest};
+ghost use Rattle.rasta_core_run.specs.Run.{end_of, restarted};
 ghost use Rattle.rasta_core_run.specs.Safe.{AreSafe};
 ghost use Rattle.rasta_core_run.specs.Sentences.{IsIn, IsOut};
+ghost use Rattle.rasta_core_run.specs.Steps.{EnterNone, IsAfter, StaysIn};
 ghost use Rattle.rasta_core_time.specs.Invariant.{HasBeenOut};
 ghost use Rattle.rasta_pdu.specs.declared.key.Key.{Key};
 
 use rasta_core_theorem::{
-    every_event_keeps_order, every_run_keeps_order, given_was_sent, link_is_safe,
-    newest_tells_the_connection,
+    calls_at_one_clock, calls_follow_calls, every_event_keeps_order, every_run_keeps_order,
+    given_was_sent, link_is_safe, newest_tells_the_connection,
 };
 use rasta_core_time::{
     every_event_keeps_time, every_run_keeps_time, quiet_is_counted, starts_in_time,
@@ -119,6 +123,29 @@ pub fn each_link_is_a_run()
     links_keep_time();
     link_is_safe();
 }
+
+/// A step of a node is calls at its ends of its links, at one clock: each of these ends is what the calls at it make of it,
+/// whatever the node does at other links in between; the other ends and true time are as they were.
+pub fn a_node_makes_a_step()
+    ensures end { (who : Role) (calls : List NodeCall) (links : Links) (link : ℕ)
+        → IsAfter (at_link link calls) (end_of who (seen link links)) (end_of who (seen link (run_links (calls_of who calls) links))) }
+    ensures items { (who : Role) (calls : List NodeCall) (links : Links) (link : ℕ)
+        → EnterNone (reading_of (end_of who (seen link links)).clock) (at_link link calls) (end_of who (seen link links)).link
+        → StaysIn (at_link link calls) (end_of who (seen link links)) (end_of who (seen link (run_links (calls_of who calls) links))) }
+    ensures partner { (who : Role) (calls : List NodeCall) (links : Links) (link : ℕ)
+        → end_of (partner_of who) (seen link (run_links (calls_of who calls) links)) ≡ end_of (partner_of who) (seen link links) }
+    ensures time { (who : Role) (calls : List NodeCall) (links : Links) → (run_links (calls_of who calls) links).time ≡ links.time }
+{
+    calls_at_one_clock();
+    calls_follow_calls();
+}
+
+/// A node is made anew with its ends of all its links: each of them sees one restart, and every other link sees nothing.
+pub fn a_node_restarts()
+    ensures { (who : Role) (clock : ℕ) (firsts : ℕ → ℕ) (numbers : List ℕ) (links : Links) (link : ℕ)
+        → seen link (run_links (restarts_of who clock firsts numbers) links)
+        ≡ (if is_among link numbers then restarted who clock (firsts link) (seen link links) else seen link links) }
+{}
 
 /// Links between one client and many servers are such links.
 pub fn links_of_one_client()

@@ -77,10 +77,10 @@ after_then call others old mid new first rest = record {
 
 -- what is left of the calls after the first enters no connection
 pub none_then : (call : Call) (others : List Call) (old mid : EndState) → IsAfter (call ∷ []) old mid → EnterNone (reading_of old.clock) (call ∷ others) old.link
-    → (enters_by (reading_of old.clock) call old.link ≡ false) × EnterNone (reading_of mid.clock) others mid.link
+    → EnterNone (reading_of old.clock) (call ∷ []) old.link × EnterNone (reading_of mid.clock) others mid.link
 unfolding all_made EnterNone
 none_then call others old mid first none = (
-  none.0,
+  (none.0, tt),
   subst (λ (clock : ℕ). EnterNone (reading_of clock) others mid.link) (sym first.clock) (subst (λ (link : LinkState). EnterNone (reading_of old.clock) others link) (sym first.link) none.1),
 )
 
@@ -128,8 +128,9 @@ called_time role.Server call ends = refl
 pub one_after : (who : Role) (call : Call) (ends : Ends) → IsAfter (call ∷ []) (end_of who ends) (end_of who (called who call ends))
 one_after who call ends = subst (λ (end : EndState). IsAfter (call ∷ []) (end_of who ends) end) (sym (called_end who call ends)) (after_one call ends.moment (end_of who ends))
 
-pub one_stays : (who : Role) (call : Call) (ends : Ends) → enters_by (reading_of (end_of who ends).clock) call (end_of who ends).link ≡ false → StaysIn (call ∷ []) (end_of who ends) (end_of who (called who call ends))
-one_stays who call ends none = subst (λ (end : EndState). StaysIn (call ∷ []) (end_of who ends) end) (sym (called_end who call ends)) (stays_one call ends.moment (end_of who ends) none)
+pub one_stays : (who : Role) (call : Call) (ends : Ends) → EnterNone (reading_of (end_of who ends).clock) (call ∷ []) (end_of who ends).link → StaysIn (call ∷ []) (end_of who ends) (end_of who (called who call ends))
+unfolding EnterNone
+one_stays who call ends none = subst (λ (end : EndState). StaysIn (call ∷ []) (end_of who ends) end) (sym (called_end who call ends)) (stays_one call ends.moment (end_of who ends) none.0)
 
 pub steps_after : (who : Role) (calls : List Call) (ends : Ends) → IsAfter calls (end_of who ends) (end_of who (run (calls_at who calls) ends))
 steps_after who [] ends = after_none (end_of who ends)

@@ -1,6 +1,6 @@
 //! The theorem of the link, for two ends that were just created and every list of events that may happen to them.
 
-ghost use Rattle.std.specs.Prelude.{◌≡◌, ◌≢◌, ◌⊎◌, ℕ, ◌+◌, ◌<◌, true, false, List, [], Some, None};
+ghost use Rattle.std.specs.Prelude.{◌≡◌, ◌≢◌, ◌⊎◌, ℕ, ◌+◌, ◌<◌, true, false, List, [], ◌∷◌, Some, None};
 ghost use Rattle.rasta_core_link.specs.declared.identity.Role.{Role};
 ghost use Rattle.rasta_core_link.specs.declared.identity.Role.TheVariants as role;
 ghost use Rattle.rasta_core_link.specs.State.{is_open};
@@ -169,4 +169,16 @@ pub fn calls_at_one_clock()
         → StaysIn calls (end_of who ends) (end_of who (run (calls_at who calls) ends)) }
     ensures partner { (who : Role) (calls : List Call) (ends : Ends) → end_of (partner_of who) (run (calls_at who calls) ends) ≡ end_of (partner_of who) ends }
     ensures time { (who : Role) (calls : List Call) (ends : Ends) → (run (calls_at who calls) ends).time ≡ ends.time }
+{}
+
+/// Calls at one clock, one after another: what the first does and what the others do is what all of them do.
+pub fn calls_follow_calls()
+    ensures nothing { (end : EndState) → IsAfter [] end end × StaysIn [] end end }
+    ensures after { (call : Call) (others : List Call) (old mid new : EndState) → IsAfter (call ∷ []) old mid → IsAfter others mid new
+        → IsAfter (call ∷ others) old new }
+    ensures entering { (call : Call) (others : List Call) (old mid : EndState) → IsAfter (call ∷ []) old mid
+        → EnterNone (reading_of old.clock) (call ∷ others) old.link
+        → EnterNone (reading_of old.clock) (call ∷ []) old.link × EnterNone (reading_of mid.clock) others mid.link }
+    ensures stays { (call : Call) (others : List Call) (old mid new : EndState) → IsAfter (call ∷ []) old mid → StaysIn (call ∷ []) old mid
+        → StaysIn others mid new → StaysIn (call ∷ others) old new }
 {}
