@@ -5,8 +5,9 @@ use Rattle.std.proofs.lemmas.List.{take_more, drop_more, set_split}
 use Rattle.std.proofs.lemmas.Bool.Decides.{nat_tests}
 use Rattle.std.proofs.lemmas.Grind.{common_steps}
 use Rattle.rasta_core.specs.Ends.{Sent}
-use Rattle.rasta_core.specs.Bag.{lifetime, is_copy, is_alive_copy, newest_copy, without_oldest}
-use Rattle.simulator_pair.specs.Order.{AreInOrder}
+use Rattle.rasta_core.specs.Bag.{lifetime, has_copy, is_copy, is_alive_copy, newest_copy, without_oldest}
+use Rattle.simulator_pair.specs.inside.Finding.{StandsAt}
+use Rattle.simulator_pair.specs.inside.Order.{AreInOrder}
 
 -- the last of a list is its newest copy, if it is one
 newest_is_last : (time : ℕ) (bytes : List ℕ) (sent : List Sent) (last : Sent) → is_alive_copy time bytes last ≡ true → newest_copy time bytes (sent ++ last ∷ []) ≡ Some last
@@ -57,10 +58,27 @@ without_first : (bytes : List ℕ) (first : Sent) (later : List Sent) → is_cop
 without_first bytes first later copy = rw copy refl
 
 -- the oldest copy is lost where it stands
-pub oldest_lost : (bytes : List ℕ) (sent : List Sent) (i : ℕ) (one : Sent) → i < length sent → one ≡ get_or sent i one → is_copy bytes one ≡ true → take i sent ++ without_oldest bytes (drop i sent) ≡ set sent i (record one { is_lost = true })
+oldest_lost : (bytes : List ℕ) (sent : List Sent) (i : ℕ) (one : Sent) → i < length sent → one ≡ get_or sent i one → is_copy bytes one ≡ true → take i sent ++ without_oldest bytes (drop i sent) ≡ set sent i (record one { is_lost = true })
 oldest_lost bytes sent i one below is_one copy =
     let lost = record one { is_lost = true }
     in let split : set sent i lost ≡ take i sent ++ lost ∷ drop (i + 1) sent = rw add-one (set_split sent i lost below)
     in ap (λ rest. take i sent ++ without_oldest bytes rest) (drop_more sent i one below ∙ ap (λ s. s ∷ drop (i + 1) sent) (sym is_one))
     ∙ ap (λ rest. take i sent ++ rest) (without_first bytes one (drop (i + 1) sent) copy)
     ∙ sym split
+
+-- where the search from the oldest datagram on finds one
+pub stands_at : (bytes : List ℕ) (sent : List Sent) (i : ℕ) (one : Sent) → i < length sent → one ≡ get_or sent i one → is_copy bytes one ≡ true → take i sent ++ without_oldest bytes (drop i sent) ≡ without_oldest bytes sent → StandsAt i bytes sent
+stands_at bytes sent i one below is_one copy past = record {
+  copy = one;
+  below = below;
+  there = is_one;
+  lost = sym past ∙ oldest_lost bytes sent i one below is_one copy;
+}
+
+found_first : (bytes : List ℕ) (first : Sent) (later : List Sent) → is_copy bytes first ≡ true → has_copy bytes (first ∷ later) ≡ true
+found_first bytes first later copy = rw copy refl
+
+-- there is a copy from the place of one on
+pub copy_from : (bytes : List ℕ) (sent : List Sent) (i : ℕ) (one : Sent) → i < length sent → one ≡ get_or sent i one → is_copy bytes one ≡ true → has_copy bytes (drop i sent) ≡ true
+copy_from bytes sent i one below is_one copy =
+    ap (has_copy bytes) (drop_more sent i one below ∙ ap (λ s. s ∷ drop (i + 1) sent) (sym is_one)) ∙ found_first bytes one (drop (i + 1) sent) copy

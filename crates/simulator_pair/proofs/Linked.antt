@@ -11,15 +11,14 @@ use Rattle.rasta_core.specs.Ends.{Sent, Call, Ticks, Opens, Closes, Sends, Recei
 use Rattle.rasta_core.specs.Run.{Ends, end_of, called}
 use Rattle.rasta_core.specs.identity.Role.{Role}
 use Rattle.rasta_core.specs.identity.Role.TheVariants.{Client, Server}
-use Rattle.rasta_core.specs.Calls.{hearing_bytes, receiving}
+use Rattle.rasta_core.specs.Calls.{hearing_bytes}
 use Rattle.rasta_core.specs.Sending.{entered}
 use Rattle.rasta_core.specs.State.{LinkState}
 use Rattle.rasta_core.specs.Ordered.{Ordered}
-use Rattle.rasta_core.specs.Safe.{IsIdle}
 use Rattle.rasta_core.specs.Events.{Event, Calls, Passes, Loses, Restarts, IsAmong, IsDelivered, IsWithinDrift, May, MayCall, happened}
 use Rattle.rasta_core.specs.Names.{AreNames, Names}
 use Rattle.rasta_core.specs.Invariant.{Timely}
-use Rattle.rasta_core.specs.Sentences.{IsOpening, IsOut, freshness, receipt_at}
+use Rattle.rasta_core.specs.Sentences.{IsIn, IsOpening, IsOut, freshness, receipt_at}
 use Rattle.simulator_pair.specs.declared.event.PairReply.{PairReply}
 use Rattle.simulator_pair.specs.declared.event.Refused.{Refused}
 use Rattle.rasta_pdu.specs.SafetyCode.{IsIntact, intact}
@@ -29,9 +28,12 @@ use Rattle.rasta_pdu.specs.declared.key.Key.{Key}
 use Rattle.rasta_pdu.specs.declared.pdu.Pdu.{Pdu}
 use Rattle.simulator_pair.specs.Pair.{PairState, stepped}
 use Rattle.simulator_pair.specs.Events.{connection_of, copy_of, happens, refusal, refusal_of_delivery, refusal_of_time}
-use Rattle.simulator_pair.specs.Theorem.{GivesItem, HappensRightly, IsLinked, IsTakenRightly, names}
+use Rattle.simulator_pair.specs.Theorem.{HappensRightly, IsTakenRightly, IsUndisturbed, names}
+use Rattle.simulator_pair.specs.inside.Parts.{GivesItem, IsLinked}
 use Rattle.simulator_pair.specs.declared.event.PairEvent.{PairEvent}
 use Rattle.simulator_pair.specs.declared.event.PairEvent.TheVariants as event
+use Rattle.rasta_core.specs.verdict.Verdict.TheVariants.{Unreadable}
+use Rattle.simulator_pair.proofs.Undisturbed.{outside_undisturbed, refused_undisturbed}
 
 pub are_names : AreNames names
 are_names = record { differ = λ same. omega (arith, same); client = lit< tt; server = lit< tt }
@@ -162,21 +164,22 @@ pub record TakingLaws : Type 0 where
   pub fresh : (names : Names) (ends : Ends) (who : Role) (bytes : List ℕ) (connection : ℕ) (copy : Sent) → AreNames names → Timely names ends → IsDelivered ends bytes connection copy → (receipt_at who bytes ends).items ≢ [] → ends.time < copy.at + freshness
   pub own : (names : Names) (ends : Ends) (who : Role) (bytes : List ℕ) (connection : ℕ) (copy : Sent) → Timely names ends → IsDelivered ends bytes connection copy → is_taken (receipt_at who bytes ends).verdict ≡ true → (end_of who (called who (Receives bytes connection) ends)).connection ≡ Some copy.connection
   pub opening : (names : Names) (ends : Ends) (who : Role) (bytes : List ℕ) (connection : ℕ) (copy : Sent) → AreNames names → Timely names ends → IsDelivered ends bytes connection copy → IsOut who ends → is_taken (receipt_at who bytes ends).verdict ≡ true → IsOpening names who ends copy
+  pub inside : (names : Names) (ends : Ends) (who : Role) (bytes : List ℕ) (connection : ℕ) (copy : Sent) → Timely names ends → IsDelivered ends bytes connection copy → IsIn who ends → (end_of who ends).connection ≡ Some copy.connection
   pub intact : (key : Key) (bytes : List ℕ) → IsTrue (intact key bytes) ↔ IsIntact key bytes
   pub read : (key : Key) (bytes : List ℕ) (pdu : Pdu) → reading key bytes ≡ Ok pdu → IsIntact key bytes
 
--- bytes that are no copy and may be delivered can't be read, so nothing is taken of them
-none_taken : TakingLaws → (who : Role) (bytes : List ℕ) (ends : Ends) → copy_of bytes ends ≡ None → refusal_of_delivery who bytes ends ≡ None → IsIdle (receipt_at who bytes ends)
-unfolding receiving hearing_bytes
-none_taken laws who bytes ends none_found allowed = cases (reading key bytes) refl where
+-- bytes that are no copy and may be delivered can't be read, so they don't disturb an end
+damaged_undisturbed : TakingLaws → (who : Role) (bytes : List ℕ) (ends : Ends) → copy_of bytes ends ≡ None → refusal_of_delivery who bytes ends ≡ None → IsUndisturbed who bytes ends
+unfolding hearing_bytes
+damaged_undisturbed laws who bytes ends none_found allowed = cases (reading key bytes) refl where
   key : Key
   key = (end_of who ends).link.identity.key
 
   begun : LinkState
   begun = (entered (reading_of (end_of who ends).clock) (end_of who ends).link).link
 
-  cases : (read : Result Pdu PduFault) → reading key bytes ≡ read → IsIdle (receipt_at who bytes ends)
-  cases (Err fault) is = (ap (λ r. (hearing_bytes r begun).items) is, ap (λ r. is_taken (hearing_bytes r begun).verdict) is)
+  cases : (read : Result Pdu PduFault) → reading key bytes ≡ read → IsUndisturbed who bytes ends
+  cases (Err fault) is = refused_undisturbed who bytes ends (Unreadable fault, ap (λ r. hearing_bytes r begun) is, refl)
   cases (Ok pdu) is =
       absurd (refused_is_not_allowed (sym (refused_then who bytes ends none_found ((laws.intact key bytes).1 (laws.read key bytes pdu is))) ∙ allowed))
 
@@ -188,12 +191,14 @@ taken_rightly laws who bytes ends copy linked found =
       fresh = laws.fresh names ends who copy.bytes copy.connection copy are_names linked.timely delivered;
       own = laws.own names ends who copy.bytes copy.connection copy linked.timely delivered;
       opening = laws.opening names ends who copy.bytes copy.connection copy are_names linked.timely delivered;
+      inside = laws.inside names ends who copy.bytes copy.connection copy linked.timely delivered;
+      outside = outside_undisturbed who copy.bytes ends;
     }
 
 pub happens_rightly : TakingLaws → (happening : PairEvent) (ends : Ends) → IsLinked ends → HappensRightly happening ends
 happens_rightly laws (event.Deliver who bytes) ends linked = record {
   sent = λ copy found. taken_rightly laws who bytes.items ends copy linked found;
-  damaged = none_taken laws who bytes.items ends;
+  damaged = damaged_undisturbed laws who bytes.items ends;
 }
 happens_rightly laws (event.Give who item) ends linked = tt
 happens_rightly laws (event.Tick who) ends linked = tt

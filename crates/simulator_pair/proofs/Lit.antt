@@ -17,7 +17,8 @@ use Rattle.sci_telegram.specs.declared.message.Aspect.{Aspect}
 use Rattle.sci_telegram.specs.declared.message.Aspect.TheVariants.{Stop, Proceed, Slow}
 use Rattle.simulator_pair.specs.Pair.{PairState, indicated_after, indicated_by, lamp_after, proceed_item, shown, stepped, stop_item, unless_closed}
 use Rattle.simulator_pair.specs.Events.{connection_of, copy_of, happens}
-use Rattle.simulator_pair.specs.Lamp.{IsLit, StopHolds, aspect_due, aspect_taken, last_aspect}
+use Rattle.simulator_pair.specs.Lamp.{StopHolds, aspect_due, aspect_taken, last_aspect}
+use Rattle.simulator_pair.specs.inside.Lit.{IsLit}
 use Rattle.simulator_pair.specs.declared.event.PairEvent.{PairEvent}
 use Rattle.simulator_pair.specs.declared.event.PairEvent.TheVariants as event
 use Rattle.simulator_pair.specs.declared.event.PairReply.{PairReply}

@@ -5,7 +5,7 @@ use Rattle.std.proofs.lemmas.List.Elements.{All-cons, All-head, All-tail, All-ap
 use Rattle.rasta_core.specs.Ends.{Sent, handed_out}
 use Rattle.rasta_core.specs.Bag.{is_copy, without_oldest}
 use Rattle.rasta_core.specs.identity.Role.{Role}
-use Rattle.simulator_pair.specs.Order.{AreInOrder}
+use Rattle.simulator_pair.specs.inside.Order.{AreInOrder}
 
 -- none was sent after the time
 pub sent_by : (time : ℕ) (sent : List Sent) → AreInOrder time sent → All (λ s. s.at ≤ time) sent

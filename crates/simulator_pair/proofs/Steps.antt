@@ -7,7 +7,7 @@ use Rattle.rasta_core.specs.State.{is_open}
 use Rattle.rasta_core.specs.Ends.{EndState, Outcome, end_after}
 use Rattle.rasta_pdu.specs.declared.key.Key.{Key}
 use Rattle.rasta_pdu.specs.declared.pdu.Pdu.{Pdu}
-use Rattle.simulator_pair.specs.Seen.{noted, concluded}
+use Rattle.simulator_pair.specs.inside.Seen.{noted, concluded}
 
 pub ruleset stepping = (append-nil, length-map, common_steps)
 

@@ -1,5 +1,5 @@
 -- What the lamp of a pair shows, by what its server took.
-use Rattle.std.specs.Prelude.{◌≡◌, ℕ, ◌<◌, ◌≤◌, true, false, List, ◌∷◌, ◌++◌, length, ◌⊎◌, Some, if◌then◌else◌}
+use Rattle.std.specs.Prelude.{◌≡◌, ℕ, ◌<◌, List, ◌∷◌, ◌++◌, length, Some, if◌then◌else◌}
 use Rattle.rasta_core.specs.State.{confirmed_items, is_open}
 use Rattle.rasta_core.specs.Clock.{alive_until}
 use Rattle.rasta_core.specs.Ends.{EndState, reading_of}
@@ -27,10 +27,3 @@ StopHolds pair = (connection : ℕ) → pair.ends.client.connection ≡ Some con
     → (earlier later : List (List ℕ)) → pair.ends.client.given ≡ earlier ++ stop_item ∷ later → length earlier < confirmed_items pair.ends.client.link
     → shown pair ≡ Proceed
     → (between rest : List (List ℕ)) × (pair.ends.server.taken ≡ earlier ++ stop_item ∷ (between ++ proceed_item ∷ rest))
-
--- What the lamp was told. A step of the server tells it of a loss, and the clock doesn't; but then its moment has come.
-pub record IsLit (pair : PairState) : Type 0 where
-  pub until : pair.lamp.until ≡ alive_until pair.ends.server.link
-  pub inside : is_open pair.ends.server.link.phase ≡ true → pair.lamp.indicated ≡ last_aspect pair.ends.server.taken
-  pub outside : is_open pair.ends.server.link.phase ≡ false
-      → (pair.lamp.indicated ≡ Stop) ⊎ (pair.lamp.until ≤ reading_of pair.ends.server.clock)

@@ -1,11 +1,8 @@
 pub mod Pair
 pub mod Events
-pub mod Seen
 pub mod Lamp
-pub mod Calling
-pub mod Order
-pub mod Parts
 pub mod Bag
 pub mod Theorem
 pub mod Worked
 pub mod Runs
+pub mod inside

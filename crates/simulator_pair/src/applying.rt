@@ -1,6 +1,6 @@
 //! What each event does to the parts of a pair.
 
-ghost use Rattle.std.specs.Prelude.{◌≡◌, ◌≢◌, ◌≤◌, ◌<◌, ◌+◌, ◌*◌, ◌⊎◌, nat_le, None, Some, Ok, Err, IfOk, IfErr, OnOk, OnErr, IsTrue};
+ghost use Rattle.std.specs.Prelude.{◌≡◌, ◌≢◌, ◌≤◌, ◌<◌, ◌+◌, ◌*◌, ◌⊎◌, ℕ, List, nat_le, None, Some, Ok, Err, IfOk, IfErr, OnOk, OnErr, IsTrue};
 ghost use Rattle.rasta_core.specs.Run.{end_of, later, lost, restarted};
 ghost use Rattle.rasta_core.specs.Ends.{reading_of};
 ghost use Rattle.rasta_core.specs.Ends as ends;
@@ -46,20 +46,12 @@ fn is_within(now: u64, elapsed: u64) -> bool
     elapsed <= CLOCK_LIMIT - now
 }
 
-/// The same bytes again.
-fn copied(bytes: &Bytes) -> Bytes
-    ensures { result.items ≡ bytes.now.items }
-{
-    let mut copy = Bytes::new();
-    let _ = copy.try_extend_from_slice(bytes.as_slice());
-    copy
-}
-
 impl Parts {
-    ghost use Rattle.simulator_pair.specs.Parts.{seen, seen_ends, AreSound, HaveRoom, KeepRoom, IsPair};
-    ghost use Rattle.simulator_pair.specs.Seen.{seen_end};
+    ghost use Rattle.simulator_pair.specs.inside.Parts.{seen, seen_ends, AreSound, HaveRoom, KeepRoom, IsPair};
+    ghost use Rattle.simulator_pair.specs.inside.Finding.{Finds, StandsAt};
+    ghost use Rattle.simulator_pair.specs.inside.Seen.{seen_end};
 
-    #[tactic(auto, unfolding(crate::specs::Parts::seen_ends))]
+    #[tactic(auto, unfolding(crate::specs::inside::Parts::seen_ends))]
     pub(crate) fn end(&self, who: Role) -> &Node
         ensures { seen_end result.now ≡ end_of who (seen_ends self.now) }
     {
@@ -70,7 +62,7 @@ impl Parts {
     }
 
     /// Why time can't go on so.
-    #[tactic(auto, unfolding(crate::specs::Events::refusal_of_time, crate::specs::Parts::seen_ends, crate::specs::Seen::seen_end))]
+    #[tactic(auto, unfolding(crate::specs::Events::refusal_of_time, crate::specs::inside::Parts::seen_ends, crate::specs::inside::Seen::seen_end))]
     fn refusal_of_time(&self, elapsed: u64, of_client: u64, of_server: u64) -> Option<Refused>
         requires { AreSound self.now }
         ensures value { result ≡ refusal_of_time elapsed of_client of_server (seen_ends self.now) }
@@ -89,41 +81,57 @@ impl Parts {
         }
     }
 
-    /// Why bytes can't be delivered to an end.
-    #[tactic(auto, unfolding(crate::specs::Events::refusal_of_delivery, crate::specs::Parts::seen_ends, crate::specs::Seen::seen_end))]
-    fn refusal_of_delivery(&self, who: Role, bytes: &Bytes) -> Option<Refused>
+    /// The connection that bytes were sent in which can be delivered to an end, or why they can't be. Of bytes that
+    /// are no copy it is 0.
+    #[tactic(auto, unfolding(crate::specs::Events::refusal_of_delivery, crate::specs::inside::Parts::seen_ends, crate::specs::inside::Seen::seen_end))]
+    fn delivered(&self, who: Role, bytes: &Bytes) -> Result<usize, Refused>
         requires { AreSound self.now }
-        ensures value { result ≡ refusal_of_delivery who bytes.now.items (seen_ends self.now) }
-        ensures not_memory { result ≢ Some OutOfMemory }
+        ensures found { IfOk result (λ connection. (refusal_of_delivery who bytes.now.items (seen_ends self.now) ≡ None) × (connection ≡ connection_of (copy_of bytes.now.items (seen_ends self.now)))) }
+        ensures refused { IfErr result (λ why. refusal_of_delivery who bytes.now.items (seen_ends self.now) ≡ Some why) }
+        ensures not_memory { result ≢ Err OutOfMemory }
     {
-        let key = self.end(who).link.identity().key;
         let copy = bag::newest_copy(self.sent.as_slice(), self.time, bytes.as_slice());
-        if copy.is_none() && is_intact(&key, bytes.as_slice()) {
-            return Some(Refused::NeverSent);
+        match copy {
+            Some(connection) => Ok(connection),
+            None => {
+                let key = self.end(who).link.identity().key;
+                if is_intact(&key, bytes.as_slice()) {
+                    return Err(Refused::NeverSent);
+                }
+                Ok(0)
+            }
         }
-        None
     }
 
-    /// Why an event can't happen, if so.
-    #[tactic(auto, unfolding(crate::specs::Events::refusal, crate::specs::Parts::seen_ends))]
-    pub(crate) fn refusal(&self, event: &PairEvent) -> Option<Refused>
+    /// What an event needs that can happen, or why it can't.
+    #[tactic(auto, unfolding(crate::specs::Events::refusal, crate::specs::inside::Parts::seen_ends))]
+    fn tested(&self, event: &PairEvent) -> Result<usize, Refused>
         requires { AreSound self.now }
-        ensures value { result ≡ refusal event.now (seen_ends self.now) }
-        ensures not_memory { result ≢ Some OutOfMemory }
+        ensures found { IfOk result (λ found. (refusal event.now (seen_ends self.now) ≡ None) × Finds found event.now (seen_ends self.now)) }
+        ensures refused { IfErr result (λ why. refusal event.now (seen_ends self.now) ≡ Some why) }
+        ensures not_memory { result ≢ Err OutOfMemory }
     {
         match event {
             PairEvent::Time {
                 elapsed,
                 of_client,
                 of_server,
-            } => self.refusal_of_time(*elapsed, *of_client, *of_server),
-            PairEvent::Deliver(who, bytes) => self.refusal_of_delivery(*who, bytes),
-            PairEvent::Lose(bytes) if !bag::has_copy(self.sent.as_slice(), bytes.as_slice()) =>
-                Some(Refused::NeverSent),
-            PairEvent::Restart { clock, .. } if *clock > CLOCK_LIMIT / MICROS => Some(
+            } => match self.refusal_of_time(*elapsed, *of_client, *of_server) {
+                Some(why) => Err(why),
+                None => Ok(0),
+            },
+            PairEvent::Deliver(who, bytes) => self.delivered(*who, bytes),
+            PairEvent::Lose(bytes) => match bag::oldest_copy(
+                self.sent.as_slice(),
+                bytes.as_slice(),
+            ) {
+                Some(place) => Ok(place),
+                None => Err(Refused::NeverSent),
+            },
+            PairEvent::Restart { clock, .. } if *clock > CLOCK_LIMIT / MICROS => Err(
                 Refused::ClockLimit,
             ),
-            _ => None,
+            _ => Ok(0),
         }
     }
 
@@ -136,14 +144,14 @@ impl Parts {
         ensures sound { AreSound self.new }
         ensures room { KeepRoom 2 self.old self.new }
     {
-        let _ = self.call(who, &Call::Ticks);
+        let _ = self.call(who, Call::Ticks);
         if let Role::Client = who {
-            let _ = self.call(who, &Call::Opens);
+            let _ = self.call(who, Call::Opens);
         }
     }
 
     /// Time goes on.
-    #[tactic(auto, unfolding(crate::specs::Events::happens, crate::specs::Events::refusal_of_time, crate::specs::Parts::seen, crate::specs::Parts::seen_ends, crate::proofs::Below::later))]
+    #[tactic(auto, unfolding(crate::specs::Events::happens, crate::specs::Events::refusal_of_time, crate::specs::inside::Parts::seen, crate::specs::inside::Parts::seen_ends, crate::proofs::Below::later))]
     fn pass(&mut self, elapsed: u64, of_client: u64, of_server: u64)
         requires sound { AreSound self.old }
         requires allowed { refusal_of_time elapsed of_client of_server (seen_ends self.old) ≡ None }
@@ -157,32 +165,20 @@ impl Parts {
         self.server.pass(of_server, moment);
     }
 
-    /// Bytes are delivered to an end.
-    #[tactic(auto, unfolding(crate::specs::Parts::seen, crate::specs::Parts::seen_ends))]
-    fn deliver(&mut self, who: Role, bytes: &Bytes)
+    /// The oldest copy of bytes is lost, which stands at this place.
+    #[tactic(auto, unfolding(crate::specs::Events::happens, crate::specs::inside::Parts::seen, crate::specs::inside::Parts::seen_ends, crate::proofs::Below::lost))]
+    fn lose(&mut self, place: usize)
         requires sound { AreSound self.old }
-        requires room { HaveRoom 2 self.old }
-        ensures step { seen self.new ≡ stepped who (ends.Receives bytes.now.items (connection_of (copy_of bytes.now.items (seen_ends self.old)))) (seen self.old) }
-        ensures sound { AreSound self.new }
-        ensures room { KeepRoom 1 self.old self.new }
-    {
-        let copy = bag::newest_copy(self.sent.as_slice(), self.time, bytes.as_slice());
-        let _ = self.call(who, &Call::Receives(copied(bytes), copy.unwrap_or(0)));
-    }
-
-    /// The oldest copy of bytes is lost.
-    #[tactic(auto, unfolding(crate::specs::Events::happens, crate::specs::Parts::seen, crate::specs::Parts::seen_ends, crate::proofs::Below::lost))]
-    fn lose(&mut self, bytes: &Bytes)
-        requires sound { AreSound self.old }
-        ensures step { seen self.new ≡ happens (event.Lose bytes.now) (seen self.old) }
+        requires stands { (bytes : List ℕ) × StandsAt place bytes self.old.sent.items }
+        ensures step { (bytes : List ℕ) → StandsAt place bytes self.old.sent.items → seen self.new ≡ record (seen self.old) { ends = lost bytes (seen_ends self.old) } }
         ensures sound { AreSound self.new }
         ensures room { KeepRoom 2 self.old self.new }
     {
-        bag::lose_oldest(self.sent.as_mut_slice(), bytes.as_slice());
+        bag::lose_at(self.sent.as_mut_slice(), place);
     }
 
     /// An end is made anew; a restarted server has a new lamp.
-    #[tactic(auto, unfolding(crate::specs::Events::happens, crate::specs::Parts::seen, crate::specs::Parts::seen_ends, crate::specs::Seen::seen_end, crate::proofs::Below::restarted, crate::proofs::Below::end_restarted))]
+    #[tactic(auto, unfolding(crate::specs::Events::happens, crate::specs::inside::Parts::seen, crate::specs::inside::Parts::seen_ends, crate::specs::inside::Seen::seen_end, crate::proofs::Below::restarted, crate::proofs::Below::end_restarted))]
     fn restart(
         &mut self,
         who: Role,
@@ -212,12 +208,13 @@ impl Parts {
         Ok(())
     }
 
-    /// An event that can happen does; only a restart may lack memory.
-    #[tactic(auto, unfolding(crate::specs::Events::happens, crate::specs::Events::answered, crate::specs::Events::refusal, crate::specs::Parts::seen, crate::specs::Parts::seen_ends))]
-    pub(crate) fn happen(&mut self, event: &PairEvent) -> Result<PairAnswer, AllocError>
+    /// An event that can happen does, with what its test found; only a restart may lack memory.
+    #[tactic(auto, unfolding(crate::specs::Events::happens, crate::specs::Events::answered, crate::specs::Events::refusal, crate::specs::inside::Parts::seen, crate::specs::inside::Parts::seen_ends))]
+    fn happen(&mut self, event: &PairEvent, found: usize) -> Result<PairAnswer, AllocError>
         requires sound { AreSound self.old }
         requires room { HaveRoom 2 self.old }
         requires allowed { refusal event.now (seen_ends self.old) ≡ None }
+        requires found { Finds found event.now (seen_ends self.old) }
         ensures step { OnOk result (seen self.new ≡ happens event.now (seen self.old)) }
         ensures answer { IfOk result (λ answer. answer ≡ answered event.now (seen_ends self.old)) }
         ensures same { OnErr result (self.new ≡ self.old) }
@@ -227,7 +224,7 @@ impl Parts {
     {
         match event {
             PairEvent::Give(who, item) => {
-                return Ok(PairAnswer::Given(self.call(*who, &Call::Sends(item.copy()))));
+                return Ok(PairAnswer::Given(self.call(*who, Call::Sends(item))));
             }
             PairEvent::Tick(who) => self.tick(*who),
             PairEvent::Time {
@@ -235,10 +232,12 @@ impl Parts {
                 of_client,
                 of_server,
             } => self.pass(*elapsed, *of_client, *of_server),
-            PairEvent::Deliver(who, bytes) => self.deliver(*who, bytes),
-            PairEvent::Lose(bytes) => self.lose(bytes),
+            PairEvent::Deliver(who, bytes) => {
+                let _ = self.call(*who, Call::Receives(bytes, found));
+            }
+            PairEvent::Lose(_) => self.lose(found),
             PairEvent::Close(who, why) => {
-                let _ = self.call(*who, &Call::Closes(*why));
+                let _ = self.call(*who, Call::Closes(*why));
             }
             PairEvent::Restart {
                 end,
@@ -252,7 +251,7 @@ impl Parts {
     }
 
     /// Makes memory for at least so many events.
-    #[tactic(auto, unfolding(crate::specs::Parts::seen, crate::specs::Parts::seen_ends))]
+    #[tactic(auto, unfolding(crate::specs::inside::Parts::seen, crate::specs::inside::Parts::seen_ends))]
     pub(crate) fn reserve(&mut self, events: usize) -> Result<(), AllocError>
         requires { IsPair self.old }
         ensures room { OnOk result (events ≤ self.new.room) }
@@ -273,7 +272,7 @@ impl Parts {
     }
 
     /// Applies an event, or says why it can't happen.
-    #[tactic(auto, unfolding(crate::specs::Events::reply_to, crate::specs::Parts::seen, crate::specs::Parts::seen_ends))]
+    #[tactic(auto, unfolding(crate::specs::Events::reply_to, crate::specs::inside::Parts::seen, crate::specs::inside::Parts::seen_ends))]
     pub(crate) fn apply(&mut self, event: &PairEvent) -> Result<PairReply, Refused>
         requires { IsPair self.old }
         ensures step { OnOk result (seen self.new ≡ happens event.now (seen self.old)) }
@@ -286,14 +285,12 @@ impl Parts {
         ensures kept { OnErr result (self.old.room ≤ self.new.room) }
         ensures whole { IsPair self.new }
     {
-        if let Some(why) = self.refusal(event) {
-            return Err(why);
-        }
+        let found = self.tested(event)?;
         if self.room == 0 && self.reserve(1).is_err() {
             return Err(Refused::OutOfMemory);
         }
         let sent_before = self.sent.len();
-        match self.happen(event) {
+        match self.happen(event, found) {
             Ok(answer) => {
                 self.room -= 1;
                 let added = self.sent.len() - sent_before;

@@ -1,11 +1,12 @@
 //! The datagrams that were sent, oldest first, and the bag of those that the network still has.
 
-ghost use Rattle.std.specs.Prelude.{◌≡◌, ◌+◌, ◌≤◌, ◌++◌, [], length};
+ghost use Rattle.std.specs.Prelude.{◌≡◌, ◌+◌, ◌<◌, ◌≤◌, ◌++◌, ℕ, List, [], length, true, false, IfSome, IfNone};
 ghost use Rattle.std.specs.Option.{option_map};
 ghost use Rattle.std.specs.Vec.{vec_len, vec_capacity};
 ghost use Rattle.rasta_core.specs.Bag as spec;
 ghost use Rattle.rasta_core.specs.Ends.{handed_out};
-ghost use Rattle.simulator_pair.specs.Order.{AreInOrder};
+ghost use Rattle.simulator_pair.specs.inside.Finding.{StandsAt};
+ghost use Rattle.simulator_pair.specs.inside.Order.{AreInOrder};
 ghost use Rattle.simulator_pair.specs.Events.{clock_limit};
 
 use rasta_core::{Outbox, Role, Sent};
@@ -68,28 +69,25 @@ pub(crate) fn newest_copy(sent: &[Sent], time: u64, bytes: &[u8]) -> Option<usiz
     None
 }
 
-/// Whether there is a copy of these bytes that isn't lost.
-pub(crate) fn has_copy(sent: &[Sent], bytes: &[u8]) -> bool
-    ensures { result ≡ spec.has_copy bytes.now sent.now }
+/// The place of the oldest copy of these bytes that isn't lost.
+pub(crate) fn oldest_copy(sent: &[Sent], bytes: &[u8]) -> Option<usize>
+    ensures found { IfSome result (λ place. (spec.has_copy bytes.now sent.now ≡ true) × StandsAt place bytes.now sent.now) }
+    ensures none { IfNone result (spec.has_copy bytes.now sent.now ≡ false) }
 {
-    for one in sent {
+    for (place, one) in sent.iter().enumerate() {
         if is_copy(one, bytes) {
-            return true;
+            return Some(place);
         }
     }
-    false
+    None
 }
 
-/// The network loses the oldest copy of these bytes, if there is one.
-pub(crate) fn lose_oldest(sent: &mut [Sent], bytes: &[u8])
-    ensures { sent.new ≡ spec.without_oldest bytes.now sent.old }
+/// The network loses the datagram at this place: of bytes whose oldest copy it is, this copy.
+pub(crate) fn lose_at(sent: &mut [Sent], place: usize)
+    requires { place < length sent.old }
+    ensures { (bytes : List ℕ) → StandsAt place bytes sent.old → sent.new ≡ spec.without_oldest bytes sent.old }
 {
-    for one in sent.iter_mut() {
-        if is_copy(one, bytes) {
-            one.lose();
-            return;
-        }
-    }
+    sent[place].lose();
 }
 
 /// What was handed out is sent, by this end in its connection.

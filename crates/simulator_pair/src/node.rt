@@ -1,12 +1,12 @@
 //! One end of a pair, with what its link doesn't know.
 
-ghost use Rattle.std.specs.Prelude.{◌≡◌, OnOk, ◌∷◌, Ok, is_ok, ◌+◌, ◌*◌, ◌≤◌, ◌<◌, ◌^◌, ◌++◌, ℕ, Some, None, [], length, if◌then◌else◌};
+ghost use Rattle.std.specs.Prelude.{◌≡◌, OnOk, ◌∷◌, Ok, is_ok, ◌+◌, ◌*◌, ◌≤◌, ◌<◌, ◌^◌, ◌++◌, Some, None, [], length, if◌then◌else◌};
 ghost use Rattle.std.specs.Vec.{vec_len, vec_capacity};
 ghost use Rattle.rasta_core.specs.Outbox.{HasRoomFor, posted};
 ghost use Rattle.rasta_core.specs.Calls.{MayStep, IsAt, opening, opens, sending_item, answer_to_send, receiving};
 ghost use Rattle.rasta_core.specs.Ends.{outcome, end_after, end_later, entered_by, reading_of};
 ghost use Rattle.arrayvec.specs.ArrayVec.{array_vec_len};
-ghost use Rattle.simulator_pair.specs.Calling.{meant};
+ghost use Rattle.simulator_pair.specs.inside.Calling.{HasStepped, meant};
 
 use crate::event::Bytes;
 use arrayvec::ArrayVec;
@@ -32,18 +32,18 @@ pub(crate) struct Node {
 }
 
 /// A call of a link: with a datagram comes the connection that it was sent in.
-#[derive(Debug, Drop)]
-pub(crate) enum Call {
+#[derive(Clone, Copy, Debug)]
+pub(crate) enum Call<'a> {
     Ticks,
     Opens,
     Closes(Reason),
-    Sends(Item),
-    Receives(Bytes, usize),
+    Sends(&'a Item),
+    Receives(&'a Bytes, usize),
 }
 
 impl Node {
-    ghost use Rattle.simulator_pair.specs.Seen.{seen_end, IsAtClock, HasLists, KeepsLists, noted, concluded};
-    ghost use Rattle.simulator_pair.specs.Calling.{answer_of};
+    ghost use Rattle.simulator_pair.specs.inside.Seen.{seen_end, IsAtClock, HasLists, KeepsLists, noted, concluded};
+    ghost use Rattle.simulator_pair.specs.inside.Calling.{IsHandedOut, IsMade, IsReady, Performs};
 
     /// What the end reads of its clock.
     pub(crate) fn now(&self) -> Millis
@@ -53,7 +53,7 @@ impl Node {
     }
 
     /// Notes the connection that it has entered in a step, if any, and the moment if it has left one.
-    #[tactic(auto, unfolding(crate::specs::Seen::seen_end, crate::specs::Seen::noted))]
+    #[tactic(auto, unfolding(crate::specs::inside::Seen::seen_end, crate::specs::inside::Seen::noted))]
     fn note(&mut self, was_open: bool, enters: Option<usize>, moment: usize)
         ensures end { seen_end self.new ≡ noted was_open enters moment (seen_end self.old) }
         ensures link { self.new.link ≡ self.old.link }
@@ -72,25 +72,18 @@ impl Node {
     }
 
     /// The link's part of a call.
-    #[tactic(auto, using(crate::proofs::Steps::stepping), unfolding(crate::proofs::Below::outcome, crate::specs::Seen::seen_end))]
+    #[tactic(auto, using(crate::proofs::Steps::stepping), unfolding(crate::proofs::Below::outcome, crate::specs::inside::Seen::seen_end))]
     fn call_link(
         &mut self,
-        call: &Call,
+        call: Call<'_>,
         moment: usize,
         outbox: &mut Outbox,
         inbox: &mut Inbox,
     ) -> Made
-        requires clock { IsAtClock self.old }
-        requires room { HasRoomFor 24 outbox.old }
-        requires nothing_in { inbox.old.items ≡ [] }
-        ensures link { self.new ≡ record self.old { link = (outcome (meant call.now) moment (seen_end self.old)).link } }
-        ensures posted { outbox.new ≡ posted self.old.link.identity.key (outcome (meant call.now) moment (seen_end self.old)).pdus outbox.old }
-        ensures taken { inbox.new.items ≡ (outcome (meant call.now) moment (seen_end self.old)).taken }
-        ensures enters { result.enters ≡ (outcome (meant call.now) moment (seen_end self.old)).enters }
-        ensures given { result.given.items ≡ (outcome (meant call.now) moment (seen_end self.old)).given }
-        ensures few { length (outcome (meant call.now) moment (seen_end self.old)).pdus ≤ 24 }
-        ensures one { array_vec_len result.given ≤ 1 }
-        ensures answer { result.answer ≡ answer_of (meant call.now) (seen_end self.old) }
+        requires { IsReady moment self.old outbox.old inbox.old.items }
+        ensures link { self.new ≡ record self.old { link = (outcome (meant call.entry) moment (seen_end self.old)).link } }
+        ensures handed { IsHandedOut (outcome (meant call.entry) moment (seen_end self.old)) (seen_end self.old) outbox.old outbox.new inbox.new.items }
+        ensures made { IsMade (meant call.entry) (outcome (meant call.entry) moment (seen_end self.old)) (seen_end self.old) result }
         ensures clock { self.new.link.clock ≡ reading_of self.old.clock }
     {
         let now = self.now();
@@ -101,18 +94,18 @@ impl Node {
             }
             Call::Opens => nothing_given(open(&mut self.link, now, moment, outbox)),
             Call::Closes(why) => {
-                self.link.close(now, *why, outbox);
+                self.link.close(now, why, outbox);
                 nothing_given(None)
             }
             Call::Sends(item) => send(&mut self.link, now, item, outbox),
             Call::Receives(bytes, connection) => {
-                nothing_given(receive(&mut self.link, now, bytes, *connection, outbox, inbox))
+                nothing_given(receive(&mut self.link, now, bytes, connection, outbox, inbox))
             }
         }
     }
 
     /// What a step makes of the connection and its lists, once the link has done its part.
-    #[tactic(auto, unfolding(crate::specs::Seen::concluded, crate::specs::Seen::noted, crate::specs::Seen::seen_end))]
+    #[tactic(auto, unfolding(crate::specs::inside::Seen::concluded, crate::specs::inside::Seen::noted, crate::specs::inside::Seen::seen_end))]
     fn conclude(&mut self, was_open: bool, made: &Made, taken: &[Item], moment: usize)
         requires lists { HasLists 3 self.old }
         requires given { array_vec_len made.now.given ≤ 1 }
@@ -128,28 +121,16 @@ impl Node {
     }
 
     /// A call of the link, and what it makes of the connection and its lists.
-    #[tactic(auto, using(crate::proofs::Steps::stepping), unfolding(crate::specs::Seen::seen_end, crate::specs::Seen::noted, crate::specs::Seen::concluded, crate::proofs::Below::end_after))]
+    #[tactic(auto, using(crate::proofs::Steps::stepping), unfolding(crate::specs::inside::Seen::seen_end, crate::specs::inside::Seen::noted, crate::specs::inside::Seen::concluded, crate::proofs::Below::end_after))]
     pub(crate) fn call(
         &mut self,
-        call: &Call,
+        call: Call<'_>,
         moment: usize,
         outbox: &mut Outbox,
         inbox: &mut Inbox,
     ) -> Result<(), SendFault>
-        requires clock { IsAtClock self.old }
-        requires nothing_out { outbox.old.datagrams ≡ [] }
-        requires room { HasRoomFor 24 outbox.old }
-        requires nothing_in { inbox.old.items ≡ [] }
-        requires fits { moment < 2 ^ 63 }
-        requires lists { HasLists 3 self.old }
-        ensures end { seen_end self.new ≡ end_after (outcome (meant call.now) moment (seen_end self.old)) moment (seen_end self.old) }
-        ensures posted { outbox.new ≡ posted self.old.link.identity.key (outcome (meant call.now) moment (seen_end self.old)).pdus outbox.old }
-        ensures taken { inbox.new.items ≡ (outcome (meant call.now) moment (seen_end self.old)).taken }
-        ensures few { length (outcome (meant call.now) moment (seen_end self.old)).pdus ≤ 24 }
-        ensures answer { result ≡ answer_of (meant call.now) (seen_end self.old) }
-        ensures clock { IsAtClock self.new }
-        ensures same_clock { self.new.clock ≡ self.old.clock }
-        ensures lists { KeepsLists 3 self.old self.new }
+        requires { IsReady moment self.old outbox.old inbox.old.items }
+        ensures { Performs (meant call.entry) moment self.old self.new outbox.old outbox.new inbox.new.items result }
     {
         let was_open = self.link.is_open();
         let made = self.call_link(call, moment, outbox, inbox);
@@ -158,7 +139,7 @@ impl Node {
     }
 
     /// The end is made anew, with this link and this clock in milliseconds.
-    #[tactic(auto, unfolding(crate::specs::Seen::seen_end, crate::proofs::Below::end_restarted))]
+    #[tactic(auto, unfolding(crate::specs::inside::Seen::seen_end, crate::proofs::Below::end_restarted))]
     pub(crate) fn restart(&mut self, link: Link, clock: Millis, moment: usize)
         requires fits { clock * 1000 < 2 ^ 64 }
         ensures end { seen_end self.new ≡ record (seen_end self.old) { link = link; clock = clock * 1000; left = moment } }
@@ -172,7 +153,7 @@ impl Node {
     }
 
     /// Makes room for so many more items in each list.
-    #[tactic(auto, unfolding(crate::specs::Seen::seen_end))]
+    #[tactic(auto, unfolding(crate::specs::inside::Seen::seen_end))]
     pub(crate) fn reserve(&mut self, items: usize) -> Result<(), AllocError>
         ensures room { OnOk result (HasLists items self.new) }
         ensures same { seen_end self.new ≡ seen_end self.old }
@@ -185,7 +166,7 @@ impl Node {
     }
 
     /// The clock goes on by so many microseconds.
-    #[tactic(auto, using(crate::proofs::Steps::stepping), unfolding(crate::specs::Seen::seen_end, crate::specs::Seen::noted, crate::proofs::Below::end_later))]
+    #[tactic(auto, using(crate::proofs::Steps::stepping), unfolding(crate::specs::inside::Seen::seen_end, crate::specs::inside::Seen::noted, crate::proofs::Below::end_later))]
     pub(crate) fn pass(&mut self, elapsed: u64, moment: usize)
         requires clock { IsAtClock self.old }
         requires fits { self.old.clock + elapsed < 2 ^ 64 }
@@ -227,14 +208,11 @@ fn nothing_given(enters: Option<usize>) -> Made
 fn send(link: &mut Link, now: Millis, item: &Item, outbox: &mut Outbox) -> Made
     requires clock { MayStep now link.old }
     requires room { HasRoomFor 24 outbox.old }
-    ensures link { link.new ≡ (sending_item now item.now link.old).link }
-    ensures posted { outbox.new ≡ posted link.old.identity.key (sending_item now item.now link.old).pdus outbox.old }
-    ensures few { length (sending_item now item.now link.old).pdus ≤ 24 }
+    ensures step { HasStepped now (sending_item now item.now link.old).link (sending_item now item.now link.old).pdus link.old link.new outbox.old outbox.new }
     ensures answer { result.answer ≡ answer_to_send now link.old }
     ensures enters { result.enters ≡ None }
     ensures given { result.given.items ≡ (if is_ok (answer_to_send now link.old) then item.now ∷ [] else []) }
     ensures one { array_vec_len result.given ≤ 1 }
-    ensures kept { IsAt now link.old link.new }
 {
     let answer = link.send(now, item, outbox);
     let mut given = ArrayVec::new();
@@ -252,11 +230,8 @@ fn send(link: &mut Link, now: Millis, item: &Item, outbox: &mut Outbox) -> Made
 fn open(link: &mut Link, now: Millis, moment: usize, outbox: &mut Outbox) -> Option<usize>
     requires clock { MayStep now link.old }
     requires room { HasRoomFor 24 outbox.old }
-    ensures link { link.new ≡ (opening now link.old).link }
-    ensures posted { outbox.new ≡ posted link.old.identity.key (opening now link.old).pdus outbox.old }
+    ensures step { HasStepped now (opening now link.old).link (opening now link.old).pdus link.old link.new outbox.old outbox.new }
     ensures enters { result ≡ (if opens now link.old then Some moment else None) }
-    ensures few { length (opening now link.old).pdus ≤ 24 }
-    ensures kept { IsAt now link.old link.new }
 {
     if link.open(now, outbox) {
         Some(moment)
@@ -276,12 +251,9 @@ fn receive(
 ) -> Option<usize>
     requires clock { MayStep now link.old }
     requires room { HasRoomFor 24 outbox.old }
-    ensures link { link.new ≡ (receiving now bytes.now link.old).link }
-    ensures posted { outbox.new ≡ posted link.old.identity.key (receiving now bytes.now link.old).pdus outbox.old }
+    ensures step { HasStepped now (receiving now bytes.now link.old).link (receiving now bytes.now link.old).pdus link.old link.new outbox.old outbox.new }
     ensures items { inbox.new.items ≡ (receiving now bytes.now link.old).items }
-    ensures few { length (receiving now bytes.now link.old).pdus ≤ 24 }
     ensures enters { result ≡ entered_by link.old (receiving now bytes.now link.old).verdict connection }
-    ensures kept { IsAt now link.old link.new }
 {
     let was_open = link.is_open();
     match link.receive(now, bytes, outbox, inbox) {

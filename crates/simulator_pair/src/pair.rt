@@ -2,10 +2,10 @@
 
 ghost use Rattle.std.specs.Prelude.{◌≡◌, ◌≤◌, ◌<◌, ◌+◌, ◌⊎◌, [], None, Some, Err, IfOk, IfErr, OnOk, OnErr, IsTrue};
 ghost use Rattle.rasta_core.specs.Run.{end_of};
-ghost use Rattle.simulator_pair.specs.Seen.{seen_end, HasLists};
-ghost use Rattle.simulator_pair.specs.Theorem.{GivesItem};
+ghost use Rattle.simulator_pair.specs.inside.Seen.{seen_end, HasLists};
+ghost use Rattle.simulator_pair.specs.inside.Parts.{GivesItem};
 ghost use Rattle.simulator_pair.specs.Events.{new_pair};
-ghost use Rattle.simulator_pair.specs.Parts.{seen, IsPair};
+ghost use Rattle.simulator_pair.specs.inside.Parts.{seen, IsPair};
 ghost use Rattle.md4.specs.declared.message.TheConstants.{STANDARD};
 
 use crate::bag::Bag;
@@ -40,7 +40,7 @@ impl Model for Pair {
 
     ghost Value = { PairView };
 
-    ghost use Rattle.simulator_pair.specs.Parts.{seen, IsLinkedPair};
+    ghost use Rattle.simulator_pair.specs.inside.Parts.{seen, IsLinkedPair};
 
     ghost view = { λ p. record { run = seen p.parts; room = p.parts.room } };
 
@@ -48,7 +48,7 @@ impl Model for Pair {
 }
 
 /// An end as it is made: with its clock at 0, in no connection.
-#[tactic(auto, unfolding(crate::specs::Seen::seen_end))]
+#[tactic(auto, unfolding(crate::specs::inside::Seen::seen_end))]
 fn new_node(alloc: Global, link: Link) -> Node
     ensures end { seen_end result ≡ record { link = link; clock = 0; connection = None; left = 0; given = []; taken = [] } }
     ensures link { result.link ≡ link }
@@ -66,7 +66,7 @@ fn new_node(alloc: Global, link: Link) -> Node
 }
 
 /// The parts of a new pair.
-#[tactic(auto, unfolding(crate::specs::Parts::seen, crate::specs::Parts::seen_ends, crate::specs::Seen::seen_end, crate::proofs::Below::created, crate::proofs::Below::alive_until))]
+#[tactic(auto, unfolding(crate::specs::inside::Parts::seen, crate::specs::inside::Parts::seen_ends, crate::specs::inside::Seen::seen_end, crate::proofs::Below::created, crate::proofs::Below::alive_until))]
 fn new_parts(alloc: Global) -> Result<Parts, AllocError>
     ensures state { IfOk result (λ parts. seen parts ≡ new_pair (record { 0 = STANDARD })) }
     ensures whole { IfOk result IsPair }
@@ -122,7 +122,7 @@ impl Pair {
 
     /// Applies an event and tells of it, or says why it can't happen; then nothing has changed but that the
     /// room may have grown. Where there is room for an event, only a restart can lack memory.
-    #[tactic(auto, unfolding(crate::specs::Parts::seen, crate::specs::Parts::seen_ends, crate::specs::Seen::seen_end))]
+    #[tactic(auto, unfolding(crate::specs::inside::Parts::seen, crate::specs::inside::Parts::seen_ends, crate::specs::inside::Seen::seen_end))]
     pub fn apply(&mut self, event: &PairEvent) -> Result<PairReply, Refused>
         ensures step { OnOk result (self.new.run ≡ happens event.now self.old.run) }
         ensures reply { IfOk result (λ reply. reply ≡ reply_to event.now self.old.run) }
@@ -191,7 +191,7 @@ impl Pair {
     }
 
     /// True time, in microseconds.
-    #[tactic(auto, unfolding(crate::specs::Parts::seen, crate::specs::Parts::seen_ends, crate::specs::Seen::seen_end))]
+    #[tactic(auto, unfolding(crate::specs::inside::Parts::seen, crate::specs::inside::Parts::seen_ends, crate::specs::inside::Seen::seen_end))]
     pub fn time(&self) -> u64
         ensures { result ≡ self.now.run.ends.time }
     {
@@ -199,7 +199,7 @@ impl Pair {
     }
 
     /// What the lamp shows at the server's clock.
-    #[tactic(auto, unfolding(crate::specs::Parts::seen, crate::specs::Parts::seen_ends, crate::specs::Seen::seen_end))]
+    #[tactic(auto, unfolding(crate::specs::inside::Parts::seen, crate::specs::inside::Parts::seen_ends, crate::specs::inside::Seen::seen_end))]
     pub fn shown(&self) -> Aspect
         ensures value { result ≡ shown self.now.run }
         ensures due { result ≡ aspect_due self.now.run.ends.server }
@@ -208,7 +208,7 @@ impl Pair {
     }
 
     /// Whether an end is up at its clock.
-    #[tactic(auto, unfolding(crate::specs::Parts::seen, crate::specs::Parts::seen_ends, crate::specs::Seen::seen_end))]
+    #[tactic(auto, unfolding(crate::specs::inside::Parts::seen, crate::specs::inside::Parts::seen_ends, crate::specs::inside::Seen::seen_end))]
     pub fn is_up(&self, end: Role) -> bool
         ensures { result ≡ is_up (end_of end self.now.run.ends).link.phase }
     {
@@ -216,7 +216,7 @@ impl Pair {
     }
 
     /// The items that an end accepted in its last connection, oldest first.
-    #[tactic(auto, unfolding(crate::specs::Parts::seen, crate::specs::Parts::seen_ends, crate::specs::Seen::seen_end))]
+    #[tactic(auto, unfolding(crate::specs::inside::Parts::seen, crate::specs::inside::Parts::seen_ends, crate::specs::inside::Seen::seen_end))]
     pub fn given(&self, end: Role) -> &[Item]
         ensures { result.now ≡ (end_of end self.now.run.ends).given }
     {
@@ -224,7 +224,7 @@ impl Pair {
     }
 
     /// The items that an end handed out in its last connection, oldest first.
-    #[tactic(auto, unfolding(crate::specs::Parts::seen, crate::specs::Parts::seen_ends, crate::specs::Seen::seen_end))]
+    #[tactic(auto, unfolding(crate::specs::inside::Parts::seen, crate::specs::inside::Parts::seen_ends, crate::specs::inside::Seen::seen_end))]
     pub fn taken(&self, end: Role) -> &[Item]
         ensures { result.now ≡ (end_of end self.now.run.ends).taken }
     {
@@ -232,7 +232,7 @@ impl Pair {
     }
 
     /// How many items an end accepted in its last connection are known to be taken by its partner.
-    #[tactic(auto, unfolding(crate::specs::Parts::seen, crate::specs::Parts::seen_ends, crate::specs::Seen::seen_end))]
+    #[tactic(auto, unfolding(crate::specs::inside::Parts::seen, crate::specs::inside::Parts::seen_ends, crate::specs::inside::Seen::seen_end))]
     pub fn confirmed(&self, end: Role) -> u64
         ensures { result ≡ confirmed_items (end_of end self.now.run.ends).link }
     {
@@ -240,7 +240,7 @@ impl Pair {
     }
 
     /// The datagrams that the network still has, oldest first.
-    #[tactic(auto, unfolding(crate::specs::Parts::seen, crate::specs::Parts::seen_ends, crate::specs::Seen::seen_end))]
+    #[tactic(auto, unfolding(crate::specs::inside::Parts::seen, crate::specs::inside::Parts::seen_ends, crate::specs::inside::Seen::seen_end))]
     pub fn bag(&self) -> Bag<'_>
         ensures { in_bag result ≡ not_lost self.now.run.ends.sent }
     {
@@ -250,7 +250,7 @@ impl Pair {
     }
 
     /// Every datagram that was sent, oldest first, also those that are lost.
-    #[tactic(auto, unfolding(crate::specs::Parts::seen, crate::specs::Parts::seen_ends, crate::specs::Seen::seen_end))]
+    #[tactic(auto, unfolding(crate::specs::inside::Parts::seen, crate::specs::inside::Parts::seen_ends, crate::specs::inside::Seen::seen_end))]
     pub fn sent(&self) -> &[Sent]
         ensures { result.now ≡ self.now.run.ends.sent }
     {

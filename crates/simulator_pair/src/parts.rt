@@ -2,7 +2,7 @@
 
 ghost use Rattle.std.specs.Prelude.{◌≡◌, ◌≤◌};
 ghost use Rattle.simulator_pair.specs.Pair.{stepped};
-ghost use Rattle.simulator_pair.specs.Calling.{meant};
+ghost use Rattle.simulator_pair.specs.inside.Calling.{meant};
 ghost use Rattle.rasta_core.specs.Run.{end_of};
 ghost use Rattle.rasta_core.specs.identity.Role.TheVariants.{Client, Server};
 
@@ -31,16 +31,16 @@ pub(crate) struct Parts {
 }
 
 impl Parts {
-    ghost use Rattle.simulator_pair.specs.Seen.{seen_end};
-    ghost use Rattle.simulator_pair.specs.Calling.{answer_of};
-    ghost use Rattle.simulator_pair.specs.Parts.{seen, AreSound, HaveRoom, KeepRoom};
+    ghost use Rattle.simulator_pair.specs.inside.Seen.{seen_end};
+    ghost use Rattle.simulator_pair.specs.inside.Calling.{answer_of};
+    ghost use Rattle.simulator_pair.specs.inside.Parts.{seen, AreSound, HaveRoom, KeepRoom};
 
     /// A call of the client's link.
-    fn call_client(&mut self, call: &Call) -> Result<(), SendFault>
+    fn call_client(&mut self, call: Call<'_>) -> Result<(), SendFault>
         requires sound { AreSound self.old }
         requires room { HaveRoom 1 self.old }
-        ensures step { seen self.new ≡ stepped Client (meant call.now) (seen self.old) }
-        ensures answer { result ≡ answer_of (meant call.now) (seen_end self.old.client) }
+        ensures step { seen self.new ≡ stepped Client (meant call.entry) (seen self.old) }
+        ensures answer { result ≡ answer_of (meant call.entry) (seen_end self.old.client) }
         ensures sound { AreSound self.new }
         ensures room { KeepRoom 1 self.old self.new }
     {
@@ -62,11 +62,11 @@ impl Parts {
 
     /// A call of the server's link. Its lamp is told of a loss since the last one before anything else, then of
     /// what was taken, and then of a loss in the call.
-    fn call_server(&mut self, call: &Call) -> Result<(), SendFault>
+    fn call_server(&mut self, call: Call<'_>) -> Result<(), SendFault>
         requires sound { AreSound self.old }
         requires room { HaveRoom 1 self.old }
-        ensures step { seen self.new ≡ stepped Server (meant call.now) (seen self.old) }
-        ensures answer { result ≡ answer_of (meant call.now) (seen_end self.old.server) }
+        ensures step { seen self.new ≡ stepped Server (meant call.entry) (seen self.old) }
+        ensures answer { result ≡ answer_of (meant call.entry) (seen_end self.old.server) }
         ensures sound { AreSound self.new }
         ensures room { KeepRoom 1 self.old self.new }
     {
@@ -91,12 +91,12 @@ impl Parts {
     }
 
     /// A call of the link of an end.
-    #[tactic(auto, unfolding(crate::specs::Parts::seen, crate::specs::Parts::seen_ends))]
-    pub(crate) fn call(&mut self, who: Role, call: &Call) -> Result<(), SendFault>
+    #[tactic(auto, unfolding(crate::specs::inside::Parts::seen, crate::specs::inside::Parts::seen_ends))]
+    pub(crate) fn call(&mut self, who: Role, call: Call<'_>) -> Result<(), SendFault>
         requires sound { AreSound self.old }
         requires room { HaveRoom 1 self.old }
-        ensures step { seen self.new ≡ stepped who (meant call.now) (seen self.old) }
-        ensures answer { result ≡ answer_of (meant call.now) (end_of who (seen self.old).ends) }
+        ensures step { seen self.new ≡ stepped who (meant call.entry) (seen self.old) }
+        ensures answer { result ≡ answer_of (meant call.entry) (end_of who (seen self.old).ends) }
         ensures sound { AreSound self.new }
         ensures room { KeepRoom 1 self.old self.new }
     {

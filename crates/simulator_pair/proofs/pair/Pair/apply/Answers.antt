@@ -1,5 +1,5 @@
 use Rattle.std.proofs.Common.{subst, ap}
-use Rattle.simulator_pair.specs.Parts.{seen, seen_ends}
+use Rattle.simulator_pair.specs.inside.Parts.{seen, seen_ends}
 use Rattle.simulator_pair.specs.Theorem.{HappensRightly, names}
 use Rattle.rasta_core.specs.Run.{Ends}
 use Rattle.simulator_pair.proofs.Lit.{lit_answer, lit_shows, stop_holds}
@@ -24,7 +24,7 @@ returns-clause-safe c = c.order_is_safe.ensures names _ (invariant_of-self c).li
 pub returns-clause-rightly : goal.returns-clause-rightly
 unfolding seen
 returns-clause-rightly c =
-    let laws : TakingLaws = record { fresh = c.items_are_fresh.ensures; own = c.own_connection.ensures.taken; opening = c.opening_is_new.ensures; intact = c.intact_is_tested.ensures; read = c.read_was_written.ensures.intact }
+    let laws : TakingLaws = record { fresh = c.items_are_fresh.ensures; own = c.own_connection.ensures.taken; inside = c.own_connection.ensures.inside; opening = c.opening_is_new.ensures; intact = c.intact_is_tested.ensures; read = c.read_was_written.ensures.intact }
     in let Right : Ends → Type 0 = λ ends. HappensRightly c.args.event.now ends
     in subst Right (ap (λ v. v.run.ends) c.self.view_is) (happens_rightly laws c.args.event.now (seen_ends c.self.inside.parts) c.self.invariant.linked)
 

@@ -2,9 +2,9 @@ use Rattle.std.proofs.Common.{inl, refl, sym, subst}
 use Rattle.rasta_core.specs.Calls.{created}
 use Rattle.rasta_core.specs.Events.{Start}
 use Rattle.simulator_pair.specs.Pair.{PairState}
-use Rattle.simulator_pair.specs.Parts.{seen}
-use Rattle.simulator_pair.specs.Lamp.{IsLit}
-use Rattle.simulator_pair.specs.Theorem.{IsLinked, names}
+use Rattle.simulator_pair.specs.inside.Lit.{IsLit}
+use Rattle.simulator_pair.specs.Theorem.{names}
+use Rattle.simulator_pair.specs.inside.Parts.{IsLinked, seen}
 use Rattle.simulator_pair.proofs.Linked.{are_names}
 use Rattle.simulator_pair.proofs.pair.Pair.new.Goals as goal
 

@@ -1,8 +1,7 @@
 use Rattle.std.proofs.Common.{sym, subst}
 use Rattle.simulator_pair.specs.Pair.{PairState}
-use Rattle.simulator_pair.specs.Parts.{seen}
-use Rattle.simulator_pair.specs.Lamp.{IsLit}
-use Rattle.simulator_pair.specs.Theorem.{IsLinked}
+use Rattle.simulator_pair.specs.inside.Parts.{IsLinked, seen}
+use Rattle.simulator_pair.specs.inside.Lit.{IsLit}
 use Rattle.simulator_pair.proofs.pair.Pair.reserve.Goals as goal
 
 pub invariant_of-self : goal.invariant_of-self

@@ -6,7 +6,7 @@ use Rattle.simulator_pair.specs.declared.event.PairEvent.{PairEvent}
 use Rattle.rasta_core.specs.Safe.{AreSafe}
 use Rattle.simulator_pair.specs.Pair.{PairView, shown}
 use Rattle.simulator_pair.specs.Lamp.{StopHolds, aspect_due}
-use Rattle.simulator_pair.specs.Parts.{seen}
+use Rattle.simulator_pair.specs.inside.Parts.{seen}
 use Rattle.simulator_pair.specs.Theorem.{names}
 use Rattle.simulator_pair.proofs.Lit.{lit_shows, stop_holds}
 use Rattle.simulator_pair.proofs.Runs.{run_step}

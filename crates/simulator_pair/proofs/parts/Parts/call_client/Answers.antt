@@ -2,12 +2,12 @@ use Rattle.std.proofs.Common.{◌≤◌, ℕ, ◌+◌, refl, sym, ap, ◌∙◌,
 use Rattle.std.specs.Vec.{vec_len}
 use Rattle.rasta_core.specs.Outbox.{spellings}
 use Rattle.rasta_core.specs.Ends.{Sent, outcome, end_after}
-use Rattle.simulator_pair.specs.Calling.{meant}
+use Rattle.simulator_pair.specs.inside.Calling.{meant}
 use Rattle.rasta_core.specs.identity.Role.TheVariants.{Client}
 use Rattle.simulator_pair.specs.Events.{clock_limit}
-use Rattle.simulator_pair.specs.Order.{AreInOrder}
-use Rattle.simulator_pair.specs.Seen.{seen_end}
-use Rattle.simulator_pair.specs.Parts.{seen, seen_ends}
+use Rattle.simulator_pair.specs.inside.Order.{AreInOrder}
+use Rattle.simulator_pair.specs.inside.Seen.{seen_end}
+use Rattle.simulator_pair.specs.inside.Parts.{seen, seen_ends}
 use Rattle.simulator_pair.proofs.Steps.{length-posted_alone, capacity-posted_after}
 use Rattle.simulator_pair.proofs.Calls.{client_step, datagrams-posted}
 use Rattle.simulator_pair.proofs.Order.{in_order_sending}
@@ -16,8 +16,8 @@ use Rattle.simulator_pair.proofs.parts.Parts.call_client.Goals as goal
 pub send_all-requires : goal.send_all-requires
 send_all-requires c =
     let made = c.call-answer.ensures
-    in let sent = length-posted_alone _ _ _ _ c.requires.sound.nothing_out made.posted
-    in omega (arith, sent, made.few, c.requires.room.sent)
+    in let sent = length-posted_alone _ _ _ _ c.requires.sound.nothing_out made.handed.posted
+    in omega (arith, sent, made.handed.few, c.requires.room.sent)
 
 pub returns-clause-step : goal.returns-clause-step
 unfolding seen seen_ends seen_end
@@ -25,20 +25,20 @@ returns-clause-step c =
     let made = c.call-answer.ensures
     in let end = seen_end c.args.self.now.client
     in let moment = c.len-moment.ensures
-    in let call = meant c.args.call.now
-    in let posted = datagrams-posted _ _ _ _ c.requires.sound.nothing_out made.posted
+    in let call = meant c.args.call
+    in let posted = datagrams-posted _ _ _ _ c.requires.sound.nothing_out made.handed.posted
     in client_step call (seen c.args.self.now) _ _ _ c.call-answer.new.outbox.datagrams
     (made.end ∙ ap (λ m. end_after (outcome call m end) m end) moment)
     (posted ∙ ap (λ m. spellings end.link.identity.key (outcome call m end).pdus) moment)
     c.send_all.ensures.items
-    (c.send_all.ensures.len ∙ ap (λ n. vec_len c.args.self.now.sent + n) (length-posted_alone _ _ _ _ c.requires.sound.nothing_out made.posted ∙ ap (λ m. length (outcome call m end).pdus) moment))
+    (c.send_all.ensures.len ∙ ap (λ n. vec_len c.args.self.now.sent + n) (length-posted_alone _ _ _ _ c.requires.sound.nothing_out made.handed.posted ∙ ap (λ m. length (outcome call m end).pdus) moment))
 
 pub returns-clause-sound : goal.returns-clause-sound
 returns-clause-sound c =
     let sound = c.requires.sound
     in let made = c.call-answer.ensures
     in let emptied = c.send_all.ensures.emptied
-    in let capacity = ap (λ b. b.capacity) emptied ∙ capacity-posted_after _ _ _ _ made.posted
+    in let capacity = ap (λ b. b.capacity) emptied ∙ capacity-posted_after _ _ _ _ made.handed.posted
     in let Within : ℕ → Type 0 = λ clock. clock ≤ clock_limit
     in let Ordered : List Sent → Type 0 = AreInOrder c.args.self.now.time
     in record {
@@ -56,12 +56,12 @@ returns-clause-sound c =
 pub returns-clause-room : goal.returns-clause-room
 returns-clause-room c =
     let made = c.call-answer.ensures
-    in let sent = length-posted_alone _ _ _ _ c.requires.sound.nothing_out made.posted
+    in let sent = length-posted_alone _ _ _ _ c.requires.sound.nothing_out made.handed.posted
     in record {
       client_lists = made.lists;
       server_lists = record { given_memory = omega arith; taken_memory = omega arith; given_more = omega arith; taken_more = omega arith };
       sent_memory = omega (arith, c.send_all.ensures.capacity);
-      sent_more = omega (arith, sent, made.few, c.send_all.ensures.len);
+      sent_more = omega (arith, sent, made.handed.few, c.send_all.ensures.len);
       sent_stays = omega (arith, c.send_all.ensures.len);
       room = refl;
     }

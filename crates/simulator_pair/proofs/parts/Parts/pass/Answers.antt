@@ -1,7 +1,7 @@
 use Rattle.std.proofs.Common.{ap, arith}
 use Rattle.rasta_core.specs.Ends.{end_later}
-use Rattle.simulator_pair.specs.Seen.{seen_end}
-use Rattle.simulator_pair.specs.Parts.{seen_ends}
+use Rattle.simulator_pair.specs.inside.Seen.{seen_end}
+use Rattle.simulator_pair.specs.inside.Parts.{seen_ends}
 use Rattle.simulator_pair.proofs.Order.{in_order_later}
 use Rattle.simulator_pair.proofs.Limits.{within_limits}
 use Rattle.simulator_pair.proofs.parts.Parts.pass.Goals as goal

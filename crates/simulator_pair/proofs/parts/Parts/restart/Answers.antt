@@ -2,7 +2,7 @@ use Rattle.std.proofs.Common.{◌≤◌, ap, sym, ◌∙◌, arith}
 use Rattle.rasta_core.specs.Calls.{created}
 use Rattle.rasta_core.specs.Ends.{reading_of}
 use Rattle.simulator_pair.specs.Events.{clock_limit}
-use Rattle.simulator_pair.specs.Seen.{IsAtClock}
+use Rattle.simulator_pair.specs.inside.Seen.{IsAtClock}
 use Rattle.simulator_pair.proofs.Limits.{reading-milliseconds}
 use Rattle.simulator_pair.proofs.parts.Parts.restart.Goals as goal
 

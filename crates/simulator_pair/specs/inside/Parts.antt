@@ -2,13 +2,18 @@
 use Rattle.std.specs.Prelude.{◌≡◌, ℕ, ◌+◌, ◌*◌, ◌≤◌, []}
 use Rattle.std.specs.Vec.{vec_len, vec_capacity}
 use Rattle.rasta_core.specs.Run.{Ends}
+use Rattle.rasta_core.specs.Ordered.{Ordered}
+use Rattle.rasta_core.specs.Invariant.{Timely}
+use Rattle.rasta_pdu.specs.Items.{IsItem}
 use Rattle.simulator_pair.specs.Pair.{PairState}
 use Rattle.simulator_pair.specs.Events.{clock_limit}
-use Rattle.simulator_pair.specs.Order.{AreInOrder}
-use Rattle.simulator_pair.specs.Seen.{seen_end, IsAtClock, HasLists, KeepsLists}
-use Rattle.simulator_pair.specs.Lamp.{IsLit}
-use Rattle.simulator_pair.specs.Theorem.{IsLinked}
+use Rattle.simulator_pair.specs.inside.Order.{AreInOrder}
+use Rattle.simulator_pair.specs.inside.Seen.{seen_end, IsAtClock, HasLists, KeepsLists}
+use Rattle.simulator_pair.specs.inside.Lit.{IsLit}
+use Rattle.simulator_pair.specs.Theorem.{names}
 use Rattle.simulator_pair.specs.declared.parts.Parts.{Parts}
+use Rattle.simulator_pair.specs.declared.event.PairEvent.{PairEvent}
+use Rattle.simulator_pair.specs.declared.event.PairEvent.TheVariants as event
 
 unfoldable pub seen_ends : Parts → Ends
 seen_ends parts = record {
@@ -53,6 +58,16 @@ pub record KeepRoom (calls : ℕ) (old new : Parts) : Type 0 where
 pub record IsPair (parts : Parts) : Type 0 where
   pub sound : AreSound parts
   pub room : HaveRoom (2 * parts.room) parts
+
+-- the invariant of the link theorem
+pub record IsLinked (ends : Ends) : Type 0 where
+  pub timely : Timely names ends
+  pub ordered : Ordered names ends
+
+-- an item that is given has 1 to 61 bytes
+abbrev pub GivesItem : PairEvent → Type 0
+GivesItem (event.Give who item) = IsItem item
+GivesItem _ = Unit {0}
 
 -- the link theorem's invariant holds of its two ends, and the lamp was told what the server took
 pub record IsLinkedPair (parts : Parts) : Type 0 where
