@@ -12,8 +12,6 @@ mod row;
 mod sections;
 mod sides;
 mod signals;
-#[cfg(test)]
-mod tests;
 mod topology;
 mod written;
 

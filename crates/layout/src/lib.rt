@@ -8,15 +8,11 @@ mod entries;
 mod fault;
 mod ids;
 mod known;
-#[cfg(test)]
-mod limit_tests;
 mod limits;
 mod plan;
 mod port;
 mod reading;
 mod resolving;
-#[cfg(test)]
-mod tests;
 mod text;
 mod values;
 mod written;

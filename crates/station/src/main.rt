@@ -2,40 +2,48 @@
 //! where it is, 1 at a fault, 2 where the command line is wrong.
 #![tactic(auto)]
 
+#[cfg(test)]
+mod tests;
+mod words;
+
+use crate::words::words;
 use station_check::check_text;
 use station_command::{Asked, Error, is_memory, read_words};
 use std::io::BufWriter;
 use std::process::ExitCode;
-use std::{env, fs, io};
+use std::{fs, io};
 use thiserror::Error as Told;
-
-#[cfg(test)]
-mod tests;
 
 /// Why a command isn't carried out.
 #[derive(Debug, Drop, Told)]
 enum Failure {
+    #[error("argument {0} is not UTF-8")]
+    Word(usize),
     #[error("cannot read {0}")]
     File(String),
     #[error("out of memory")]
     OutOfMemory,
 }
 
+impl Failure {
+    /// The status to end with: 2 where the command line is wrong.
+    fn status(&self) -> u8 {
+        match self {
+            Failure::Word(_) => 2,
+            _ => 1,
+        }
+    }
+}
+
 fn main(rt: HostRuntime) -> ExitCode {
-    let status = match words(&rt) {
+    let status = match words(&rt, rt.alloc()) {
         Ok(words) => match read_words(rt.alloc(), words.as_slice()) {
             Ok(Asked::Check(file)) => check_file(&rt, file),
             Err(error) => refuse(&rt, &error),
         },
-        Err(_) => fail(&rt, &Failure::OutOfMemory),
+        Err(failure) => fail(&rt, &failure),
     };
     ExitCode::from(status)
-}
-
-/// The words of the command line.
-fn words(rt: &HostRuntime) -> io::Result<Vec<String>> {
-    let words = env::args(rt)?.collect(rt.alloc())?;
-    Ok(words)
 }
 
 /// Prints the help that was asked for, or what is wrong with the command line.
@@ -53,7 +61,7 @@ fn refuse(rt: &HostRuntime, error: &Error) -> u8 {
 fn fail(rt: &HostRuntime, failure: &Failure) -> u8 {
     // Where this can't be written, the status has to do.
     let _ = eprintln!(rt; "{failure}");
-    1
+    failure.status()
 }
 
 /// `check FILE`.

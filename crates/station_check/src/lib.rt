@@ -7,6 +7,3 @@ mod failure;
 mod report;
 
 pub use check::check_text;
-
-#[cfg(test)]
-mod tests;

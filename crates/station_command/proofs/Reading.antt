@@ -59,16 +59,21 @@ held given = record { rows = []; pending = option_map (λ file. (codes "FILE", f
 abbrev at : Option Text → ℕ → Bool → Walk
 at given place is_trailing = record { held = held given; waiting = idle; position = place; is_trailing = is_trailing; stopped = None }
 
--- ---- the flags of a level are those of its help
+-- ---- the flags of a level are those of its help, and above that of the version
 
-long_fails_top : (is_help : Bool) (name : Text) (v : Option Text) → bytes_eq (codes "help") name ≡ is_help → Fails (long_fault top.rules false (arg_by_long top.rules name) v nothing_held)
-long_fails_top true name None e = rw e tt
-long_fails_top true name (Some v) e = rw e tt
-long_fails_top false name v e = rw e tt
+long_fails_top : (is_help is_version : Bool) (name : Text) (v : Option Text) → bytes_eq (codes "help") name ≡ is_help → bytes_eq (codes "version") name ≡ is_version
+    → Fails (long_fault top.rules false (arg_by_long top.rules name) v nothing_held)
+long_fails_top true is_version name None e f = rw e tt
+long_fails_top true is_version name (Some v) e f = rw e tt
+long_fails_top false true name None e f = rw (e, f) tt
+long_fails_top false true name (Some v) e f = rw (e, f) tt
+long_fails_top false false name v e f = rw (e, f) tt
 
-short_fails_top : (is_help : Bool) (x : ℕ) (rest : Text) (next : Held → Kinds) → nat_eq 104 x ≡ is_help → Fails (short_fault top.rules false (arg_by_short top.rules x) rest nothing_held next)
-short_fails_top true x rest next e = rw e tt
-short_fails_top false x rest next e = rw e tt
+short_fails_top : (is_help is_version : Bool) (x : ℕ) (rest : Text) (next : Held → Kinds) → nat_eq 104 x ≡ is_help → nat_eq 86 x ≡ is_version
+    → Fails (short_fault top.rules false (arg_by_short top.rules x) rest nothing_held next)
+short_fails_top true is_version x rest next e f = rw e tt
+short_fails_top false true x rest next e f = rw (e, f) tt
+short_fails_top false false x rest next e f = rw (e, f) tt
 
 long_fails_sub : (given : Option Text) (is_help : Bool) (name : Text) (v : Option Text) → bytes_eq (codes "help") name ≡ is_help
     → Fails (long_fault sub.rules false (arg_by_long sub.rules name) v (held given))
@@ -334,7 +339,7 @@ top_flag : (name word : Text) (more : List Text) → bytes_eq (codes "check") wo
 unfolding walk_fault
 top_flag name word more k m e h =
     rw k (rw m (rw e (fails_within (flag_word_fault top.rules false (long_of word) word nothing_held) _ _ _
-    (word_fails None top.rules (λ name v. long_fails_top (bytes_eq (codes "help") name) name v refl) (λ x rest next. short_fails_top (nat_eq 104 x) x rest next refl) word e h))))
+    (word_fails None top.rules (λ name v. long_fails_top (bytes_eq (codes "help") name) (bytes_eq (codes "version") name) name v refl refl) (λ x rest next. short_fails_top (nat_eq 104 x) (nat_eq 86 x) x rest next refl refl) word e h))))
 
 top_value : (name word : Text) (more : List Text) → bytes_eq (codes "check") word ≡ false → bytes_eq (codes "help") word ≡ false → ends_flags word ≡ false → is_flag word ≡ false
     → Fails (fault_of station_line (name ∷ word ∷ more))

@@ -9,8 +9,8 @@ file_rule = record (new_rule (codes "FILE")) { required = true }
 abbrev pub check_line : App
 check_line = with_rule (new_app (codes "check")) file_rule
 
--- `station COMMAND`, which tells its help where no word is given
+-- `station COMMAND`, which has a version, and tells its help where no word is given
 abbrev pub station_line : App
 station_line =
     let plain = new_app (codes "station") in
-    with_subcommand (record plain { top = record plain.top { subcommand_required = true; arg_required_else_help = true } }) check_line.top
+    with_subcommand (record plain { top = record plain.top { has_version = true; subcommand_required = true; arg_required_else_help = true } }) check_line.top

@@ -44,6 +44,7 @@ fn station<'a>(alloc: Global) -> Result<Command<'a>, AllocError>
 {
     Command::new(alloc, "station")
         .bin_name("station")?
+        .version("1.0.0")
         .about(ABOUT)
         .subcommand_required(true)
         .arg_required_else_help(true)
@@ -65,7 +66,7 @@ fn check<'a>(alloc: Global) -> Result<Command<'a>, AllocError>
 
 /// What the words of a command line ask for, the first of which is the program's name.
 ///
-/// An `Err` has the text to print (help, or what is wrong), and the status to end with.
+/// An `Err` has the text to print (help, the version, or what is wrong), and the status to end with.
 pub fn read_words<'a, S: AsStr>(alloc: Global, words: &'a [S]) -> Result<Asked<'a>, Error>
     ensures asked { IfOk result (Asks (map S.text words.entry.now)) }
     ensures refused { IfErr result (λ error. (kind_of error ≡ kind.OutOfMemory) ⊎ (file_asked (map S.text words.entry.now) ≡ None)) }

@@ -15,7 +15,8 @@ Commands:
   help   Print this message or the help of the given subcommand(s)
 
 Options:
-  -h, --help  Print help
+  -h, --help     Print help
+  -V, --version  Print version
 ";
 
 const CHECK_HELP: &str = "Checks the layout of a station and its table of routes.
@@ -115,6 +116,13 @@ fn help_is_printed_where_it_is_asked_for(rt: HostRuntime) -> Result<(), Fail> {
     expect_text(&rt, alloc, &["station", "help"], 0, HELP)?;
     expect_text(&rt, alloc, &["station", "check", "--help"], 0, CHECK_HELP)?;
     expect_text(&rt, alloc, &["station", "check", "-h"], 0, SHORT_CHECK_HELP)
+}
+
+#[test]
+fn the_version_is_printed_where_it_is_asked_for(rt: HostRuntime) -> Result<(), Fail> {
+    let alloc = rt.alloc();
+    expect_text(&rt, alloc, &["station", "--version"], 0, "station 1.0.0\n")?;
+    expect_text(&rt, alloc, &["station", "-V"], 0, "station 1.0.0\n")
 }
 
 #[test]

@@ -1,7 +1,8 @@
 //! Stations at the limits and one over. What takes memory is done again where it is lacking, so that the answers also
 //! hold with any one allocation refused.
 
-use super::{Layout, LayoutFault, Place, TableName};
+use crate::bench::read;
+use layout::{LayoutFault, Place, TableName};
 use std::alloc::{AllocError, Global};
 use std::test::Fail;
 
@@ -105,14 +106,6 @@ fn route(alloc: Global, text: &mut String, size: &Size, n: usize) -> Result<(), 
         text.push_str("\"T0.b\",")?;
     }
     text.push_str("]},")
-}
-
-/// Reads a text; where memory is lacking it is read once more.
-fn read(alloc: Global, text: &str) -> Result<Layout, LayoutFault> {
-    match Layout::read(alloc, text) {
-        Err(LayoutFault::OutOfMemory) => Layout::read(alloc, text),
-        answer => answer,
-    }
 }
 
 /// The fault of a station of this size.

@@ -1,8 +1,8 @@
 //! What is printed for stations and for changes of them. What takes memory is done again where it is lacking, so that
 //! the runs also hold with any one allocation refused.
 
-use super::check_text;
 use arrayvec::ArrayVec;
+use station_check::check_text;
 use std::alloc::{AllocError, Global};
 use std::io;
 use std::io::Write;

@@ -1,87 +1,12 @@
 //! Small stations, each with a change that is told. What takes memory is done again where it is lacking, so that the
 //! answers also hold with any one allocation refused.
 
-use super::{Checked, TableFault, check};
-use layout::{Layout, LayoutFault, RouteId};
+use crate::bench::{SMALL, changed, joined, judged, prints};
+use control_table::{Checked, TableFault};
+use layout::RouteId;
 use sci_telegram::Side;
 use std::alloc::{AllocError, Global};
 use std::test::Fail;
-
-/// A station of one point and three routes, key by key.
-const SMALL: [(&str, &str); 9] = [
-    ("station", "station = {name=\"IXL1\",id=1}\n"),
-    ("section", "section = [\"GA\", \"GP\", \"G1\", \"G2\"]\n"),
-    ("border", "border = [\"W\", \"E1\", \"E2\"]\n"),
-    (
-        "joint",
-        "joint = [[\"W.end\",\"A1.a\"], [\"A1.b\",\"P1.tip\"], [\"P1.left\",\"T1.a\"], [\"P1.right\",\"T2.a\"], [\"T1.b\",\"E1.end\"], [\"T2.b\",\"E2.end\"]]\n",
-    ),
-    (
-        "track",
-        "track = [{name=\"A1\",section=\"GA\"}, {name=\"T1\",section=\"G1\"}, {name=\"T2\",section=\"G2\"}]\n",
-    ),
-    ("point", "point = [{name=\"P1\",id=10,section=\"GP\"}]\n"),
-    (
-        "signal",
-        "signal = [{name=\"S1\",id=2,at=\"A1.b\"}, {name=\"S3\",id=3,at=\"T1.a\"}, {name=\"S4\",id=4,at=\"T2.a\"}]\n",
-    ),
-    (
-        "detector",
-        "detector = [{name=\"D1\",id=20,sections=[\"GA\",\"GP\",\"G1\",\"G2\"]}]\n",
-    ),
-    (
-        "route",
-        "route = [{name=\"R1\",entry=\"S1\",exit=\"E2\",path=[\"P1.right\",\"T2.b\"],points={P1=\"right\"},approach=[\"GA\"]}, {name=\"R2\",entry=\"S1\",exit=\"E1\",path=[\"P1.left\",\"T1.b\"],points={P1=\"left\"},approach=[\"GA\"]}, {name=\"R3\",entry=\"S3\",exit=\"W\",path=[\"P1.tip\",\"A1.a\"],points={P1=\"left\"},approach=[\"G1\"]}]\n",
-    ),
-];
-
-/// The text of the small station, with another line for a key; where memory is lacking it is made once more.
-fn changed(alloc: Global, key: &str, line: &str) -> Result<String, AllocError> {
-    match written(alloc, key, line) {
-        Ok(text) => Ok(text),
-        Err(_) => written(alloc, key, line),
-    }
-}
-
-fn written(alloc: Global, key: &str, line: &str) -> Result<String, AllocError> {
-    let mut text = String::new(alloc);
-    for (word, written) in &SMALL {
-        if *word == key {
-            text.push_str(line)?;
-        } else {
-            text.push_str(*written)?;
-        }
-    }
-    Ok(text)
-}
-
-/// Two texts in one; where memory is lacking it is made once more.
-fn joined(alloc: Global, front: &str, back: &str) -> Result<String, AllocError> {
-    match format!(in alloc; "{front}{back}") {
-        Ok(text) => Ok(text),
-        Err(_) => format!(in alloc; "{front}{back}"),
-    }
-}
-
-/// Reads a text; where memory is lacking it is read once more.
-fn read(alloc: Global, text: &str) -> Result<Layout, LayoutFault> {
-    match Layout::read(alloc, text) {
-        Err(LayoutFault::OutOfMemory) => Layout::read(alloc, text),
-        answer => answer,
-    }
-}
-
-/// The control table of a text that is a layout, or its fault; where memory is lacking it is checked once more.
-fn judged(alloc: Global, text: &str) -> Result<Result<Checked, TableFault>, Fail> {
-    let layout = read(alloc, text)?;
-    match check(alloc, layout) {
-        Err(TableFault::OutOfMemory) => {
-            let again = read(alloc, text)?;
-            Ok(check(alloc, again))
-        }
-        answer => Ok(answer),
-    }
-}
 
 /// The control table of a text.
 fn table(alloc: Global, text: &str) -> Result<Checked, Fail> {
@@ -108,6 +33,17 @@ fn requires_these(checked: &Checked, route: usize, points: &[(usize, Side)]) -> 
             .all(|(have, want)| have.0.0 == want.0 && have.1 == want.1)
 }
 
+/// Whether exactly these points protect others on a route, each with the one that it protects.
+fn protects_these(checked: &Checked, route: usize, points: &[(usize, usize)]) -> bool {
+    if route >= checked.layout().routes().len() {
+        return false;
+    }
+    let protections = checked.protections(RouteId(route));
+    protections.len() == points.len()
+        && protections.iter().zip(points).all(|(have, want)| have.flank.0 == want.0
+            && have.point.0 == want.1)
+}
+
 /// How many sections a route has.
 fn section_count(checked: &Checked, route: usize) -> usize {
     if route >= checked.layout().routes().len() {
@@ -126,6 +62,7 @@ fn checks_the_small_station(rt: HostRuntime) -> Result<(), Fail> {
     assert!(rt; !conflict(&checked, 0, 0));
     assert!(rt; requires_these(&checked, 0, &[(0, Side::Right)]));
     assert!(rt; requires_these(&checked, 2, &[(0, Side::Left)]));
+    assert!(rt; protects_these(&checked, 0, &[]));
     assert_eq!(rt; section_count(&checked, 0), 2);
     Ok(())
 }
@@ -142,16 +79,12 @@ fn fault(alloc: Global, text: &str) -> Result<Option<TableFault>, Fail> {
     Ok(checked.err())
 }
 
-/// Whether a fault prints as this text.
-fn prints(alloc: Global, fault: Option<TableFault>, text: &str) -> Result<bool, Fail> {
-    let Some(fault) = fault else {
-        return Ok(false);
-    };
-    let printed = match format!(in alloc; "{fault}") {
-        Ok(printed) => printed,
-        Err(_) => format!(in alloc; "{fault}")?,
-    };
-    Ok(printed.as_str() == text)
+/// Whether a fault is told that prints as this text.
+fn tells(alloc: Global, fault: Option<TableFault>, text: &str) -> Result<bool, AllocError> {
+    match fault {
+        Some(fault) => prints(alloc, &fault, text),
+        None => Ok(false),
+    }
 }
 
 const R1: &str =
@@ -177,7 +110,7 @@ fn routes_told(
     told(alloc, "route", line.as_str())
 }
 
-const WRONG_FIRST_ROUTES: [(&str, &str); 12] = [
+const WRONG_FIRST_ROUTES: [(&str, &str); 13] = [
     (
         "{name=\"R1\",entry=\"S1\",exit=\"E1\",path=[\"P1.right\",\"T2.b\"],points={P1=\"right\"},approach=[\"GA\"]}",
         "8 SignalPlace at route R1",
@@ -226,6 +159,10 @@ const WRONG_FIRST_ROUTES: [(&str, &str); 12] = [
         "{name=\"R1\",entry=\"S1\",exit=\"S4\",path=[\"P1.right\",\"T2.b\"],points={P1=\"left\"},extra=[\"R1\"]}",
         "4 PointWrong at route R1",
     ),
+    (
+        "{name=\"R1\",entry=\"S3\",exit=\"E2\",path=[\"P1.right\",\"T2.b\"],points={P1=\"right\"}}",
+        "1 PathBroken at route R1",
+    ),
 ];
 
 #[test]
@@ -233,7 +170,7 @@ fn tells_the_lowest_fault_of_a_route(rt: HostRuntime) -> Result<(), Fail> {
     let alloc = rt.alloc();
     for (route, text) in &WRONG_FIRST_ROUTES {
         let fault = routes_told(alloc, *route, R2, R3)?;
-        assert!(rt; prints(alloc, fault, *text)?);
+        assert!(rt; tells(alloc, fault, *text)?);
     }
     Ok(())
 }
@@ -244,7 +181,7 @@ fn tells_an_extra_conflict_that_is_listed_one_way(rt: HostRuntime) -> Result<(),
     let third =
         "{name=\"R3\",entry=\"S3\",exit=\"W\",path=[\"P1.tip\",\"A1.a\"],points={P1=\"left\"},approach=[\"G1\"],extra=[\"R1\"]}";
     let fault = routes_told(alloc, R1, R2, third)?;
-    assert!(rt; prints(alloc, fault, "9 NotSymmetric at route R3")?);
+    assert!(rt; tells(alloc, fault, "9 NotSymmetric at route R3")?);
     let first =
         "{name=\"R1\",entry=\"S1\",exit=\"E2\",path=[\"P1.right\",\"T2.b\"],points={P1=\"right\"},extra=[\"R3\"]}";
     let fault = routes_told(alloc, first, R2, third)?;
@@ -259,9 +196,9 @@ fn tells_the_first_faulty_route(rt: HostRuntime) -> Result<(), Fail> {
         "{name=\"R1\",entry=\"S1\",exit=\"E2\",path=[\"P1.right\",\"T2.b\"],points={P1=\"right\"},extra=[\"R2\"]}";
     let second = "{name=\"R2\",entry=\"S1\",exit=\"E1\",path=[],points={}}";
     let fault = routes_told(alloc, first, second, R3)?;
-    assert!(rt; prints(alloc, fault, "9 NotSymmetric at route R1")?);
+    assert!(rt; tells(alloc, fault, "9 NotSymmetric at route R1")?);
     let fault = routes_told(alloc, R1, second, R3)?;
-    assert!(rt; prints(alloc, fault, "1 PathBroken at route R2")?);
+    assert!(rt; tells(alloc, fault, "1 PathBroken at route R2")?);
     Ok(())
 }
 
@@ -270,7 +207,26 @@ fn tells_an_open_flank(rt: HostRuntime) -> Result<(), Fail> {
     let alloc = rt.alloc();
     let without_s4 = "signal = [{name=\"S1\",id=2,at=\"A1.b\"}, {name=\"S3\",id=3,at=\"T1.a\"}]\n";
     let fault = told(alloc, "signal", without_s4)?;
-    assert!(rt; prints(alloc, fault, "6 FlankOpen at route R2")?);
+    assert!(rt; tells(alloc, fault, "6 FlankOpen at route R2")?);
+    Ok(())
+}
+
+#[test]
+fn a_signal_at_the_unused_leg_itself_guards_no_flank(rt: HostRuntime) -> Result<(), Fail> {
+    // It rules the trains that leave the point there, and none that come to it.
+    let text = "station = {name=\"IXL1\",id=1}
+section = [\"GA\", \"GP\", \"G1\", \"G2\"]
+border = [\"W\", \"E1\", \"E2\"]
+joint = [[\"W.end\",\"A1.a\"], [\"A1.b\",\"P1.tip\"], [\"P1.left\",\"T1.a\"], [\"P1.right\",\"T2.a\"], [\"T1.b\",\"E1.end\"], [\"T2.b\",\"E2.end\"]]
+track = [{name=\"A1\",section=\"GA\"}, {name=\"T1\",section=\"G1\"}, {name=\"T2\",section=\"G2\"}]
+point = [{name=\"P1\",id=10,section=\"GP\"}]
+signal = [{name=\"S1\",id=2,at=\"A1.b\"}, {name=\"S4\",id=4,at=\"P1.right\"}]
+detector = [{name=\"D1\",id=20,sections=[\"GA\",\"GP\",\"G1\",\"G2\"]}]
+route = [{name=\"R2\",entry=\"S1\",exit=\"E1\",path=[\"P1.left\",\"T1.b\"],points={P1=\"left\"}}]
+";
+    let alloc = rt.alloc();
+    let fault = fault(alloc, text)?;
+    assert!(rt; tells(alloc, fault, "6 FlankOpen at route R2")?);
     Ok(())
 }
 
@@ -323,6 +279,8 @@ fn routes_that_need_a_flank_point_differently_conflict(rt: HostRuntime) -> Resul
     assert_eq!(rt; section_count(&checked, 0), 1);
     assert!(rt; requires_these(&checked, 0, &[(0, Side::Right), (1, Side::Right)]));
     assert!(rt; requires_these(&checked, 1, &[(1, Side::Left), (2, Side::Right)]));
+    assert!(rt; protects_these(&checked, 0, &[(1, 0)]));
+    assert!(rt; protects_these(&checked, 1, &[(1, 2)]));
     Ok(())
 }
 
@@ -333,7 +291,7 @@ fn tells_a_flank_point_that_is_not_written(rt: HostRuntime) -> Result<(), Fail> 
         "route = [{name=\"a\",entry=\"S1\",exit=\"E1\",path=[\"P1.right\",\"T1.b\"],points={P1=\"right\"}}]\n";
     let text = joined(alloc, BETWEEN, missing)?;
     let fault = fault(alloc, text.as_str())?;
-    assert!(rt; prints(alloc, fault, "5 FlankMissing at route a")?);
+    assert!(rt; tells(alloc, fault, "5 FlankMissing at route a")?);
     Ok(())
 }
 
@@ -356,12 +314,13 @@ fn a_flank_point_on_the_path_is_written_under_points_alone(rt: HostRuntime) -> R
     let text = joined(alloc, FACING, sound)?;
     let checked = table(alloc, text.as_str())?;
     assert!(rt; requires_these(&checked, 0, &[(0, Side::Right), (1, Side::Left)]));
+    assert!(rt; protects_these(&checked, 0, &[(1, 0), (0, 1)]));
     assert_eq!(rt; section_count(&checked, 0), 1);
     let twice =
         "route = [{name=\"a\",entry=\"S1\",exit=\"E\",path=[\"P1.right\",\"P2.tip\"],points={P1=\"right\",P2=\"left\"},flank={P2=\"left\"}}]\n";
     let text = joined(alloc, FACING, twice)?;
     let fault = fault(alloc, text.as_str())?;
-    assert!(rt; prints(alloc, fault, "4 PointWrong at route a")?);
+    assert!(rt; tells(alloc, fault, "4 PointWrong at route a")?);
     Ok(())
 }
 
@@ -383,7 +342,7 @@ fn tells_a_section_that_comes_again(rt: HostRuntime) -> Result<(), Fail> {
         "route = [{name=\"a\",entry=\"S1\",exit=\"E\",path=[\"P1.right\",\"T1.b\",\"P2.tip\"],points={P1=\"right\",P2=\"left\"}}]\n";
     let text = joined(alloc, CROSSED, again)?;
     let fault = fault(alloc, text.as_str())?;
-    assert!(rt; prints(alloc, fault, "2 PathRepeats at route a")?);
+    assert!(rt; tells(alloc, fault, "2 PathRepeats at route a")?);
     Ok(())
 }
 
@@ -403,7 +362,7 @@ route = [{name=\"a\",entry=\"S1\",exit=\"W\",path=[\"P1.right\",\"T1.b\",\"P1.ti
 fn tells_an_element_that_comes_again_in_the_same_section(rt: HostRuntime) -> Result<(), Fail> {
     let alloc = rt.alloc();
     let fault = fault(alloc, LOOP)?;
-    assert!(rt; prints(alloc, fault, "2 PathRepeats at route a")?);
+    assert!(rt; tells(alloc, fault, "2 PathRepeats at route a")?);
     Ok(())
 }
 
@@ -432,7 +391,7 @@ fn a_leg_that_is_joined_to_a_border_is_open(rt: HostRuntime) -> Result<(), Fail>
     let to_border =
         "joint = [[\"W.end\",\"A1.a\"], [\"A1.b\",\"P1.tip\"], [\"P1.right\",\"E.end\"], [\"P1.left\",\"N.end\"]]\n";
     let fault = aside_told(alloc, to_border)?;
-    assert!(rt; prints(alloc, fault, "6 FlankOpen at route a")?);
+    assert!(rt; tells(alloc, fault, "6 FlankOpen at route a")?);
     Ok(())
 }
 
@@ -442,7 +401,7 @@ fn a_leg_that_is_joined_to_the_tip_of_another_point_is_open(rt: HostRuntime) -> 
     let to_tip =
         "joint = [[\"W.end\",\"A1.a\"], [\"A1.b\",\"P1.tip\"], [\"P1.right\",\"E.end\"], [\"P1.left\",\"P2.tip\"]]\n";
     let fault = aside_told(alloc, to_tip)?;
-    assert!(rt; prints(alloc, fault, "6 FlankOpen at route a")?);
+    assert!(rt; tells(alloc, fault, "6 FlankOpen at route a")?);
     Ok(())
 }
 
@@ -452,7 +411,7 @@ fn a_leg_that_is_joined_to_the_other_leg_of_its_point_is_open(rt: HostRuntime) -
     let to_other_leg =
         "joint = [[\"W.end\",\"A1.a\"], [\"A1.b\",\"P1.tip\"], [\"P1.left\",\"P1.right\"]]\n";
     let fault = aside_told(alloc, to_other_leg)?;
-    assert!(rt; prints(alloc, fault, "6 FlankOpen at route a")?);
+    assert!(rt; tells(alloc, fault, "6 FlankOpen at route a")?);
     Ok(())
 }
 
@@ -472,7 +431,7 @@ route = [{name=\"a\",entry=\"S1\",exit=\"E\",path=[\"P1.right\",\"P2.right\"],po
 fn tells_a_point_that_is_required_at_both_sides(rt: HostRuntime) -> Result<(), Fail> {
     let alloc = rt.alloc();
     let fault = fault(alloc, CONTRARY)?;
-    assert!(rt; prints(alloc, fault, "7 FlankContradicts at route a")?);
+    assert!(rt; tells(alloc, fault, "7 FlankContradicts at route a")?);
     Ok(())
 }
 
@@ -482,7 +441,7 @@ fn tells_a_signal_on_the_way(rt: HostRuntime) -> Result<(), Fail> {
     let signals =
         "signal = [{name=\"S1\",id=2,at=\"A1.b\"}, {name=\"S3\",id=3,at=\"T1.a\"}, {name=\"S4\",id=4,at=\"T2.a\"}, {name=\"S5\",id=5,at=\"T2.b\"}]\n";
     let fault = told(alloc, "signal", signals)?;
-    assert!(rt; prints(alloc, fault, "8 SignalPlace at route R1")?);
+    assert!(rt; tells(alloc, fault, "8 SignalPlace at route R1")?);
     Ok(())
 }
 
