@@ -10,7 +10,7 @@ ghost use Rattle.rasta_core_run.specs.Ends.{reading_of};
 ghost use Rattle.rasta_core_run.specs.Events.{IsRun, MayRun, run};
 ghost use Rattle.rasta_core_run.specs.Given.{IsGiven};
 ghost use Rattle.rasta_core_run.specs.Names.{Names, partner_of};
-ghost use Rattle.rasta_core_run.specs.Newest.{IsNewest};
+ghost use Rattle.rasta_core_run.specs.Newest.{IsNewest, IsUnused};
 ghost use Rattle.rasta_core_run.specs.Run.{end_of, restarted};
 ghost use Rattle.rasta_core_run.specs.Safe.{AreSafe};
 ghost use Rattle.rasta_core_run.specs.Sentences.{IsIn, IsOut};
@@ -20,7 +20,7 @@ ghost use Rattle.rasta_pdu.specs.declared.key.Key.{Key};
 
 use rasta_core_theorem::{
     calls_at_one_clock, calls_follow_calls, every_event_keeps_order, every_run_keeps_order,
-    given_was_sent, link_is_safe, newest_tells_the_connection,
+    given_was_sent, link_is_safe, newest_tells_the_connection, nothing_before_a_connection,
 };
 use rasta_core_time::{
     every_event_keeps_time, every_run_keeps_time, quiet_is_counted, starts_in_time,
@@ -67,7 +67,7 @@ pub fn links_keep_order()
 }
 
 /// What was sent on a link tells the last connection of each of its ends, and what it gave there: at the beginning, over
-/// every event of the world, and over every list of events.
+/// every event of the world, and over every list of events. An end without a connection has given and taken nothing.
 pub fn links_can_be_read_off()
     ensures connection_starts { (names : ℕ → Names) (start : LinksStart) (link : ℕ) (who : Role) → IsNewest who (seen link (begun names start)) }
     ensures connection_kept { (count : ℕ) (names : ℕ → Names) (event : LinksEvent) (links : Links) → AreLinks count names → AreTimely count names links
@@ -83,10 +83,15 @@ pub fn links_can_be_read_off()
     ensures given_run { (count : ℕ) (names : ℕ → Names) (events : List LinksEvent) (links : Links) → AreLinks count names → AreTimely count names links
         → MayRunLinks count names events links → (link : ℕ) → link < count → ((who : Role) → IsGiven (names link) who (seen link links))
         → (who : Role) → IsGiven (names link) who (seen link (run_links events links)) }
+    ensures unused_starts { (names : ℕ → Names) (start : LinksStart) (link : ℕ) (who : Role) → IsUnused who (seen link (begun names start)) }
+    ensures unused_kept { (count : ℕ) (names : ℕ → Names) (event : LinksEvent) (links : Links) → AreLinks count names → AreTimely count names links
+        → MayHappenTo count names event links → (link : ℕ) → link < count → (who : Role) → IsUnused who (seen link links)
+        → IsUnused who (seen link (happened_to event links)) }
 {
     each_link_sees_its_events();
     newest_tells_the_connection();
     given_was_sent();
+    nothing_before_a_connection();
 }
 
 /// How long the client of a link has been outside: since its creation or since it closed, on its own clock, over every

@@ -13,3 +13,7 @@ newest_connection who (first ∷ later) = newer (newest_connection who later) (i
 -- an end's last connection is that of its newest datagram; an end that sent nothing has had none
 abbrev pub IsNewest : Role → Ends → Type 0
 IsNewest who ends = (end_of who ends).connection ≡ newest_connection who ends.sent
+
+-- an end that has had no connection has given and taken nothing
+abbrev pub IsUnused : Role → Ends → Type 0
+IsUnused who ends = (end_of who ends).connection ≡ None → ((end_of who ends).given ≡ []) × ((end_of who ends).taken ≡ [])

@@ -3,6 +3,7 @@ pub mod Flows
 pub mod Few
 pub mod Entering
 pub mod Newest
+pub mod Unused
 pub mod Steps
 pub mod Made
 pub mod Comes

@@ -14,7 +14,7 @@ ghost use Rattle.rasta_core_run.specs.Sentences.{IsOpening, IsOut, freshness, re
 ghost use Rattle.rasta_core_run.specs.Given.{IsGiven};
 ghost use Rattle.rasta_core_theorem.specs.Ordered.{Ordered};
 ghost use Rattle.rasta_pdu.specs.SafetyCode.{IsIntact};
-ghost use Rattle.rasta_core_run.specs.Newest.{IsNewest};
+ghost use Rattle.rasta_core_run.specs.Newest.{IsNewest, IsUnused};
 ghost use Rattle.rasta_core_run.specs.Safe.{AreCounted, AreFew, AreSafe, DoesNothing, IsIdle};
 
 use rasta_core_order::{
@@ -154,6 +154,21 @@ pub fn newest_tells_the_connection()
     ensures kept { (names : Names) (event : Event) (ends : Ends) (who : Role) → Timely names ends → IsNewest who ends → IsNewest who (happened event ends) }
     ensures run { (names : Names) (events : List Event) (ends : Ends) (who : Role) → AreNames names → Timely names ends → IsNewest who ends
         → MayRun names events ends → IsNewest who (run events ends) }
+{
+    connection_begins();
+    one_connection();
+    every_event_keeps_time();
+}
+
+/// An end that has had no connection has given and taken nothing; and neither has a client whose server hasn't entered
+/// its last connection.
+pub fn nothing_before_a_connection()
+    ensures starts { (names : Names) (start : Start) (who : Role) → IsUnused who (started names start) }
+    ensures kept { (names : Names) (event : Event) (ends : Ends) (who : Role) → Timely names ends → IsUnused who ends → IsUnused who (happened event ends) }
+    ensures run { (names : Names) (events : List Event) (ends : Ends) (who : Role) → AreNames names → Timely names ends → IsUnused who ends
+        → MayRun names events ends → IsUnused who (run events ends) }
+    ensures client { (names : Names) (ends : Ends) (connection : ℕ) → Ordered names ends → ends.client.connection ≡ Some connection
+        → (ends.server.connection ≡ Some connection → ⊥) → (ends.client.given ≡ []) × (ends.client.taken ≡ []) }
 {
     connection_begins();
     one_connection();

@@ -6,6 +6,6 @@ mod laws;
 
 pub use laws::{
     calls_at_one_clock, calls_follow_calls, every_event_keeps_order, every_run_keeps_order,
-    given_was_sent, items_are_counted, link_is_safe, newest_tells_the_connection, order_is_safe,
-    outside_until_it_enters, what_is_taken,
+    given_was_sent, items_are_counted, link_is_safe, newest_tells_the_connection,
+    nothing_before_a_connection, order_is_safe, outside_until_it_enters, what_is_taken,
 };

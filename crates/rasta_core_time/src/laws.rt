@@ -77,13 +77,15 @@ pub fn items_are_fresh()
 {}
 
 /// Two ends that are inside a connection are in the same one: a server inside is in the client's last one, and where the
-/// client is up the server is in its connection, or was.
+/// client is up the server is in its connection, or was. Every connection has the number of a datagram that was sent.
 pub fn one_connection()
     ensures inside { (names : Names) (ends : Ends) → Timely names ends → IsIn role.Client ends → IsIn role.Server ends
         → ends.server.connection ≡ ends.client.connection }
     ensures server { (names : Names) (ends : Ends) → Timely names ends → IsIn role.Server ends → ends.server.connection ≡ ends.client.connection }
     ensures some { (names : Names) (ends : Ends) (who : Role) → Timely names ends → IsIn who ends
         → (connection : ℕ) × ((end_of who ends).connection ≡ Some connection) }
+    ensures counted { (names : Names) (ends : Ends) (who : Role) (connection : ℕ) → Timely names ends
+        → (end_of who ends).connection ≡ Some connection → connection < ends.moment }
     ensures up { (names : Names) (ends : Ends) → Timely names ends → is_up ends.client.link.phase ≡ true
         → ends.server.connection ≡ ends.client.connection }
 {}

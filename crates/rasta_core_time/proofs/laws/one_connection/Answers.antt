@@ -1,5 +1,5 @@
 use Rattle.rasta_core_time.proofs.Conclusions.{same_connection, up_connection}
-use Rattle.rasta_core_time.proofs.Joined.{server_connection, some_connection}
+use Rattle.rasta_core_time.proofs.Joined.{counted_connection, server_connection, some_connection}
 use Rattle.rasta_core_time.proofs.laws.one_connection.Goals as goal
 
 pub returns-clause-inside : goal.returns-clause-inside
@@ -13,3 +13,6 @@ returns-clause-server c = server_connection
 
 pub returns-clause-some : goal.returns-clause-some
 returns-clause-some c = some_connection
+
+pub returns-clause-counted : goal.returns-clause-counted
+returns-clause-counted c = counted_connection
