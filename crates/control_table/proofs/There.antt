@@ -1,12 +1,14 @@
 -- What a route of a station leads over and requires is there.
-use Rattle.std.proofs.Common.{◌≡◌, ◌≢◌, ◌⊎◌, ℕ, zero, suc, ◌≤◌, ◌<◌, Bool, true, false, cond, List, [], ◌∷◌, length, map, All, Contains, slice_get, Option, Some, None, IsTrue, filter_map, refl, sym, ap, subst, ◌∙◌, inl, inr, ⊎_elim, arith, rules}
+use Rattle.std.proofs.Common.{◌≡◌, ◌≢◌, ◌⊎◌, ℕ, zero, suc, ◌≤◌, ◌<◌, Bool, true, false, cond, List, [], ◌∷◌, length, map, get_or, All, Contains, slice_get, Option, Some, None, IsTrue, filter_map, refl, sym, ap, subst, ◌∙◌, inl, inr, ⊎_elim, arith, rules}
 use Rattle.std.specs.List.{dedup, dedup_from, cons_option}
 use Rattle.std.proofs.lemmas.List.Elements.{All-nil, All-cons, All-head, All-tail, All-same, All-contains}
 use Rattle.std.proofs.lemmas.List.Filters.{All-dedup}
 use Rattle.std.proofs.lemmas.List.Kept.{Contains-dedup}
 use Rattle.std.proofs.lemmas.List.{length-map}
+use Rattle.std.proofs.lemmas.Option.{slice_get-get_or}
 use Rattle.std.proofs.lemmas.Cmp.{nat_eq_equiv}
 use Rattle.std.specs.Cmp.{IsEquivalence}
+use Rattle.sci_telegram.specs.declared.message.Aspect.TheVariants.{Stop}
 use Rattle.sci_telegram.specs.declared.message.Side.{Side}
 use Rattle.layout.specs.declared.ids.SectionId.{SectionId}
 use Rattle.layout.specs.declared.ids.PointId.{PointId}
@@ -24,7 +26,7 @@ use Rattle.layout.specs.Station.{HasSection, HasPoint, HasElement, HasPort, IsRo
 use Rattle.control_table.specs.Topology.{Joins, Joined, section_of, IsRoute}
 use Rattle.control_table.specs.Path.{Passage, Passes, Leads, Follows, Path, elements, same_section, sections}
 use Rattle.control_table.specs.Sides.{leg, other, Uses, OnPath, Guards, Requires}
-use Rattle.control_table.specs.Table.{LeadsOver, RouteRequires, AreSections}
+use Rattle.control_table.specs.Table.{HasAspect, LeadsOver, RouteRequires, AreSections}
 use Rattle.control_table.proofs.Members.{contains-here, contains-there, contains-cases, get-contains, some-injective}
 use Rattle.control_table.proofs.Same.{section-decides}
 use Rattle.control_table.proofs.ConflictLaws.{get-below}
@@ -87,6 +89,12 @@ path-there : (l : Plan) → IsStation l → (a : RouteId) (r : RouteEntry) (path
 path-there l station a r path at is =
     let begins = is.follows.begins in
     lead-there l station begins.0 path begins.2 (subst (All (HasPort l)) is.follows.ports (route-there l station a r at).path)
+
+pub route-goes : (l : Plan) → IsStation l → (i : ℕ) (d r : RouteEntry) → i < length l.routes → r ≡ get_or l.routes i d → HasAspect l (record { 0 = i }) r.aspect × (r.aspect ≢ Stop)
+route-goes l station i d r lt at =
+    let is = slice_get-get_or l.routes i d lt in
+    let there : slice_get l.routes i ≡ Some r = is ∙ ap Some (sym at) in
+    ((r, there, refl), (All-contains (IsRouteOf l) l.routes r station.routes (get-contains l.routes i r there)).aspect)
 
 -- ---- sections
 

@@ -1,6 +1,8 @@
 -- Which tables are sound, and which routes conflict.
-use Rattle.std.specs.Prelude.{◌≡◌, ◌≢◌, ◌⊎◌, ◌↔◌, ◌<◌, List, [], ◌∷◌}
-use Rattle.std.specs.List.{Contains}
+use Rattle.std.specs.Prelude.{◌≡◌, ◌≢◌, ◌⊎◌, ◌↔◌, ◌<◌, ℕ, Bool, true, false, if◌then◌else◌, List, [], ◌∷◌}
+use Rattle.std.specs.List.{Contains, list_any}
+use Rattle.sci_telegram.specs.declared.message.Aspect.{Aspect}
+use Rattle.sci_telegram.specs.declared.message.Aspect.TheVariants.{Slow}
 use Rattle.sci_telegram.specs.declared.message.Side.{Side}
 use Rattle.layout.specs.declared.ids.SectionId.{SectionId}
 use Rattle.layout.specs.declared.ids.PointId.{PointId}
@@ -62,6 +64,19 @@ Protects l a q p = (r : RouteEntry) × (path : List Passage) × IsRoute l a r ×
 -- All points that protect others on a route, with those that they protect.
 abbrev pub AreProtections : Plan → RouteId → List FlankProtection → Type 0
 AreProtections l a ps = (q p : PointId) → Contains ps (record { flank = q; point = p }) ↔ Protects l a q p
+
+-- The aspect at which a route is passed.
+abbrev pub HasAspect : Plan → RouteId → Aspect → Type 0
+HasAspect l a aspect = (r : RouteEntry) × IsRoute l a r × (r.aspect ≡ aspect)
+
+-- Whether a route is passed slowly.
+abbrev pub is_slow : Aspect → Bool
+is_slow Slow = true
+is_slow _ = false
+
+-- The version of the telegrams that a table needs: 2 where a route is slow, and otherwise 1.
+abbrev pub telegram_version : Plan → ℕ
+telegram_version l = if list_any (λ r. is_slow r.aspect) l.routes then 2 else 1
 
 -- Two routes have the same entry signal.
 abbrev pub SameEntry : Plan → RouteId → RouteId → Type 0

@@ -1,9 +1,11 @@
 //! A control table that was found sound.
 
-ghost use Rattle.std.specs.Prelude.{◌≡◌, ◌↔◌, ◌<◌, length, IsTrue, IfOk, IfErr};
+ghost use Rattle.std.specs.Prelude.{◌≡◌, ◌≢◌, ◌↔◌, ◌<◌, length, IsTrue, IfOk, IfErr};
+ghost use Rattle.std.specs.List.{list_any};
+ghost use Rattle.sci_telegram.specs.declared.message.Aspect.TheVariants.{Stop};
 ghost use Rattle.layout.specs.Once.{Once};
 ghost use Rattle.layout.specs.Station.{IsStation};
-ghost use Rattle.control_table.specs.Table.{Sound, AreSections, AreRequired, AreProtections, Conflict};
+ghost use Rattle.control_table.specs.Table.{Sound, AreSections, AreRequired, AreProtections, Conflict, HasAspect, is_slow, telegram_version};
 ghost use Rattle.control_table.specs.Faults.{IsFirstFault};
 ghost use Rattle.control_table.specs.Judging.{IsRowAt};
 ghost use Rattle.control_table.specs.declared.fault.TableFault.TheVariants.{OutOfMemory};
@@ -12,8 +14,8 @@ use crate::conflicts::conflicts;
 use crate::fault::TableFault;
 use crate::row::{Row, copy_rows, rows};
 use crate::sides::FlankProtection;
-use layout::{Layout, PointId, RouteId, SectionId};
-use sci_telegram::Side;
+use layout::{Layout, PointId, Route, RouteId, SectionId};
+use sci_telegram::{Aspect, Side};
 use std::alloc::{AllocError, Global};
 use std::marker::Model;
 
@@ -44,6 +46,20 @@ fn is_station(layout: &Layout)
     ensures station { IsStation layout.now }
 {
     layout.joints();
+}
+
+/// Whether a route is passed slowly.
+fn is_slow(route: &Route) -> bool
+    ensures { result ≡ is_slow route.now.aspect }
+{
+    matches!(route.aspect(), Aspect::Slow)
+}
+
+/// Whether some route is passed slowly.
+fn has_slow(routes: &[Route]) -> bool
+    ensures { result ≡ list_any (λ r. is_slow r.aspect) routes.now }
+{
+    routes.iter().any(|route| is_slow(route))
 }
 
 /// Checks the control table of a layout: accepts exactly the sound ones, and keeps the layout.
@@ -107,6 +123,23 @@ impl Checked {
         ensures { AreProtections self.now route result.now }
     {
         &self.row_at(route).protections
+    }
+
+    /// The aspect that the entry signal of a route shows for it: proceed or slow, and never stop.
+    pub fn aspect(&self, route: RouteId) -> Aspect
+        requires { route.0 < length self.now.routes }
+        ensures aspect { HasAspect self.now route result }
+        ensures goes { result ≢ Stop }
+    {
+        is_station(&self.layout);
+        self.layout.routes()[route.0].aspect()
+    }
+
+    /// The version of the telegrams that the table needs: 2 where a route is slow, and otherwise 1.
+    pub fn version(&self) -> u8
+        ensures { result ≡ telegram_version self.now }
+    {
+        if has_slow(self.layout.routes()) { 2 } else { 1 }
     }
 
     /// Whether two routes conflict: they aren't one, and have the same entry signal, share a section,

@@ -118,14 +118,14 @@ module _ (directory : List (List ℕ × Place)) (place : Place) where
   pub route-keeps : (x : RouteText) (y : RouteEntry) → route_entry directory place x ≡ Ok y → y.name ≡ x.name
   unfolding route_entry
   route-keeps x y h =
-      let one = came_from (signal_named directory place x.entry) (λ v0. exit_named directory place x.exit >>= λ v1. all_of (port_named directory place) x.path >>= λ v2. all_of (side_named directory place) x.points >>= λ v3. all_of (side_named directory place) x.flank >>= λ v4. all_of (section_named directory place) x.approach >>= λ v5. all_of (route_named directory place) x.extra >>= λ v6. Ok (record { name = x.name; entry = v0; exit = v1; path = v2; points = v3; flank = v4; approach = v5; extra = v6 })) y h in
-      let two = came_from (exit_named directory place x.exit) (λ v1. all_of (port_named directory place) x.path >>= λ v2. all_of (side_named directory place) x.points >>= λ v3. all_of (side_named directory place) x.flank >>= λ v4. all_of (section_named directory place) x.approach >>= λ v5. all_of (route_named directory place) x.extra >>= λ v6. Ok (record { name = x.name; entry = one.0; exit = v1; path = v2; points = v3; flank = v4; approach = v5; extra = v6 })) y one.2 in
-      let three = came_from (all_of (port_named directory place) x.path) (λ v2. all_of (side_named directory place) x.points >>= λ v3. all_of (side_named directory place) x.flank >>= λ v4. all_of (section_named directory place) x.approach >>= λ v5. all_of (route_named directory place) x.extra >>= λ v6. Ok (record { name = x.name; entry = one.0; exit = two.0; path = v2; points = v3; flank = v4; approach = v5; extra = v6 })) y two.2 in
-      let four = came_from (all_of (side_named directory place) x.points) (λ v3. all_of (side_named directory place) x.flank >>= λ v4. all_of (section_named directory place) x.approach >>= λ v5. all_of (route_named directory place) x.extra >>= λ v6. Ok (record { name = x.name; entry = one.0; exit = two.0; path = three.0; points = v3; flank = v4; approach = v5; extra = v6 })) y three.2 in
-      let five = came_from (all_of (side_named directory place) x.flank) (λ v4. all_of (section_named directory place) x.approach >>= λ v5. all_of (route_named directory place) x.extra >>= λ v6. Ok (record { name = x.name; entry = one.0; exit = two.0; path = three.0; points = four.0; flank = v4; approach = v5; extra = v6 })) y four.2 in
-      let six = came_from (all_of (section_named directory place) x.approach) (λ v5. all_of (route_named directory place) x.extra >>= λ v6. Ok (record { name = x.name; entry = one.0; exit = two.0; path = three.0; points = four.0; flank = five.0; approach = v5; extra = v6 })) y five.2 in
-      let seven = came_from (all_of (route_named directory place) x.extra) (λ v6. Ok (record { name = x.name; entry = one.0; exit = two.0; path = three.0; points = four.0; flank = five.0; approach = six.0; extra = v6 })) y six.2 in
-      let made : RouteEntry = (record { name = x.name; entry = one.0; exit = two.0; path = three.0; points = four.0; flank = five.0; approach = six.0; extra = seven.0 }) in
+      let one = came_from (signal_named directory place x.entry) (λ v0. exit_named directory place x.exit >>= λ v1. all_of (port_named directory place) x.path >>= λ v2. all_of (side_named directory place) x.points >>= λ v3. all_of (side_named directory place) x.flank >>= λ v4. all_of (section_named directory place) x.approach >>= λ v5. all_of (route_named directory place) x.extra >>= λ v6. Ok (record { name = x.name; entry = v0; exit = v1; path = v2; points = v3; flank = v4; approach = v5; extra = v6; aspect = x.aspect })) y h in
+      let two = came_from (exit_named directory place x.exit) (λ v1. all_of (port_named directory place) x.path >>= λ v2. all_of (side_named directory place) x.points >>= λ v3. all_of (side_named directory place) x.flank >>= λ v4. all_of (section_named directory place) x.approach >>= λ v5. all_of (route_named directory place) x.extra >>= λ v6. Ok (record { name = x.name; entry = one.0; exit = v1; path = v2; points = v3; flank = v4; approach = v5; extra = v6; aspect = x.aspect })) y one.2 in
+      let three = came_from (all_of (port_named directory place) x.path) (λ v2. all_of (side_named directory place) x.points >>= λ v3. all_of (side_named directory place) x.flank >>= λ v4. all_of (section_named directory place) x.approach >>= λ v5. all_of (route_named directory place) x.extra >>= λ v6. Ok (record { name = x.name; entry = one.0; exit = two.0; path = v2; points = v3; flank = v4; approach = v5; extra = v6; aspect = x.aspect })) y two.2 in
+      let four = came_from (all_of (side_named directory place) x.points) (λ v3. all_of (side_named directory place) x.flank >>= λ v4. all_of (section_named directory place) x.approach >>= λ v5. all_of (route_named directory place) x.extra >>= λ v6. Ok (record { name = x.name; entry = one.0; exit = two.0; path = three.0; points = v3; flank = v4; approach = v5; extra = v6; aspect = x.aspect })) y three.2 in
+      let five = came_from (all_of (side_named directory place) x.flank) (λ v4. all_of (section_named directory place) x.approach >>= λ v5. all_of (route_named directory place) x.extra >>= λ v6. Ok (record { name = x.name; entry = one.0; exit = two.0; path = three.0; points = four.0; flank = v4; approach = v5; extra = v6; aspect = x.aspect })) y four.2 in
+      let six = came_from (all_of (section_named directory place) x.approach) (λ v5. all_of (route_named directory place) x.extra >>= λ v6. Ok (record { name = x.name; entry = one.0; exit = two.0; path = three.0; points = four.0; flank = five.0; approach = v5; extra = v6; aspect = x.aspect })) y five.2 in
+      let seven = came_from (all_of (route_named directory place) x.extra) (λ v6. Ok (record { name = x.name; entry = one.0; exit = two.0; path = three.0; points = four.0; flank = five.0; approach = six.0; extra = v6; aspect = x.aspect })) y six.2 in
+      let made : RouteEntry = (record { name = x.name; entry = one.0; exit = two.0; path = three.0; points = four.0; flank = five.0; approach = six.0; extra = seven.0; aspect = x.aspect }) in
       let e : y ≡ made = sym (same_ok made y seven.2) in
       ap (λ e. e.name) e
 

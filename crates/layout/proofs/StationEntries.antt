@@ -1,7 +1,8 @@
 -- Each entry of a layout names only what is there.
-use Rattle.std.proofs.Common.{◌≡◌, ℕ, suc, ◌+◌, ◌-◌, ◌≤◌, ◌<◌, Bool, true, false, List, [], ◌∷◌, length, map, All, Option, Some, None, IsTrue, Result, Ok, Err, if◌then◌else◌, refl, sym, ap, subst, ◌∙◌, arith, rules}
+use Rattle.std.proofs.Common.{◌≡◌, ◌≢◌, ℕ, suc, ◌+◌, ◌-◌, ◌≤◌, ◌<◌, Bool, true, false, List, [], ◌∷◌, length, map, All, Option, Some, None, IsTrue, Result, Ok, Err, if◌then◌else◌, refl, sym, ap, subst, ◌∙◌, arith, rules}
 use Rattle.std.specs.Option.{ok_or, option_and_then}
 use Rattle.std.proofs.lemmas.List.Elements.{All-nil, All-same}
+use Rattle.sci_telegram.specs.declared.message.Aspect.TheVariants.{Stop}
 use Rattle.sci_telegram.specs.declared.message.Side.{Side}
 use Rattle.layout.specs.declared.fault.LayoutFault.{LayoutFault}
 use Rattle.layout.specs.declared.fault.LayoutFault.TheVariants.{UnknownName}
@@ -183,9 +184,9 @@ module _ (text : LayoutText) (directory : List (List ℕ × Place)) (placed : Al
       } in
       subst (IsDetectorOf l) (same_ok made y sections.2) is
 
-  pub route-names-there : (x : RouteText) (y : RouteEntry) → length x.path ≤ 64 → route_entry directory place x ≡ Ok y → IsRouteOf l y
+  pub route-names-there : (x : RouteText) (y : RouteEntry) → (length x.path ≤ 64) × (x.aspect ≢ Stop) → route_entry directory place x ≡ Ok y → IsRouteOf l y
   unfolding route_entry
-  route-names-there x y few h =
+  route-names-there x y within h =
       let one = came_from (signal_named directory place x.entry) _ y h in
       let two = came_from (exit_named directory place x.exit) _ y one.2 in
       let three = came_from (all_of (port_named directory place) x.path) _ y two.2 in
@@ -193,7 +194,7 @@ module _ (text : LayoutText) (directory : List (List ℕ × Place)) (placed : Al
       let five = came_from (all_of (side_named directory place) x.flank) _ y four.2 in
       let six = came_from (all_of (section_named directory place) x.approach) _ y five.2 in
       let seven = came_from (all_of (route_named directory place) x.extra) _ y six.2 in
-      let made : RouteEntry = record { name = x.name; entry = one.0; exit = two.0; path = three.0; points = four.0; flank = five.0; approach = six.0; extra = seven.0 } in
+      let made : RouteEntry = record { name = x.name; entry = one.0; exit = two.0; path = three.0; points = four.0; flank = five.0; approach = six.0; extra = seven.0; aspect = x.aspect } in
       let long = all-length (port_named directory place) x.path three.0 three.1 in
       let is : IsRouteOf l made = record {
         entry = signal-there x.entry one.0 one.1;
@@ -203,6 +204,7 @@ module _ (text : LayoutText) (directory : List (List ℕ × Place)) (placed : Al
         flank = all-all (side_named directory place) (λ p. HasPoint l p.0) side-there x.flank five.0 five.1;
         approach = all-all (section_named directory place) (HasSection l) section-there x.approach six.0 six.1;
         extra = all-all (route_named directory place) (HasRoute l) route-there x.extra seven.0 seven.1;
-        elements = omega (arith, few, long);
+        elements = (let few = within.0 in omega (arith, few, long));
+        aspect = within.1;
       } in
       subst (IsRouteOf l) (same_ok made y seven.2) is

@@ -1,7 +1,8 @@
 -- The layout that was read is a station.
-use Rattle.std.proofs.Common.{◌≡◌, ℕ, suc, ◌+◌, ◌≤◌, ◌<◌, ◌&&◌, Bool, true, false, List, [], ◌∷◌, ◌++◌, flat_map, get_or, length, map, nat_le, All, Result, Ok, Err, if◌then◌else◌, refl, sym, ap, subst, ◌∙◌, arith, rules}
+use Rattle.std.proofs.Common.{◌≡◌, ◌≢◌, ℕ, suc, ◌+◌, ◌≤◌, ◌<◌, ◌&&◌, Bool, true, false, List, [], ◌∷◌, ◌++◌, flat_map, get_or, length, map, nat_le, All, Result, Ok, Err, if◌then◌else◌, refl, sym, ap, subst, ◌∙◌, arith, rules}
 use Rattle.std.proofs.lemmas.Bool.Decides.{Decides-and}
 use Rattle.std.proofs.lemmas.List.{length-map, length-append, get_or_append_left}
+use Rattle.sci_telegram.specs.declared.message.Aspect.TheVariants.{Stop}
 use Rattle.toml.specs.Data.{Members}
 use Rattle.layout.specs.declared.fault.LayoutFault.{LayoutFault}
 use Rattle.layout.specs.declared.fault.LayoutFault.TheVariants.{Limit}
@@ -24,7 +25,7 @@ use Rattle.layout.proofs.Steps.{le-decides, passed, each-all, each-held, each-co
 use Rattle.layout.proofs.Directory.{names_under, IsPlaced, directory-placed}
 use Rattle.layout.proofs.StationEntries.{IsAsLong, track-there, point-there, joint-there, signal-at-there, detector-there, route-names-there}
 use Rattle.layout.proofs.ReportedOnce.{sections-distinct, detectors-named, reported-apart, each-reported}
-use Rattle.layout.proofs.TextIds.{text-nodes}
+use Rattle.layout.proofs.TextIds.{text-nodes, text-goes}
 
 -- the limits of a text
 at_most-le : (limit : ℕ) (table : TableName) (n : ℕ) (u : Unit {0}) → at_most limit table n ≡ Ok u → n ≤ limit
@@ -105,10 +106,10 @@ as_many f g xs ys e = ap length (sym e) ∙ length-map ys g
 same_length : {A B C : Type 0} (f : A → C) (g : B → C) (xs : List A) (ys : List B) → map g ys ≡ map f xs → length ys ≡ length xs
 same_length f g xs ys e = sym (length-map ys g) ∙ (ap length e ∙ length-map xs f)
 
-plan-station : (text : LayoutText) (directory reported : List (List ℕ × Place)) (l : Plan) → KeepsLimits text → All (IsPlaced text) directory → Apart same_name text.sections → All IsNodeId (ids_in text)
+plan-station : (text : LayoutText) (directory reported : List (List ℕ × Place)) (l : Plan) → KeepsLimits text → All (IsPlaced text) directory → Apart same_name text.sections → All IsNodeId (ids_in text) → All (λ r. r.aspect ≢ Stop) text.routes
     → reported_of text.detectors ≡ Ok reported → plan_of directory text ≡ Ok l → all_within (section_reported reported) named.Section l.sections ≡ Ok tt → IsStation l
 unfolding plan_of
-plan-station text directory reported l limits placed apart ids noted h each =
+plan-station text directory reported l limits placed apart ids goes noted h each =
     let one = came_from (each_of (track_named directory) named.Track 1 text.tracks) _ l h in
     let two = came_from (each_of (point_named directory) named.Point 1 text.points) _ l one.2 in
     let three = came_from (each_of (joint_named directory) named.Joint 1 text.joints) _ l two.2 in
@@ -159,7 +160,7 @@ plan-station text directory reported l limits placed apart ids noted h each =
       joints = each-all (joint_named directory) (λ _. Unit {0}) (λ j. HasPort made j.first × HasPort made j.second) (λ place x y _ k. joint-there text directory placed made long place x y k) named.Joint 1 text.joints three.0 (λ k d lt. tt) three.1;
       signals = each-all (signal_entry directory) (λ _. Unit {0}) (λ s. HasPort made s.at) (λ place x y _ k. signal-at-there text directory placed made long place x y k) named.Signal 1 text.signals four.0 (λ k d lt. tt) four.1;
       detectors = each-all (detector_entry directory) (λ d. (1 ≤ length d.sections) × (length d.sections ≤ 16)) (IsDetectorOf made) (λ place x y q k. detector-there text directory placed made long place x y q k) named.Detector 1 text.detectors five.0 limits.reported five.1;
-      routes = each-all (route_entry directory) (λ r. length r.path ≤ 64) (IsRouteOf made) (λ place x y q k. route-names-there text directory placed made long place x y q k) named.Route 1 text.routes six.0 limits.path six.1;
+      routes = each-all (route_entry directory) (λ r. (length r.path ≤ 64) × (r.aspect ≢ Stop)) (IsRouteOf made) (λ place x y q k. route-names-there text directory placed made long place x y q k) named.Route 1 text.routes six.0 (λ k d lt. (limits.path k d lt, goes k d lt)) six.1;
       reported = reports;
     } in
     subst IsStation e is
@@ -173,4 +174,4 @@ station_of document text l written h =
     let each = came_from (all_within (section_reported reported.0) named.Section plan.0.sections) (λ v3. Ok plan.0) l plan.2 in
     let kept = names-kept text names.0 names.1 in
     subst IsStation (same_ok plan.0 l each.2)
-    (plan-station text names.0 reported.0 plan.0 kept.0 kept.1 (sections-apart text (names-once text names.0 names.1).0) (text-nodes document text written) reported.1 plan.1 each.1)
+    (plan-station text names.0 reported.0 plan.0 kept.0 kept.1 (sections-apart text (names-once text names.0 names.1).0) (text-nodes document text written) (text-goes document text written) reported.1 plan.1 each.1)

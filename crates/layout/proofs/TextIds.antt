@@ -1,7 +1,10 @@
--- The identities that a text writes are those of nodes.
-use Rattle.std.proofs.Common.{◌≡◌, ℕ, suc, ◌≤◌, ◌&&◌, Bool, true, false, ℤ, pos, negsuc, List, [], ◌∷◌, map, All, codes, Option, Some, None, nat_le, Result, Ok, Err, if◌then◌else◌, refl, sym, ap, subst, ◌∙◌, arith, rules}
+-- The identities that a text writes are those of nodes, and no route of it has the aspect stop.
+use Rattle.std.proofs.Common.{◌≡◌, ◌≢◌, bytes_eq, ℕ, suc, ◌≤◌, ◌&&◌, Bool, true, false, ℤ, pos, negsuc, List, [], ◌∷◌, map, All, codes, Option, Some, None, nat_le, Result, Ok, Err, if◌then◌else◌, refl, sym, ap, subst, ◌∙◌, arith, rules}
+use Rattle.std.proofs.lemmas.Bool.{false≢true}
 use Rattle.std.proofs.lemmas.Bool.Decides.{Decides-and}
 use Rattle.std.proofs.lemmas.List.Elements.{All-nil, All-cons, All-append, All-map, All-weaker}
+use Rattle.sci_telegram.specs.declared.message.Aspect.{Aspect}
+use Rattle.sci_telegram.specs.declared.message.Aspect.TheVariants.{Stop, Proceed, Slow}
 use Rattle.toml.specs.Data.{Data, Members, as_integer, get_member}
 use Rattle.layout.specs.declared.fault.LayoutFault.{LayoutFault}
 use Rattle.layout.specs.declared.fault.LayoutFault.TheVariants.{WrongKind}
@@ -11,14 +14,27 @@ use Rattle.layout.specs.declared.fault.TableName.TheVariants as named
 use Rattle.layout.specs.declared.entries.Station.{Station}
 use Rattle.layout.specs.declared.written.WrittenPoint.{WrittenPoint}
 use Rattle.layout.specs.declared.written.WrittenSignal.{WrittenSignal}
-use Rattle.layout.specs.Written.{DetectorText, LayoutText}
+use Rattle.layout.specs.Written.{DetectorText, RouteText, LayoutText}
 use Rattle.layout.specs.Reading.{Read, ◌>>=◌, each_of}
-use Rattle.layout.specs.Values.{field_at, array_at, table_at, name_at, id_of, id_at}
-use Rattle.layout.specs.Text.{key_place, name_field, id_field, port_field, names_field, key_or_none, station_at, track_at, point_at, joint_at, signal_at, detector_at, route_at, items_at, entries_at, station_in, text_of}
+use Rattle.layout.specs.Values.{field_at, text_at, array_at, table_at, name_at, id_of, id_at, aspect_at}
+use Rattle.layout.specs.Text.{key_place, name_field, id_field, port_field, names_field, ports_field, sides_field, names_at, sides_at, list_or_empty, aspect_or_proceed, key_or_none, station_at, track_at, point_at, joint_at, signal_at, detector_at, route_at, items_at, entries_at, station_in, text_of}
 use Rattle.layout.specs.Station.{IsNodeId}
 use Rattle.layout.proofs.OnceLemmas.{came_from, same_ok}
 use Rattle.layout.proofs.Steps.{le-decides, passed, each-all}
 use Rattle.layout.proofs.OncePlan.{ids_in}
+
+goes-on : Aspect → Bool
+goes-on Stop = false
+goes-on Proceed = true
+goes-on Slow = true
+
+proceed-goes : Proceed ≢ Stop
+unfolding goes-on
+proceed-goes e = false≢true (sym (ap goes-on e))
+
+slow-goes : Slow ≢ Stop
+unfolding goes-on
+slow-goes e = false≢true (sym (ap goes-on e))
 
 id-of-node : (place : Place) (o : Option ℤ) (n : ℕ) → id_of place o ≡ Ok n → IsNodeId n
 id-of-node place None n h = search rules
@@ -80,12 +96,58 @@ entries-node key table entry P makes document xs h =
     let items = came_from (items_at key table document) _ xs h in
     each-all entry (λ _. Unit {0}) P makes table 1 items.0 xs (λ k d lt. tt) items.2
 
+aspect-at-goes : (place : Place) (d : Data) (a : Aspect) → aspect_at place d ≡ Ok a → a ≢ Stop
+unfolding aspect_at
+aspect-at-goes place d a h =
+    let word = came_from (text_at place d) _ a h in
+    word-goes (bytes_eq word.0 (codes "proceed")) (bytes_eq word.0 (codes "slow")) word.2
+  where
+    word-goes : (p s : Bool) → (if p then Ok Proceed else if s then Ok Slow else Err (WrongKind place)) ≡ Ok a → a ≢ Stop
+    word-goes true s h = subst (λ a. a ≢ Stop) (same_ok Proceed a h) proceed-goes
+    word-goes false true h = subst (λ a. a ≢ Stop) (same_ok Slow a h) slow-goes
+    word-goes false false h = search rules
+
+aspect-goes : (place : Place) (o : Option Data) (a : Aspect) → aspect_or_proceed place o ≡ Ok a → a ≢ Stop
+aspect-goes place None a h = subst (λ a. a ≢ Stop) (same_ok Proceed a h) proceed-goes
+aspect-goes place (Some d) a h = aspect-at-goes place d a h
+
+route-goes : (place : Place) (d : Data) (r : RouteText) → Unit {0} → route_at place d ≡ Ok r → r.aspect ≢ Stop
+unfolding route_at
+route-goes place d r _ h =
+    let fields = came_from (table_at place d) _ r h in
+    let name = came_from (name_field (codes "name") place fields.0) _ r fields.2 in
+    let entry = came_from (name_field (codes "entry") place fields.0) _ r name.2 in
+    let exit = came_from (name_field (codes "exit") place fields.0) _ r entry.2 in
+    let path = came_from (ports_field (codes "path") place fields.0) _ r exit.2 in
+    let points = came_from (sides_field (codes "points") place fields.0) _ r path.2 in
+    let flank = came_from (list_or_empty (sides_at place) (get_member (codes "flank") fields.0)) _ r points.2 in
+    let approach = came_from (list_or_empty (names_at place) (get_member (codes "approach") fields.0)) _ r flank.2 in
+    let extra = came_from (list_or_empty (names_at place) (get_member (codes "extra") fields.0)) _ r approach.2 in
+    let aspect = came_from (aspect_or_proceed place (get_member (codes "aspect") fields.0)) _ r extra.2 in
+    let made : RouteText = record { name = name.0; entry = entry.0; exit = exit.0; path = path.0; points = points.0; flank = flank.0; approach = approach.0; extra = extra.0; aspect = aspect.0 } in
+    subst (λ r. r.aspect ≢ Stop) (same_ok made r aspect.2) (aspect-goes place (get_member (codes "aspect") fields.0) aspect.0 aspect.1)
+
 the-station-node : (document : Members) (s : Station) → station_in document ≡ Ok s → IsNodeId s.id
 unfolding station_in
 the-station-node document s h =
     let d = came_from (field_at (codes "station") (key_place named.Station) document) _ s h in
     let fields = came_from (table_at (key_place named.Station) d.0) (λ _. station_at (record { table = named.Station; entry = 1 }) d.0) s d.2 in
     station-node (record { table = named.Station; entry = 1 }) d.0 s fields.2
+
+pub text-goes : (document : Members) (text : LayoutText) → text_of document ≡ Ok text → All (λ r. r.aspect ≢ Stop) text.routes
+unfolding text_of
+text-goes document text h =
+    let station = came_from (station_in document) _ text h in
+    let sections = came_from (entries_at (codes "section") named.Section name_at document) _ text station.2 in
+    let tracks = came_from (entries_at (codes "track") named.Track track_at document) _ text sections.2 in
+    let points = came_from (entries_at (codes "point") named.Point point_at document) _ text tracks.2 in
+    let borders = came_from (entries_at (codes "border") named.Border name_at document) _ text points.2 in
+    let joints = came_from (entries_at (codes "joint") named.Joint joint_at document) _ text borders.2 in
+    let signals = came_from (entries_at (codes "signal") named.Signal signal_at document) _ text joints.2 in
+    let detectors = came_from (entries_at (codes "detector") named.Detector detector_at document) _ text signals.2 in
+    let routes = came_from (entries_at (codes "route") named.Route route_at document) _ text detectors.2 in
+    let made : LayoutText = record { station = station.0; sections = sections.0; tracks = tracks.0; points = points.0; borders = borders.0; joints = joints.0; signals = signals.0; detectors = detectors.0; routes = routes.0 } in
+    subst (λ t. All (λ r. r.aspect ≢ Stop) t.routes) (same_ok made text routes.2) (entries-node (codes "route") named.Route route_at (λ r. r.aspect ≢ Stop) route-goes document routes.0 routes.1)
 
 pub text-nodes : (document : Members) (text : LayoutText) → text_of document ≡ Ok text → All IsNodeId (ids_in text)
 unfolding text_of ids_in

@@ -1,5 +1,6 @@
 -- Detectors and routes as plain records, and a whole layout.
 use Rattle.std.specs.Prelude.{ℕ, List}
+use Rattle.sci_telegram.specs.declared.message.Aspect.{Aspect}
 use Rattle.sci_telegram.specs.declared.message.Side.{Side}
 use Rattle.layout.specs.declared.ids.SectionId.{SectionId}
 use Rattle.layout.specs.declared.ids.PointId.{PointId}
@@ -20,7 +21,8 @@ pub record DetectorEntry : Type 0 where
   pub sections : List SectionId
 
 -- A route: the signal at which it begins, where it ends, the port by which each of its elements is left,
--- its written points and flank points, its approach sections, and the routes that it lists as conflicting.
+-- its written points and flank points, its approach sections, the routes that it lists as conflicting, and the aspect
+-- at which it is passed.
 pub record RouteEntry : Type 0 where
   pub name : List ℕ
   pub entry : SignalId
@@ -30,6 +32,7 @@ pub record RouteEntry : Type 0 where
   pub flank : List (PointId × Side)
   pub approach : List SectionId
   pub extra : List RouteId
+  pub aspect : Aspect
 
 -- A whole layout. An entry is named by its place in its list, counted from 0.
 pub record Plan : Type 0 where

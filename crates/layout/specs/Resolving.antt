@@ -135,7 +135,7 @@ module _ (directory : List (List ℕ × Place)) (place : Place) where
     flank ← all_of side_named r.flank
     approach ← all_of section_named r.approach
     extra ← all_of route_named r.extra
-    Ok (record { name = r.name; entry = entry; exit = exit; path = path; points = points; flank = flank; approach = approach; extra = extra })
+    Ok (record { name = r.name; entry = entry; exit = exit; path = path; points = points; flank = flank; approach = approach; extra = extra; aspect = r.aspect })
 
 -- each section is reported by some detector
 abbrev pub section_reported : List (List ℕ × Place) → Place → List ℕ → Read (Unit {0})

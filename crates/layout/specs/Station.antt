@@ -1,6 +1,7 @@
 -- What every layout is: a station, which names only what is there, keeps every limit, and reports each section once.
-use Rattle.std.specs.Prelude.{ℕ, ◌<◌, ◌≤◌, List, length, IsTrue}
+use Rattle.std.specs.Prelude.{◌≢◌, ℕ, ◌<◌, ◌≤◌, List, length, IsTrue}
 use Rattle.std.specs.List.{All, Contains, flat_map}
+use Rattle.sci_telegram.specs.declared.message.Aspect.TheVariants.{Stop}
 use Rattle.layout.specs.declared.ids.SectionId.{SectionId}
 use Rattle.layout.specs.declared.ids.PointId.{PointId}
 use Rattle.layout.specs.declared.ids.SignalId.{SignalId}
@@ -41,7 +42,7 @@ pub record HasPort (l : Plan) (p : Port) : Type 0 where
   pub element : HasElement l p.element
   pub end : IsTrue (has_port p.element p.end)
 
--- A route names only what is there, and its path has at most 64 elements.
+-- A route names only what is there, its path has at most 64 elements, and its aspect isn't stop.
 pub record IsRouteOf (l : Plan) (r : RouteEntry) : Type 0 where
   pub entry : HasSignal l r.entry
   pub exit : HasExit l r.exit
@@ -51,6 +52,7 @@ pub record IsRouteOf (l : Plan) (r : RouteEntry) : Type 0 where
   pub approach : All (HasSection l) r.approach
   pub extra : All (HasRoute l) r.extra
   pub elements : length r.path ≤ 64
+  pub aspect : r.aspect ≢ Stop
 
 -- A detection controller reports 1 to 16 sections, all of which are there.
 pub record IsDetectorOf (l : Plan) (d : DetectorEntry) : Type 0 where

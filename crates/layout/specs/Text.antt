@@ -1,6 +1,8 @@
 -- What the text of a layout writes: the tests for missing keys and wrong kinds, in reading order.
 use Rattle.std.specs.Prelude.{ℕ, List, [], ◌∷◌, codes, Option, Some, None, Ok, Err}
 use Rattle.toml.specs.Data.{Data, Members, no_members, member, get_member}
+use Rattle.sci_telegram.specs.declared.message.Aspect.{Aspect}
+use Rattle.sci_telegram.specs.declared.message.Aspect.TheVariants.{Proceed}
 use Rattle.sci_telegram.specs.declared.message.Side.{Side}
 use Rattle.layout.specs.declared.fault.LayoutFault.TheVariants.{Toml, WrongKind}
 use Rattle.layout.specs.declared.fault.Place.{Place}
@@ -13,7 +15,7 @@ use Rattle.layout.specs.declared.written.WrittenPoint.{WrittenPoint}
 use Rattle.layout.specs.declared.written.WrittenJoint.{WrittenJoint}
 use Rattle.layout.specs.declared.written.WrittenSignal.{WrittenSignal}
 use Rattle.layout.specs.Reading.{Read, ◌>>=◌, each_of, all_of}
-use Rattle.layout.specs.Values.{field_at, array_at, table_at, name_of, name_at, id_at, port_at, side_at, key_at}
+use Rattle.layout.specs.Values.{field_at, array_at, table_at, name_of, name_at, id_at, port_at, side_at, aspect_at, key_at}
 use Rattle.layout.specs.Written.{DetectorText, RouteText, LayoutText}
 
 -- ---- lists inside an entry, all at the place of the entry
@@ -48,6 +50,11 @@ pair_of place (p ∷ q ∷ []) = do
   second ← port_at place q
   Ok (record { first = first; second = second })
 pair_of place _ = Err (WrongKind place)
+
+-- an aspect that is left out is proceed
+abbrev pub aspect_or_proceed : Place → Option Data → Read Aspect
+aspect_or_proceed place None = Ok Proceed
+aspect_or_proceed place (Some d) = aspect_at place d
 
 -- a key that is left out is none
 abbrev pub key_or_none : Place → Option Data → Read (Option (List ℕ))
@@ -129,7 +136,8 @@ route_at place d = do
   flank ← list_or_empty (sides_at place) (get_member (codes "flank") fields)
   approach ← list_or_empty (names_at place) (get_member (codes "approach") fields)
   extra ← list_or_empty (names_at place) (get_member (codes "extra") fields)
-  Ok (record { name = name; entry = entry; exit = exit; path = path; points = points; flank = flank; approach = approach; extra = extra })
+  aspect ← aspect_or_proceed place (get_member (codes "aspect") fields)
+  Ok (record { name = name; entry = entry; exit = exit; path = path; points = points; flank = flank; approach = approach; extra = extra; aspect = aspect })
 
 -- ---- the tables
 

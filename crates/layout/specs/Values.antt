@@ -12,6 +12,8 @@ use Rattle.layout.specs.declared.fault.LayoutFault.TheVariants.{MissingKey, Wron
 use Rattle.layout.specs.declared.fault.Place.{Place}
 use Rattle.layout.specs.declared.port.End.{End}
 use Rattle.layout.specs.declared.port.End.TheVariants as end
+use Rattle.sci_telegram.specs.declared.message.Aspect.{Aspect}
+use Rattle.sci_telegram.specs.declared.message.Aspect.TheVariants.{Proceed, Slow}
 use Rattle.sci_telegram.specs.declared.message.Side.{Side}
 use Rattle.sci_telegram.specs.declared.message.Side.TheVariants.{Left, Right}
 use Rattle.layout.specs.declared.written.PortName.{PortName}
@@ -90,6 +92,14 @@ side_at place d = do
   word ← text_at place d
   if bytes_eq word (codes "left") then Ok Left
       else if bytes_eq word (codes "right") then Ok Right
+      else Err (WrongKind place)
+
+-- the aspect of a route is the word `proceed` or `slow`
+unfoldable pub aspect_at : Place → Data → Read Aspect
+aspect_at place d = do
+  word ← text_at place d
+  if bytes_eq word (codes "proceed") then Ok Proceed
+      else if bytes_eq word (codes "slow") then Ok Slow
       else Err (WrongKind place)
 
 -- a key is 32 hexadecimal digits: four registers, each with its low-order byte first

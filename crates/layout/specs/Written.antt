@@ -1,5 +1,6 @@
 -- Detectors, routes and a whole layout as they are written: their entries call one another by name.
 use Rattle.std.specs.Prelude.{ℕ, List}
+use Rattle.sci_telegram.specs.declared.message.Aspect.{Aspect}
 use Rattle.sci_telegram.specs.declared.message.Side.{Side}
 use Rattle.layout.specs.declared.entries.Station.{Station}
 use Rattle.layout.specs.declared.written.PortName.{PortName}
@@ -22,6 +23,7 @@ pub record RouteText : Type 0 where
   pub flank : List (List ℕ × Side)
   pub approach : List (List ℕ)
   pub extra : List (List ℕ)
+  pub aspect : Aspect
 
 pub record LayoutText : Type 0 where
   pub station : Station

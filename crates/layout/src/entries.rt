@@ -4,7 +4,7 @@ ghost use Rattle.std.specs.Prelude.{◌≡◌, IfOk};
 
 use crate::ids::{BorderId, PointId, RouteId, SectionId, SignalId};
 use crate::port::Port;
-use sci_telegram::{Name, Side};
+use sci_telegram::{Aspect, Name, Side};
 use std::alloc::{AllocError, Global};
 use std::marker::Model;
 
@@ -79,6 +79,7 @@ pub struct Route {
     pub(crate) flank: Vec<(PointId, Side)>,
     pub(crate) approach: Vec<SectionId>,
     pub(crate) extra: Vec<RouteId>,
+    pub(crate) aspect: Aspect,
 }
 
 impl Model for Route {
@@ -95,6 +96,7 @@ impl Model for Route {
       flank = r.flank.items;
       approach = r.approach.items;
       extra = r.extra.items;
+      aspect = r.aspect;
     } };
 }
 
@@ -117,6 +119,7 @@ impl Route {
             flank,
             approach,
             extra,
+            aspect: self.aspect,
         })
     }
 
@@ -174,5 +177,12 @@ impl Route {
         ensures { result.now ≡ self.now.extra }
     {
         &self.extra
+    }
+
+    /// The aspect that its entry signal shows for it: proceed, or slow where it is passed slowly.
+    pub fn aspect(&self) -> Aspect
+        ensures { result ≡ self.now.aspect }
+    {
+        self.aspect
     }
 }

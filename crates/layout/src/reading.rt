@@ -5,17 +5,17 @@ ghost use Rattle.toml.specs.Data.{get_member};
 ghost use Rattle.toml.specs.View.{view, table_view};
 ghost use Rattle.layout.specs.Reading.{Gives};
 ghost use Rattle.layout.specs.Values.{name_at};
-ghost use Rattle.layout.specs.Text.{name_field, id_field, port_field, names_field, ports_field, sides_field, names_at, ports_at, sides_of, sides_at, list_or_empty, key_or_none, station_at, track_at, point_at, joint_at, signal_at, detector_at, route_at};
+ghost use Rattle.layout.specs.Text.{name_field, id_field, port_field, names_field, ports_field, sides_field, names_at, ports_at, sides_of, sides_at, list_or_empty, aspect_or_proceed, key_or_none, station_at, track_at, point_at, joint_at, signal_at, detector_at, route_at};
 
 use crate::each::{Step, all};
 use crate::entries::Station;
 use crate::fault::{LayoutFault, Place};
-use crate::values::{array, field, id, key, name, name_in, port, side, table};
+use crate::values::{array, aspect, field, id, key, name, name_in, port, side, table};
 use crate::written::{
     PortName, WrittenDetector, WrittenJoint, WrittenPoint, WrittenRoute, WrittenSignal,
     WrittenTrack,
 };
-use sci_telegram::{Name, Side};
+use sci_telegram::{Aspect, Name, Side};
 use std::alloc::Global;
 use toml::{Table, Value};
 
@@ -120,6 +120,16 @@ fn optional_sides(
     match value {
         Some(value) => sides(alloc, value, place),
         None => Ok(Vec::new(alloc)),
+    }
+}
+
+/// An aspect that may be left out.
+fn optional_aspect(value: Option<&Value>, place: Place) -> Result<Aspect, LayoutFault>
+    ensures { Gives (λ a. a) result (aspect_or_proceed place (option_map (λ v. view v.now) value.entry)) }
+{
+    match value {
+        Some(value) => aspect(value, place),
+        None => Ok(Aspect::Proceed),
     }
 }
 
@@ -387,6 +397,7 @@ impl Step for ReadRoute {
         let flank = optional_sides(alloc, optional_field(fields, "flank"), place)?;
         let approach = optional_names(alloc, optional_field(fields, "approach"), place)?;
         let extra = optional_names(alloc, optional_field(fields, "extra"), place)?;
+        let aspect = optional_aspect(optional_field(fields, "aspect"), place)?;
         Ok(WrittenRoute {
             name,
             entry,
@@ -396,6 +407,7 @@ impl Step for ReadRoute {
             flank,
             approach,
             extra,
+            aspect,
         })
     }
 }

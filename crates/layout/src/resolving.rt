@@ -440,6 +440,7 @@ impl<'a> Step for RouteEntries<'a> {
             flank,
             approach,
             extra,
+            aspect: from.aspect,
         })
     }
 }

@@ -3,13 +3,13 @@
 ghost use Rattle.std.specs.Prelude.{◌≡◌, map};
 ghost use Rattle.toml.specs.View.{view, table_view};
 ghost use Rattle.layout.specs.Reading.{Gives};
-ghost use Rattle.layout.specs.Values.{field_at, text_at, array_at, table_at, name_of, name_at, id_at, end_of, port_of, port_at, side_at, key_of, key_at};
+ghost use Rattle.layout.specs.Values.{field_at, text_at, array_at, table_at, name_of, name_at, id_at, end_of, port_of, port_at, side_at, aspect_at, key_of, key_at};
 
 use crate::fault::{LayoutFault, Place};
 use crate::port::End;
 use crate::written::PortName;
 use hex::FromHex;
-use sci_telegram::{Name, Side};
+use sci_telegram::{Aspect, Name, Side};
 use toml::{Table, Value};
 
 /// The value of a field that has to be there.
@@ -139,6 +139,21 @@ pub(crate) fn side(value: &Value, place: Place) -> Result<Side, LayoutFault>
         Ok(Side::Left)
     } else if word == "right" {
         Ok(Side::Right)
+    } else {
+        Err(LayoutFault::WrongKind(place))
+    }
+}
+
+/// The aspect of a route: `proceed` or `slow`.
+#[tactic(auto, unfolding(crate::specs::Values::aspect_at))]
+pub(crate) fn aspect(value: &Value, place: Place) -> Result<Aspect, LayoutFault>
+    ensures { Gives (λ a. a) result (aspect_at place (view value.now)) }
+{
+    let word = text(value, place)?;
+    if word == "proceed" {
+        Ok(Aspect::Proceed)
+    } else if word == "slow" {
+        Ok(Aspect::Slow)
     } else {
         Err(LayoutFault::WrongKind(place))
     }

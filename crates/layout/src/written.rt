@@ -4,7 +4,7 @@ ghost use Rattle.std.specs.Prelude.{◌≡◌};
 
 use crate::entries::Station;
 use crate::port::End;
-use sci_telegram::{Name, Side};
+use sci_telegram::{Aspect, Name, Side};
 use std::marker::Model;
 
 /// A port as it is written, `ELEMENT.port`.
@@ -82,6 +82,7 @@ pub(crate) struct WrittenRoute {
     pub(crate) flank: Vec<(Name, Side)>,
     pub(crate) approach: Vec<Name>,
     pub(crate) extra: Vec<Name>,
+    pub(crate) aspect: Aspect,
 }
 
 impl Model for WrittenRoute {
@@ -98,6 +99,7 @@ impl Model for WrittenRoute {
       flank = r.flank.items;
       approach = r.approach.items;
       extra = r.extra.items;
+      aspect = r.aspect;
     } };
 }
 

@@ -1,13 +1,14 @@
 -- The report on a layout whose control table is sound.
-use Rattle.std.specs.Prelude.{◌≡◌, ℕ, zero, suc, ◌+◌, ◌-◌, ◌⊎◌, List, [], ◌++◌, length, codes, Ok, slice_get, Option, take}
+use Rattle.std.specs.Prelude.{◌≡◌, ℕ, zero, suc, ◌+◌, ◌-◌, ◌⊎◌, List, [], ◌++◌, length, codes, Ok, slice_get, Option, take, if◌then◌else◌}
+use Rattle.std.specs.List.{flat_map}
 use Rattle.std.specs.Fmt.{decimal}
 use Rattle.std.specs.Option.{option_map, unwrap_or}
 use Rattle.std.specs.Io.KnownBytes.{Appends}
-use Rattle.layout.specs.Entries.{Plan}
+use Rattle.layout.specs.Entries.{RouteEntry, Plan}
 use Rattle.layout.specs.Resolving.{layout_in}
 use Rattle.layout.specs.Reading.{Fails}
 use Rattle.layout.specs.Messages.{fault_text as layout_fault_text}
-use Rattle.control_table.specs.Table.{Sound, Conflict}
+use Rattle.control_table.specs.Table.{Sound, Conflict, is_slow}
 use Rattle.control_table.specs.Faults.{IsFirstFault}
 use Rattle.control_table.specs.Messages.{fault_text as table_fault_text}
 use Rattle.station_check.specs.declared.failure.Failure.{Failure}
@@ -50,9 +51,21 @@ TellsRoutes l zero text = text ≡ summary_line l
 TellsRoutes l (suc k) text =
     (front : List ℕ) × (lines : List ℕ) × TellsRoutes l k front × TellsBehind l k (length l.routes - suc k) lines × (text ≡ front ++ lines)
 
--- The report on a sound table.
+-- a route that is passed slowly
+abbrev pub slow_text : List ℕ → List ℕ
+slow_text route = codes "slow " ++ route
+
+-- What is told of a route's aspect: a line where it is slow.
+abbrev pub slow_line : RouteEntry → List ℕ
+slow_line r = if is_slow r.aspect then slow_text r.name ++ codes "\n" else []
+
+-- The slow routes, in table order.
+abbrev pub slow_lines : List RouteEntry → List ℕ
+slow_lines routes = flat_map slow_line routes
+
+-- The report on a sound table: how large the station is, the conflicts, and the slow routes.
 abbrev pub IsReport : Plan → List ℕ → Type 0
-IsReport l text = TellsRoutes l (length l.routes) text
+IsReport l text = (front : List ℕ) × TellsRoutes l (length l.routes) front × (text ≡ front ++ slow_lines l.routes)
 
 -- A text is a layout whose control table is sound.
 abbrev pub IsSound : List ℕ → Plan → Type 0
@@ -67,6 +80,10 @@ ToldBehind l a k old new = (text : List ℕ) × TellsBehind l a k text × Append
 
 abbrev pub ToldRoutes : Plan → ℕ → Option (List ℕ) → Option (List ℕ) → Type 0
 ToldRoutes l k old new = (text : List ℕ) × TellsRoutes l k text × Appends old new text
+
+-- the slow routes of these were told
+abbrev pub ToldSlow : List RouteEntry → Option (List ℕ) → Option (List ℕ) → Type 0
+ToldSlow routes old new = Appends old new (slow_lines routes)
 
 -- The report was written.
 abbrev pub Reported : Plan → Option (List ℕ) → Option (List ℕ) → Type 0

@@ -1,11 +1,12 @@
 //! The report on a sound table.
 
 ghost use Rattle.std.specs.Prelude.{◌≡◌, ◌<◌, ◌-◌, suc, length, OnOk, Some};
-ghost use Rattle.station_check.specs.Report.{ToldRoutes, ToldBehind, ToldPair, route_name, summary_text, conflict_text};
+ghost use Rattle.station_check.specs.Report.{Reported, ToldRoutes, ToldBehind, ToldPair, ToldSlow, route_name, summary_text, conflict_text, slow_text, slow_line};
+ghost use Rattle.std.specs.Io.KnownBytes.{Appends};
 
 use control_table::Checked;
-use layout::RouteId;
-use sci_telegram::Name;
+use layout::{Route, RouteId};
+use sci_telegram::{Aspect, Name};
 use std::io::Write;
 use std::{fmt, io};
 
@@ -69,9 +70,56 @@ impl fmt::Display for Conflict {
     }
 }
 
+/// A route that is passed slowly.
+#[derive(Clone, Copy, Debug)]
+struct Slow {
+    route: Name,
+}
+
+impl fmt::Display for Slow {
+    ghost output = { λ s. Some (slow_text s.route) };
+
+    fn fmt<W: fmt::Write>(&self, f: &mut fmt::Formatter<W>) -> fmt::Result {
+        let route = self.route.as_str();
+        write!(f, "slow {route}")
+    }
+}
+
+/// Writes how large the station is, each pair of conflicting routes once, in table order, and then the
+/// slow routes.
+pub(crate) fn write_report<W: Write>(table: &Checked, out: &mut W) -> io::Result<()>
+    ensures { OnOk result (Reported table.now (W.contents out.old) (W.contents out.new)) }
+{
+    write_pairs(table, out)?;
+    write_slow(table.layout().routes(), out)?;
+    out.flush()?;
+    Ok(())
+}
+
+/// Writes the slow routes, in table order.
+fn write_slow<W: Write>(routes: &[Route], out: &mut W) -> io::Result<()>
+    ensures { OnOk result (ToldSlow routes.now (W.contents out.old) (W.contents out.new)) }
+{
+    for route in routes {
+        write_aspect(route, out)?;
+    }
+    Ok(())
+}
+
+/// Writes that a route is slow, if it is.
+fn write_aspect<W: Write>(route: &Route, out: &mut W) -> io::Result<()>
+    ensures { OnOk result (Appends (W.contents out.old) (W.contents out.new) (slow_line route.now)) }
+{
+    if matches!(route.aspect(), Aspect::Slow) {
+        let route = *route.name();
+        out.writeln(Slow { route })?;
+    }
+    Ok(())
+}
+
 /// Writes how large the station is, and then each pair of conflicting routes once, in table order.
 #[tactic(auto, using(crate::proofs::Telling::routes_begin))]
-pub(crate) fn write_report<W: Write>(table: &Checked, out: &mut W) -> io::Result<()>
+fn write_pairs<W: Write>(table: &Checked, out: &mut W) -> io::Result<()>
     ensures { OnOk result (ToldRoutes table.now (length table.now.routes) (W.contents out.old) (W.contents out.new)) }
 {
     out.writeln(Summary::of(table))?;
@@ -79,7 +127,7 @@ pub(crate) fn write_report<W: Write>(table: &Checked, out: &mut W) -> io::Result
     for earlier in 0..routes {
         write_conflicts(table, RouteId(earlier), out)?;
     }
-    out.flush()
+    Ok(())
 }
 
 /// Writes the conflicts of a route with those behind it.

@@ -1,5 +1,5 @@
 use Rattle.station_check.specs.Report.{ToldRoutes}
-use Rattle.station_check.proofs.report.write_report.Given as goal
+use Rattle.station_check.proofs.report.write_pairs.Given as goal
 
 abbrev pub invariant-loop-earlier : goal.invariant-loop-earlier
 invariant-loop-earlier g l = ToldRoutes l.table l.earlier (g.W.Write.contents l.fn.out) (g.W.Write.contents l.out)

@@ -1,0 +1,5 @@
+use Rattle.station_check.proofs.Telling.{ToldSlowTo}
+use Rattle.station_check.proofs.report.write_slow.Given as goal
+
+abbrev pub invariant-loop-route : goal.invariant-loop-route
+invariant-loop-route g l = ToldSlowTo l.routes l.route-index (g.W.Write.contents l.fn.out) (g.W.Write.contents l.out)
