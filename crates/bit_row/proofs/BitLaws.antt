@@ -2,7 +2,7 @@
 use Rattle.std.proofs.Common.{◌≡◌, ℕ, zero, suc, ◌+◌, ◌-◌, ◌*◌, ◌/◌, ◌%◌, ◌^◌, ◌<◌, ◌≤◌, ◌≢◌, ◌⊎◌, ◌==◌, Bool, true, false, cond, not, ◌&&◌, ◌||◌, nat_lt, nat_eq, ⊎_elim, ◌↔◌, IsTrue, refl, sym, ap, ◌∙◌, arith, if◌then◌else◌, min, max, bit_and, bit_or}
 use Rattle.std.specs.Int.{bit_at, bit_not, trailing_zeros, w64}
 use Rattle.std.specs.Ordering.{nat_cmp, eq_by_cmp}
-use Rattle.std.specs.FinSet.{contains, empty, insert, remove, union, difference, contains-empty, contains-insert, contains-remove, contains-union, contains-difference, members, same_set, nat_cmp-IsAntisymmetric}
+use Rattle.std.specs.FinSet.{contains, empty, insert, remove, union, intersection, difference, contains-empty, contains-insert, contains-remove, contains-union, contains-intersection, contains-difference, members, same_set, nat_cmp-IsAntisymmetric}
 use Rattle.std.specs.Cmp.{nat_cmp_total, unsigned_tied}
 use Rattle.std.proofs.Math.Nat.{mod-eq_of_lt, mod-one}
 use Rattle.std.proofs.lemmas.Nat.{pow_below, mod-pow-add, pow_pos, one_shl, or_lt, and_le_l}
@@ -76,6 +76,15 @@ places-or a b = same _ _ (λ k.
     contains-places (bit_or a b) k ∙ either _ _ _ _ (bit_at_or a b k) (bit_at-lt a k) (bit_at-lt b k)
     ∙ (λ i. sym (contains-places a k) i || sym (contains-places b k) i)
     ∙ sym (contains-union nat_cmp_total (places a) (places b) k))
+
+common : (x y z : ℕ) (low : Bool) → x ≡ min y z → y < 2 → z < 2 → (low && (x == 1)) ≡ ((low && (y == 1)) && (low && (z == 1)))
+common x y z low e p q = grind arith
+
+pub places-and : (a b : ℕ) → places (bit_and a b) ≡ intersection (places a) (places b)
+places-and a b = same _ _ (λ k.
+    contains-places (bit_and a b) k ∙ common _ _ _ _ (bit_at_and a b k) (bit_at-lt a k) (bit_at-lt b k)
+    ∙ (λ i. sym (contains-places a k) i && sym (contains-places b k) i)
+    ∙ sym (contains-intersection nat_cmp_total (places a) (places b) k))
 
 -- the mask of one place
 single : (k : ℕ) → k < 64 → (1 * 2 ^ k) % 18446744073709551616 ≡ 2 ^ k
@@ -193,4 +202,10 @@ none_left a b p q part some =
 pub parts : (a b : ℕ) → a < 2 ^ 64 → b < 2 ^ 64 → IsTrue (bit_and a (18446744073709551615 - b) == 0) ↔ IsPart (places a) (places b)
 parts a b p q = (λ h. part_of a b q (grind arith), λ h. let none = none_left a b p q h in grind arith)
 
-pub ruleset rows = (number-places, number-or, number-and, places-zero, places-or, places-with, places-minus, places-without, contains-shift, within, least, meets, parts)
+beyond : (n k : ℕ) → 64 ≤ k → (nat_lt k 64 && (bit_at n k == 1)) ≡ false
+beyond n k h = grind arith
+
+pub contains-beyond : (a k : ℕ) → 64 ≤ k → contains (places a) k ≡ false
+contains-beyond a k h = contains-places a k ∙ beyond a k h
+
+pub ruleset rows = (number-places, number-or, number-and, places-zero, places-or, places-and, places-with, places-minus, places-without, contains-shift, contains-beyond, within, least, meets, parts)

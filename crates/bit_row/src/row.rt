@@ -6,6 +6,9 @@ ghost use Rattle.bit_row.specs.Places.{IsLeast, IsPart, IsWithin, Meet};
 
 use std::marker::Model;
 
+/// How many places there are.
+const PLACES: usize = 64;
+
 /// A set of places below 64, which clauses see as that set. Each call is a few machine operations.
 #[derive(Clone, Copy, Debug)]
 pub struct BitRow {
@@ -65,10 +68,9 @@ impl BitRow {
 
     /// Whether the row has this place.
     pub fn contains(self, place: usize) -> bool
-        requires { place < 64 }
         ensures { result ≡ set.contains self place }
     {
-        self.bits >> place & 1 == 1
+        place < PLACES && self.bits >> place & 1 == 1
     }
 
     /// The places of either row.
@@ -77,6 +79,15 @@ impl BitRow {
     {
         BitRow {
             bits: self.bits | other.bits,
+        }
+    }
+
+    /// The places of both rows.
+    pub fn intersection(self, other: BitRow) -> BitRow
+        ensures { result ≡ set.intersection self other }
+    {
+        BitRow {
+            bits: self.bits & other.bits,
         }
     }
 
