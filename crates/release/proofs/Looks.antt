@@ -1,14 +1,14 @@
 -- What a passage keeps of what it was told.
-use Rattle.std.proofs.Common.{◌≡◌, ◌≢◌, ◌==◌, ◌&&◌, ◌||◌, ◌⊎◌, ⊎_elim, inl, inr, ◌↔◌, ℕ, suc, Bool, true, false, not, cond, IsTrue, List, [], ◌∷◌, ◌++◌, refl, sym, ap, subst, ◌∙◌, arith}
+use Rattle.std.proofs.Common.{◌≡◌, ◌≢◌, ◌==◌, ◌&&◌, ◌||◌, ◌⊎◌, ⊎_elim, inl, inr, ◌↔◌, ℕ, suc, Bool, true, false, not, cond, IsTrue, IsNone, IfSome, Option, Some, None, is_some, List, [], ◌∷◌, ◌++◌, refl, sym, ap, subst, ◌∙◌, arith}
 use Rattle.std.specs.Bool.{Decides}
 use Rattle.std.specs.List.{Contains}
 use Rattle.std.specs.Ordering.{nat_cmp}
 use Rattle.std.specs.Cmp.{nat_cmp_total, unsigned_tied}
-use Rattle.std.specs.FinSet.{contains, insert, remove, contains-empty, contains-insert, contains-remove}
+use Rattle.std.specs.FinSet.{contains, empty, insert, remove, contains-empty, contains-insert, contains-remove}
 use Rattle.std.proofs.lemmas.Bool.{cases_eq, false≢true, true≢false}
 use Rattle.std.proofs.lemmas.Bool.Decides.{Decides-at, Decides-and, Decides-or, Decides-not, Decides-like, Decides-eqb}
-use Rattle.bit_row.specs.Places.{Places}
-use Rattle.release.specs.Passage.{Look, WasSeen, LastSeenClear, MayBeFreed, PassageState, after_look, passage_after, is_freeable}
+use Rattle.bit_row.specs.Places.{Has, IsLeast, Places}
+use Rattle.release.specs.Passage.{IsReached, Look, WasSeen, LastSeenClear, MayBeFreed, PassageState, after_look, passage_after, is_freeable}
 use Rattle.release.proofs.Lists.{contains-none, contains-here, contains-there, contains-cases}
 
 abbrev look : ℕ → Bool → Look
@@ -119,3 +119,18 @@ pub lets_go : (p : PassageState) (looks : List Look) (k : ℕ) (ended result : B
     → IsTrue result ↔ MayBeFreed p.sections looks k ended
 lets_go p looks k ended result told is =
     Decides-at result _ (is ∙ ap (λ q. is_freeable q k ended) told) (freed p.sections looks k ended)
+
+-- ---- whether any was seen occupied
+
+pub reached : (p : PassageState) (looks : List Look) (result : Bool) → p ≡ passage_after p.sections looks → IsTrue result ↔ ((k : ℕ) × Has p.seen k)
+    → IsTrue result ↔ IsReached looks
+reached p looks result told has = (
+  λ h. let (k, in_row) = has.0 h in (k, (seen p.sections looks k).0 (subst (λ (q : PassageState). contains q.seen k ≡ true) told in_row)),
+  λ h. has.1 (h.0, subst (λ (q : PassageState). contains q.seen h.0 ≡ true) (sym told) ((seen p.sections looks h.0).1 h.1)),
+)
+
+pub some_reached : (s : Places) (found : Option ℕ) (result : Bool) → result ≡ is_some found → IfSome found (IsLeast s) → IsNone found ↔ (s ≡ empty)
+    → IsTrue result ↔ ((k : ℕ) × Has s k)
+some_reached s None result is least none =
+    (λ h. absurd (false≢true (sym is ∙ h)), λ h. absurd (false≢true (sym (contains-empty nat_cmp h.0) ∙ ap (λ t. contains t h.0) (sym (none.0 refl)) ∙ h.1)))
+some_reached s (Some k) result is least none = (λ h. (k, least.0), λ h. is)

@@ -13,6 +13,10 @@ pub record Look : Type 0 where
 abbrev pub WasSeen : List Look → ℕ → Bool → Type 0
 WasSeen looks k occupied = Contains looks (record { section = k; occupied = occupied })
 
+-- Some section was seen occupied.
+abbrev pub IsReached : List Look → Type 0
+IsReached looks = (k : ℕ) × WasSeen looks k true
+
 -- When a section was last looked at, it wasn't occupied. The latest look comes first.
 abbrev pub LastSeenClear : List Look → ℕ → Type 0
 LastSeenClear looks k = (later : List Look) × (earlier : List Look)

@@ -1,7 +1,8 @@
 //! The passage of a train over the sections of a route.
 
-ghost use Rattle.std.specs.Prelude.{◌≡◌, ◌<◌, ◌≤◌, ◌↔◌, List, [], ◌∷◌, IsTrue};
-ghost use Rattle.release.specs.Passage.{Look, MayBeFreed, after_look, is_freeable, passage_after};
+ghost use Rattle.std.specs.Prelude.{◌≡◌, ◌<◌, ◌≤◌, ◌↔◌, ℕ, List, [], ◌∷◌, IsTrue};
+ghost use Rattle.bit_row.specs.Places.{Has};
+ghost use Rattle.release.specs.Passage.{IsReached, Look, MayBeFreed, after_look, is_freeable, passage_after};
 
 use bit_row::BitRow;
 use std::marker::Model;
@@ -72,6 +73,14 @@ impl Passage {
         } else {
             self.occupied = self.occupied.without(k);
         }
+    }
+
+    /// Whether some section was seen occupied: from then on the route is let go by the passage alone.
+    pub fn is_reached(&self) -> bool
+        ensures value { IsTrue result ↔ ((k : ℕ) × Has self.now.seen k) }
+        ensures told { (looks : List Look) → self.now ≡ passage_after self.now.sections looks → IsTrue result ↔ IsReached looks }
+    {
+        self.seen.first().is_some()
     }
 
     /// Whether the passage lets section k go, where the route's authority has ended or hasn't: the section

@@ -5,7 +5,9 @@ use crate::{APPROACH_TIME, Approach, Passage};
 #[test]
 fn a_section_is_let_go_when_the_train_has_left_it_for_the_next(rt: HostRuntime) {
     let mut passage = Passage::new(2);
+    assert!(rt; !passage.is_reached());
     passage.see(0, true);
+    assert!(rt; passage.is_reached());
     assert!(rt; !passage.freeable(0, true));
     passage.see(0, false);
     assert!(rt; !passage.freeable(0, true));
