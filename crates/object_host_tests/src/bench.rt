@@ -2,7 +2,7 @@
 
 use object_host::{Controller, Hosted, Input, Sense};
 use rasta_core::{Inbox, Link, Millis, Outbox};
-use rasta_pdu::{Body, Datagram, Key, read};
+use rasta_pdu::{Body, Datagram, Item, Key, read};
 use sci_telegram::{Agreement, Initialisation, Message, Name, Protocol, Telegram, write};
 use std::alloc::Global;
 use std::process::Abort;
@@ -126,11 +126,44 @@ impl<C: Controller> Bench<C> {
             receiver: name(rt, "OC1"),
             message,
         };
+        self.send(rt, now, &write(&telegram))
+    }
+
+    fn send(&mut self, rt: &impl Abort, now: Millis, item: &Item) -> Result<(), Fail> {
         assert!(rt; self.station.may_step(now));
         assert!(rt; self.outbox.has_room());
-        let sent = self.station.send(now, &write(&telegram), &mut self.outbox);
-        assert!(rt; sent.is_ok());
+        assert!(rt; self.station.send(now, item, &mut self.outbox).is_ok());
         Ok(())
+    }
+
+    /// The station sends an item of these bytes.
+    pub(crate) fn say_bytes(&mut self, rt: &impl Abort, bytes: &[u8]) -> Result<(), Fail> {
+        let item = Item::of(bytes).ok_or("an item")?;
+        self.send(rt, OPENED_AT, &item)
+    }
+
+    /// The station sends a telegram in these names.
+    pub(crate) fn say_as(
+        &mut self,
+        rt: &impl Abort,
+        sender: &str,
+        receiver: &str,
+        message: Message,
+    ) -> Result<(), Fail> {
+        let telegram = Telegram {
+            sender: name(rt, sender),
+            receiver: name(rt, receiver),
+            message,
+        };
+        self.send(rt, OPENED_AT, &write(&telegram))
+    }
+
+    /// The station's heartbeat, which confirms what it has heard, reaches the controller.
+    pub(crate) fn confirm(&mut self, rt: &impl Abort, now: Millis) -> Result<(), Fail> {
+        assert!(rt; self.station.may_step(now));
+        assert!(rt; self.outbox.has_room());
+        self.station.tick(now, &mut self.outbox);
+        self.to_controller(rt, now)
     }
 
     /// A step of the controller.
@@ -255,6 +288,12 @@ impl<C: Controller> Bench<C> {
         let pdu = read(&KEY, &datagram).expect(rt, "a PDU");
         assert!(rt; pdu.body == Body::DisconnectionRequest { detail: 0, reason });
         assert!(rt; !self.hosted.link().is_up(now));
+    }
+
+    /// The only datagram of the last step.
+    pub(crate) fn answer(&self) -> Result<&[u8], Fail> {
+        let datagram = self.sent.first().ok_or("it answered")?;
+        Ok(datagram.as_slice())
     }
 
     /// How many datagrams the controller handed out that the station hasn't received.

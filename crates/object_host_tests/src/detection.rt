@@ -87,6 +87,29 @@ fn a_section_that_changes_twice_while_the_window_is_full_sends_one_status_the_la
     Ok(())
 }
 
+/// Three reports wait for the window. Once the station has confirmed, one step sends all of them, in the order of the list.
+#[test]
+fn a_step_sends_every_report_that_it_owes(rt: HostRuntime) -> Result<(), Fail> {
+    let rt = &rt;
+    let mut bench = Bench::new(rt, rt.alloc(), sixteen(rt))?;
+    asked_at_once(rt, &mut bench)?;
+    bench.sense(rt, OPENED_AT, Sense::Section(5, Occupancy::Occupied))?;
+    for place in [15, 0, 7] {
+        bench.sense(rt, 100001, Sense::Section(place, Occupancy::Occupied))?;
+    }
+    assert_eq!(rt; bench.hosted.link().given(), 20);
+    bench.to_station(rt, 100001)?;
+    bench.forget();
+    bench.confirm(rt, 100400)?;
+    assert_eq!(rt; bench.handed_out(), 3);
+    bench.to_station(rt, 100400)?;
+    for text in ["GA", "GH", "GP"] {
+        bench.hears(rt, text, status(Occupancy::Occupied));
+    }
+    bench.hears_no_more(rt);
+    Ok(())
+}
+
 #[test]
 fn a_change_before_the_initialisation_is_told_by_the_initial_status_alone(
     rt: HostRuntime,

@@ -1,6 +1,6 @@
 -- What an end that is in no connection does with a datagram: it takes no items, and only what it takes opens it.
-use Rattle.std.proofs.Common.{◌≡◌, ℕ, Bool, true, false, not, nat_le, nat_lt, ◌&&◌, ◌==◌, if◌then◌else◌, List, [], ◌∷◌, ◌++◌, refl, ap, sym, ◌∙◌, subst}
-use Rattle.std.specs.Prelude.{Result, Ok, Err, Option, Some, None}
+use Rattle.std.proofs.Common.{◌≡◌, ℕ, Bool, true, false, not, nat_le, nat_lt, ◌==◌, if◌then◌else◌, List, [], refl, ap, sym, ◌∙◌, subst}
+use Rattle.std.specs.Prelude.{Result, Ok, Err}
 use Rattle.std.proofs.lemmas.Bool.{true≢false}
 use Rattle.rasta_pdu.specs.Reading.{reading}
 use Rattle.rasta_pdu.specs.declared.body.Body.{Body}
@@ -9,12 +9,11 @@ use Rattle.rasta_pdu.specs.declared.fault.PduFault.{PduFault}
 use Rattle.rasta_pdu.specs.declared.pdu.Pdu.{Pdu}
 use Rattle.rasta_core.specs.Parameters.{expiry}
 use Rattle.rasta_core.specs.State.{LinkState, is_client, is_open}
-use Rattle.rasta_core.specs.Clock.{alive_until, open_state, quiet_until, settled, state_at}
+use Rattle.rasta_core.specs.Clock.{quiet_until, settled, state_at}
 use Rattle.rasta_core.specs.Sending.{Step, entered, limited, silent}
 use Rattle.rasta_core.specs.Opening.{granting}
 use Rattle.rasta_core.specs.Receiving.{Receipt, accepting, by_state, hearing, refusing, resting}
 use Rattle.rasta_core.specs.Calls.{hearing_bytes, receiving}
-use Rattle.rasta_core.specs.phase.State.{State}
 use Rattle.rasta_core.specs.phase.State.TheVariants as state
 use Rattle.rasta_core.specs.verdict.Verdict.{Verdict}
 use Rattle.rasta_core.specs.verdict.Verdict.TheVariants as verdict

@@ -1,3 +1,4 @@
 pub mod Hearing
 pub mod Server
+pub mod Acted
 pub mod Told

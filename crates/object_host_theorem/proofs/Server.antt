@@ -1,7 +1,6 @@
 -- What the calls of a host do at its end of the link.
-use Rattle.std.proofs.Common.{◌≡◌, ℕ, Bool, true, false, not, ◌&&◌, if◌then◌else◌, List, [], ◌∷◌, ◌++◌, append_assoc, refl, ap, sym, ◌∙◌, subst}
-use Rattle.std.specs.Prelude.{Option, Some, None}
-use Rattle.std.proofs.lemmas.Bool.{true≢false, false≢true}
+use Rattle.std.proofs.Common.{◌≡◌, ℕ, Bool, true, false, List, [], ◌∷◌, ◌++◌, append_assoc, refl, ap, sym, ◌∙◌, subst}
+use Rattle.std.specs.Prelude.{None}
 use Rattle.std.proofs.lemmas.List.{append-nil}
 use Rattle.std.proofs.lemmas.Option.{none-some}
 use Rattle.rasta_core.specs.State.{LinkState, is_open}
@@ -11,7 +10,7 @@ use Rattle.rasta_core.specs.Ends as calls
 use Rattle.rasta_core.specs.Ends.{end_after, entered_by, is_taken, kept, outcome, reading_of}
 use Rattle.rasta_core.specs.Run.{Ends, called}
 use Rattle.object_host.specs.Host.{LinkCall, Ticks, Closes, Sends, Receives}
-use Rattle.object_host.specs.Made.{AreCallsFor, AreOwn, call_made, calls_made, items_given, items_given_by, items_taken}
+use Rattle.object_host.specs.Made.{AreCallsFor, AreOwn, calls_made, items_given, items_given_by, items_taken}
 use Rattle.object_host.specs.declared.input.Input.{Input}
 use Rattle.object_host.specs.declared.input.Input.TheVariants as inputs
 use Rattle.object_host_theorem.specs.World.{as_call, called_all, entering}

@@ -1,8 +1,6 @@
 -- A commanding client, the host that is the server of its link, and the datagrams between them.
 use Rattle.std.specs.Prelude.{◌≡◌, ℕ, ◌+◌, List, [], ◌∷◌, ◌++◌, Option, Some, None}
 use Rattle.sci_telegram.specs.declared.telegram.Telegram.{Telegram}
-use Rattle.rasta_core.specs.State.{LinkState, is_open}
-use Rattle.rasta_core.specs.identity.Role.{Role}
 use Rattle.rasta_core.specs.identity.Role.TheVariants as role
 use Rattle.rasta_core.specs.Ends as calls
 use Rattle.rasta_core.specs.Ends.{Call, outcome, kept, reading_of}

@@ -1,12 +1,18 @@
 //! What an object is told, for every lawful object.
 
-ghost use Rattle.std.specs.Prelude.{◌≡◌, ℕ, ◌++◌, List};
+ghost use Rattle.std.specs.Prelude.{◌≡◌, ℕ, ◌++◌, List, []};
+ghost use Rattle.sci_telegram.specs.declared.telegram.Telegram.{Telegram};
 ghost use Rattle.rasta_core.specs.Ends.{kept, reading_of};
-ghost use Rattle.rasta_core.specs.Events.{Start};
+ghost use Rattle.rasta_core.specs.Clock.{settled};
+ghost use Rattle.rasta_core.specs.Events.{Event as LinkEvent, Start, happened, started};
+ghost use Rattle.rasta_core.specs.Run.{Ends};
 ghost use Rattle.rasta_core.specs.Names.{AreNames, Names};
+ghost use Rattle.object_host.specs.Host.{HostState};
 ghost use Rattle.object_host.specs.Made.{items_given, items_taken};
+ghost use Rattle.object_host.specs.Step.{host_step};
 ghost use Rattle.object_host.specs.declared.input.Input.{Input};
-ghost use Rattle.object_host_theorem.specs.World.{Event, IsToldInConnection, MayRun, World, begun, entering, run, step_of, stepped};
+ghost use Rattle.object_host_theorem.specs.Acted.{IsActedOn, IsNoHostCall};
+ghost use Rattle.object_host_theorem.specs.World.{Event, IsToldInConnection, MayRun, World, begun, called_all, entering, run, step_of, stepped, told_since};
 
 use object_host::{Controller, own_calls_open_nothing, step_is_calls, step_tells_what_was_taken};
 use rasta_core::{
@@ -26,6 +32,24 @@ pub fn told_is_given<C: Controller>()
     every_event_keeps_time();
     every_event_keeps_order();
     order_is_safe();
+    own_calls_open_nothing();
+    step_is_calls::<C>();
+    step_tells_what_was_taken::<C>();
+}
+
+/// What a host acted on and what its end of the link took, event by event. At the beginning nothing was. Whatever the two
+/// ends are, of which the host's is settled at its clock, a step keeps it (*steps*), and so does all else that can happen
+/// to two ends (*others*).
+pub fn what_is_taken_is_acted_on<C: Controller>()
+    ensures starts { (names : Names) (start : Start) → IsActedOn (started names start).server [] [] }
+    ensures steps { (input : Input) (connection : ℕ) (ends : Ends) (host : HostState C) (acted : List (List ℕ)) (told : List Telegram) → host.link ≡ ends.server.link
+        → settled (reading_of ends.server.clock) ends.server.link ≡ ends.server.link → IsActedOn ends.server acted told
+        → IsActedOn (called_all connection (host_step C.behaviour (reading_of ends.server.clock) input host).calls ends).server
+        (kept (entering input connection ends) acted ++ (host_step C.behaviour (reading_of ends.server.clock) input host).acted)
+        (told_since (entering input connection ends) told ++ (host_step C.behaviour (reading_of ends.server.clock) input host).told) }
+    ensures others { (event : LinkEvent) (ends : Ends) (acted : List (List ℕ)) (told : List Telegram) → IsNoHostCall event → IsActedOn ends.server acted told
+        → IsActedOn (happened event ends).server acted told }
+{
     own_calls_open_nothing();
     step_is_calls::<C>();
     step_tells_what_was_taken::<C>();

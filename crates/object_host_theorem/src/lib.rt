@@ -4,4 +4,4 @@
 
 mod laws;
 
-pub use laws::{step_takes_and_gives, told_is_given};
+pub use laws::{step_takes_and_gives, told_is_given, what_is_taken_is_acted_on};

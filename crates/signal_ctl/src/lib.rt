@@ -9,6 +9,3 @@ pub use lamp::Lamp;
 pub use laws::shows_the_last_aspect_taken;
 pub use sci_telegram::Aspect;
 pub use signal::Signal;
-
-#[cfg(test)]
-mod tests;

@@ -1,4 +1,3 @@
-use Rattle.object_host.specs.Host.{HostState}
 use Rattle.object_host_theorem.specs.World.{host_of}
 use Rattle.object_host_theorem.proofs.Server.{now_of}
 use Rattle.object_host_theorem.proofs.Told.{step_given, step_taken}

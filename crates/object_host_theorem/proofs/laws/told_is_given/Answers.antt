@@ -1,5 +1,5 @@
 -- the laws that the body calls are those that the invariant stands on
-use Rattle.std.proofs.Common.{◌≡◌, ℕ, List}
+use Rattle.std.proofs.Common.{◌≡◌}
 use Rattle.rasta_core.specs.identity.Role.TheVariants as role
 use Rattle.rasta_core.specs.Run.{Ends}
 use Rattle.rasta_core.specs.Clock.{settled}
