@@ -19,7 +19,7 @@ use Rattle.object_host.specs.Behaviour.{Behaviour}
 use Rattle.object_host.specs.Lawful.{IsLawful}
 use Rattle.object_host.specs.Course.{course, commanding as to_object}
 use Rattle.object_host.specs.Host.{HostState, Part, fallen, is_completed, is_outside, keeping, risen, silent, then_do}
-use Rattle.object_host.specs.Hosted.{IsHosted}
+use Rattle.object_host.specs.Hosted.{IsHosted, IsSteady}
 use Rattle.object_host.specs.Step.{acting, acting_all, answering, beating, beginning, commanding, ending, following, given, goes_on, hearing, host_step, initialising, is_admitted, most_owed, paid, paying, paying_first, posting, received, violating}
 use Rattle.object_host.specs.declared.course.Course.{Course}
 use Rattle.object_host.specs.declared.course.Course.TheVariants as courses
@@ -133,37 +133,32 @@ negated true denied = absurd (false≢true denied)
 negated false denied = refl
 
 module _ {Object : Type 0} (does : Behaviour Object) (law : IsLawful does) where
-  -- where it is outside its link is closed, and until the initialisation was completed its object is idle
-  pub record IsRight (host : HostState Object) : Type 0 where
-    pub outside : is_outside host.stage ≡ true → is_open host.link.phase ≡ false
-    pub idle : is_completed host.stage ≡ false → does.is_idle host.object ≡ true
-
-  of_hosted : (host : HostState Object) → IsHosted does host → IsRight host
+  pub of_hosted : (host : HostState Object) → IsHosted does host → IsSteady does host
   of_hosted host hosted = record {
     outside = λ out. negated (is_open host.link.phase) (sym hosted.outside ∙ out);
     idle = hosted.idle;
   }
 
   -- in a connection only the object matters
-  of_inside : (host : HostState Object) → is_outside host.stage ≡ false → (is_completed host.stage ≡ false → does.is_idle host.object ≡ true) → IsRight host
+  of_inside : (host : HostState Object) → is_outside host.stage ≡ false → (is_completed host.stage ≡ false → does.is_idle host.object ≡ true) → IsSteady does host
   of_inside host inside idle = record { outside = λ out. absurd (true≢false (sym out ∙ inside)); idle = idle }
 
-  inside_where_open : (host : HostState Object) → IsRight host → is_open host.link.phase ≡ true → is_outside host.stage ≡ false
+  inside_where_open : (host : HostState Object) → IsSteady does host → is_open host.link.phase ≡ true → is_outside host.stage ≡ false
   inside_where_open host right opened = cases (is_outside host.stage) refl where
     cases : (o : Bool) → is_outside host.stage ≡ o → o ≡ false
     cases false is = refl
     cases true is = absurd (true≢false (sym opened ∙ right.outside is))
 
-  fallen_right : (host : HostState Object) → IsRight host → IsRight (fallen does host)
+  fallen_right : (host : HostState Object) → IsSteady does host → IsSteady does (fallen does host)
   unfolding fallen
   fallen_right host right = cases (is_outside host.stage) (is_open host.link.phase) refl refl where
     cases : (o p : Bool) → is_outside host.stage ≡ o → is_open host.link.phase ≡ p →
-        IsRight (if not o && not p then record host { stage = stage.Outside; object = does.after_loss host.object } else host)
+        IsSteady does (if not o && not p then record host { stage = stage.Outside; object = does.after_loss host.object } else host)
     cases true p out opened = right
     cases false true out opened = right
     cases false false out opened = record { outside = λ _. opened; idle = λ _. law.loss_idles host.object }
 
-  fallen_outside : (host : HostState Object) → IsRight host → is_outside (fallen does host).stage ≡ not (is_open (fallen does host).link.phase)
+  fallen_outside : (host : HostState Object) → IsSteady does host → is_outside (fallen does host).stage ≡ not (is_open (fallen does host).link.phase)
   unfolding fallen
   fallen_outside host right = cases (is_outside host.stage) (is_open host.link.phase) refl refl where
     after : Bool → Bool → HostState Object
@@ -176,43 +171,43 @@ module _ {Object : Type 0} (does : Behaviour Object) (law : IsLawful does) where
     cases false true out opened = out ∙ sym (ap not opened)
     cases false false out opened = sym (ap not opened)
 
-  begun_right : (now : ℕ) (host : HostState Object) → IsHosted does host → IsRight (beginning does now host)
+  pub clocked_right : (now : ℕ) (host : HostState Object) → IsSteady does host → IsSteady does (record host { link = settled now host.link })
+  clocked_right now host right = record { outside = λ out. settled_closed now host.link (right.outside out); idle = right.idle }
+
+  begun_right : (now : ℕ) (host : HostState Object) → IsSteady does host → IsSteady does (beginning does now host)
   unfolding beginning
-  begun_right now host hosted =
-      let right = of_hosted host hosted
-      in let clocked : IsRight (record host { link = settled now host.link }) =
-      record { outside = λ out. settled_closed now host.link (right.outside out); idle = right.idle }
-      in let fell = fallen_right (record host { link = settled now host.link }) clocked
+  begun_right now host right =
+      let fell = fallen_right (record host { link = settled now host.link }) (clocked_right now host right)
       in record { outside = fell.outside; idle = λ early. law.tick_idles now _ (fell.idle early) }
 
   violating_right : (now : ℕ) (host : HostState Object) → is_outside host.stage ≡ false → (is_completed host.stage ≡ false → does.is_idle host.object ≡ true) →
-      IsRight (violating now host).host
+      IsSteady does (violating now host).host
   unfolding violating
   violating_right now host inside idle = of_inside _ inside idle
 
-  answering_right : (now version : ℕ) (host : HostState Object) → does.is_idle host.object ≡ true → IsRight (answering does now version host).host
+  answering_right : (now version : ℕ) (host : HostState Object) → does.is_idle host.object ≡ true → IsSteady does (answering does now version host).host
   unfolding answering posting
   answering_right now version host idle = cases (version == host.version) refl where
-    cases : (b : Bool) → (version == host.version) ≡ b → IsRight (answering does now version host).host
+    cases : (b : Bool) → (version == host.version) ≡ b → IsSteady does (answering does now version host).host
     cases true is = rw is (record { outside = λ out. absurd (false≢true out); idle = λ _. idle })
     cases false is = rw is (record { outside = λ out. absurd (false≢true out); idle = λ _. idle })
 
-  initialising_right : (now : ℕ) (host : HostState Object) → IsRight (initialising does now host).host
+  initialising_right : (now : ℕ) (host : HostState Object) → IsSteady does (initialising does now host).host
   unfolding initialising
   initialising_right now host = record { outside = λ out. absurd (false≢true out); idle = λ early. absurd (true≢false early) }
 
-  commanding_right : (now : ℕ) (telegram : Telegram) (host : HostState Object) → is_completed host.stage ≡ true → IsRight (commanding does now telegram host).host
+  commanding_right : (now : ℕ) (telegram : Telegram) (host : HostState Object) → is_completed host.stage ≡ true → IsSteady does (commanding does now telegram host).host
   unfolding commanding
   commanding_right now telegram host completed = cases (does.accepts now telegram host.object) where
     told : HostState Object
     told = record host { object = does.after_take now telegram host.object }
 
-    cases : (b : Bool) → IsRight (if b then silent told else violating now told).host
+    cases : (b : Bool) → IsSteady does (if b then silent told else violating now told).host
     cases true = of_inside told (completed_inside host.stage completed) (λ early. absurd (true≢false (sym completed ∙ early)))
     cases false = violating_right now told (completed_inside host.stage completed) (λ early. absurd (true≢false (sym completed ∙ early)))
 
   following_right : (now : ℕ) (item : List ℕ) (telegram : Telegram) (c : Course) (host : HostState Object) → course telegram.message host.stage ≡ c →
-      is_outside host.stage ≡ false → IsRight host → IsRight (following does now item telegram c host).host
+      is_outside host.stage ≡ false → IsSteady does host → IsSteady does (following does now item telegram c host).host
   unfolding following is_check is_command
   following_right now item telegram (courses.Checks version) host is inside right =
       answering_right now version host (right.idle (checks_early telegram.message host.stage (ap is_check is)))
@@ -221,43 +216,43 @@ module _ {Object : Type 0} (does : Behaviour Object) (law : IsLawful does) where
       commanding_right now telegram host (commands_late telegram.message host.stage (ap is_command is))
   following_right now item telegram courses.Violates host is inside right = violating_right now host inside right.idle
 
-  acting_right : (now : ℕ) (item : List ℕ) (read : Result Telegram SciFault) (host : HostState Object) → is_outside host.stage ≡ false → IsRight host →
-      IsRight (acting does now item read host).host
+  acting_right : (now : ℕ) (item : List ℕ) (read : Result Telegram SciFault) (host : HostState Object) → is_outside host.stage ≡ false → IsSteady does host →
+      IsSteady does (acting does now item read host).host
   unfolding acting
   acting_right now item (Err fault) host inside right = violating_right now host inside right.idle
   acting_right now item (Ok telegram) host inside right = cases (is_admitted does telegram host) where
-    cases : (b : Bool) → IsRight (if b then following does now item telegram (course telegram.message host.stage) host else violating now host).host
+    cases : (b : Bool) → IsSteady does (if b then following does now item telegram (course telegram.message host.stage) host else violating now host).host
     cases true = following_right now item telegram _ host refl inside right
     cases false = violating_right now host inside right.idle
 
-  acting_all_right : (now : ℕ) (items : List (List ℕ)) (host : HostState Object) → IsRight host → IsRight (acting_all does now items host).host
+  acting_all_right : (now : ℕ) (items : List (List ℕ)) (host : HostState Object) → IsSteady does host → IsSteady does (acting_all does now items host).host
   unfolding acting_all
   acting_all_right now [] host right = right
   acting_all_right now (item ∷ others) host right =
       cases (is_open host.link.phase) refl (acting_all_right now others (acting does now item (reading item) host).host)
     where
-      cases : (b : Bool) → is_open host.link.phase ≡ b → (IsRight (acting does now item (reading item) host).host → IsRight (acting_all does now others (acting does now item (reading item) host).host).host) →
-          IsRight (if b then then_do (acting does now item (reading item) host) (acting_all does now others) else silent host).host
+      cases : (b : Bool) → is_open host.link.phase ≡ b → (IsSteady does (acting does now item (reading item) host).host → IsSteady does (acting_all does now others (acting does now item (reading item) host).host).host) →
+          IsSteady does (if b then then_do (acting does now item (reading item) host) (acting_all does now others) else silent host).host
       cases true is next = next (acting_right now item (reading item) host (inside_where_open host right is) right)
       cases false is next = right
 
-  risen_right : (host : HostState Object) → (is_completed host.stage ≡ false → does.is_idle host.object ≡ true) → IsRight (risen host)
+  risen_right : (host : HostState Object) → (is_completed host.stage ≡ false → does.is_idle host.object ≡ true) → IsSteady does (risen host)
   unfolding risen
   risen_right host idle = cases (is_outside host.stage) (is_open host.link.phase) refl refl where
     cases : (o p : Bool) → is_outside host.stage ≡ o → is_open host.link.phase ≡ p →
-        IsRight (if o && p then record host { stage = stage.AwaitsCheck } else host)
+        IsSteady does (if o && p then record host { stage = stage.AwaitsCheck } else host)
     cases true true out opened = record { outside = λ o. absurd (false≢true o); idle = λ _. idle (outside_early host.stage out) }
     cases true false out opened = record { outside = λ _. opened; idle = idle }
     cases false p out opened = of_inside host out idle
 
-  given_right : (now : ℕ) (input : Input) (host : HostState Object) → IsRight host → IsRight (given does now input host).host
+  given_right : (now : ℕ) (input : Input) (host : HostState Object) → IsSteady does host → IsSteady does (given does now input host).host
   unfolding given hearing received
   given_right now inputs.Tick host right = right
   given_right now (inputs.Datagram bytes) host right =
       acting_all_right now (receiving now bytes.now host.link).items _ (risen_right (record host { link = (receiving now bytes.now host.link).link }) right.idle)
   given_right now (inputs.Sense sense) host right = record { outside = right.outside; idle = λ early. law.sense_idles now sense _ (right.idle early) }
 
-  paying_first_right : (now : ℕ) (report : Option Report) (host : HostState Object) → IsRight host → IsRight (paying_first does now report host).host
+  paying_first_right : (now : ℕ) (report : Option Report) (host : HostState Object) → IsSteady does host → IsSteady does (paying_first does now report host).host
   unfolding posting
   paying_first_right now None host right = right
   paying_first_right now (Some report) host right = cases (is_completed host.stage) (is_ok (answer_to_send now host.link)) refl where
@@ -265,12 +260,12 @@ module _ {Object : Type 0} (does : Behaviour Object) (law : IsLawful does) where
     sent = posting now report host
 
     cases : (b k : Bool) → is_completed host.stage ≡ b →
-        IsRight (if not b then silent (paid does host) else if k then record sent { host = paid does sent.host } else sent).host
+        IsSteady does (if not b then silent (paid does host) else if k then record sent { host = paid does sent.host } else sent).host
     cases false k is = record { outside = right.outside; idle = λ early. law.paid_idles host.object (right.idle early) }
     cases true true is = of_inside _ (completed_inside host.stage is) (λ early. absurd (true≢false (sym is ∙ early)))
     cases true false is = of_inside _ (completed_inside host.stage is) (λ early. absurd (true≢false (sym is ∙ early)))
 
-  paying_right : (now : ℕ) (more : ℕ) (host : HostState Object) → IsRight host → IsRight (paying does now more host).host
+  paying_right : (now : ℕ) (more : ℕ) (host : HostState Object) → IsSteady does host → IsSteady does (paying does now more host).host
   unfolding paying
   paying_right now zero host right = right
   paying_right now (suc more) host right =
@@ -279,20 +274,20 @@ module _ {Object : Type 0} (does : Behaviour Object) (law : IsLawful does) where
       first : Part Object
       first = paying_first does now (does.owed host.object) host
 
-      first_right : IsRight first.host
+      first_right : IsSteady does first.host
       first_right = paying_first_right now (does.owed host.object) host right
 
-      cases : (b : Bool) → (IsRight first.host → IsRight (paying does now more first.host).host) → IsRight (if b then then_do first (paying does now more) else first).host
+      cases : (b : Bool) → (IsSteady does first.host → IsSteady does (paying does now more first.host).host) → IsSteady does (if b then then_do first (paying does now more) else first).host
       cases true next = next first_right
       cases false next = first_right
 
-  beating_right : (now : ℕ) (input : Input) (host : HostState Object) → IsRight host → IsRight (beating now input host).host
+  beating_right : (now : ℕ) (input : Input) (host : HostState Object) → IsSteady does host → IsSteady does (beating now input host).host
   unfolding beating
   beating_right now inputs.Tick host right = record { outside = λ out. ticking_closed now host.link (right.outside out); idle = right.idle }
   beating_right now (inputs.Datagram bytes) host right = right
   beating_right now (inputs.Sense sense) host right = right
 
-  ending_hosted : (host : HostState Object) → IsRight host → IsHosted does (ending does host)
+  ending_hosted : (host : HostState Object) → IsSteady does host → IsHosted does (ending does host)
   unfolding keeping
   ending_hosted host right =
       let fell = fallen_right host right
@@ -303,10 +298,10 @@ module _ {Object : Type 0} (does : Behaviour Object) (law : IsLawful does) where
       }
 
   -- every step keeps it
-  pub step_hosted : (now : ℕ) (input : Input) (host : HostState Object) → IsHosted does host → IsHosted does (host_step does now input host).host
+  pub step_hosted : (now : ℕ) (input : Input) (host : HostState Object) → IsSteady does host → IsHosted does (host_step does now input host).host
   unfolding host_step
-  step_hosted now input host hosted =
-      ending_hosted _ (beating_right now input _ (paying_right now most_owed _ (given_right now input _ (begun_right now host hosted))))
+  step_hosted now input host steady =
+      ending_hosted _ (beating_right now input _ (paying_right now most_owed _ (given_right now input _ (begun_right now host steady))))
 
   -- a new host
   pub new_hosted : (identity : Identity) (first now until : ℕ) (link : LinkState) (own_name peer_name : List ℕ) (version : ℕ) (object lost kept : Object) →

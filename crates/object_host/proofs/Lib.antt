@@ -10,3 +10,4 @@ pub mod Acts
 pub mod Says
 pub mod Told
 pub mod Keeps
+pub mod Refusing

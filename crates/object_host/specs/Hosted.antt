@@ -17,6 +17,12 @@ pub record IsHosted {Object : Type 0} (does : Behaviour Object) (host : HostStat
   -- outside, in Start and in the initialisation the object is idle
   pub idle : is_completed host.stage ≡ false → does.is_idle host.object ≡ true
 
+-- What of this outlives the clock: outside its link is in no connection, and the object is idle until the initialisation
+-- was completed.
+pub record IsSteady {Object : Type 0} (does : Behaviour Object) (host : HostState Object) : Type 0 where
+  pub outside : is_outside host.stage ≡ true → is_open host.link.phase ≡ false
+  pub idle : is_completed host.stage ≡ false → does.is_idle host.object ≡ true
+
 -- the same controller for the same peer, in the same version of the telegrams
 pub record IsNamedAs {Object : Type 0} (old new : HostState Object) : Type 0 where
   pub own_name : new.own_name ≡ old.own_name

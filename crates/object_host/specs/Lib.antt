@@ -7,3 +7,4 @@ pub mod Step
 pub mod Hosted
 pub mod Made
 pub mod Told
+pub mod Refused

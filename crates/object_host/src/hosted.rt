@@ -47,6 +47,7 @@ fn empty(outbox: &mut Outbox)
 impl<C: Controller> Hosted<C> {
     ghost use Rattle.object_host.specs.Host.{is_completed};
     ghost use Rattle.object_host.specs.Made.{AreItems};
+    ghost use Rattle.object_host.specs.Refused.{LeavesRefused};
     ghost use Rattle.object_host.specs.Step.{host_step};
     ghost use Rattle.object_host.specs.Hosted.{empty_outbox, new_host};
 
@@ -110,13 +111,15 @@ impl<C: Controller> Hosted<C> {
 
     /// A step at a clock reading: the clock with the object's tick, the input, the owed reports, and on a tick the
     /// link's. The outbox then has the datagrams of this step alone.
-    #[tactic(auto, using(crate::proofs::Posting::posting))]
+    #[tactic(auto, using(crate::proofs::Posting::posting, crate::proofs::Refusing::leaves_refused))]
     pub fn step(&mut self, now: Millis, input: Input)
         requires { MayStep now self.old.host.link }
         ensures host { self.new.host ≡ (host_step C.behaviour now input.entry self.old.host).host }
         ensures posted { self.new.outbox ≡ posted self.old.host.link.identity.key (host_step C.behaviour now input.entry self.old.host).pdus empty_outbox }
         // What it sends are items, so each call of the link is one that may be made.
         ensures items { AreItems (host_step C.behaviour now input.entry self.old.host).calls }
+        // A datagram that the link refuses leaves what a step with that refusal in its place leaves.
+        ensures refused { LeavesRefused C.behaviour now input.entry self.old.host (host_step C.behaviour now input.entry self.old.host) }
     {
         empty(&mut self.outbox);
         self.host.step(now, &input, &mut self.outbox);

@@ -5,7 +5,7 @@ ghost use Rattle.rasta_core.specs.Clock.{settled};
 ghost use Rattle.rasta_core.specs.State.{LinkState, is_open};
 ghost use Rattle.rasta_core.specs.identity.Identity.{Identity};
 ghost use Rattle.object_host.specs.Host.{HostState, LinkCall, is_completed};
-ghost use Rattle.object_host.specs.Hosted.{IsHosted, IsNamedAs, new_host};
+ghost use Rattle.object_host.specs.Hosted.{IsHosted, IsNamedAs, IsSteady, new_host};
 ghost use Rattle.object_host.specs.Made.{ActsOn, AreCallsFor, AreOwn, IsMadeOf, calls_made, items_taken};
 ghost use Rattle.object_host.specs.Step.{host_step};
 ghost use Rattle.object_host.specs.Told.{IsToldIn};
@@ -34,12 +34,15 @@ pub fn step_is_told_to_the_object<C: Controller>()
     ensures { (now : ℕ) (input : Input) (host : HostState C) → IsToldIn C.behaviour now input host (host_step C.behaviour now input host) }
 {}
 
-/// A new host is as a host always is between its steps, and every step keeps that, and the names. Once the initialisation
+/// A new host is as a host always is between its steps. The clock rules leave it steady, and a step makes a steady one so
+/// again. Every step keeps the names. Once the initialisation
 /// was completed it stays so while the link is open.
 #[tactic(auto, using(crate::proofs::Keeps::step_names, crate::proofs::Keeps::step_completed))]
 pub fn steps_keep_a_host<C: Controller>()
     ensures new { (identity : Identity) (own_name peer_name : List ℕ) (first_sequence_number now : ℕ) (object : C) (version : ℕ) → IsHosted C.behaviour (new_host C.behaviour identity own_name peer_name first_sequence_number now object version) }
-    ensures hosted { (now : ℕ) (input : Input) (host : HostState C) → IsHosted C.behaviour host → IsHosted C.behaviour (host_step C.behaviour now input host).host }
+    ensures steady { (host : HostState C) → IsHosted C.behaviour host → IsSteady C.behaviour host }
+    ensures clocked { (now : ℕ) (host : HostState C) → IsSteady C.behaviour host → IsSteady C.behaviour (record host { link = settled now host.link }) }
+    ensures hosted { (now : ℕ) (input : Input) (host : HostState C) → IsSteady C.behaviour host → IsHosted C.behaviour (host_step C.behaviour now input host).host }
     ensures names { (now : ℕ) (input : Input) (host : HostState C) → IsNamedAs host (host_step C.behaviour now input host).host }
     ensures completed { (now : ℕ) (input : Input) (host : HostState C) → is_open (settled now host.link).phase ≡ true → is_completed host.stage ≡ true
         → is_open (host_step C.behaviour now input host).host.link.phase ≡ true → is_completed (host_step C.behaviour now input host).host.stage ≡ true }

@@ -1,9 +1,14 @@
 //! A step of a host, in its order.
 
-ghost use Rattle.std.specs.Prelude.{◌≡◌, ◌≤◌, length};
+ghost use Rattle.std.specs.Prelude.{◌≡◌, ◌≤◌, true, length};
 ghost use Rattle.rasta_core.specs.Calls.{MayStep, IsAt};
 ghost use Rattle.rasta_core.specs.Outbox.{HasRoomFor, posted};
+ghost use Rattle.rasta_core.specs.Calls.{receiving};
+ghost use Rattle.rasta_core.specs.Clock.{settled};
+ghost use Rattle.rasta_core.specs.Sending.{entered};
+ghost use Rattle.rasta_core.specs.Verdicts.{is_refusal, refused};
 ghost use Rattle.object_host.specs.Host.{fallen, risen};
+ghost use Rattle.object_host.specs.Refused.{RefusesRightly};
 ghost use Rattle.object_host.specs.Made.{AreItems};
 ghost use Rattle.object_host.specs.Step.{beating, beginning, ending, given, hearing, host_step, posting};
 ghost use Rattle.sci_telegram.specs.Reading.{reading};
@@ -48,6 +53,7 @@ impl<C: Controller> Host<C> {
         ensures posted { outbox.new ≡ posted self.old.link.identity.key (hearing C.behaviour now datagram.now self.old).pdus outbox.old }
         ensures few { length (hearing C.behaviour now datagram.now self.old).pdus ≤ 76 }
         ensures items { AreItems (hearing C.behaviour now datagram.now self.old).calls }
+        ensures rightly { is_refusal (receiving now datagram.now self.old.link).verdict ≡ true → receiving now datagram.now self.old.link ≡ refused (receiving now datagram.now self.old.link).verdict (entered now self.old.link) }
     {
         let mut inbox = Inbox::new();
         self.link.receive(now, datagram, outbox, &mut inbox);
@@ -77,6 +83,7 @@ impl<C: Controller> Host<C> {
         ensures posted { outbox.new ≡ posted self.old.link.identity.key (given C.behaviour now input.now self.old).pdus outbox.old }
         ensures few { length (given C.behaviour now input.now self.old).pdus ≤ 76 }
         ensures items { AreItems (given C.behaviour now input.now self.old).calls }
+        ensures rightly { RefusesRightly now input.now self.old.link }
     {
         match input {
             Input::Tick => {}
@@ -117,6 +124,7 @@ impl<C: Controller> Host<C> {
         ensures host { self.new ≡ (host_step C.behaviour now input.now self.old).host }
         ensures posted { outbox.new ≡ posted self.old.link.identity.key (host_step C.behaviour now input.now self.old).pdus outbox.old }
         ensures items { AreItems (host_step C.behaviour now input.now self.old).calls }
+        ensures rightly { RefusesRightly now input.now (settled now self.old.link) }
     {
         self.begin(now);
         self.give(now, input, outbox);

@@ -29,6 +29,11 @@ links_after connection (Closes why ∷ others) ends = links_after connection oth
 links_after connection (Sends item ∷ others) ends = links_after connection others (called role.Server (as_call connection (Sends item)) ends)
 links_after connection (Receives bytes ∷ others) ends = links_after connection others (called role.Server (as_call connection (Receives bytes)) ends)
 
+pub clock_after : (connection : ℕ) (made : List LinkCall) (ends : Ends) → (called_all connection made ends).server.clock ≡ ends.server.clock
+unfolding called_all called end_after
+clock_after connection [] ends = refl
+clock_after connection (call ∷ others) ends = clock_after connection others (called role.Server (as_call connection call) ends)
+
 own_taken : (connection : ℕ) (made : List LinkCall) (ends : Ends) → AreOwn made → (called_all connection made ends).server.taken ≡ ends.server.taken
 unfolding called_all called outcome end_after
 own_taken connection [] ends own = refl

@@ -1,6 +1,7 @@
 -- What is true of a world after every list of events: what the host acted on is a beginning of what its end took.
-use Rattle.std.proofs.Common.{◌≡◌, ℕ, List, [], ◌∷◌, ◌++◌, append_assoc, refl, ap, sym, ◌∙◌, subst}
-use Rattle.std.specs.Prelude.{Some}
+use Rattle.std.proofs.Common.{◌≡◌, ℕ, false, List, [], ◌∷◌, ◌++◌, append_assoc, refl, ap, sym, ◌∙◌, subst}
+use Rattle.std.specs.Prelude.{None, Some}
+use Rattle.rasta_core.specs.State.{LinkState, is_open}
 use Rattle.rasta_core.specs.Clock.{settled}
 use Rattle.rasta_core.specs.identity.Role.TheVariants as role
 use Rattle.rasta_core.specs.Ends as calls
@@ -12,14 +13,14 @@ use Rattle.rasta_core.specs.Names.{Names}
 use Rattle.rasta_core.specs.Safe.{AreSafe}
 use Rattle.object_host.specs.Behaviour.{Behaviour}
 use Rattle.object_host.specs.Host.{HostState, LinkCall, Ticks, Closes, Sends, Receives}
-use Rattle.object_host.specs.Made.{ActsOn, AreCallsFor, AreItems, AreOwn, IsMadeOf, commands_of, items_given, items_taken}
+use Rattle.object_host.specs.Made.{ActsOn, AreCallsFor, AreItems, AreOwn, IsMadeOf, calls_made, commands_of, items_given, items_taken}
 use Rattle.object_host.specs.Step.{host_step}
 use Rattle.object_host.specs.declared.input.Input.{Input}
 use Rattle.object_host.specs.declared.input.Input.TheVariants as inputs
 use Rattle.object_host_theorem.specs.Acted.{IsActedOn}
 use Rattle.object_host_theorem.proofs.Acted.{other_event, step_acted}
 use Rattle.object_host_theorem.specs.World.{Commands, ClientRestarts, Elsewhere, Event, HostRestarts, IsTold, Loses, May, MayHear, MayRun, Passes, Steps, World, as_call, begun, called_all, entering, happened, host_of, host_restarted, run, step_of, stepped}
-use Rattle.object_host_theorem.proofs.Server.{OpensNothing, given_after, now_of, taken_after}
+use Rattle.object_host_theorem.proofs.Server.{OpensNothing, clock_after, given_after, links_after, now_of, stays_out, taken_after}
 
 -- what a step takes and gives is what the end has taken and given by it
 pub step_taken : {Object : Type 0} (does : Behaviour Object) (input : Input) (connection : ℕ) (world : World Object) → AreCallsFor input (step_of does input world).calls →
@@ -33,6 +34,28 @@ pub step_given : {Object : Type 0} (does : Behaviour Object) (input : Input) (co
     ≡ kept (entering input connection world.ends) world.ends.server.given ++ items_given (now_of world.ends) (step_of does input world).calls world.ends.server.link
 unfolding stepped
 step_given does input connection world first = given_after connection input (step_of does input world).calls world.ends first
+
+pub step_link : {Object : Type 0} (does : Behaviour Object) → ((now : ℕ) (input : Input) (host : HostState Object) → IsMadeOf now (settled now host.link) (host_step does now input host)) →
+    (input : Input) (connection : ℕ) (world : World Object) → settled (now_of world.ends) world.ends.server.link ≡ world.ends.server.link →
+    (stepped does input connection world).ends.server.link ≡ (step_of does input world).host.link
+unfolding stepped
+step_link does made_of input connection world is_settled =
+    let part = step_of does input world
+    in links_after connection part.calls world.ends
+    ∙ ap (λ l. (calls_made (now_of world.ends) part.calls l).link) (sym is_settled) ∙ sym (made_of (now_of world.ends) input (host_of world)).link_is
+
+pub step_clock : {Object : Type 0} (does : Behaviour Object) (input : Input) (connection : ℕ) (world : World Object) → (stepped does input connection world).ends.server.clock ≡ world.ends.server.clock
+unfolding stepped
+step_clock does input connection world = clock_after connection (step_of does input world).calls world.ends
+
+pub step_outside : {Object : Type 0} (does : Behaviour Object) → OpensNothing → ((now : ℕ) (input : Input) (host : HostState Object) → AreCallsFor input (host_step does now input host).calls) →
+    (input : Input) (connection : ℕ) (world : World Object) → entering input connection world.ends ≡ None → is_open world.ends.server.link.phase ≡ false →
+    is_open (stepped does input connection world).ends.server.link.phase ≡ false
+unfolding stepped
+step_outside does opens calls_for input connection world stays closed =
+    let part = step_of does input world
+    in ap (λ (l : LinkState). is_open l.phase) (links_after connection part.calls world.ends)
+    ∙ (stays_out opens connection input part.calls world.ends (calls_for (now_of world.ends) input (host_of world)) stays closed).out
 
 module _ {Object : Type 0} (does : Behaviour Object) (names : Names)
     -- the laws of the link and of the steps of a host

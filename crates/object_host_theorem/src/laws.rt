@@ -1,11 +1,12 @@
 //! What an object is told, for every lawful object.
 
-ghost use Rattle.std.specs.Prelude.{◌≡◌, ℕ, ◌++◌, List, []};
+ghost use Rattle.std.specs.Prelude.{◌≡◌, ℕ, false, ◌++◌, List, [], None};
 ghost use Rattle.sci_telegram.specs.declared.telegram.Telegram.{Telegram};
 ghost use Rattle.rasta_core.specs.Ends.{kept, reading_of};
 ghost use Rattle.rasta_core.specs.Clock.{settled};
 ghost use Rattle.rasta_core.specs.Events.{Event as LinkEvent, Start, happened, started};
 ghost use Rattle.rasta_core.specs.Run.{Ends};
+ghost use Rattle.rasta_core.specs.State.{is_open};
 ghost use Rattle.rasta_core.specs.Names.{AreNames, Names};
 ghost use Rattle.object_host.specs.Host.{HostState};
 ghost use Rattle.object_host.specs.Made.{items_given, items_taken};
@@ -56,12 +57,18 @@ pub fn what_is_taken_is_acted_on<C: Controller>()
 }
 
 /// What a step takes and gives is what the host's end of the link has taken and given by it, in the connection that it is
-/// in or that the step enters.
+/// in or that the step enters. The step's link is the end's, which enters nothing but by what it takes, and its clock stays.
 pub fn step_takes_and_gives<C: Controller>()
     ensures taken { (input : Input) (connection : ℕ) (world : World C) → (stepped C.behaviour input connection world).ends.server.taken
         ≡ kept (entering input connection world.ends) world.ends.server.taken ++ items_taken (reading_of world.ends.server.clock) (step_of C.behaviour input world).calls world.ends.server.link }
     ensures given { (input : Input) (connection : ℕ) (world : World C) → (stepped C.behaviour input connection world).ends.server.given
         ≡ kept (entering input connection world.ends) world.ends.server.given ++ items_given (reading_of world.ends.server.clock) (step_of C.behaviour input world).calls world.ends.server.link }
+    ensures link { (input : Input) (connection : ℕ) (world : World C) → settled (reading_of world.ends.server.clock) world.ends.server.link ≡ world.ends.server.link
+        → (stepped C.behaviour input connection world).ends.server.link ≡ (step_of C.behaviour input world).host.link }
+    ensures clock { (input : Input) (connection : ℕ) (world : World C) → (stepped C.behaviour input connection world).ends.server.clock ≡ world.ends.server.clock }
+    ensures outside { (input : Input) (connection : ℕ) (world : World C) → entering input connection world.ends ≡ None → is_open world.ends.server.link.phase ≡ false
+        → is_open (stepped C.behaviour input connection world).ends.server.link.phase ≡ false }
 {
+    own_calls_open_nothing();
     step_is_calls::<C>();
 }

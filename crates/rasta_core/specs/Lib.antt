@@ -5,6 +5,7 @@ pub use Rattle.rasta_core_link.specs.Clock
 pub use Rattle.rasta_core_link.specs.Sending
 pub use Rattle.rasta_core_link.specs.Opening
 pub use Rattle.rasta_core_link.specs.Receiving
+pub use Rattle.rasta_core_link.specs.Verdicts
 pub use Rattle.rasta_core_link.specs.Calls
 pub use Rattle.rasta_core_link.specs.Outbox
 pub use Rattle.rasta_core_run.specs.Each

@@ -1,5 +1,5 @@
 -- What a signal shows and owes follows from the calls alone.
-use Rattle.std.proofs.Common.{◌≡◌, ℕ, Bool, true, false, List, [], ◌∷◌, refl, ap, ◌∙◌}
+use Rattle.std.proofs.Common.{◌≡◌, ℕ, false, List, [], ◌∷◌, refl, ap, ◌∙◌}
 use Rattle.std.specs.Prelude.{Option, Some, None}
 use Rattle.sci_telegram.specs.declared.message.Aspect.{Aspect}
 use Rattle.signal_ctl.specs.Lamp.{aspect_shown, new_lamp, standing}
@@ -26,7 +26,7 @@ owed_by : (aspect : Option Aspect) (signal : SignalState) → (told aspect signa
 owed_by None signal = refl
 owed_by (Some aspect) signal = refl
 
-indicated_after : (calls : List ObjectCall) (signal : SignalState) → (all calls signal).lamp.indicated ≡ last_aspect calls signal.lamp.indicated
+pub indicated_after : (calls : List ObjectCall) (signal : SignalState) → (all calls signal).lamp.indicated ≡ last_aspect calls signal.lamp.indicated
 unfolding object_after_all last_aspect
 indicated_after [] signal = refl
 indicated_after (Takes now telegram ∷ others) signal =
@@ -37,7 +37,7 @@ indicated_after (Keeps moment ∷ others) signal = indicated_after others (next 
 indicated_after (Pays ∷ others) signal = indicated_after others (next Pays signal)
 indicated_after (Loses ∷ others) signal = indicated_after others (next Loses signal)
 
-until_after : (calls : List ObjectCall) (signal : SignalState) → (all calls signal).lamp.until ≡ last_kept calls signal.lamp.until
+pub until_after : (calls : List ObjectCall) (signal : SignalState) → (all calls signal).lamp.until ≡ last_kept calls signal.lamp.until
 unfolding object_after_all last_kept
 until_after [] signal = refl
 until_after (Takes now telegram ∷ others) signal =
