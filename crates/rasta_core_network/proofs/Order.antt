@@ -1,5 +1,5 @@
 -- Each link of a world is in order, event by event.
-use Rattle.std.proofs.Common.{ℕ, ◌<◌, sym, subst, List, [], ◌∷◌}
+use Rattle.std.proofs.Common.{ℕ, sym, subst, List, [], ◌∷◌}
 use Rattle.rasta_core_run.specs.Events.{Event, MayRun, run}
 use Rattle.rasta_core_run.specs.Names.{AreNames, Names}
 use Rattle.rasta_core_run.specs.Run.{Ends}

@@ -10,7 +10,7 @@ use Rattle.rasta_core_run.specs.Each.{Each}
 use Rattle.rasta_core_time.specs.Standing.{Times, times_of}
 use Rattle.rasta_core_run.specs.Names.{partner_of, AreNames, Names, name_of}
 use Rattle.rasta_core_time.specs.Invariant.{InFlight, Timely}
-use Rattle.rasta_core_run.specs.Events.{AreForeign, Calls, Elsewhere, Event, IsAmong, Loses, MayCall, MayRun, Passes, Restarts, Start, run, started}
+use Rattle.rasta_core_run.specs.Events.{AreForeign, Calls, Elsewhere, Event, IsAmong, Loses, MayCall, MayRun, Restarts, Start, run, started}
 use Rattle.rasta_pdu.specs.Reading.{reading}
 use Rattle.rasta_pdu.specs.SafetyCode.{IsIntact}
 use Rattle.rasta_core_network.specs.EachLink.{AreTimely}

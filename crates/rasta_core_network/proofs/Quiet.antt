@@ -1,11 +1,10 @@
 -- How long the client of a link has been outside, event by event of a world.
-use Rattle.std.proofs.Common.{◌≡◌, ◌≢◌, ℕ, ◌<◌, refl, sym, subst, ◌∙◌, Bool, true, false, List, [], ◌∷◌}
+use Rattle.std.proofs.Common.{◌≡◌, ℕ, ◌<◌, sym, subst, Bool, true, false, List, [], ◌∷◌}
 use Rattle.std.specs.Prelude.{◌==◌, if◌then◌else◌}
 use Rattle.rasta_core_link.specs.State.{is_open}
-use Rattle.rasta_core_link.specs.declared.identity.Role.{Role}
 use Rattle.rasta_core_link.specs.declared.identity.Role.TheVariants as role
 use Rattle.rasta_core_link.specs.declared.identity.Role.TheVariants.{Client, Server}
-use Rattle.rasta_core_run.specs.Events.{Calls, Elsewhere, Event, Loses, May, MayRun, Passes, Restarts, happened, run}
+use Rattle.rasta_core_run.specs.Events.{Calls, Elsewhere, Event, Loses, May, MayRun, Restarts, happened, run}
 use Rattle.rasta_core_run.specs.Names.{AreNames, Names}
 use Rattle.rasta_core_run.specs.Run.{Ends}
 use Rattle.rasta_core_run.specs.Sentences.{IsIn, IsOut, LeavesClient}

@@ -1,9 +1,9 @@
 -- What happens to two ends and the datagrams between them, one event after another.
-use Rattle.std.specs.Prelude.{ℕ, ◌+◌, List, [], ◌∷◌, ◌++◌, length}
+use Rattle.std.specs.Prelude.{ℕ, ◌+◌, List, ◌++◌, length}
 use Rattle.rasta_core_link.specs.Outbox.{spellings}
 use Rattle.rasta_core_link.specs.declared.identity.Role.{Role}
 use Rattle.rasta_core_link.specs.declared.identity.Role.TheVariants as role
-use Rattle.rasta_core_run.specs.Ends.{Sent, EndState, Call, Outcome, outcome, end_after, handed_out, end_later, end_restarted}
+use Rattle.rasta_core_run.specs.Ends.{Sent, EndState, Call, outcome, end_after, handed_out, end_later, end_restarted}
 use Rattle.rasta_core_run.specs.Bag.{without_oldest}
 
 pub record Ends : Type 0 where

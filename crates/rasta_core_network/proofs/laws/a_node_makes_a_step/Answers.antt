@@ -1,4 +1,4 @@
-use Rattle.rasta_core_network.proofs.Nodes.{StepLaws, node_after, node_partner, node_stays, node_time}
+use Rattle.rasta_core_network.proofs.Nodes.{node_after, node_partner, node_stays, node_time}
 use Rattle.rasta_core_network.proofs.laws.a_node_makes_a_step.Goals as goal
 
 pub returns-clause-end : goal.returns-clause-end

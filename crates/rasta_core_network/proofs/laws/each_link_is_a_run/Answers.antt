@@ -1,5 +1,4 @@
-use Rattle.std.proofs.Common.{◌≡◌, ◌<◌, ℕ, List, refl, sym, subst}
-use Rattle.rasta_core_run.specs.Events.{IsRun}
+use Rattle.std.proofs.Common.{sym, subst}
 use Rattle.rasta_core_run.specs.Safe.{AreSafe}
 use Rattle.rasta_core_network.specs.Links.{begun, run_on, start_of}
 use Rattle.rasta_core_network.proofs.laws.each_link_is_a_run.Goals as goal
