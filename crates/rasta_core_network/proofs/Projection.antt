@@ -10,7 +10,7 @@ use Rattle.rasta_core_run.specs.Each.{Each}
 use Rattle.rasta_core_time.specs.Standing.{Times, times_of}
 use Rattle.rasta_core_run.specs.Names.{partner_of, AreNames, Names, name_of}
 use Rattle.rasta_core_time.specs.Invariant.{InFlight, Timely}
-use Rattle.rasta_core_run.specs.Events.{AreForeign, Calls, Elsewhere, Event, IsAmong, Loses, MayCall, MayRun, Restarts, Start, run, started}
+use Rattle.rasta_core_run.specs.Events.{AreForeign, Calls, Elsewhere, Event, IsAmong, IsDelivered, Loses, MayCall, MayRun, Restarts, Start, run, started}
 use Rattle.rasta_pdu.specs.Reading.{reading}
 use Rattle.rasta_pdu.specs.SafetyCode.{IsIntact}
 use Rattle.rasta_core_network.specs.EachLink.{AreTimely}
@@ -57,27 +57,36 @@ foreign mine theirs who ends bytes datagram key servers client timely among same
     read : reading mine.key bytes ≡ Ok flies.pdu
     read = ap (λ k. reading k bytes) key ∙ ap (reading theirs.key) (sym same) ∙ flies.read
 
+-- what was sent on a link is delivered there
+pub own_delivery : (links : Links) (bytes : List ℕ) (connection : ℕ) (one : OnLink) → WasSent links bytes connection one → IsDelivered (seen one.link links) bytes connection one.datagram
+own_delivery links bytes connection one sent = record {
+  was_sent = among_link one.link one links.sent (itself one.link) sent.among;
+  bytes_same = sent.bytes_same;
+  connection_same = sent.connection_same;
+  in_time = sent.in_time;
+}
+
+-- and is of another link everywhere else
+pub other_delivery : (count : ℕ) (names : ℕ → Names) (links : Links) → AreLinks count names → AreTimely count names links → (link : ℕ) → link < count
+    → (who : Role) (bytes : List ℕ) (connection : ℕ) (one : OnLink) → WasSent links bytes connection one → link ≢ one.link → AreForeign (names link) who bytes
+other_delivery count names links are is link below who bytes connection one sent differ =
+    let theirs = among_numbered count one links.sent sent.among is.numbered
+    in let apart = are.apart link one.link below theirs differ
+    in foreign (names link) (names one.link) who (seen one.link links) bytes one.datagram (are.one_key link one.link below theirs) apart.0 apart.1 (is.each one.link theirs)
+    (among_link one.link one links.sent (itself one.link) sent.among) sent.bytes_same
+
 -- what comes to an end of a link was sent on it, or isn't intact, or is of another link
 receives : (count : ℕ) (names : ℕ → Names) (links : Links) → AreLinks count names → AreTimely count names links → (link : ℕ) → link < count
     → (who : Role) (bytes : List ℕ) (connection : ℕ) → ((one : OnLink) × WasSent links bytes connection one) ⊎ (IsIntact (names link).key bytes → ⊥)
     → MayCall (names link) who (Receives bytes connection) (seen link links)
 receives count names links are is link below who bytes connection (inr damaged) = inr (inl damaged)
-receives count names links are is link below who bytes connection (inl (one, sent)) = by_link (one.link == link) refl where
-  by_link : (mine : Bool) → (one.link == link) ≡ mine → MayCall (names link) who (Receives bytes connection) (seen link links)
-  by_link true e = inl (
+receives count names links are is link below who bytes connection (inl (one, sent)) = by_place (one.link == link) refl where
+  by_place : (mine : Bool) → (one.link == link) ≡ mine → MayCall (names link) who (Receives bytes connection) (seen link links)
+  by_place true e = inl (
     one.datagram,
-    record {
-      was_sent = among_link link one links.sent e sent.among;
-      bytes_same = sent.bytes_same;
-      connection_same = sent.connection_same;
-      in_time = sent.in_time;
-    },
+    subst (λ (l : ℕ). IsDelivered (seen l links) bytes connection one.datagram) (same_number one.link link e) (own_delivery links bytes connection one sent),
   )
-  by_link false e =
-      let theirs = among_numbered count one links.sent sent.among is.numbered
-      in let apart = are.apart link one.link below theirs (λ same. other_number one.link link e (sym same))
-      in inr (inr (foreign (names link) (names one.link) who (seen one.link links) bytes one.datagram (are.one_key link one.link below theirs) apart.0 apart.1 (is.each one.link theirs)
-      (among_link one.link one links.sent (itself one.link) sent.among) sent.bytes_same))
+  by_place false e = inr (inr (other_delivery count names links are is link below who bytes connection one sent (λ same. other_number one.link link e (sym same))))
 
 may_call : (count : ℕ) (names : ℕ → Names) (links : Links) → AreLinks count names → AreTimely count names links → (link : ℕ) → link < count
     → (who : Role) (call : Call) → MayCallOn (names link) call links → MayCall (names link) who call (seen link links)

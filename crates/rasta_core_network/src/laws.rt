@@ -1,13 +1,13 @@
 //! Each link of a world, seen by itself: event by event, and after every list of events.
 
-ghost use Rattle.std.specs.Prelude.{◌≡◌, ℕ, ◌-◌, ◌^◌, ◌<◌, List, if◌then◌else◌};
+ghost use Rattle.std.specs.Prelude.{◌≡◌, ◌≢◌, ℕ, ◌-◌, ◌^◌, ◌<◌, List, if◌then◌else◌};
 ghost use Rattle.rasta_core_link.specs.declared.identity.Role.{Role};
 ghost use Rattle.rasta_core_link.specs.declared.identity.Role.TheVariants as role;
 ghost use Rattle.rasta_core_network.specs.EachLink.{AreOrdered, AreTimely};
-ghost use Rattle.rasta_core_network.specs.Links.{AreLinks, LeavesClientOf, Links, LinksEvent, LinksStart, MayHappenTo, MayRunLinks, RestartsOn, begun, events_on, happened_to, run_links, run_on, seen, star, start_of};
+ghost use Rattle.rasta_core_network.specs.Links.{AreLinks, LeavesClientOf, Links, LinksEvent, LinksStart, MayHappenTo, MayRunLinks, OnLink, RestartsOn, WasSent, begun, events_on, happened_to, run_links, run_on, seen, star, start_of};
 ghost use Rattle.rasta_core_network.specs.Nodes.{NodeCall, at_link, calls_of, is_among, restarts_of};
 ghost use Rattle.rasta_core_run.specs.Ends.{reading_of};
-ghost use Rattle.rasta_core_run.specs.Events.{IsRun, MayRun, run};
+ghost use Rattle.rasta_core_run.specs.Events.{AreForeign, IsDelivered, IsRun, MayRun, run};
 ghost use Rattle.rasta_core_run.specs.Given.{IsGiven};
 ghost use Rattle.rasta_core_run.specs.Names.{Names, partner_of};
 ghost use Rattle.rasta_core_run.specs.Newest.{IsNewest, IsUnused};
@@ -40,6 +40,16 @@ pub fn each_link_sees_its_events()
 {
     every_run_keeps_time();
 }
+
+/// What comes to an end was delivered there, if it was sent on the end's own link, and is of another link otherwise. So
+/// the laws of what an end takes hold of it.
+pub fn each_delivery_is_seen()
+    ensures own { (links : Links) (bytes : List ℕ) (connection : ℕ) (one : OnLink) → WasSent links bytes connection one
+        → IsDelivered (seen one.link links) bytes connection one.datagram }
+    ensures others { (count : ℕ) (names : ℕ → Names) (links : Links) → AreLinks count names → AreTimely count names links → (link : ℕ) → link < count
+        → (who : Role) (bytes : List ℕ) (connection : ℕ) (one : OnLink) → WasSent links bytes connection one → link ≢ one.link
+        → AreForeign (names link) who bytes }
+{}
 
 /// Each link of a world keeps time: at the beginning, and over every event and every list of events that may happen.
 pub fn links_keep_time()

@@ -6,7 +6,7 @@
 mod laws;
 
 pub use laws::{
-    a_node_makes_a_step, a_node_restarts, each_link_is_a_run, each_link_sees_its_events,
-    links_can_be_read_off, links_count_their_quiet, links_keep_order, links_keep_time,
-    links_of_one_client,
+    a_node_makes_a_step, a_node_restarts, each_delivery_is_seen, each_link_is_a_run,
+    each_link_sees_its_events, links_can_be_read_off, links_count_their_quiet, links_keep_order,
+    links_keep_time, links_of_one_client,
 };

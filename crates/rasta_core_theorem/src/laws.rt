@@ -103,6 +103,8 @@ pub fn what_is_taken()
     ensures others { (names : Names) (start : Start) (events : List Event) → AreNames names → MayRun names events (started names start)
         → (who : Role) (bytes : List ℕ) → (IsIntact names.key bytes → ⊥) ⊎ AreForeign names who bytes
         → IsIdle (receipt_at who bytes (run events (started names start))) }
+    ensures nothing { (names : Names) (ends : Ends) (who : Role) (bytes : List ℕ) → Timely names ends
+        → (IsIntact names.key bytes → ⊥) ⊎ AreForeign names who bytes → IsIdle (receipt_at who bytes ends) }
 {
     read_was_written();
     starts_in_time();

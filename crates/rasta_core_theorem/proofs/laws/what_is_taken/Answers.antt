@@ -21,3 +21,6 @@ pub returns-clause-others : goal.returns-clause-others
 returns-clause-others c = λ names start events are may who bytes what.
     others_idle c.read_was_written.ensures.intact names (run events (started names start)) who bytes
     (c.every_run_keeps_time.ensures names events (started names start) are (c.starts_in_time.ensures names start are) may) what
+
+pub returns-clause-nothing : goal.returns-clause-nothing
+returns-clause-nothing c = λ names ends who bytes timely what. others_idle c.read_was_written.ensures.intact names ends who bytes timely what
