@@ -10,3 +10,4 @@ pub mod StationEntries
 pub mod ReportedOnce
 pub mod TextIds
 pub mod StationPlan
+pub mod FaultLaws

@@ -152,7 +152,7 @@ found_key : {K X : Type 0} (b : Bool) (test : K → Bool) (e : K × X) (es : Lis
 found_key true test e es h found later = (e.0, here e.0 (keys_of es), sym h)
 found_key false test e es h found later = let k = later found in (k.0, there e.0 k.0 (keys_of es) k.1, k.2)
 
-look-key : {K X : Type 0} (test : K → Bool) (es : List (K × X)) → is_some (lookup test es) ≡ true → (k : K) × Contains (keys_of es) k × (test k ≡ true)
+pub look-key : {K X : Type 0} (test : K → Bool) (es : List (K × X)) → is_some (lookup test es) ≡ true → (k : K) × Contains (keys_of es) k × (test k ≡ true)
 look-key test [] h = absurd (false≢true h)
 look-key test (e ∷ es) h = found_key (test e.0) test e es refl h (look-key test es)
 

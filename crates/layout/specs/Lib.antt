@@ -9,4 +9,5 @@ pub mod Doubles
 pub mod Resolving
 pub mod Once
 pub mod Station
+pub mod Faults
 pub mod Messages

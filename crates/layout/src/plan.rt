@@ -1,6 +1,7 @@
 //! The layout of one station.
 
-ghost use Rattle.std.specs.Prelude.{◌≡◌, IfOk};
+ghost use Rattle.std.specs.Prelude.{◌≡◌, IfErr, IfOk};
+ghost use Rattle.layout.specs.Faults.{IsFirstFault};
 ghost use Rattle.toml.specs.View.{table_view};
 ghost use Rattle.layout.specs.Reading.{Gives};
 ghost use Rattle.layout.specs.Limits.{all_within};
@@ -156,6 +157,17 @@ fn layout_of(alloc: Global, document: &Table) -> Result<Layout, LayoutFault>
     Ok(Layout { draft })
 }
 
+/// The layout that a text is.
+#[tactic(auto, unfolding(crate::specs::Resolving::layout_in))]
+fn layout_in(alloc: Global, text: &str) -> Result<Layout, LayoutFault>
+    ensures read { Gives (λ l. l) result (layout_in text.now) }
+    ensures once { IfOk result (λ l. Once l) }
+    ensures station { IfOk result (λ l. IsStation l) }
+{
+    let document = document(alloc, text)?;
+    layout_of(alloc, &document)
+}
+
 /// Equal detection controllers.
 fn copy_detectors(alloc: Global, detectors: &[Detector]) -> Result<Vec<Detector>, AllocError>
     ensures { IfOk result (λ v. v.items ≡ detectors.now) }
@@ -213,14 +225,13 @@ impl Layout {
     /// twice, and no section reported twice; that every name and port is there, and every section
     /// reported; that no port is joined twice, and no two signals stand at one port. `OutOfMemory`
     /// comes only where memory was refused.
-    #[tactic(auto, unfolding(crate::specs::Resolving::layout_in))]
     pub fn read(alloc: Global, text: &str) -> Result<Layout, LayoutFault>
         ensures read { Gives (λ l. l) result (layout_in text.now) }
         ensures once { IfOk result (λ l. Once l) }
         ensures station { IfOk result (λ l. IsStation l) }
+        ensures fault { IfErr result (IsFirstFault text.now) }
     {
-        let document = document(alloc, text)?;
-        layout_of(alloc, &document)
+        layout_in(alloc, text)
     }
 
     /// An equal layout.
