@@ -1,3 +1,5 @@
 pub mod Going
 pub mod Acting
 pub mod Steady
+pub mod Made
+pub mod Acts

@@ -1,10 +1,11 @@
 -- What a telegram of the controller is to its connection, by the order of the initialisation: version answer, start, the
 -- state of each object, completed, and then reports. The protocol is this project's own, in the manner of EULYNX.
-use Rattle.std.specs.Prelude.{ℕ, ◌-◌, ◌==◌, ◌&&◌, not, Bool, true, false, List, Option, Some, None, length, if◌then◌else◌}
+use Rattle.std.specs.Prelude.{ℕ, ◌-◌, ◌==◌, nat_le, ◌&&◌, not, Bool, true, false, List, Option, Some, None, length, if◌then◌else◌}
 use Rattle.std.specs.List.{position}
 use Rattle.std.specs.Str.{bytes_eq}
 use Rattle.sci_telegram.specs.Messages.{protocol_of}
 use Rattle.sci_telegram.specs.declared.message.Agreement.{Agreement}
+use Rattle.sci_telegram.specs.declared.message.Aspect.TheVariants.{Slow}
 use Rattle.sci_telegram.specs.declared.message.Agreement.TheVariants.{NoMatch, Match}
 use Rattle.sci_telegram.specs.declared.message.Initialisation.{Initialisation}
 use Rattle.sci_telegram.specs.declared.message.Initialisation.TheVariants.{StartInitialisation, InitialisationCompleted, VersionAnswer}
@@ -37,6 +38,11 @@ abbrev pub is_status : ObjectState → Bool
 is_status states.Timeout = false
 is_status _ = true
 
+-- version 1 of the telegrams doesn't have the aspect slow
+abbrev pub is_in_version : ℕ → ObjectState → Bool
+is_in_version version (states.Aspect Slow) = nat_le 2 version
+is_in_version version _ = true
+
 -- a point tells where it lies only in the initialisation and when a move has ended
 abbrev pub reports_changes : Protocol → Bool
 reports_changes protocols.Point = false
@@ -55,7 +61,7 @@ place_of peer sender = position (λ name. bytes_eq name sender) peer.objects
 
 abbrev pub report_course : PeerState → Option ℕ → Option ObjectState → Stage → Course
 report_course peer (Some place) (Some state) stage =
-    if is_in_turn peer place state stage
+    if is_in_turn peer place state stage && is_in_version peer.version state
     then courses.Indicates (record { place = place; state = state })
     else courses.Violates
 report_course peer _ _ stage = courses.Violates

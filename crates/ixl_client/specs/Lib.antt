@@ -3,3 +3,4 @@ pub mod Course
 pub mod Part
 pub mod Step
 pub mod Way
+pub mod Made

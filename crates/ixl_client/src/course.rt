@@ -1,15 +1,18 @@
 //! What a telegram of the controller is to its connection.
 
 ghost use Rattle.std.specs.Prelude.{◌≡◌};
-ghost use Rattle.ixl_client.specs.Course.{course, course_of, initial_course, is_in_turn, report_course, state_in};
+ghost use Rattle.ixl_client.specs.Course.{course, course_of, initial_course, is_in_turn, is_in_version, report_course, state_in};
 
 use crate::indication::{Indication, ObjectState};
 use crate::peer::Peer;
 use crate::stage::Stage;
 use sci_telegram::{
-    Agreement, DetectionMessage, Initialisation, Message, PointMessage, Protocol, SignalMessage,
-    Telegram,
+    Agreement, Aspect, DetectionMessage, Initialisation, Message, PointMessage, Protocol,
+    SignalMessage, Telegram,
 };
+
+/// The version of the telegrams that first has the aspect slow.
+const SLOW_SINCE: u8 = 2;
 
 /// What a telegram is to a connection, by what it says and how far the connection has come.
 #[derive(Clone, Copy, Debug)]
@@ -47,6 +50,16 @@ fn state_in(message: &Message) -> Option<ObjectState>
     }
 }
 
+/// Version 1 of the telegrams doesn't have the aspect slow.
+fn is_in_version(version: u8, state: ObjectState) -> bool
+    ensures { result ≡ is_in_version version state }
+{
+    match state {
+        ObjectState::Aspect(Aspect::Slow) => version >= SLOW_SINCE,
+        _ => true,
+    }
+}
+
 /// Whether the state of the object at this place comes in its turn.
 fn is_in_turn(peer: &Peer, place: usize, state: ObjectState, stage: Stage) -> bool
     ensures { result ≡ is_in_turn peer.now place state stage }
@@ -70,7 +83,8 @@ impl Course {
         ensures { result ≡ report_course peer.now place state stage }
     {
         match (place, state) {
-            (Some(place), Some(state)) if is_in_turn(peer, place, state, stage) =>
+            (Some(place), Some(state))
+                if is_in_turn(peer, place, state, stage) && is_in_version(peer.version, state) =>
                 Course::Indicates(Indication { place, state }),
             _ => Course::Violates,
         }

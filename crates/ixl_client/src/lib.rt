@@ -9,10 +9,12 @@ mod course;
 mod end;
 mod hearing;
 mod indication;
+mod laws;
 mod peer;
 mod stage;
 
 pub use client::Client;
 pub use command::Command;
 pub use indication::{Indication, Indications, ObjectState};
+pub use laws::{step_hears_what_was_taken, step_is_calls};
 pub use peer::Peer;
