@@ -47,7 +47,7 @@ fn reads_each_register_of_a_key_with_its_low_order_byte_first(rt: HostRuntime) -
     Ok(())
 }
 
-const WRONG_FORMS: [(&str, &str, &str); 27] = [
+const WRONG_FORMS: [(&str, &str, &str); 29] = [
     ("border", "border = [\n", "1 Toml"),
     ("border", "a = 1\na = 2\n", "1 Toml"),
     ("border", "", "2 MissingKey at border 0"),
@@ -102,6 +102,16 @@ const WRONG_FORMS: [(&str, &str, &str); 27] = [
         "signal",
         "signal = [{name=\"S1\",id=-2,at=\"A1.b\"}]\n",
         "3 WrongKind at signal 1",
+    ),
+    (
+        "route",
+        "route = [{name=\"R1\",entry=\"S1\",exit=\"E2\",path=[],points={},aspect=\"stop\"}]\n",
+        "3 WrongKind at route 1",
+    ),
+    (
+        "route",
+        "route = [{name=\"R1\",entry=\"S1\",exit=\"E2\",path=[],points={},aspect=2}]\n",
+        "3 WrongKind at route 1",
     ),
     ("border", "border = [\"W\n", "1 Toml"),
     ("border", "border = [\"W\", \"E1\", \"E2\"] x\n", "1 Toml"),

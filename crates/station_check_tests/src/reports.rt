@@ -133,6 +133,24 @@ fn the_small_station_is_sound(rt: HostRuntime) -> Result<(), Fail> {
 }
 
 #[test]
+fn slow_routes_are_told_behind_the_conflicts(rt: HostRuntime) -> Result<(), Fail> {
+    let alloc = rt.alloc();
+    let text = changed(
+        alloc,
+        SMALL,
+        &("name=\"R1\"", "aspect=\"slow\",name=\"R1\""),
+    )?;
+    let text = changed(
+        alloc,
+        text.as_str(),
+        &("name=\"R3\"", "aspect=\"slow\",name=\"R3\""),
+    )?;
+    let report =
+        "ok: 3 signals, 1 points, 4 sections, 3 routes\nconflict R1 R2\nconflict R1 R3\nconflict R2 R3\nslow R1\nslow R3\n";
+    expect_check(&rt, alloc, text.as_str(), 0, report, "")
+}
+
+#[test]
 fn routes_that_need_a_point_at_different_sides_conflict(rt: HostRuntime) -> Result<(), Fail> {
     let report = "ok: 2 signals, 3 points, 5 sections, 2 routes\nconflict a b\n";
     expect_check(&rt, rt.alloc(), BETWEEN, 0, report, "")

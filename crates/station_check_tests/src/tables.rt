@@ -4,7 +4,7 @@
 use crate::bench::{SMALL, changed, joined, judged, prints};
 use control_table::{Checked, TableFault};
 use layout::RouteId;
-use sci_telegram::Side;
+use sci_telegram::{Aspect, Side};
 use std::alloc::{AllocError, Global};
 use std::test::Fail;
 
@@ -227,6 +227,37 @@ route = [{name=\"R2\",entry=\"S1\",exit=\"E1\",path=[\"P1.left\",\"T1.b\"],point
     let alloc = rt.alloc();
     let fault = fault(alloc, text)?;
     assert!(rt; tells(alloc, fault, "6 FlankOpen at route R2")?);
+    Ok(())
+}
+
+/// The aspect of a route, if the table has it.
+fn aspect(checked: &Checked, route: usize) -> Option<Aspect> {
+    if route >= checked.layout().routes().len() {
+        return None;
+    }
+    Some(checked.aspect(RouteId(route)))
+}
+
+#[test]
+fn a_slow_route_needs_version_2(rt: HostRuntime) -> Result<(), Fail> {
+    let alloc = rt.alloc();
+    let slow =
+        "route = [{name=\"R1\",entry=\"S1\",exit=\"E2\",path=[\"P1.right\",\"T2.b\"],points={P1=\"right\"},aspect=\"proceed\"}, {name=\"R2\",entry=\"S1\",exit=\"E1\",path=[\"P1.left\",\"T1.b\"],points={P1=\"left\"},aspect=\"slow\"}]\n";
+    let text = changed(alloc, "route", slow)?;
+    let checked = table(alloc, text.as_str())?;
+    assert_eq!(rt; checked.version(), 2);
+    assert_eq!(rt; aspect(&checked, 0), Some(Aspect::Proceed));
+    assert_eq!(rt; aspect(&checked, 1), Some(Aspect::Slow));
+    Ok(())
+}
+
+#[test]
+fn a_table_without_a_slow_route_needs_version_1(rt: HostRuntime) -> Result<(), Fail> {
+    let alloc = rt.alloc();
+    let text = changed(alloc, "", "")?;
+    let checked = table(alloc, text.as_str())?;
+    assert_eq!(rt; checked.version(), 1);
+    assert_eq!(rt; aspect(&checked, 2), Some(Aspect::Proceed));
     Ok(())
 }
 
