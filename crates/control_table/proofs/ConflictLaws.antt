@@ -1,4 +1,4 @@
--- What the rows of a sound table say of its routes, and that their conflicts are those of the definition.
+-- What the rows of a sound table say of its routes.
 use Rattle.std.proofs.Common.{◌≡◌, Bool, not, ◌||◌, ◌==◌, ℕ, zero, suc, ◌<◌, List, [], ◌∷◌, length, get_or, Some, Ok, refl, sym, ap, subst, ◌∙◌, arith}
 use Rattle.std.proofs.lemmas.Bool.Decides.{Decides-and, Decides-or, Decides-not, Decides-like}
 use Rattle.std.specs.Bool.{Decides}
@@ -16,7 +16,7 @@ use Rattle.control_table.specs.Path.{Passage, sections, Path, same_section}
 use Rattle.control_table.specs.Sides.{other, PathUses, Requires}
 use Rattle.control_table.specs.declared.sides.FlankProtection.{FlankProtection}
 use Rattle.control_table.specs.Table.{LeadsOver, RouteRequires, InLayoutOrder, AreSections, AreRequired, AreProtections, SameEntry, ShareSection, RequireDifferently, Conflict}
-use Rattle.control_table.specs.Judging.{needs, has_need, lists, TableRow, rows_of, IsRowAt, entry_of, enters_at, same_entry, has_section, share_section, require_differently, conflicts}
+use Rattle.control_table.specs.Judging.{needs, has_need, lists, TableRow, rows_of, IsRowAt}
 use Rattle.control_table.proofs.Joints.{OneBeyond}
 use Rattle.control_table.proofs.Judged.{none-some}
 use Rattle.control_table.proofs.Members.{any-decides, has-decides, some-injective}
@@ -76,59 +76,11 @@ protections-are l one a r row at h q p =
       λ k. subst C (sym h.protections) (protections-to l one h.path q p k.4 k.5 (subst (U k.4) (same-path l one a r k.0 row h k.1 at k.2 k.3) k.6) k.7),
     )
 
-leads-is : (l : Plan) (one : OneBeyond l) (a : RouteId) (r : RouteEntry) (row : TableRow) → IsRoute l a r → RowFacts l a r row → (s : SectionId) → Contains row.sections s ↔ LeadsOver l a s
+pub leads-is : (l : Plan) (one : OneBeyond l) (a : RouteId) (r : RouteEntry) (row : TableRow) → IsRoute l a r → RowFacts l a r row → (s : SectionId) → Contains row.sections s ↔ LeadsOver l a s
 leads-is l one a r row at h s =
     let C : List SectionId → Type 0 = λ ss. Contains ss s in
     let S : List Passage → Type 0 = λ path. Contains (sections l path) s in
     (λ c. (r, h.path, at, h.is_path, subst C h.sections c), λ k. subst C (sym h.sections) (subst S (same-path l one a r k.0 row h k.1 at k.2 k.3) k.4))
-
--- ---- conflicts
-
-entry-decides : (l : Plan) (a b : RouteId) → Decides (same_entry l.routes a b) (SameEntry l a b)
-entry-decides l a b =
-    let T : SignalId → SignalId → Type 0 = λ s t. t ≡ s in
-    let B : SignalId → Type 0 = λ s. (t : SignalId) × (entry_of l.routes b ≡ Some t) × (t ≡ s) in
-    let up : ((s : SignalId) × (entry_of l.routes a ≡ Some s) × B s) → SameEntry l a b = λ h.
-    let first = option_map-some (λ (r : RouteEntry). r.entry) (slice_get l.routes a.0) h.0 h.1 in
-    let second = option_map-some (λ (r : RouteEntry). r.entry) (slice_get l.routes b.0) h.2.0 h.2.1 in
-    (first.0, second.0, first.1, second.1, first.2 ∙ sym (second.2 ∙ h.2.2)) in
-    let down : SameEntry l a b → (s : SignalId) × (entry_of l.routes a ≡ Some s) × B s = λ h.
-    (h.0.entry, ap (option_map (λ (r : RouteEntry). r.entry)) h.2, (h.1.entry, ap (option_map (λ (r : RouteEntry). r.entry)) h.3, sym h.4)) in
-    Decides-like (same_entry l.routes a b) up down
-    (some_and-decides (λ s. enters_at l.routes b s) B (λ s. some_and-decides (λ t. t.0 == s.0) (T s) (λ t. signal-decides t s) (entry_of l.routes b)) (entry_of l.routes a))
-
-share-decides : (l : Plan) (one : OneBeyond l) (a b : RouteId) (r q : RouteEntry) (first second : TableRow) → IsRoute l a r → IsRoute l b q → RowFacts l a r first → RowFacts l b q second
-    → Decides (share_section first.sections second.sections) (ShareSection l a b)
-share-decides l one a b r q first second at also h k =
-    let P : SectionId → Type 0 = λ s. Contains second.sections s in
-    Decides-like (share_section first.sections second.sections) (λ c. (c.0, (leads-is l one a r first at h c.0).0 c.1, (leads-is l one b q second also k c.0).0 c.2)) (λ c. (c.0, (leads-is l one a r first at h c.0).1 c.1, (leads-is l one b q second also k c.0).1 c.2))
-    (any-decides (λ s. has_section second.sections s) P (λ s. has-decides same_section section-decides second.sections s) first.sections)
-
-differ-decides : (l : Plan) (one : OneBeyond l) (a b : RouteId) (r q : RouteEntry) (first second : TableRow) → IsRoute l a r → IsRoute l b q → RowFacts l a r first → RowFacts l b q second
-    → Decides (require_differently first.required second.required) (RequireDifferently l a b)
-differ-decides l one a b r q first second at also h k =
-    let P : PointId × Side → Type 0 = λ n. Contains second.required (n.0, other n.1) in
-    let up : ((n : PointId × Side) × Contains first.required n × P n) → RequireDifferently l a b = λ c.
-    (c.0.0, c.0.1, other c.0.1, (λ e. other-differs c.0.1 (sym e)), (requires-is l one a r first at h c.0.0 c.0.1).0 c.1, (requires-is l one b q second also k c.0.0 (other c.0.1)).0 c.2) in
-    let down : RequireDifferently l a b → (n : PointId × Side) × Contains first.required n × P n = λ c.
-    let S : Side → Type 0 = λ t. Contains second.required (c.0, t) in
-    ((c.0, c.1), (requires-is l one a r first at h c.0 c.1).1 c.4, subst S (differ-other c.1 c.2 c.3) ((requires-is l one b q second also k c.0 c.2).1 c.5)) in
-    Decides-like (require_differently first.required second.required) up down
-    (any-decides (λ n. has_need second.required (n.0, other n.1)) P (λ n. has_need-decides second.required (n.0, other n.1)) first.required)
-
-pub conflict-decides : (l : Plan) (one : OneBeyond l) (a b : RouteId) (r q : RouteEntry) (first second : TableRow) → IsRoute l a r → IsRoute l b q → RowFacts l a r first → RowFacts l b q second
-    → Decides (conflicts l.routes a b first second) (Conflict l a b)
-unfolding conflicts
-conflict-decides l one a b r q first second at also h k =
-    let ll = Decides-or (lists l.routes a b) (lists l.routes b a) (lists-decides l a b) (lists-decides l b a) in
-    let ds = Decides-or (require_differently first.required second.required) (lists l.routes a b || lists l.routes b a) (differ-decides l one a b r q first second at also h k) ll in
-    let ss = Decides-or (share_section first.sections second.sections) (require_differently first.required second.required || (lists l.routes a b || lists l.routes b a)) (share-decides l one a b r q first second at also h k) ds in
-    let es = Decides-or (same_entry l.routes a b) (share_section first.sections second.sections || (require_differently first.required second.required || (lists l.routes a b || lists l.routes b a))) (entry-decides l a b) ss in
-    Decides-and (not (a.0 == b.0)) (same_entry l.routes a b || (share_section first.sections second.sections || (require_differently first.required second.required || (lists l.routes a b || lists l.routes b a)))) (Decides-not (a.0 == b.0) (route-decides a b)) es
-
--- a test that equals one that decides
-pub true-when : {P : Type 0} (b t : Bool) → b ≡ t → Decides t P → IsTrue b ↔ P
-true-when b t e d = (λ h. d.0 (sym e ∙ h), λ p. e ∙ d.1 p)
 
 pub get-at : {A : Type 0} (xs : List A) (i : ℕ) (x : A) → i < length xs → x ≡ get_or xs i x → slice_get xs i ≡ Some x
 get-at [] i x lt e = absurd (omega (arith, lt))

@@ -8,5 +8,7 @@ pub mod SideLaws
 pub mod OrderLaws
 pub mod TableLaws
 pub mod ConflictLaws
+pub mod MaskLaws
+pub mod FreeingLaws
 pub mod RouteLaws
 pub mod There

@@ -11,7 +11,8 @@ use Rattle.control_table.specs.declared.fault.TableFault.{TableFault}
 use Rattle.control_table.specs.declared.fault.TableFault.TheVariants.{PathBroken, PathRepeats, PointMissing, PointWrong, FlankMissing, FlankOpen, FlankContradicts, SignalPlace, NotSymmetric, OutOfMemory}
 use Rattle.control_table.specs.declared.fault.FaultyRoute.{FaultyRoute}
 use Rattle.control_table.specs.Path.{Passage}
-use Rattle.control_table.specs.Judging.{◌>>=◌, Fails, passage_behind, passages, all_different, is_other_at, no_other_at, TableRow, row_of, rows_from}
+use Rattle.control_table.specs.declared.masks.RouteMasks.{RouteMasks}
+use Rattle.control_table.specs.Judging.{◌>>=◌, Fails, AreWithin, IsWithin, masks_of, all_masks, passage_behind, passages, all_different, is_other_at, no_other_at, TableRow, row_of, rows_from}
 
 -- what was made before, and what is still made
 abbrev pub with_front : {B : Type 0} → List B → Result (List B) TableFault → Result (List B) TableFault
@@ -124,3 +125,32 @@ module _ (l : Plan) (front : List TableRow) (routes : List RouteEntry) (i : ℕ)
   rows-is_done le so_far =
       let one : with_front front (rows_from l i (drop i routes)) ≡ Ok front = rw (drop_all i routes le) (ap Ok (append-nil front)) in
       sym so_far ∙ one
+
+module _ (routes : List RouteEntry) (rows : List TableRow) (i : ℕ) where
+  pub masks-go_on : (front items : List RouteMasks) (r : RouteEntry) (row : TableRow) (m : RouteMasks) (total : List RouteMasks) → i < length rows → length rows ≡ length routes
+      → r ≡ get_or routes i r → row ≡ get_or rows i row → m ≡ masks_of r row → items ≡ front ++ m ∷ []
+      → front ++ all_masks (drop i routes) (drop i rows) ≡ total
+      → items ++ all_masks (drop (i + 1) routes) (drop (i + 1) rows) ≡ total
+  unfolding all_masks
+  masks-go_on front items r row m total lt each at here is pushed so_far =
+      let below : i < length routes = omega (arith, lt, each) in
+      let one : front ++ all_masks (drop i routes) (drop i rows) ≡ front ++ masks_of r row ∷ all_masks (drop (i + 1) routes) (drop (i + 1) rows) =
+      rw (drop_more routes i r below, drop_more rows i row lt, sym at, sym here) refl in
+      ap (λ xs. xs ++ all_masks (drop (i + 1) routes) (drop (i + 1) rows)) pushed
+      ∙ ap (λ x. (front ++ x ∷ []) ++ all_masks (drop (i + 1) routes) (drop (i + 1) rows)) is
+      ∙ append_assoc front (masks_of r row ∷ []) (all_masks (drop (i + 1) routes) (drop (i + 1) rows)) ∙ sym one ∙ so_far
+
+  pub within-goes_on : (r : RouteEntry) (row : TableRow) → i < length rows → length rows ≡ length routes → AreWithin (drop i routes) (drop i rows)
+      → IsWithin (get_or routes i r) (get_or rows i row) × AreWithin (drop (i + 1) routes) (drop (i + 1) rows)
+  within-goes_on r row lt each held =
+      let below : i < length routes = omega (arith, lt, each) in
+      subst (λ (xs : List RouteEntry). AreWithin xs (get_or rows i row ∷ drop (i + 1) rows)) (drop_more routes i r below) (subst (λ (ys : List TableRow). AreWithin (drop i routes) ys) (drop_more rows i row lt) held)
+
+  pub masks-are_done : (front total : List RouteMasks) → length rows ≤ i → front ++ all_masks (drop i routes) (drop i rows) ≡ total → front ≡ total
+  unfolding all_masks
+  masks-are_done front total le so_far =
+      sym (append-nil front) ∙ ap (λ ms. front ++ ms) (sym (no_more (drop i routes)) ∙ ap (λ ys. all_masks (drop i routes) ys) (sym (drop_all i rows le))) ∙ so_far
+    where
+      no_more : (rs : List RouteEntry) → all_masks rs [] ≡ []
+      no_more [] = refl
+      no_more (r ∷ rs) = refl

@@ -1,7 +1,8 @@
 -- How the tests on a table are computed, in the order in which their faults are told.
-use Rattle.std.specs.Prelude.{◌≡◌, ℕ, suc, ◌==◌, ◌-◌, ◌&&◌, ◌||◌, nat_lt, length, map, Bool, true, false, not, List, [], ◌∷◌, Option, Some, None, Result, Ok, Err, slice_get, if◌then◌else◌}
+use Rattle.std.specs.Prelude.{◌≡◌, ◌≢◌, ◌⊎◌, ℕ, suc, ◌<◌, ◌==◌, ◌-◌, ◌&&◌, ◌||◌, nat_lt, length, map, Bool, true, false, not, List, [], ◌∷◌, Option, Some, None, Result, Ok, Err, slice_get, if◌then◌else◌}
 use Rattle.std.specs.Option.{option_map, option_or, ok_or}
-use Rattle.std.specs.List.{list_any, list_all, flat_map, prefix_len, insert, fold}
+use Rattle.std.specs.FinSet.{empty as no_place, insert as insert_place}
+use Rattle.std.specs.List.{All, list_any, list_all, flat_map, prefix_len, insert, fold}
 use Rattle.sci_telegram.specs.declared.message.Side.{Side}
 use Rattle.sci_telegram.specs.declared.message.Side.TheVariants as side
 use Rattle.layout.specs.declared.ids.SectionId.{SectionId}
@@ -25,8 +26,10 @@ use Rattle.control_table.specs.declared.fault.TableFault.TheVariants.{PathBroken
 use Rattle.control_table.specs.declared.sides.FlankProtection.{FlankProtection}
 use Rattle.control_table.specs.declared.sides.Protection.{Protection}
 use Rattle.control_table.specs.declared.sides.Protection.TheVariants as protection
+use Rattle.bit_row.specs.Places.{Places, Has, Meet}
+use Rattle.control_table.specs.declared.masks.RouteMasks.{RouteMasks}
 use Rattle.layout.specs.Known.{same_port, same_element, end_number}
-use Rattle.control_table.specs.Topology.{port_of}
+use Rattle.control_table.specs.Topology.{port_of, section_of}
 use Rattle.control_table.specs.Path.{Passage, elements, same_section, sections}
 use Rattle.control_table.specs.Sides.{leg, other}
 
@@ -338,27 +341,52 @@ rows_of l = rows_from l 0 l.routes
 abbrev pub IsRowAt : Plan → RouteId → TableRow → Type 0
 IsRowAt l a row = (rows : List TableRow) × (rows_of l ≡ Ok rows) × (slice_get rows a.0 ≡ Some row)
 
--- ---- conflicts
+-- ---- rows of bits
 
-abbrev pub entry_of : List RouteEntry → RouteId → Option SignalId
-entry_of routes a = option_map (λ r. r.entry) (slice_get routes a.0)
+-- the places of sections, of the points that are required at a side, of routes
+abbrev pub section_row : List SectionId → Places
+section_row ss = fold (λ row s. insert_place row s.0) no_place ss
 
-abbrev pub enters_at : List RouteEntry → RouteId → SignalId → Bool
-enters_at routes b s = some_and (λ t. t.0 == s.0) (entry_of routes b)
+abbrev pub point_row : Side → List (PointId × Side) → Places
+point_row side ns = fold (λ row n. if same_side n.1 side then insert_place row n.0.0 else row) no_place ns
 
-abbrev pub same_entry : List RouteEntry → RouteId → RouteId → Bool
-same_entry routes a b = some_and (λ s. enters_at routes b s) (entry_of routes a)
+abbrev pub route_row : List RouteId → Places
+route_row bs = fold (λ row b. insert_place row b.0) no_place bs
 
-abbrev pub has_section : List SectionId → SectionId → Bool
-has_section ss s = list_any (λ t. same_section t s) ss
+-- every place is below 64
+pub record IsWithin (r : RouteEntry) (row : TableRow) : Type 0 where
+  pub sections : All (λ s. s.0 < 64) row.sections
+  pub required : All (λ n. n.0.0 < 64) row.required
+  pub extra : All (λ b. b.0 < 64) r.extra
 
-abbrev pub share_section : List SectionId → List SectionId → Bool
-share_section ss ts = list_any (λ s. has_section ts s) ss
+abbrev pub AreWithin : List RouteEntry → List TableRow → Type 0
+AreWithin (r ∷ routes) (row ∷ rows) = IsWithin r row × AreWithin routes rows
+AreWithin routes rows = Unit {0}
 
-abbrev pub require_differently : List (PointId × Side) → List (PointId × Side) → Bool
-require_differently ms ns = list_any (λ n. has_need ns (n.0, other n.1)) ms
+-- the masks of a route that has this row
+abbrev pub masks_of : RouteEntry → TableRow → RouteMasks
+masks_of r row = record { entry = r.entry; sections = section_row row.sections; right = point_row side.Right row.required; left = point_row side.Left row.required; extra = route_row r.extra }
 
--- two routes of these rows conflict
-unfoldable pub conflicts : List RouteEntry → RouteId → RouteId → TableRow → TableRow → Bool
-conflicts routes a b first second =
-    not (a.0 == b.0) && (same_entry routes a b || (share_section first.sections second.sections || (require_differently first.required second.required || (lists routes a b || lists routes b a))))
+-- the masks of all routes
+unfoldable pub all_masks : List RouteEntry → List TableRow → List RouteMasks
+all_masks (r ∷ routes) (row ∷ rows) = masks_of r row ∷ all_masks routes rows
+all_masks routes rows = []
+
+-- two routes of these masks conflict
+abbrev pub MasksConflict : RouteId → RouteId → RouteMasks → RouteMasks → Type 0
+MasksConflict a b first second =
+    (a.0 ≢ b.0) × ((first.entry.0 ≡ second.entry.0) ⊎ Meet first.sections second.sections ⊎ Meet first.right second.left ⊎ Meet first.left second.right ⊎ Has first.extra b.0 ⊎ Has second.extra a.0)
+
+-- ---- until when a route holds a point
+
+abbrev pub with_section : Option SectionId → Places → Places
+with_section None row = row
+with_section (Some s) row = insert_place row s.0
+
+-- the sections of the points that a point guards
+abbrev pub guarded_sections : Plan → PointId → List FlankProtection → Places
+guarded_sections l p flanks = fold (λ row f. if f.flank.0 == p.0 then with_section (section_of l (element.Point f.point)) row else row) no_place flanks
+
+-- the sections that a required point awaits
+unfoldable pub awaited_by : Plan → RouteEntry → List FlankProtection → PointId → Places
+awaited_by l r flanks p = if names_point r.points p then with_section (section_of l (element.Point p)) no_place else guarded_sections l p flanks

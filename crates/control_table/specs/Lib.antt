@@ -2,6 +2,8 @@ pub mod Topology
 pub mod Path
 pub mod Sides
 pub mod Table
+pub mod Masks
+pub mod Freeing
 pub mod Faults
 pub mod Judging
 pub mod Messages

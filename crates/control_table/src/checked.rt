@@ -1,19 +1,26 @@
 //! A control table that was found sound.
 
-ghost use Rattle.std.specs.Prelude.{◌≡◌, ◌≢◌, ◌↔◌, ◌<◌, length, IsTrue, IfOk, IfErr};
+ghost use Rattle.std.specs.Prelude.{◌≡◌, ◌≢◌, ◌↔◌, ◌<◌, length, IsTrue, Ok, IfOk, IfErr};
 ghost use Rattle.std.specs.List.{list_any};
 ghost use Rattle.sci_telegram.specs.declared.message.Aspect.TheVariants.{Stop};
 ghost use Rattle.layout.specs.Once.{Once};
 ghost use Rattle.layout.specs.Station.{IsStation};
+ghost use Rattle.layout.specs.declared.ids.SectionId.{SectionId};
+ghost use Rattle.bit_row.specs.Places.{Has};
 ghost use Rattle.control_table.specs.Table.{Sound, AreSections, AreRequired, AreProtections, Conflict, HasAspect, is_slow, telegram_version};
+ghost use Rattle.control_table.specs.Freeing.{Awaits};
+ghost use Rattle.control_table.specs.Masks.{AreMasks};
 ghost use Rattle.control_table.specs.Faults.{IsFirstFault};
-ghost use Rattle.control_table.specs.Judging.{IsRowAt};
+ghost use Rattle.control_table.specs.Judging.{IsRowAt, rows_of};
 ghost use Rattle.control_table.specs.declared.fault.TableFault.TheVariants.{OutOfMemory};
 
 use crate::conflicts::conflicts;
 use crate::fault::TableFault;
+use crate::freeing::awaited;
+use crate::masks::{RouteMasks, all_masks};
 use crate::row::{Row, copy_rows, rows};
 use crate::sides::FlankProtection;
+use bit_row::BitRow;
 use layout::{Layout, PointId, Route, RouteId, SectionId};
 use sci_telegram::{Aspect, Side};
 use std::alloc::{AllocError, Global};
@@ -24,6 +31,7 @@ use std::marker::Model;
 pub struct Checked {
     layout: Layout,
     rows: Vec<Row>,
+    masks: Vec<RouteMasks>,
 }
 
 impl Model for Checked {
@@ -31,13 +39,13 @@ impl Model for Checked {
     ghost use Rattle.layout.specs.Entries.{Plan};
     ghost use Rattle.layout.specs.Once.{Once};
     ghost use Rattle.layout.specs.Station.{IsStation};
-    ghost use Rattle.control_table.specs.Judging.{rows_of};
+    ghost use Rattle.control_table.specs.Judging.{all_masks, rows_of};
 
     ghost Value = { Plan };
 
     ghost view = { λ c. c.layout };
 
-    ghost invariant = { λ c. (Once c.layout × IsStation c.layout) × (rows_of c.layout ≡ Ok c.rows.items) };
+    ghost invariant = { λ c. (Once c.layout × IsStation c.layout) × (rows_of c.layout ≡ Ok c.rows.items) × (c.masks.items ≡ all_masks c.layout.routes c.rows.items) };
 }
 
 /// In no layout a port is joined twice, and every layout is a station.
@@ -62,6 +70,21 @@ fn has_slow(routes: &[Route]) -> bool
     routes.iter().any(|route| is_slow(route))
 }
 
+/// The table of a layout, of which these are the rows.
+fn sound_table(alloc: Global, layout: Layout, rows: Vec<Row>) -> Result<Checked, AllocError>
+    requires once { Once layout }
+    requires station { IsStation layout }
+    requires rows { rows_of layout ≡ Ok rows.items }
+    ensures { IfOk result (λ c. c ≡ layout) }
+{
+    let masks = all_masks(alloc, layout.routes(), &rows)?;
+    Ok(Checked {
+        layout,
+        rows,
+        masks,
+    })
+}
+
 /// Checks the control table of a layout: accepts exactly the sound ones, and keeps the layout.
 ///
 /// The fault is the lowest of the first faulty route. `OutOfMemory` comes only where memory was refused.
@@ -73,7 +96,7 @@ pub fn check(alloc: Global, layout: Layout) -> Result<Checked, TableFault>
 {
     is_station(&layout);
     match rows(alloc, &layout) {
-        Ok(rows) => Ok(Checked { layout, rows }),
+        Ok(rows) => Ok(sound_table(alloc, layout, rows)?),
         Err(fault) => Err(fault),
     }
 }
@@ -142,6 +165,25 @@ impl Checked {
         if has_slow(self.layout.routes()) { 2 } else { 1 }
     }
 
+    /// What a route needs, as rows of bits.
+    pub fn masks(&self, route: RouteId) -> RouteMasks
+        requires { route.0 < length self.now.routes }
+        ensures { AreMasks self.now route result }
+    {
+        self.masks[route.0]
+    }
+
+    /// The sections that a point awaits which a route requires: the route holds it until all of them are
+    /// freed. A point on the path awaits its own section, any other those of the points that it protects.
+    pub fn awaited(&self, route: RouteId, point: PointId) -> BitRow
+        requires { route.0 < length self.now.routes }
+        ensures { (s : SectionId) → Has result s.0 ↔ Awaits self.now route point s }
+    {
+        let layout = self.layout();
+        let entry = &layout.routes()[route.0];
+        awaited(layout, entry, self.protections(route), point)
+    }
+
     /// Whether two routes conflict: they aren't one, and have the same entry signal, share a section,
     /// require a point at different sides, or one lists the other as an extra conflict.
     pub fn conflict(&self, a: RouteId, b: RouteId) -> bool
@@ -149,7 +191,7 @@ impl Checked {
         requires second { b.0 < length self.now.routes }
         ensures { IsTrue result ↔ Conflict self.now a b }
     {
-        conflicts(self.layout.routes(), a, b, self.row_at(a), self.row_at(b))
+        conflicts(a, b, self.masks(a), self.masks(b))
     }
 
     /// An equal table.
@@ -158,6 +200,11 @@ impl Checked {
     {
         let layout = self.layout.copy(alloc)?;
         let rows = copy_rows(alloc, &self.rows)?;
-        Ok(Checked { layout, rows })
+        let masks = Vec::from_slice(alloc, &self.masks)?;
+        Ok(Checked {
+            layout,
+            rows,
+            masks,
+        })
     }
 }

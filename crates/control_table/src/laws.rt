@@ -14,6 +14,7 @@ ghost use Rattle.layout.specs.Station.{HasPoint, HasSection, IsStation};
 ghost use Rattle.control_table.specs.Topology.{IsRoute, section_of};
 ghost use Rattle.control_table.specs.Path.{Passage, Path};
 ghost use Rattle.control_table.specs.Sides.{OnPath};
+ghost use Rattle.control_table.specs.Freeing.{Awaits};
 ghost use Rattle.control_table.specs.Table.{AreSections, Conflict, LeadsOver, RouteRequires, SameEntry, Sound};
 
 /// Two routes conflict whichever of them is named first.
@@ -45,4 +46,9 @@ pub fn required_points_are_there()
 /// A route of a station leads over the section of each point on its path.
 pub fn a_route_leads_over_the_sections_of_its_points()
     ensures { (l : Plan) → IsStation l → (a : RouteId) (r : RouteEntry) (path : List Passage) (p : PointId) → IsRoute l a r → Path l r path → OnPath path p → (s : SectionId) × (section_of l (element.Point p) ≡ Some s) × LeadsOver l a s }
+{}
+
+/// A point that a route requires awaits a section over which the route leads.
+pub fn required_points_await_a_section_of_the_route()
+    ensures { (l : Plan) → IsStation l → Once l → Sound l → (a : RouteId) (p : PointId) (t : Side) → RouteRequires l a p t → (s : SectionId) × Awaits l a p s × LeadsOver l a s }
 {}

@@ -5,7 +5,9 @@
 mod checked;
 mod conflicts;
 mod fault;
+mod freeing;
 mod laws;
+mod masks;
 mod order;
 mod passage;
 mod row;
@@ -20,6 +22,7 @@ pub use fault::{FaultyRoute, TableFault};
 pub use laws::{
     a_route_leads_over_sections_that_are_there, a_route_leads_over_the_sections_of_its_points,
     conflicts_go_both_ways, points_are_required_at_one_side, required_points_are_there,
-    routes_of_one_entry_conflict,
+    required_points_await_a_section_of_the_route, routes_of_one_entry_conflict,
 };
+pub use masks::RouteMasks;
 pub use sides::FlankProtection;

@@ -185,7 +185,7 @@ pub(crate) fn flanks_guarded(layout: &Layout, path: &[Passage]) -> bool
 }
 
 /// Whether two sides are the same.
-fn same_side(one: Side, other: Side) -> bool
+pub(crate) fn same_side(one: Side, other: Side) -> bool
     ensures { result ≡ same_side one other }
 {
     one == other
