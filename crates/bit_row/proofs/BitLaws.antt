@@ -1,5 +1,5 @@
 -- What the bits of a number say of its places.
-use Rattle.std.proofs.Common.{◌≡◌, ℕ, zero, suc, ◌+◌, ◌-◌, ◌*◌, ◌/◌, ◌%◌, ◌^◌, ◌<◌, ◌≤◌, ◌≢◌, ◌⊎◌, ◌==◌, Bool, true, false, cond, not, ◌&&◌, ◌||◌, nat_lt, nat_eq, ⊎_elim, ◌↔◌, IsTrue, refl, sym, ap, ◌∙◌, arith, if◌then◌else◌, min, max, bit_and, bit_or}
+use Rattle.std.proofs.Common.{◌≡◌, ℕ, zero, suc, ◌+◌, ◌-◌, ◌*◌, ◌/◌, ◌%◌, ◌^◌, ◌<◌, ◌≤◌, ◌≢◌, ◌⊎◌, ◌==◌, Bool, true, false, cond, not, ◌&&◌, ◌||◌, nat_lt, nat_eq, ⊎_elim, ◌↔◌, IsTrue, MatchBool, refl, sym, ap, ◌∙◌, arith, if◌then◌else◌, min, max, bit_and, bit_or}
 use Rattle.std.specs.Int.{bit_at, bit_not, trailing_zeros, w64}
 use Rattle.std.specs.Ordering.{nat_cmp, eq_by_cmp}
 use Rattle.std.specs.FinSet.{contains, empty, insert, remove, union, intersection, difference, contains-empty, contains-insert, contains-remove, contains-union, contains-intersection, contains-difference, members, same_set, nat_cmp-IsAntisymmetric}
@@ -8,7 +8,7 @@ use Rattle.std.proofs.Math.Nat.{mod-eq_of_lt, mod-one}
 use Rattle.std.proofs.lemmas.Nat.{pow_below, mod-pow-add, pow_pos, one_shl, or_lt, and_le_l}
 use Rattle.std.proofs.lemmas.Bool.{cases_eq, cases_lt}
 use Rattle.std.proofs.lemmas.Nat.Bits.{bit_at-trailing_zeros, bit_at-lt, bit_at-zero, bit_at-pow_same, bit_at-pow_other, shr_and_one, bit_at_or, bit_at_and, bit_at_not, bit_at_set_same, bit_at_set_other, bit_at_clear_same, bit_at_clear_other}
-use Rattle.bit_row.specs.Places.{Places, Has, IsLeast, IsPart, IsWithin, Meet}
+use Rattle.bit_row.specs.Places.{Places, Has, HasSome, IsLeast, IsPart, IsWithin, Meet}
 use Rattle.bit_row.specs.Bits.{places_below, places, number_below, number}
 
 -- ---- the places of a number
@@ -209,3 +209,9 @@ pub contains-beyond : (a k : ℕ) → 64 ≤ k → contains (places a) k ≡ fal
 contains-beyond a k h = contains-places a k ∙ beyond a k h
 
 pub ruleset rows = (number-places, number-or, number-and, places-zero, places-or, places-and, places-with, places-minus, places-without, contains-shift, contains-beyond, within, least, meets, parts)
+
+-- ---- whether a row has a place at all
+
+pub some-or-none : (n : ℕ) (b : Bool) → b ≡ (n == 0) → n < 2 ^ 64 → MatchBool b (places n ≡ empty) (HasSome (places n))
+some-or-none n true e fits = let z : n ≡ 0 = grind arith in ap places z ∙ places-zero
+some-or-none n false e fits = let ne : n ≢ 0 = (λ z. grind arith) in (trailing_zeros w64 n, (least n ne fits).0)

@@ -16,6 +16,10 @@ places_code = code coded_ℕ
 abbrev pub Has : Places → ℕ → Type 0
 Has s k = IsTrue (contains s k)
 
+-- Some number is in a set.
+abbrev pub HasSome : Places → Type 0
+HasSome s = (k : ℕ) × Has s k
+
 -- Two sets have a number in common.
 abbrev pub Meet : Places → Places → Type 0
 Meet s t = (k : ℕ) × Has s k × Has t k

@@ -1,8 +1,8 @@
 //! A set of places below 64.
 
-ghost use Rattle.std.specs.Prelude.{◌≡◌, ℕ, ◌<◌, ◌↔◌, IsTrue, IsNone, IfSome};
+ghost use Rattle.std.specs.Prelude.{◌≡◌, ℕ, ◌<◌, ◌↔◌, IsTrue, IsNone, IfSome, MatchBool};
 ghost use Rattle.std.specs.FinSet as set;
-ghost use Rattle.bit_row.specs.Places.{IsLeast, IsPart, IsWithin, Meet};
+ghost use Rattle.bit_row.specs.Places.{IsLeast, IsPart, HasSome, IsWithin, Meet};
 
 use std::marker::Model;
 
@@ -116,7 +116,7 @@ impl BitRow {
 
     /// Whether the row has no place.
     pub fn is_empty(self) -> bool
-        ensures { IsTrue result ↔ (self ≡ set.empty) }
+        ensures { MatchBool result (self ≡ set.empty) (HasSome self) }
     {
         self.bits == 0
     }
