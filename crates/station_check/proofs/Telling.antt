@@ -7,7 +7,8 @@ use Rattle.std.specs.Io.KnownBytes.{Appends, Keeps}
 use Rattle.std.proofs.lemmas.List.{append-nil, drop_more, drop_all}
 use Rattle.layout.specs.Entries.{RouteEntry, Plan}
 use Rattle.control_table.specs.Table.{Conflict}
-use Rattle.station_check.specs.Report.{conflict_line, TellsBehind, TellsRoutes, ToldPair, ToldBehind, ToldRoutes, ToldSlow, Reported, slow_line, slow_lines, summary_line}
+use Rattle.station_check.specs.Report.{conflict_line, TellsBehind, TellsRoutes, Reported, slow_line, slow_lines, summary_line}
+use Rattle.station_check.specs.inside.Told.{ToldPair, ToldBehind, ToldRoutes, ToldSlow}
 
 module _ (l : Plan) where
   pub pair_free : (a b : ℕ) (c : Option (List ℕ)) (r : Bool) → IsTrue r ↔ Conflict l (record { 0 = a }) (record { 0 = b }) → r ≡ false → ToldPair l a b c c

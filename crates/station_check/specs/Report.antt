@@ -71,20 +71,6 @@ IsReport l text = (front : List ℕ) × TellsRoutes l (length l.routes) front ×
 abbrev pub IsSound : List ℕ → Plan → Type 0
 IsSound text plan = (layout_in text ≡ Ok plan) × Sound plan
 
--- What a writer held and holds, where it is known, and in between what was told.
-abbrev pub ToldPair : Plan → ℕ → ℕ → Option (List ℕ) → Option (List ℕ) → Type 0
-ToldPair l a b old new = (text : List ℕ) × TellsPair l a b text × Appends old new text
-
-abbrev pub ToldBehind : Plan → ℕ → ℕ → Option (List ℕ) → Option (List ℕ) → Type 0
-ToldBehind l a k old new = (text : List ℕ) × TellsBehind l a k text × Appends old new text
-
-abbrev pub ToldRoutes : Plan → ℕ → Option (List ℕ) → Option (List ℕ) → Type 0
-ToldRoutes l k old new = (text : List ℕ) × TellsRoutes l k text × Appends old new text
-
--- the slow routes of these were told
-abbrev pub ToldSlow : List RouteEntry → Option (List ℕ) → Option (List ℕ) → Type 0
-ToldSlow routes old new = Appends old new (slow_lines routes)
-
 -- The report was written.
 abbrev pub Reported : Plan → Option (List ℕ) → Option (List ℕ) → Type 0
 Reported l old new = (text : List ℕ) × IsReport l text × Appends old new text

@@ -1,7 +1,8 @@
 //! The report on a sound table.
 
 ghost use Rattle.std.specs.Prelude.{◌≡◌, ◌<◌, ◌-◌, suc, length, OnOk, Some};
-ghost use Rattle.station_check.specs.Report.{Reported, ToldRoutes, ToldBehind, ToldPair, ToldSlow, route_name, summary_text, conflict_text, slow_text, slow_line};
+ghost use Rattle.station_check.specs.Report.{Reported, route_name, summary_text, conflict_text, slow_text, slow_line};
+ghost use Rattle.station_check.specs.inside.Told.{ToldRoutes, ToldBehind, ToldPair, ToldSlow};
 ghost use Rattle.std.specs.Io.KnownBytes.{Appends};
 
 use control_table::Checked;

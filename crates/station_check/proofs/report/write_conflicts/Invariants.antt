@@ -1,5 +1,5 @@
 use Rattle.std.proofs.Common.{◌-◌, suc}
-use Rattle.station_check.specs.Report.{ToldBehind}
+use Rattle.station_check.specs.inside.Told.{ToldBehind}
 use Rattle.station_check.proofs.report.write_conflicts.Given as goal
 
 abbrev pub invariant-loop-later : goal.invariant-loop-later

@@ -1,4 +1,4 @@
-use Rattle.station_check.specs.Report.{ToldRoutes}
+use Rattle.station_check.specs.inside.Told.{ToldRoutes}
 use Rattle.station_check.proofs.report.write_pairs.Given as goal
 
 abbrev pub invariant-loop-earlier : goal.invariant-loop-earlier

@@ -1,6 +1,6 @@
 use Rattle.std.proofs.Common.{ap, ◌∙◌, subst}
 use Rattle.layout.specs.Entries.{Plan}
-use Rattle.station_check.specs.Report.{ToldSlow}
+use Rattle.station_check.specs.inside.Told.{ToldSlow}
 use Rattle.station_check.proofs.Telling.{reported}
 use Rattle.station_check.proofs.report.write_report.Goals as goal
 
