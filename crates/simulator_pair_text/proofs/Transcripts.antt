@@ -60,3 +60,11 @@ said-line lines later number text this e stays reads =
     ap said e
     ∙ ap (λ (over : Bool). cond over (said later) (at_line number (read text) (said later))) stays
     ∙ ap (λ (r : Result PairLine Fault). at_line number r (said later)) reads
+
+-- a faulty line that isn't passed over
+pub said-fault : (lines later : List (ℕ × List ℕ)) (number : ℕ) (text : List ℕ) (fault : Fault) → lines ≡ (number, text) ∷ later
+    → is_passed_over text ≡ false → read text ≡ Err fault → said lines ≡ Err (record { line = number; fault = fault })
+said-fault lines later number text fault e stays reads =
+    ap said e
+    ∙ ap (λ (over : Bool). cond over (said later) (at_line number (read text) (said later))) stays
+    ∙ ap (λ (r : Result PairLine Fault). at_line number r (said later)) reads

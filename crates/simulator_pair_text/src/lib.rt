@@ -3,6 +3,7 @@
 #![tactic(auto)]
 
 mod answer;
+mod failure;
 mod line;
 mod picture;
 mod print;
