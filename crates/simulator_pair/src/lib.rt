@@ -17,6 +17,3 @@ pub use rasta_core::{Reason, Role, SendFault, Sent};
 pub use rasta_pdu::Item;
 pub use signal_ctl::Aspect;
 pub use worked::worked_runs;
-
-#[cfg(test)]
-mod tests;

@@ -13,6 +13,3 @@ mod text;
 pub use line::{PairLine, read_line};
 pub use print::pair_text;
 pub use text::{LineFault, judge};
-
-#[cfg(test)]
-mod tests;

@@ -1,7 +1,8 @@
 //! A run is made again where memory is lacking, so the tests also hold with any one allocation refused: it then ends
 //! with status 1 and says so, or answers `no 6` to a line and goes on.
 
-use super::*;
+use event_words::Fault;
+use simulator_pair_text::{LineFault, judge, pair_text};
 use std::alloc::{AllocError, Global};
 use std::io;
 use std::io::Write;
@@ -263,4 +264,192 @@ fn a_failed_write_ends_the_run_with_status_1(rt: HostRuntime) {
         ),
         1
     );
+}
+
+// A writer that takes everything, and can't pass it on.
+#[derive(Drop)]
+struct Stuck {
+    taken: Vec<u8>,
+}
+
+impl Write for Stuck {
+    fn write(&mut self, buf: &[u8]) -> io::Result<usize> {
+        self.taken.write(buf)
+    }
+
+    fn flush(&mut self) -> io::Result<()> {
+        Err(io::Error::from(io::ErrorKind::BrokenPipe))
+    }
+}
+
+// Whether the first run writes all its answers, and ends with status 1 and without a word where they can't be passed on.
+fn ends_at_the_flush(alloc: Global) -> bool {
+    let mut stuck = Stuck {
+        taken: Vec::new(alloc),
+    };
+    let mut err = Vec::new(alloc);
+    let status = pair_text(alloc, FIRST_RUN, &mut stuck, &mut err);
+    status == 1 && err.is_empty() && stuck.taken.as_slice() == FIRST_ANSWERS.as_bytes()
+}
+
+#[test]
+fn answers_that_are_not_passed_on_have_status_1(rt: HostRuntime) {
+    let alloc = rt.alloc();
+    assert!(rt; ends_at_the_flush(alloc) || ends_at_the_flush(alloc));
+}
+
+#[test]
+fn a_fault_is_told_as_far_as_it_is_taken(rt: HostRuntime) {
+    for left in [0, 1, 10, 100] {
+        let mut out = Vec::new(rt.alloc());
+        assert_eq!(rt;
+            pair_text(rt.alloc(), "tick", &mut out, &mut Failing { left }),
+            1
+        );
+        assert!(rt; out.is_empty());
+    }
+}
+
+// A text of so many times the same lines, between two others.
+fn repeated(
+    alloc: Global,
+    first: &str,
+    lines: &str,
+    count: usize,
+    last: &str,
+) -> Result<String, AllocError> {
+    let mut text = String::from_str(alloc, first)?;
+    for _ in 0..count {
+        text.push_str(lines)?;
+    }
+    text.push_str(last)?;
+    Ok(text)
+}
+
+// Runs the first text, and compares its answers with the second.
+fn expect_long_run(
+    rt: &impl Abort,
+    alloc: Global,
+    text: &Result<String, AllocError>,
+    answers: &Result<String, AllocError>,
+) {
+    if let (Ok(text), Ok(answers)) = (text, answers) {
+        expect_run(rt, alloc, text.as_str(), 0, answers.as_str(), "");
+    }
+}
+
+#[test]
+fn a_flow_of_600000_keeps_both_ends_up(rt: HostRuntime) {
+    let text = "flow 6030\nflow 600000\npicture\n";
+    let answers = "ok\nok\ntime 606030\nlamp stop\nC up given 0 taken 0\nS up given 0 taken 0\n";
+    expect_run(&rt, rt.alloc(), text, 0, answers, "");
+}
+
+#[test]
+fn a_long_list_of_lines_is_answered_line_by_line(rt: HostRuntime) {
+    let alloc = rt.alloc();
+    expect_long_run(
+        &rt,
+        alloc,
+        &repeated(alloc, "", "tick C\n", 20000, ""),
+        &repeated(alloc, "", "ok\n", 20000, ""),
+    );
+}
+
+// The server's heartbeats come every 300 ms, so at most 17 items wait for a confirmation.
+#[test]
+fn many_items_arrive_one_after_the_other(rt: HostRuntime) {
+    let alloc = rt.alloc();
+    expect_long_run(
+        &rt,
+        alloc,
+        &repeated(
+            alloc,
+            "flow 6030\n",
+            "give C 04\nflow 20\n",
+            2000,
+            "picture\n",
+        ),
+        &repeated(
+            alloc,
+            "ok\n",
+            "accepted\nok\n",
+            2000,
+            "time 46030\nlamp proceed\nC up given 2000 taken 0\nS up given 0 taken 2000\n",
+        ),
+    );
+}
+
+#[test]
+fn no_more_than_20_items_wait(rt: HostRuntime) {
+    let alloc = rt.alloc();
+    expect_long_run(
+        &rt,
+        alloc,
+        &repeated(
+            alloc,
+            "give C 01\nflow 6030\n",
+            "give C 01\n",
+            20,
+            "give C 01\npicture\n",
+        ),
+        &repeated(
+            alloc,
+            "refused 1\nok\n",
+            "accepted\n",
+            20,
+            "refused 2\ntime 6030\nlamp stop\nC up given 20 taken 0\nS up given 0 taken 0\n",
+        ),
+    );
+}
+
+#[test]
+fn faults_have_their_numbers_and_texts(rt: HostRuntime) -> Result<(), Fail> {
+    let line = u64::MAX;
+    for (fault, number, text) in [
+        (
+            Fault::Words,
+            1,
+            "session fault 1 at line 18446744073709551615",
+        ),
+        (
+            Fault::Name,
+            2,
+            "session fault 2 at line 18446744073709551615",
+        ),
+        (
+            Fault::Number,
+            3,
+            "session fault 3 at line 18446744073709551615",
+        ),
+        (
+            Fault::Hexadecimal,
+            4,
+            "session fault 4 at line 18446744073709551615",
+        ),
+        (
+            Fault::Answer,
+            5,
+            "session fault 5 at line 18446744073709551615",
+        ),
+        (
+            Fault::Order,
+            6,
+            "session fault 6 at line 18446744073709551615",
+        ),
+        (
+            Fault::Memory,
+            7,
+            "session fault 7 at line 18446744073709551615",
+        ),
+    ] {
+        assert_eq!(rt; fault.number(), number);
+        let told = LineFault { line, fault };
+        let printed = match format!(in rt.alloc(); "{told}") {
+            Ok(printed) => printed,
+            Err(_) => format!(in rt.alloc(); "{told}")?,
+        };
+        assert_eq!(rt; printed.as_str(), text);
+    }
+    Ok(())
 }

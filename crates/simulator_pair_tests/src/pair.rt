@@ -1,9 +1,9 @@
 //! Runs of a pair whose times and answers were worked out by hand. Every event is given again where memory is lacking,
 //! so that the runs also hold with any one allocation refused.
 
-use super::*;
 use rasta_core::Millis;
 use rasta_pdu::{Body, Key, Pdu, read};
+use simulator_pair::{Aspect, Bytes, Item, Pair, PairAnswer, PairEvent, Reason, Refused, Role};
 use std::alloc::Global;
 use std::process::Abort;
 
