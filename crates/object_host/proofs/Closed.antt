@@ -12,7 +12,7 @@ use Rattle.rasta_core.specs.reason.Reason.{Reason}
 use Rattle.rasta_core.specs.reason.Reason.TheVariants as reason
 
 -- a closed link stays closed, whatever the clock does
-settled_is : (now : ℕ) (link : LinkState) → is_open link.phase ≡ false → settled now link ≡ record link { clock = now }
+pub settled_is : (now : ℕ) (link : LinkState) → is_open link.phase ≡ false → settled now link ≡ record link { clock = now }
 unfolding settled
 settled_is now link closed = rw closed refl
 

@@ -11,16 +11,13 @@ use Rattle.object_host.specs.Hosted.{IsNamedAs}
 use Rattle.object_host.specs.Step.{beating, beginning, ending, given, host_step, most_owed, paying}
 use Rattle.object_host.specs.declared.input.Input.{Input}
 use Rattle.object_host.specs.declared.stage.Stage.TheVariants as stage
+use Rattle.object_host.proofs.Closed.{settled_is}
 use Rattle.object_host.proofs.Says.{given_says}
 use Rattle.object_host.proofs.Told.{beating_same, ending_names, open_stage, pays_all}
 
 -- the clock rules twice are the clock rules once, at the later reading
 past : (a b c : ℕ) → a ≤ b → nat_le c a ≡ true → nat_le c b ≡ true
 past a b c later at = grind (arith, nat_tests)
-
-settled_outside : (now : ℕ) (link : LinkState) → is_open link.phase ≡ false → settled now link ≡ record link { clock = now }
-unfolding settled
-settled_outside now link closed = rw closed refl
 
 settled_late : (now : ℕ) (link : LinkState) → is_open link.phase ≡ true → nat_le (alive_until link) now ≡ true →
     settled now link ≡ record link { phase = phase.Closed; closed_at = alive_until link; clock = now }
@@ -44,10 +41,10 @@ settled_from earlier now link =
 settled_twice : (earlier now : ℕ) (link : LinkState) → earlier ≤ now → settled now (settled earlier link) ≡ settled now link
 settled_twice earlier now link later = cases (is_open link.phase) (nat_le (alive_until link) earlier) refl refl where
   cases : (o b : Bool) → is_open link.phase ≡ o → nat_le (alive_until link) earlier ≡ b → settled now (settled earlier link) ≡ settled now link
-  cases false b closed at = ap (settled now) (settled_outside earlier link closed) ∙ settled_from earlier now link
+  cases false b closed at = ap (settled now) (settled_is earlier link closed) ∙ settled_from earlier now link
   cases true true opened at =
       ap (settled now) (settled_late earlier link opened at)
-      ∙ settled_outside now (record link { phase = phase.Closed; closed_at = alive_until link; clock = earlier }) refl
+      ∙ settled_is now (record link { phase = phase.Closed; closed_at = alive_until link; clock = earlier }) refl
       ∙ sym (settled_late now link opened (past earlier now (alive_until link) later at))
   cases true false opened at = ap (settled now) (settled_early earlier link opened at) ∙ settled_from earlier now link
 

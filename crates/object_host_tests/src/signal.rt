@@ -4,7 +4,8 @@ use crate::bench::{Bench, OPENED_AT};
 use object_host::{Controller, Sense};
 use rasta_core::{Millis, Reason};
 use sci_telegram::{
-    Agreement, Aspect, Initialisation, Message, Occupancy, PointMessage, Protocol, Side, SignalMessage,
+    Agreement, Aspect, Initialisation, Message, Occupancy, PointMessage, Protocol, Side,
+    SignalMessage,
 };
 use signal_ctl::Signal;
 use std::process::Abort;
