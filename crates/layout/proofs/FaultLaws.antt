@@ -1,8 +1,7 @@
 -- A layout's fault is the first of its text.
-use Rattle.std.proofs.Common.{◌≡◌, ◌⊎◌, ℕ, suc, Bool, true, false, List, [], ◌∷◌, ◌++◌, map, AllPairs, Contains, is_some, Option, Some, None, Result, Ok, Err, if◌then◌else◌, IfErr, refl, sym, ap, subst, ◌∙◌, inl, inr, ⊎_elim, append_assoc, arith, rules}
+use Rattle.std.proofs.Common.{◌≡◌, ◌⊎◌, ℕ, suc, Bool, true, false, List, [], ◌∷◌, ◌++◌, map, is_some, Result, Ok, Err, if◌then◌else◌, IfErr, refl, sym, ap, subst, ◌∙◌, inl, inr, ⊎_elim, append_assoc, rules}
 use Rattle.std.proofs.lemmas.List.{append-nil}
 use Rattle.std.specs.Map.{lookup, keys_of}
-use Rattle.toml.specs.Data.{Members}
 use Rattle.toml.specs.Parse.{parse_document}
 use Rattle.layout.specs.declared.fault.LayoutFault.{LayoutFault}
 use Rattle.layout.specs.declared.fault.LayoutFault.TheVariants.{Toml, MissingKey, WrongKind, UnknownName, DoubleName, DoubleJoint, Limit, OutOfMemory}
@@ -11,10 +10,8 @@ use Rattle.layout.specs.declared.fault.TableName.{TableName}
 use Rattle.layout.specs.declared.fault.TableName.TheVariants as named
 use Rattle.layout.specs.declared.known.Double.{Double}
 use Rattle.layout.specs.declared.known.Double.TheVariants as double
-use Rattle.layout.specs.declared.entries.Joint.{Joint}
-use Rattle.layout.specs.declared.entries.Signal.{Signal}
 use Rattle.layout.specs.Entries.{Plan}
-use Rattle.layout.specs.Written.{DetectorText, LayoutText}
+use Rattle.layout.specs.Written.{LayoutText}
 use Rattle.layout.specs.Reading.{◌>>=◌, Fails, Gives}
 use Rattle.layout.specs.Text.{text_of, document_of}
 use Rattle.layout.specs.Limits.{limits_of, all_within}

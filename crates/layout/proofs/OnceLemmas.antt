@@ -11,9 +11,7 @@ use Rattle.sci_telegram.specs.Names.{name_field}
 use Rattle.layout.specs.declared.fault.LayoutFault.{LayoutFault}
 use Rattle.layout.specs.declared.fault.Place.{Place}
 use Rattle.layout.specs.declared.fault.TableName.{TableName}
-use Rattle.layout.specs.declared.fault.TableName.TheVariants as named
 use Rattle.layout.specs.declared.known.Double.{Double}
-use Rattle.layout.specs.declared.known.Double.TheVariants as double
 use Rattle.layout.specs.declared.port.Port.{Port}
 use Rattle.layout.specs.declared.port.Element.{Element}
 use Rattle.layout.specs.declared.port.Element.TheVariants.{Track, Point, Border}

@@ -1,14 +1,11 @@
 -- Each section of a layout is reported once.
-use Rattle.std.proofs.Common.{◌≡◌, ℕ, zero, suc, ◌+◌, ◌<◌, Bool, true, false, cond, List, [], ◌∷◌, ◌++◌, length, map, get_or, All, AllPairs, Contains, slice_get, flat_map, Option, Some, None, is_some, Result, Ok, Err, refl, sym, ap, subst, ◌∙◌, arith, rules}
+use Rattle.std.proofs.Common.{◌≡◌, ℕ, zero, suc, ◌<◌, Bool, true, false, cond, List, [], ◌∷◌, ◌++◌, length, get_or, All, Contains, slice_get, flat_map, Some, is_some, Ok, refl, sym, subst, ◌∙◌, arith}
 use Rattle.std.proofs.lemmas.Bool.{false≢true}
 use Rattle.std.proofs.lemmas.Option.{slice_get_within, slice_get-get_or}
 use Rattle.std.proofs.lemmas.Slice.Eq.{bytes_eq-Decides}
-use Rattle.std.proofs.lemmas.List.{get_or_append_left, length-append}
-use Rattle.std.proofs.lemmas.List.Elements.{Contains-get_or, All-contains}
 use Rattle.std.proofs.lemmas.List.Kept.{AllPairs-cons}
 use Rattle.std.specs.Map.{lookup, keys_of}
 use Rattle.sci_telegram.specs.Names.{name_field}
-use Rattle.layout.specs.declared.fault.LayoutFault.{LayoutFault}
 use Rattle.layout.specs.declared.fault.LayoutFault.TheVariants.{UnknownName}
 use Rattle.layout.specs.declared.fault.Place.{Place}
 use Rattle.layout.specs.declared.fault.TableName.{TableName}
@@ -17,7 +14,7 @@ use Rattle.layout.specs.declared.known.Double.TheVariants as double
 use Rattle.layout.specs.declared.ids.SectionId.{SectionId}
 use Rattle.layout.specs.Entries.{DetectorEntry}
 use Rattle.layout.specs.Written.{DetectorText, LayoutText}
-use Rattle.layout.specs.Reading.{◌>>=◌, each_of, all_of}
+use Rattle.layout.specs.Reading.{each_of, all_of}
 use Rattle.layout.specs.Known.{same_name}
 use Rattle.layout.specs.Limits.{all_within}
 use Rattle.layout.specs.Doubles.{sections_reported, reported_of}
@@ -25,7 +22,7 @@ use Rattle.layout.specs.Resolving.{number_named, section_named, detector_entry, 
 use Rattle.layout.specs.Once.{Distinct}
 use Rattle.layout.proofs.OnceLemmas.{came_from, same_ok, Apart, lists_once, nothing_twice}
 use Rattle.layout.proofs.Steps.{passed, each-held}
-use Rattle.layout.proofs.Directory.{names_under, IsPlaced, IsEntry, some_same, number-is}
+use Rattle.layout.proofs.Directory.{IsPlaced, IsEntry, some_same, number-is}
 
 same_by : (a b k : List ℕ) → same_name a k ≡ true → same_name b k ≡ true → same_name a b ≡ true
 same_by a b k h g =

@@ -1,7 +1,6 @@
 -- Each entry of a layout names only what is there.
-use Rattle.std.proofs.Common.{◌≡◌, ◌≢◌, ℕ, suc, ◌+◌, ◌-◌, ◌≤◌, ◌<◌, Bool, true, false, List, [], ◌∷◌, length, map, All, Option, Some, None, IsTrue, Result, Ok, Err, if◌then◌else◌, refl, sym, ap, subst, ◌∙◌, arith, rules}
+use Rattle.std.proofs.Common.{◌≡◌, ◌≢◌, ℕ, ◌-◌, ◌≤◌, ◌<◌, List, length, All, Option, Some, None, Ok, refl, ap, subst, arith, rules}
 use Rattle.std.specs.Option.{ok_or, option_and_then}
-use Rattle.std.proofs.lemmas.List.Elements.{All-nil, All-same}
 use Rattle.sci_telegram.specs.declared.message.Aspect.TheVariants.{Stop}
 use Rattle.sci_telegram.specs.declared.message.Side.{Side}
 use Rattle.layout.specs.declared.fault.LayoutFault.{LayoutFault}
@@ -29,12 +28,12 @@ use Rattle.layout.specs.declared.written.WrittenJoint.{WrittenJoint}
 use Rattle.layout.specs.declared.written.WrittenSignal.{WrittenSignal}
 use Rattle.layout.specs.Entries.{DetectorEntry, RouteEntry, Plan}
 use Rattle.layout.specs.Written.{DetectorText, RouteText, LayoutText}
-use Rattle.layout.specs.Reading.{◌>>=◌, all_of}
+use Rattle.layout.specs.Reading.{all_of}
 use Rattle.layout.specs.Resolving.{element_of, exit_of, has_port, entry_named, number_named, section_named, signal_named, route_named, side_named, exit_named, element_named, port_named, track_named, point_named, joint_named, signal_entry, detector_entry, route_entry}
 use Rattle.layout.specs.Station.{HasSection, HasPoint, HasSignal, HasRoute, HasElement, HasExit, HasPort, IsRouteOf, IsDetectorOf}
 use Rattle.layout.proofs.OnceLemmas.{came_from, same_ok}
 use Rattle.layout.proofs.Steps.{passed, all-all, all-length}
-use Rattle.layout.proofs.Directory.{names_under, IsPlaced, IsEntry, some_same, number-is, entry-is, entry-within}
+use Rattle.layout.proofs.Directory.{names_under, IsPlaced, some_same, number-is, entry-is, entry-within}
 
 -- A layout has as many entries in each table as its text.
 pub record IsAsLong (text : LayoutText) (l : Plan) : Type 0 where

@@ -1,15 +1,14 @@
 -- The layout that was read is a station.
-use Rattle.std.proofs.Common.{◌≡◌, ◌≢◌, ℕ, suc, ◌+◌, ◌≤◌, ◌<◌, ◌&&◌, Bool, true, false, List, [], ◌∷◌, ◌++◌, flat_map, get_or, length, map, nat_le, All, Result, Ok, Err, if◌then◌else◌, refl, sym, ap, subst, ◌∙◌, arith, rules}
+use Rattle.std.proofs.Common.{◌≡◌, ◌≢◌, ℕ, suc, ◌≤◌, ◌<◌, ◌&&◌, Bool, false, List, ◌++◌, flat_map, get_or, length, map, nat_le, All, Ok, refl, sym, ap, subst, ◌∙◌, arith}
 use Rattle.std.proofs.lemmas.Bool.Decides.{Decides-and}
 use Rattle.std.proofs.lemmas.List.{length-map, length-append, get_or_append_left}
 use Rattle.sci_telegram.specs.declared.message.Aspect.TheVariants.{Stop}
 use Rattle.toml.specs.Data.{Members}
-use Rattle.layout.specs.declared.fault.LayoutFault.{LayoutFault}
 use Rattle.layout.specs.declared.fault.LayoutFault.TheVariants.{Limit}
 use Rattle.layout.specs.declared.fault.Place.{Place}
 use Rattle.layout.specs.declared.fault.TableName.{TableName}
 use Rattle.layout.specs.declared.fault.TableName.TheVariants as named
-use Rattle.layout.specs.Entries.{DetectorEntry, RouteEntry, Plan}
+use Rattle.layout.specs.Entries.{Plan}
 use Rattle.layout.specs.Written.{DetectorText, RouteText, LayoutText}
 use Rattle.layout.specs.Reading.{◌>>=◌, each_of}
 use Rattle.layout.specs.Known.{same_name}
@@ -17,12 +16,11 @@ use Rattle.layout.specs.Text.{text_of}
 use Rattle.layout.specs.Limits.{at_most, detector_limit, route_limit, all_within, limits_of}
 use Rattle.layout.specs.Doubles.{sections_reported, directory_of, ids_of, reported_of}
 use Rattle.layout.specs.Resolving.{track_named, point_named, joint_named, signal_entry, detector_entry, route_entry, section_reported, plan_of, names_of, entries_of}
-use Rattle.layout.specs.Once.{all_ids}
 use Rattle.layout.specs.Station.{HasSection, HasPort, IsNodeId, IsRouteOf, IsDetectorOf, IsWithinLimits, ReportsEachOnce, IsStation}
 use Rattle.layout.proofs.OnceLemmas.{came_from, same_ok, Apart, each_keeps}
 use Rattle.layout.proofs.OncePlan.{names_in, ids_in, names-once, plan-keeps, track-keeps, point-keeps, signal-keeps, detector-keeps, route-keeps}
 use Rattle.layout.proofs.Steps.{le-decides, passed, each-all, each-held, each-counted}
-use Rattle.layout.proofs.Directory.{names_under, IsPlaced, directory-placed}
+use Rattle.layout.proofs.Directory.{IsPlaced, directory-placed}
 use Rattle.layout.proofs.StationEntries.{IsAsLong, track-there, point-there, joint-there, signal-at-there, detector-there, route-names-there}
 use Rattle.layout.proofs.ReportedOnce.{sections-distinct, detectors-named, reported-apart, each-reported}
 use Rattle.layout.proofs.TextIds.{text-nodes, text-goes}
