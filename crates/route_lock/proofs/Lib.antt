@@ -1,0 +1,4 @@
+pub mod RowLaws
+pub mod LockLaws
+pub mod KeptLaws
+pub mod ApartLaws
