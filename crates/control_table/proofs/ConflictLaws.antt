@@ -1,30 +1,25 @@
 -- What the rows of a sound table say of its routes.
-use Rattle.std.proofs.Common.{◌≡◌, Bool, not, ◌||◌, ◌==◌, ℕ, zero, suc, ◌<◌, List, [], ◌∷◌, length, get_or, Some, Ok, refl, sym, ap, subst, ◌∙◌, arith}
-use Rattle.std.proofs.lemmas.Bool.Decides.{Decides-and, Decides-or, Decides-not, Decides-like}
-use Rattle.std.specs.Bool.{Decides}
-use Rattle.std.specs.Prelude.{slice_get, ◌↔◌, IsTrue}
-use Rattle.std.specs.Option.{option_map}
+use Rattle.std.proofs.Common.{◌≡◌, ℕ, zero, suc, ◌<◌, List, [], ◌∷◌, length, get_or, Some, Ok, refl, sym, ap, subst, ◌∙◌, arith}
+use Rattle.std.specs.Prelude.{slice_get, ◌↔◌}
 use Rattle.std.specs.List.{Contains}
 use Rattle.sci_telegram.specs.declared.message.Side.{Side}
 use Rattle.layout.specs.declared.ids.SectionId.{SectionId}
 use Rattle.layout.specs.declared.ids.PointId.{PointId}
-use Rattle.layout.specs.declared.ids.SignalId.{SignalId}
 use Rattle.layout.specs.declared.ids.RouteId.{RouteId}
 use Rattle.layout.specs.Entries.{RouteEntry, Plan}
 use Rattle.control_table.specs.Topology.{IsRoute}
-use Rattle.control_table.specs.Path.{Passage, sections, Path, same_section}
-use Rattle.control_table.specs.Sides.{other, PathUses, Requires}
+use Rattle.control_table.specs.Path.{Passage, sections, Path}
+use Rattle.control_table.specs.Sides.{PathUses, Requires}
 use Rattle.control_table.specs.declared.sides.FlankProtection.{FlankProtection}
-use Rattle.control_table.specs.Table.{LeadsOver, RouteRequires, InLayoutOrder, AreSections, AreRequired, AreProtections, SameEntry, ShareSection, RequireDifferently, Conflict}
-use Rattle.control_table.specs.Judging.{needs, has_need, lists, TableRow, rows_of, IsRowAt}
+use Rattle.control_table.specs.Table.{LeadsOver, RouteRequires, InLayoutOrder, AreSections, AreRequired, AreProtections}
+use Rattle.control_table.specs.Judging.{needs, TableRow, rows_of, IsRowAt}
 use Rattle.control_table.proofs.Joints.{OneBeyond}
 use Rattle.control_table.proofs.Judged.{none-some}
-use Rattle.control_table.proofs.Members.{any-decides, has-decides, some-injective}
-use Rattle.control_table.proofs.Same.{section-decides, signal-decides, route-decides, other-differs, differ-other}
-use Rattle.control_table.proofs.PathLaws.{one-path, some_and-decides}
-use Rattle.control_table.proofs.SideLaws.{option_map-some, has_need-decides, protections-from, protections-to}
+use Rattle.control_table.proofs.Members.{some-injective}
+use Rattle.control_table.proofs.PathLaws.{one-path}
+use Rattle.control_table.proofs.SideLaws.{protections-from, protections-to}
 use Rattle.control_table.proofs.OrderLaws.{ordered, ordered-from, ordered-to}
-use Rattle.control_table.proofs.TableLaws.{RowFacts, table-row, place_at, lists-decides, rows-length}
+use Rattle.control_table.proofs.TableLaws.{RowFacts, table-row, place_at, rows-length}
 
 -- ---- the row of a route
 

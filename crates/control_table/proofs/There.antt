@@ -1,5 +1,5 @@
 -- What a route of a station leads over and requires is there.
-use Rattle.std.proofs.Common.{◌≡◌, ◌≢◌, ◌⊎◌, ℕ, zero, suc, ◌≤◌, ◌<◌, Bool, true, false, cond, List, [], ◌∷◌, length, map, get_or, All, Contains, slice_get, Option, Some, None, IsTrue, filter_map, refl, sym, ap, subst, ◌∙◌, inl, inr, ⊎_elim, arith, rules}
+use Rattle.std.proofs.Common.{◌≡◌, ◌≢◌, ℕ, suc, ◌≤◌, ◌<◌, Bool, true, false, cond, List, [], ◌∷◌, length, map, get_or, All, Contains, slice_get, Option, Some, None, IsTrue, filter_map, refl, sym, ap, subst, ◌∙◌, ⊎_elim, arith, rules}
 use Rattle.std.specs.List.{dedup, dedup_from, cons_option}
 use Rattle.std.proofs.lemmas.List.Elements.{All-nil, All-cons, All-head, All-tail, All-same, All-contains}
 use Rattle.std.proofs.lemmas.List.Filters.{All-dedup}
@@ -19,15 +19,14 @@ use Rattle.layout.specs.declared.port.Element.{Element}
 use Rattle.layout.specs.declared.port.Element.TheVariants as of
 use Rattle.layout.specs.declared.port.End.{End}
 use Rattle.layout.specs.declared.port.End.TheVariants as end
-use Rattle.layout.specs.declared.entries.Joint.{Joint}
 use Rattle.layout.specs.Entries.{RouteEntry, Plan}
 use Rattle.layout.specs.Resolving.{has_port}
 use Rattle.layout.specs.Station.{HasSection, HasPoint, HasElement, HasPort, IsRouteOf, IsStation}
-use Rattle.control_table.specs.Topology.{Joins, Joined, section_of, IsRoute}
-use Rattle.control_table.specs.Path.{Passage, Passes, Leads, Follows, Path, elements, same_section, sections}
-use Rattle.control_table.specs.Sides.{leg, other, Uses, OnPath, Guards, Requires}
+use Rattle.control_table.specs.Topology.{Joined, section_of, IsRoute}
+use Rattle.control_table.specs.Path.{Passage, Passes, Leads, Path, elements, same_section}
+use Rattle.control_table.specs.Sides.{leg, other, Uses, OnPath}
 use Rattle.control_table.specs.Table.{HasAspect, LeadsOver, RouteRequires, AreSections}
-use Rattle.control_table.proofs.Members.{contains-here, contains-there, contains-cases, get-contains, some-injective}
+use Rattle.control_table.proofs.Members.{contains-here, contains-there, contains-cases, get-contains}
 use Rattle.control_table.proofs.Same.{section-decides}
 use Rattle.control_table.proofs.ConflictLaws.{get-below}
 
