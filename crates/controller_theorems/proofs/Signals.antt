@@ -8,7 +8,7 @@ use Rattle.std.proofs.lemmas.Bool.Decides.{nat_tests}
 use Rattle.sci_telegram.specs.declared.message.Aspect.{Aspect}
 use Rattle.sci_telegram.specs.declared.message.Aspect.TheVariants.{Stop, Proceed, Slow}
 use Rattle.rasta_core.specs.State.{LinkState, is_open}
-use Rattle.rasta_core.specs.Clock.{alive_until, settled}
+use Rattle.rasta_core.specs.Clock.{deadline, alive_until, settled}
 use Rattle.rasta_core.specs.Calls.{created}
 use Rattle.rasta_core.specs.phase.Phase.TheVariants as phase
 use Rattle.rasta_core.specs.Ends.{EndState, end_later, end_restarted, outcome, reading_of}
@@ -78,35 +78,40 @@ shows world told =
 
 -- the clock rules leave the moment at which a link dies, and open none
 alive_by : (now : ℕ) (link : LinkState) (b : Bool) →
-    alive_until (if b then record link { phase = phase.Closed; closed_at = alive_until link; clock = now } else record link { clock = now }) ≡ alive_until link
-unfolding alive_until
+    alive_until (if b then record link { phase = phase.Closed; closed_at = deadline link; clock = now } else record link { clock = now }) ≡ alive_until link
+unfolding alive_until deadline
 alive_by now link true = refl
 alive_by now link false = refl
 
 alive_settled : (now : ℕ) (link : LinkState) → alive_until (settled now link) ≡ alive_until link
 unfolding settled
-alive_settled now link = alive_by now link (is_open link.phase && nat_le (alive_until link) now)
+alive_settled now link = alive_by now link (is_open link.phase && nat_le (deadline link) now)
 
 open_by : (now : ℕ) (link : LinkState) (b : Bool) →
-    is_open (if b then record link { phase = phase.Closed; closed_at = alive_until link; clock = now } else record link { clock = now }).phase ≡ true → is_open link.phase ≡ true
+    is_open (if b then record link { phase = phase.Closed; closed_at = deadline link; clock = now } else record link { clock = now }).phase ≡ true → is_open link.phase ≡ true
 open_by now link true opened = absurd (false≢true opened)
 open_by now link false opened = opened
 
 open_before : (now : ℕ) (link : LinkState) → is_open (settled now link).phase ≡ true → is_open link.phase ≡ true
 unfolding settled
-open_before now link = open_by now link (is_open link.phase && nat_le (alive_until link) now)
+open_before now link = open_by now link (is_open link.phase && nat_le (deadline link) now)
 
-closed_late : (now : ℕ) (link : LinkState) → is_open link.phase ≡ true → is_open (settled now link).phase ≡ false → nat_le (alive_until link) now ≡ true
+-- what is told of the time that has come isn't later
+told_past : (now : ℕ) (link : LinkState) → deadline link ≤ now → alive_until link ≤ now
+unfolding alive_until
+told_past now link come = omega (arith, come)
+
+closed_late : (now : ℕ) (link : LinkState) → is_open link.phase ≡ true → is_open (settled now link).phase ≡ false → nat_le (deadline link) now ≡ true
 unfolding settled
-closed_late now link opened closed = cases (nat_le (alive_until link) now) refl where
-  by : (o b : Bool) → is_open (if o && b then record link { phase = phase.Closed; closed_at = alive_until link; clock = now } else record link { clock = now }).phase ≡ false →
+closed_late now link opened closed = cases (nat_le (deadline link) now) refl where
+  by : (o b : Bool) → is_open (if o && b then record link { phase = phase.Closed; closed_at = deadline link; clock = now } else record link { clock = now }).phase ≡ false →
       is_open link.phase ≡ true → o ≡ true → b ≡ true
   by true true closed opened o = refl
   by true false closed opened o = absurd (true≢false (sym opened ∙ closed))
   by false b closed opened o = absurd (false≢true o)
 
-  cases : (b : Bool) → nat_le (alive_until link) now ≡ b → nat_le (alive_until link) now ≡ true
-  cases b is = by (is_open link.phase) (nat_le (alive_until link) now) closed opened opened
+  cases : (b : Bool) → nat_le (deadline link) now ≡ b → nat_le (deadline link) now ≡ true
+  cases b is = by (is_open link.phase) (nat_le (deadline link) now) closed opened opened
 
 reached : (until now : ℕ) → nat_le until now ≡ true → until ≤ now
 reached until now is = grind (arith, nat_tests)
@@ -134,7 +139,7 @@ passes clocked elapsed of_client of_server world told = record {
   now = reading_of (world.ends.server.clock + of_server)
 
   cases : (o : Bool) → is_open link.phase ≡ o → is_open (settled now link).phase ≡ false → is_outside world.stage ≡ false → alive_until link ≤ now
-  cases true opened closed inside = reached (alive_until link) now (closed_late now link opened closed)
+  cases true opened closed inside = told_past now link (reached (deadline link) now (closed_late now link opened closed))
   cases false was closed inside =
       let before : alive_until link ≤ reading_of world.ends.server.clock = told.late was inside
       in let goes : reading_of world.ends.server.clock ≤ now = reads_later world.ends.server.clock (world.ends.server.clock + of_server) (omega arith)
@@ -265,7 +270,7 @@ module _
 
         pub event_told : (event : Event SignalState) (world : World SignalState) → settled (reading_of world.ends.server.clock) world.ends.server.link ≡ world.ends.server.link →
             IsTold world → IsTold (happened signal_behaviour event world)
-        unfolding happened called lost restarted end_restarted host_restarted new_host keeping created alive_until
+        unfolding happened called lost restarted end_restarted host_restarted new_host keeping created alive_until deadline
         event_told (Commands call) world is_settled told = elsewhere world _ refl refl refl told
         event_told (Steps input connection) world is_settled told = step_told input connection world is_settled told
         event_told (Passes elapsed of_client of_server) world is_settled told = passes clocked elapsed of_client of_server world told
@@ -281,7 +286,7 @@ module _
 
         pub begun_told : (names : Names) (start : Start) (own_name peer_name : List ℕ) (signal : SignalState) (version : ℕ) →
             IsTold (begun signal_behaviour names start own_name peer_name signal version)
-        unfolding new_host keeping created alive_until
+        unfolding new_host keeping created alive_until deadline
         begun_told names start own_name peer_name signal version = record {
           steady = steady_of _ (new_law (identity_of role.Server names) own_name peer_name start.server_first start.server_clock signal version);
           until = refl;

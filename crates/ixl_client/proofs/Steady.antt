@@ -7,7 +7,7 @@ use Rattle.sci_telegram.specs.Telegrams.{writing}
 use Rattle.sci_telegram.specs.declared.message.Message.{Message}
 use Rattle.sci_telegram.specs.declared.message.Initialisation.TheVariants.{VersionCheck}
 use Rattle.rasta_core.specs.State.{LinkState, is_client, is_open, is_up}
-use Rattle.rasta_core.specs.Clock.{alive_until, settled}
+use Rattle.rasta_core.specs.Clock.{deadline, settled}
 use Rattle.rasta_core.specs.Parameters.{connection_limit}
 use Rattle.rasta_core.specs.Sending.{Step, beating, closing, entered, giving, is_told, limited, sending, silent, telling}
 use Rattle.rasta_core.specs.Opening.{beginning, may_open, requesting}
@@ -35,8 +35,8 @@ IsDown link = is_up link.phase ≡ false
 
 settled_down : (now : ℕ) (link : LinkState) → IsDown link → IsDown (settled now link)
 unfolding settled
-settled_down now link down = cases (is_open link.phase && nat_le (alive_until link) now) where
-  cases : (b : Bool) → IsDown (if b then record link { phase = phase.Closed; closed_at = alive_until link; clock = now } else record link { clock = now })
+settled_down now link down = cases (is_open link.phase && nat_le (deadline link) now) where
+  cases : (b : Bool) → IsDown (if b then record link { phase = phase.Closed; closed_at = deadline link; clock = now } else record link { clock = now })
   cases true = refl
   cases false = down
 

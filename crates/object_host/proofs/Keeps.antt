@@ -3,7 +3,7 @@ use Rattle.std.proofs.Common.{◌≡◌, ◌≤◌, ℕ, Bool, true, false, nat_
 use Rattle.std.proofs.lemmas.Bool.{false≢true}
 use Rattle.std.proofs.lemmas.Bool.Decides.{nat_tests}
 use Rattle.rasta_core.specs.State.{LinkState, is_open}
-use Rattle.rasta_core.specs.Clock.{alive_until, settled}
+use Rattle.rasta_core.specs.Clock.{deadline, settled}
 use Rattle.rasta_core.specs.phase.Phase.TheVariants as phase
 use Rattle.object_host.specs.Behaviour.{Behaviour}
 use Rattle.object_host.specs.Host.{HostState, fallen, is_completed, is_outside, then_do}
@@ -19,17 +19,17 @@ use Rattle.object_host.proofs.Told.{beating_same, ending_names, open_stage, pays
 past : (a b c : ℕ) → a ≤ b → nat_le c a ≡ true → nat_le c b ≡ true
 past a b c later at = grind (arith, nat_tests)
 
-settled_late : (now : ℕ) (link : LinkState) → is_open link.phase ≡ true → nat_le (alive_until link) now ≡ true →
-    settled now link ≡ record link { phase = phase.Closed; closed_at = alive_until link; clock = now }
+settled_late : (now : ℕ) (link : LinkState) → is_open link.phase ≡ true → nat_le (deadline link) now ≡ true →
+    settled now link ≡ record link { phase = phase.Closed; closed_at = deadline link; clock = now }
 unfolding settled
 settled_late now link opened late = rw (opened, late) refl
 
-settled_early : (now : ℕ) (link : LinkState) → is_open link.phase ≡ true → nat_le (alive_until link) now ≡ false → settled now link ≡ record link { clock = now }
+settled_early : (now : ℕ) (link : LinkState) → is_open link.phase ≡ true → nat_le (deadline link) now ≡ false → settled now link ≡ record link { clock = now }
 unfolding settled
 settled_early now link opened early = rw (opened, early) refl
 
-alive_then : (earlier : ℕ) (link : LinkState) → alive_until (record link { clock = earlier }) ≡ alive_until link
-unfolding alive_until
+alive_then : (earlier : ℕ) (link : LinkState) → deadline (record link { clock = earlier }) ≡ deadline link
+unfolding deadline
 alive_then earlier link = refl
 
 settled_from : (earlier now : ℕ) (link : LinkState) → settled now (record link { clock = earlier }) ≡ settled now link
@@ -39,13 +39,13 @@ settled_from earlier now link =
     (alive_then earlier link)
 
 settled_twice : (earlier now : ℕ) (link : LinkState) → earlier ≤ now → settled now (settled earlier link) ≡ settled now link
-settled_twice earlier now link later = cases (is_open link.phase) (nat_le (alive_until link) earlier) refl refl where
-  cases : (o b : Bool) → is_open link.phase ≡ o → nat_le (alive_until link) earlier ≡ b → settled now (settled earlier link) ≡ settled now link
+settled_twice earlier now link later = cases (is_open link.phase) (nat_le (deadline link) earlier) refl refl where
+  cases : (o b : Bool) → is_open link.phase ≡ o → nat_le (deadline link) earlier ≡ b → settled now (settled earlier link) ≡ settled now link
   cases false b closed at = ap (settled now) (settled_is earlier link closed) ∙ settled_from earlier now link
   cases true true opened at =
       ap (settled now) (settled_late earlier link opened at)
-      ∙ settled_is now (record link { phase = phase.Closed; closed_at = alive_until link; clock = earlier }) refl
-      ∙ sym (settled_late now link opened (past earlier now (alive_until link) later at))
+      ∙ settled_is now (record link { phase = phase.Closed; closed_at = deadline link; clock = earlier }) refl
+      ∙ sym (settled_late now link opened (past earlier now (deadline link) later at))
   cases true false opened at = ap (settled now) (settled_early earlier link opened at) ∙ settled_from earlier now link
 
 module _ {Object : Type 0} (does : Behaviour Object) where

@@ -1,5 +1,5 @@
 -- What an end that is in no connection does with a datagram: it takes no items, and only what it takes opens it.
-use Rattle.std.proofs.Common.{◌≡◌, ℕ, Bool, true, false, not, nat_le, nat_lt, ◌==◌, if◌then◌else◌, List, [], refl, ap, sym, ◌∙◌, subst}
+use Rattle.std.proofs.Common.{◌+◌, ◌≡◌, ℕ, Bool, true, false, not, nat_le, nat_lt, ◌==◌, if◌then◌else◌, List, [], refl, ap, sym, ◌∙◌, subst}
 use Rattle.std.specs.Prelude.{Result, Ok, Err}
 use Rattle.std.proofs.lemmas.Bool.{true≢false}
 use Rattle.rasta_pdu.specs.Reading.{reading}
@@ -7,9 +7,9 @@ use Rattle.rasta_pdu.specs.declared.body.Body.{Body}
 use Rattle.rasta_pdu.specs.declared.body.Body.TheVariants.{ConnectionRequest, ConnectionResponse, RetransmissionRequest, RetransmissionResponse, DisconnectionRequest, Heartbeat, Data, RetransmittedData}
 use Rattle.rasta_pdu.specs.declared.fault.PduFault.{PduFault}
 use Rattle.rasta_pdu.specs.declared.pdu.Pdu.{Pdu}
-use Rattle.rasta_core.specs.Parameters.{expiry}
+use Rattle.rasta_core.specs.Parameters.{quiet_time}
 use Rattle.rasta_core.specs.State.{LinkState, is_client, is_open}
-use Rattle.rasta_core.specs.Clock.{quiet_until, settled, state_at}
+use Rattle.rasta_core.specs.Clock.{deadline, settled, state_at}
 use Rattle.rasta_core.specs.Sending.{Step, entered, limited, silent}
 use Rattle.rasta_core.specs.Opening.{granting}
 use Rattle.rasta_core.specs.Receiving.{Receipt, accepting, by_state, hearing, refusing, resting}
@@ -46,11 +46,10 @@ resting_outside (RetransmittedData items) pdu link closed = refused _ link close
 
 by_state_outside : (pdu : Pdu) (link : LinkState) → is_open link.phase ≡ false → IsOutsideReceipt (by_state (state_at link.clock link) pdu link)
 unfolding by_state state_at
-by_state_outside pdu link closed = rw closed (cases (nat_le expiry link.clock) (nat_lt link.clock (quiet_until link))) where
-  cases : (e q : Bool) → IsOutsideReceipt (by_state (if e then state.Expired else if q then state.Quiet else state.Down) pdu link)
-  cases true q = refused _ link closed
-  cases false true = refused _ link closed
-  cases false false = resting_outside pdu.body pdu link closed
+by_state_outside pdu link closed = rw closed (cases (nat_lt link.clock (deadline link + quiet_time))) where
+  cases : (q : Bool) → IsOutsideReceipt (by_state (if q then state.Quiet else state.Down) pdu link)
+  cases true = refused _ link closed
+  cases false = resting_outside pdu.body pdu link closed
 
 hearing_outside : (pdu : Pdu) (link : LinkState) → is_open link.phase ≡ false → IsOutsideReceipt (hearing pdu link)
 unfolding hearing

@@ -2,9 +2,9 @@
 use Rattle.std.proofs.Common.{◌≡◌, ℕ, ◌+◌, ◌≤◌, Bool, true, false, List, [], length, ◌⊎◌, inl, inr, refl, ap, arith, nat_le, nat_lt, ◌&&◌, ◌==◌, not, if◌then◌else◌, Result, Ok, Err, is_ok}
 use Rattle.std.proofs.lemmas.List.{length-append, append-nil, nil_from_length}
 use Rattle.std.proofs.lemmas.Bool.{cases_lt, lt-ltb, lt-leb, le-leb}
-use Rattle.rasta_core_link.specs.Parameters.{expiry, quiet_time, sequence_range, stops_at_greatest}
+use Rattle.rasta_core_link.specs.Parameters.{quiet_time, sequence_range}
 use Rattle.rasta_core_link.specs.State.{LinkState, is_open, is_client}
-use Rattle.rasta_core_link.specs.Clock.{alive_until, quiet_until, state_at}
+use Rattle.rasta_core_link.specs.Clock.{deadline, state_at}
 use Rattle.rasta_core_link.specs.Sending.{Step, silent, then_do, closed, sending, telling, closing, limited, entered, beating, giving}
 use Rattle.rasta_core_link.specs.Opening.{is_down, may_open, requesting, judging, granting, joining}
 use Rattle.rasta_core_link.specs.Receiving.{Receipt, refusing, violating, accepting, ahead, is_stale, confirms, answers_request, taking, repeating, answering, missing, handing, bringing, in_turn, admission, admitting, testing, connected, asking, resting, by_state, hearing}
@@ -167,7 +167,6 @@ few-resting (RetransmittedData items) pdu link = refused _ link
 
 few-by_state : (at : State) (pdu : Pdu) (link : LinkState) → length link.waiting ≤ 20 → Few (by_state at pdu link)
 unfolding by_state
-few-by_state state.Expired pdu link h = refused _ link
 few-by_state state.Quiet pdu link h = refused _ link
 few-by_state state.Down pdu link h = few-resting pdu.body pdu link
 few-by_state state.Start pdu link h = if_few _ _ _ (few-asking pdu.body pdu link) (few-connected pdu.body pdu link h)
@@ -187,7 +186,7 @@ unfolding hearing_bytes
 few-hearing_bytes (Err fault) link h = refused _ link
 few-hearing_bytes (Ok pdu) link h = few-hearing pdu link h
 
--- a link that closes by its limit is quiet or has expired, and hands out no more in that call
+-- a link that closes by its limit is quiet, and hands out no more in that call
 
 pub record JustClosed (link : LinkState) : Type 0 where
   pub phase : link.phase ≡ phase.Closed
@@ -205,18 +204,11 @@ just-entered : (now : ℕ) (link : LinkState) → 1 ≤ length (entered now link
 unfolding entered limited
 just-entered now link h = just_if _ _ h
 
-rests : (link : LinkState) → JustClosed link → (state_at link.clock link ≡ state.Expired) ⊎ (state_at link.clock link ≡ state.Quiet)
-unfolding state_at quiet_until alive_until
+rests : (link : LinkState) → JustClosed link → state_at link.clock link ≡ state.Quiet
+unfolding state_at deadline
 rests link just =
-    elim (cases_lt link.clock expiry) [
-      | inl before ↦
-          let quiet : nat_lt link.clock (stops_at_greatest (link.closed_at + quiet_time)) ≡ true = lt-ltb _ _ (rw just.closed_at (omega arith)) in
-          let alive : nat_le expiry link.clock ≡ false = lt-leb _ _ before in
-          inr (rw (alive, just.phase, quiet) refl)
-      | inr expired ↦
-          let over : nat_le expiry link.clock ≡ true = le-leb _ _ expired in
-          inl (rw over refl)
-    ]
+    let quiet : nat_lt link.clock (link.closed_at + quiet_time) ≡ true = lt-ltb _ _ (rw just.closed_at (omega arith)) in
+    rw (just.phase, quiet) refl
 
 once : (first : Step) (next : LinkState → Step) → length first.pdus ≤ 1 → (1 ≤ length first.pdus → (next first.link).pdus ≡ []) → length (next first.link).pdus ≤ 1 → length (then_do first next).pdus ≤ 1
 once first next few silent_after more =
@@ -240,11 +232,7 @@ client_and_down true at h = h
 client_and_down false at h = refl
 
 not_down : (link : LinkState) → JustClosed link → is_down (state_at link.clock link) ≡ false
-not_down link just =
-    elim (rests link just) [
-      | inl expired ↦ rw expired refl
-      | inr quiet ↦ rw quiet refl
-    ]
+not_down link just = rw (rests link just) refl
 
 few-asking_for : (test : Bool) (link : LinkState) → length (if test then requesting link else silent link).pdus ≤ 1
 few-asking_for true link = rw one-requesting (omega arith)
@@ -293,11 +281,7 @@ if_nothing false why link other p = p
 
 nothing-by_state : (pdu : Pdu) (link : LinkState) → JustClosed link → Nothing (by_state (state_at link.clock link) pdu link)
 unfolding by_state
-nothing-by_state pdu link just =
-    elim (rests link just) [
-      | inl expired ↦ rw expired (record { pdus = refl; items = refl })
-      | inr quiet ↦ rw quiet (record { pdus = refl; items = refl })
-    ]
+nothing-by_state pdu link just = rw (rests link just) (record { pdus = refl; items = refl })
 
 nothing-hearing_bytes : (read : Result Pdu PduFault) (link : LinkState) → JustClosed link → Nothing (hearing_bytes read link)
 unfolding hearing_bytes hearing

@@ -173,7 +173,6 @@ resting-keeps (RetransmittedData _) pdu l = same
 
 by_state-keeps : (present : State) (pdu : Pdu) (l : LinkState) → Keeps l (by_state present pdu l).link
 unfolding by_state
-by_state-keeps state.Expired pdu l = same
 by_state-keeps state.Quiet pdu l = same
 by_state-keeps state.Down pdu l = resting-keeps pdu.body pdu l
 by_state-keeps state.Start pdu l = if_receipt l _ _ _ (asking-keeps pdu.body pdu l) (connected-keeps pdu.body pdu l)

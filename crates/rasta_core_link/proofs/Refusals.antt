@@ -50,7 +50,6 @@ violates state.RetransmissionRequested link is e = refl
 violates state.RetransmissionRunning link is e = refl
 violates state.Quiet link is e = absurd is
 violates state.Down link is e = absurd is
-violates state.Expired link is e = absurd is
 
 takes : (present : State) (link : LinkState) (receipt : Receipt) → receipt.verdict ≡ verdict.Taken → Leaves present link receipt
 takes present link receipt is e = cc
@@ -139,7 +138,6 @@ resting_leaves (RetransmittedData _) pdu link = λ e. refl
 
 by_state_leaves : (present : State) (pdu : Pdu) (link : LinkState) → Leaves present link (by_state present pdu link)
 unfolding by_state
-by_state_leaves state.Expired pdu link = λ e. refl
 by_state_leaves state.Quiet pdu link = λ e. refl
 by_state_leaves state.Down pdu link = resting_leaves pdu.body pdu link
 by_state_leaves state.Start pdu link =

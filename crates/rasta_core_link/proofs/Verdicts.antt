@@ -1,15 +1,15 @@
 -- The verdict of each call is that of the table of tests.
-use Rattle.std.proofs.Common.{◌≡◌, ◌≢◌, ℕ, ◌<◌, Bool, true, false, List, [], ◌∷◌, ◌⊎◌, inl, inr, Result, Ok, Err, refl, sym, subst, arith}
+use Rattle.std.proofs.Common.{◌≡◌, ◌≢◌, ℕ, ◌+◌, ◌<◌, Bool, true, false, List, [], ◌∷◌, ◌⊎◌, inl, inr, Result, Ok, Err, refl, sym, subst, arith}
 use Rattle.std.specs.Prelude.{if◌then◌else◌, nat_le, nat_lt, ◌==◌, ◌&&◌, not}
 use Rattle.std.proofs.lemmas.Bool.Decides.{nat_tests}
-use Rattle.rasta_core_link.specs.Parameters.{sequence_range, expiry}
+use Rattle.rasta_core_link.specs.Parameters.{sequence_range, quiet_time}
 use Rattle.rasta_core_link.specs.Sequence.{stamp}
 use Rattle.rasta_core_link.specs.State.{LinkState, is_open, is_client}
-use Rattle.rasta_core_link.specs.Clock.{state_at, open_state, alive_until, quiet_until}
+use Rattle.rasta_core_link.specs.Clock.{state_at, open_state, deadline}
 use Rattle.rasta_core_link.specs.Receiving.{Receipt, refusing, violating, ahead, missing, handing, bringing, in_turn, admission, admitting, is_stale, confirms, testing, is_opening_again, connected, answers_request, asking, resting, by_state, hearing, taking}
 use Rattle.rasta_core_link.specs.Calls.{hearing_bytes, receiving}
 use Rattle.rasta_core_link.specs.Sending.{entered}
-use Rattle.rasta_core_link.specs.Verdicts.{Test, ForAnother, FromAnother, InExpired, InQuiet, OutOfPlace, OpensAgain, OpensAnew, AnswersAnother, TooFar, TooOld, ConfirmsAnother, NotAllowed, NotAwaited, AfterMissing, tests, tests_in_connection, verdict_of, IsRequest, IsClient, IsTested, IsOutOfPlace, IsInTurn, Fails, IsFirst, IsVerdict}
+use Rattle.rasta_core_link.specs.Verdicts.{Test, ForAnother, FromAnother, InQuiet, OutOfPlace, OpensAgain, OpensAnew, AnswersAnother, TooFar, TooOld, ConfirmsAnother, NotAllowed, NotAwaited, AfterMissing, tests, tests_in_connection, verdict_of, IsRequest, IsClient, IsTested, IsOutOfPlace, IsInTurn, Fails, IsFirst, IsVerdict}
 use Rattle.rasta_core_link.specs.declared.identity.Role.{Role}
 use Rattle.rasta_core_link.specs.declared.identity.Role.TheVariants as role
 use Rattle.rasta_core_link.specs.declared.phase.Phase.{Phase}
@@ -107,17 +107,6 @@ in_type (RetransmittedData items) phase.RetransmissionRunning who pdu link other
     inr ((λ f. f.1.1 refl), inr ((λ f. cc), in_order who state.RetransmissionRunning (RetransmittedData items) pdu link is tt))
 
 -- numbers and stamps
-stale_one : (pdu : Pdu) (link : LinkState) → is_stale pdu link ≡ true → (pdu.confirmed_time_stamp < link.own_stamp) ⊎ (link.clock < pdu.confirmed_time_stamp)
-stale_one pdu link e = choose (nat_lt pdu.confirmed_time_stamp link.own_stamp) refl
-  where
-    choose : (b : Bool) → nat_lt pdu.confirmed_time_stamp link.own_stamp ≡ b → (pdu.confirmed_time_stamp < link.own_stamp) ⊎ (link.clock < pdu.confirmed_time_stamp)
-    choose true f = inl (less _ _ f)
-    choose false f = inr (less _ _ (grind (arith, e, f)))
-
-not_stale : (pdu : Pdu) (link : LinkState) → is_stale pdu link ≡ false → (pdu.confirmed_time_stamp < link.own_stamp) ⊎ (link.clock < pdu.confirmed_time_stamp) → ⊥
-not_stale pdu link e (inl old) = grind (arith, e, old, nat_tests)
-not_stale pdu link e (inr new) = grind (arith, e, new, nat_tests)
-
 in_numbers : (who : Role) (pdu : Pdu) (link : LinkState) → (IsRequest pdu.body → ⊥) → IsTested (open_state link.phase) who
     → IsFirst (Fails (open_state link.phase) who pdu.body pdu link) tests_in_connection (testing pdu link).verdict
 unfolding testing
@@ -125,7 +114,7 @@ in_numbers who pdu link other is =
     tested F TooFar (TooOld ∷ ConfirmsAnother ∷ types) (nat_lt sequence_range (ahead pdu link)) link fresh
     (λ e. (is, less _ _ e)) (λ e f. not_less _ _ e f.1)
     (λ e. tested F TooOld (ConfirmsAnother ∷ types) (is_stale pdu link) link confirmed
-    (λ f. (is, stale_one pdu link f)) (λ f g. not_stale pdu link f g.1)
+    (λ f. (is, less _ _ f)) (λ f g. not_less _ _ f g.1)
     (λ f. tested F ConfirmsAnother types (not (confirms pdu link)) link admitted
     (λ g. (is, grind (arith, g, nat_tests))) (λ g h. grind (arith, g, h.1, nat_tests))
     (λ g. in_type pdu.body link.phase who pdu link other is)))
@@ -161,7 +150,6 @@ in_place body who state.Up is other f = other f.1
 in_place body who state.RetransmissionRequested is other f = other f.1
 in_place body who state.RetransmissionRunning is other f = other f.1
 in_place body who state.Quiet is other f = other f.1
-in_place body who state.Expired is other f = other f.1
 in_place body who state.Down is other f = closed who is
 
 not_starting : (who : Role) (present : State) → IsTested present who → present ≡ state.Start → IsClient who → ⊥
@@ -171,7 +159,6 @@ not_starting role.Client state.RetransmissionRequested is e c = cc
 not_starting role.Client state.RetransmissionRunning is e c = cc
 not_starting role.Client state.Quiet is e c = is
 not_starting role.Client state.Down is e c = is
-not_starting role.Client state.Expired is e c = is
 not_starting role.Server present is e c = c
 
 -- a PDU of any type in a connection
@@ -191,7 +178,6 @@ client_up state.RetransmissionRunning body is r = (tt, r)
 client_up state.Start body is r = absurd is
 client_up state.Quiet body is r = absurd is
 client_up state.Down body is r = absurd is
-client_up state.Expired body is r = absurd is
 
 server_up : (present : State) (body : Body) → IsTested present role.Server → IsOutOfPlace present body role.Server → ⊥
 server_up state.Start body is f = f.0
@@ -200,7 +186,6 @@ server_up state.RetransmissionRequested body is f = f.0
 server_up state.RetransmissionRunning body is f = f.0
 server_up state.Quiet body is f = is
 server_up state.Down body is f = is
-server_up state.Expired body is f = is
 
 refused_as : (b : Bool) (link : LinkState) → b ≡ false → (if b then refusing verdict.Discarded link else violating link).verdict ≡ verdict.WrongState
 refused_as false link e = refl
@@ -303,41 +288,34 @@ in_start_of role.Server pdu link e rest = in_connection pdu.body role.Server sta
 
 in_state : (present : State) (pdu : Pdu) (link : LinkState)
     → ((who : Role) → IsTested present who → (IsRequest pdu.body → ⊥) → IsFirst (Fails present who pdu.body pdu link) tests_in_connection (testing pdu link).verdict)
-    → IsFirst (Fails present link.identity.role pdu.body pdu link) (InExpired ∷ InQuiet ∷ OutOfPlace ∷ OpensAgain ∷ OpensAnew ∷ AnswersAnother ∷ tests_in_connection)
+    → IsFirst (Fails present link.identity.role pdu.body pdu link) (InQuiet ∷ OutOfPlace ∷ OpensAgain ∷ OpensAnew ∷ AnswersAnother ∷ tests_in_connection)
     (by_state present pdu link).verdict
 unfolding by_state
-in_state state.Expired pdu link rest = inl (refl, refl)
-in_state state.Quiet pdu link rest = inr ((λ e. cc), inl (refl, refl))
-in_state state.Down pdu link rest = inr ((λ e. cc), inr ((λ e. cc), in_down pdu.body pdu link))
-in_state state.Start pdu link rest = inr ((λ e. cc), inr ((λ e. cc), in_start_of link.identity.role pdu link refl (rest link.identity.role)))
+in_state state.Quiet pdu link rest = inl (refl, refl)
+in_state state.Down pdu link rest = inr ((λ e. cc), in_down pdu.body pdu link)
+in_state state.Start pdu link rest = inr ((λ e. cc), in_start_of link.identity.role pdu link refl (rest link.identity.role))
 in_state state.Up pdu link rest =
-    inr ((λ e. cc), inr ((λ e. cc), in_connection pdu.body link.identity.role state.Up pdu link refl tt (rest link.identity.role tt)))
+    inr ((λ e. cc), in_connection pdu.body link.identity.role state.Up pdu link refl tt (rest link.identity.role tt))
 in_state state.RetransmissionRequested pdu link rest =
-    inr ((λ e. cc), inr ((λ e. cc), in_connection pdu.body link.identity.role state.RetransmissionRequested pdu link refl tt (rest link.identity.role tt)))
+    inr ((λ e. cc), in_connection pdu.body link.identity.role state.RetransmissionRequested pdu link refl tt (rest link.identity.role tt))
 in_state state.RetransmissionRunning pdu link rest =
-    inr ((λ e. cc), inr ((λ e. cc), in_connection pdu.body link.identity.role state.RetransmissionRunning pdu link refl tt (rest link.identity.role tt)))
+    inr ((λ e. cc), in_connection pdu.body link.identity.role state.RetransmissionRunning pdu link refl tt (rest link.identity.role tt))
 
 -- the state of a link that is tested is that of its phase
-phase_tells : (expired shut quiet : Bool) (present : Phase) (P : State → Type 0)
-    → (P (open_state present)) → (P state.Expired) → (P state.Quiet) → (P state.Down)
-    → P (if expired then state.Expired else if shut then open_state present else if quiet then state.Quiet else state.Down)
-phase_tells true shut quiet present P a b c d = b
-phase_tells false true quiet present P a b c d = a
-phase_tells false false true present P a b c d = c
-phase_tells false false false present P a b c d = d
+phase_tells : (inside quiet : Bool) (present : Phase) (P : State → Type 0) → (P (open_state present)) → (P state.Quiet) → (P state.Down)
+    → P (if inside then open_state present else if quiet then state.Quiet else state.Down)
+phase_tells true quiet present P a b c = a
+phase_tells false true present P a b c = b
+phase_tells false false present P a b c = c
 
 in_numbers_of : (pdu : Pdu) (link : LinkState) (who : Role) → IsTested (state_at link.clock link) who → (IsRequest pdu.body → ⊥)
     → IsFirst (Fails (state_at link.clock link) who pdu.body pdu link) tests_in_connection (testing pdu link).verdict
 unfolding state_at
 in_numbers_of pdu link who =
-    phase_tells (nat_le expiry link.clock) (is_open link.phase && nat_lt link.clock (alive_until link)) (nat_lt link.clock (quiet_until link)) link.phase
+    phase_tells (is_open link.phase && nat_lt link.clock (deadline link)) (nat_lt link.clock (deadline link + quiet_time)) link.phase
     (λ present. IsTested present who → (IsRequest pdu.body → ⊥) → IsFirst (Fails present who pdu.body pdu link) tests_in_connection (testing pdu link).verdict)
-    (λ is other. in_numbers who pdu link other is) (λ is. absurd (untested_state who is)) (λ is. absurd (quiet who is)) (λ is. absurd (closed who is))
+    (λ is other. in_numbers who pdu link other is) (λ is. absurd (quiet who is)) (λ is. absurd (closed who is))
   where
-    untested_state : (who : Role) → IsTested state.Expired who → ⊥
-    untested_state role.Client is = is
-    untested_state role.Server is = is
-
     quiet : (who : Role) → IsTested state.Quiet who → ⊥
     quiet role.Client is = is
     quiet role.Server is = is
@@ -354,7 +332,7 @@ hearing-verdict pdu link =
     F = Fails (state_at link.clock link) link.identity.role pdu.body pdu link
 
     others : List Test
-    others = InExpired ∷ InQuiet ∷ OutOfPlace ∷ OpensAgain ∷ OpensAnew ∷ AnswersAnother ∷ tests_in_connection
+    others = InQuiet ∷ OutOfPlace ∷ OpensAgain ∷ OpensAnew ∷ AnswersAnother ∷ tests_in_connection
 
     stated : Receipt
     stated = by_state (state_at link.clock link) pdu link

@@ -1,6 +1,6 @@
 -- What each call of a link does, from its creation on.
-use Rattle.std.specs.Prelude.{◌≡◌, ℕ, ◌≤◌, nat_lt, min, Bool, List, [], ◌++◌, length, Result, Ok, Err, is_ok, if◌then◌else◌}
-use Rattle.rasta_core_link.specs.Parameters.{window_size, expiry}
+use Rattle.std.specs.Prelude.{◌≡◌, ℕ, ◌≤◌, nat_lt, Bool, List, [], ◌++◌, length, Result, Ok, Err, is_ok, if◌then◌else◌}
+use Rattle.rasta_core_link.specs.Parameters.{window_size}
 use Rattle.rasta_core_link.specs.State.{LinkState, is_open, is_up}
 use Rattle.rasta_core_link.specs.Sending.{Step, silent, then_do, entered, beating, giving, closing}
 use Rattle.rasta_core_link.specs.Opening.{may_open, requesting}
@@ -21,7 +21,7 @@ created identity first_sequence_number now = record {
   identity = identity;
   phase = phase.Closed;
   clock = now;
-  closed_at = min now expiry;
+  closed_at = now;
   own_stamp = 0;
   own_first = first_sequence_number;
   sent = 0;

@@ -21,10 +21,6 @@ sequence_range = 200
 abbrev pub quiet_time : ℕ
 quiet_time = 6000
 
--- from this clock reading on a link has expired for good
-abbrev pub expiry : ℕ
-expiry = 4294000000
-
 -- how many PDUs an end sends in a connection before it closes it
 abbrev pub connection_limit : ℕ
 connection_limit = 2147483000
@@ -40,6 +36,10 @@ own_version = 0x30 ∷ 0x33 ∷ 0x30 ∷ 0x33 ∷ []
 abbrev pub no_reserved : List ℕ
 no_reserved = 0 ∷ 0 ∷ 0 ∷ 0 ∷ 0 ∷ 0 ∷ 0 ∷ 0 ∷ []
 
--- a sum with a clock, and a count, stop at the greatest 64-bit number
+-- the greatest clock reading, and the greatest count
+abbrev pub greatest : ℕ
+greatest = 2 ^ 64 - 1
+
+-- a sum with a clock, and a count, stop there
 abbrev pub stops_at_greatest : ℕ → ℕ
-stops_at_greatest n = min n (2 ^ 64 - 1)
+stops_at_greatest n = min n greatest

@@ -48,10 +48,13 @@ ahead pdu link = distance (wire link.partner_first link.expected) pdu.sequence_n
 unfoldable pub behind : Pdu → LinkState → ℕ
 behind pdu link = distance pdu.confirmed_sequence_number (wire link.own_first (before link.sent))
 
--- the own stamp that it returns is older than the last one returned, or lies in the future
+-- how old the own stamp is that it returns; stamps turn over after 2^32 ms
+unfoldable pub age : Pdu → LinkState → ℕ
+age pdu link = distance pdu.confirmed_time_stamp (stamp link.clock)
+
+-- the own stamp that it returns is older than the last one returned
 abbrev pub is_stale : Pdu → LinkState → Bool
-is_stale pdu link =
-    if nat_lt pdu.confirmed_time_stamp link.own_stamp then true else nat_lt link.clock pdu.confirmed_time_stamp
+is_stale pdu link = nat_lt (link.clock - link.own_stamp) (age pdu link)
 
 -- it confirms an own PDU, none before the one confirmed last
 abbrev pub confirms : Pdu → LinkState → Bool
@@ -67,7 +70,7 @@ unfoldable pub taking : Pdu → LinkState → LinkState
 taking pdu link = record link {
   expected = wire link.expected (ahead pdu link + 1);
   partner_stamp = pdu.time_stamp;
-  own_stamp = pdu.confirmed_time_stamp;
+  own_stamp = link.clock - age pdu link;
   confirmed = link.sent - 1 - behind pdu link;
   waiting = still_waiting (link.sent - 1 - behind pdu link) link.waiting;
 }
@@ -183,7 +186,6 @@ resting (ConnectionRequest opening) pdu link =
 resting _ pdu link = refusing verdict.WrongState link
 
 unfoldable pub by_state : State → Pdu → LinkState → Receipt
-by_state state.Expired pdu link = refusing verdict.Expired link
 by_state state.Quiet pdu link = refusing verdict.Quiet link
 by_state state.Down pdu link = resting pdu.body pdu link
 by_state state.Start pdu link =

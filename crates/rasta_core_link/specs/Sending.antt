@@ -61,12 +61,10 @@ reason_number reason.Sequence = 2
 reason_number reason.Time = 3
 reason_number reason.Version = 4
 reason_number reason.Window = 5
-reason_number reason.Expired = 6
 
 -- whether a close for this reason is told to the partner
 abbrev pub is_told : Reason → Bool
 is_told reason.Time = false
-is_told reason.Expired = false
 is_told _ = true
 
 abbrev pub closed : LinkState → LinkState

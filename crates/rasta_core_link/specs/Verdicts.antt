@@ -1,11 +1,11 @@
 -- The verdict on a datagram as a table of tests: the first test that fails tells it.
-use Rattle.std.specs.Prelude.{◌≡◌, ◌≢◌, ◌+◌, ◌<◌, ◌≤◌, ◌⊎◌, List, [], ◌∷◌, Bool, true, false, Result, Ok, Err}
+use Rattle.std.specs.Prelude.{◌≡◌, ◌≢◌, ◌+◌, ◌-◌, ◌<◌, ◌≤◌, ◌⊎◌, List, [], ◌∷◌, Bool, true, false, Result, Ok, Err}
 use Rattle.rasta_core_link.specs.Parameters.{sequence_range}
 use Rattle.rasta_core_link.specs.Sequence.{stamp}
 use Rattle.rasta_core_link.specs.State.{LinkState}
 use Rattle.rasta_core_link.specs.Clock.{state_at}
 use Rattle.rasta_core_link.specs.Sending.{Step, silent, then_do, telling}
-use Rattle.rasta_core_link.specs.Receiving.{Receipt, ahead, behind}
+use Rattle.rasta_core_link.specs.Receiving.{Receipt, age, ahead, behind}
 use Rattle.rasta_core_link.specs.declared.identity.Role.{Role}
 use Rattle.rasta_core_link.specs.declared.identity.Role.TheVariants as role
 use Rattle.rasta_core_link.specs.declared.phase.State.{State}
@@ -22,7 +22,6 @@ use Rattle.rasta_pdu.specs.declared.body.Body.TheVariants.{ConnectionRequest, Co
 pub data Test : Type 0 where
   ForAnother : Test
   FromAnother : Test
-  InExpired : Test
   InQuiet : Test
   OutOfPlace : Test
   OpensAgain : Test
@@ -41,13 +40,12 @@ tests_in_connection = TooFar ∷ TooOld ∷ ConfirmsAnother ∷ NotAllowed ∷ N
 
 -- All tests, in their order.
 abbrev pub tests : List Test
-tests = ForAnother ∷ FromAnother ∷ InExpired ∷ InQuiet ∷ OutOfPlace ∷ OpensAgain ∷ OpensAnew ∷ AnswersAnother ∷ tests_in_connection
+tests = ForAnother ∷ FromAnother ∷ InQuiet ∷ OutOfPlace ∷ OpensAgain ∷ OpensAnew ∷ AnswersAnother ∷ tests_in_connection
 
 -- The verdict where a test fails. The last one refuses nothing: a PDU before this one is missing, and is asked for.
 abbrev pub verdict_of : Test → Verdict
 verdict_of ForAnother = verdict.NotForMe
 verdict_of FromAnother = verdict.WrongSender
-verdict_of InExpired = verdict.Expired
 verdict_of InQuiet = verdict.Quiet
 verdict_of OutOfPlace = verdict.WrongState
 verdict_of OpensAgain = verdict.Discarded
@@ -110,7 +108,6 @@ IsInTurn body = Unit {0}
 abbrev pub Fails : State → Role → Body → Pdu → LinkState → Test → Type 0
 Fails present who body pdu link ForAnother = pdu.receiver ≢ link.identity.own
 Fails present who body pdu link FromAnother = pdu.sender ≢ link.identity.partner
-Fails present who body pdu link InExpired = present ≡ state.Expired
 Fails present who body pdu link InQuiet = present ≡ state.Quiet
 Fails present who body pdu link OutOfPlace = IsOutOfPlace present body who
 Fails present who body pdu link OpensAgain =
@@ -121,7 +118,7 @@ Fails present who body pdu link AnswersAnother =
     × ((pdu.confirmed_sequence_number ≢ link.own_first) ⊎ (pdu.confirmed_time_stamp ≢ stamp link.own_stamp))
 Fails present who body pdu link TooFar = IsTested present who × (sequence_range < ahead pdu link)
 Fails present who body pdu link TooOld =
-    IsTested present who × ((pdu.confirmed_time_stamp < link.own_stamp) ⊎ (link.clock < pdu.confirmed_time_stamp))
+    IsTested present who × (link.clock - link.own_stamp < age pdu link)
 Fails present who body pdu link ConfirmsAnother = IsTested present who × (link.sent ≤ behind pdu link + link.confirmed)
 Fails present who body pdu link NotAllowed = IsTested present who × IsNotAllowed body present
 Fails present who body pdu link NotAwaited = IsTested present who × IsInTurn body × (present ≡ state.RetransmissionRequested)

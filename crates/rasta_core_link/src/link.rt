@@ -3,7 +3,7 @@
 ghost use Rattle.std.specs.Prelude.{◌≡◌, ◌≤◌, ◌↔◌, IsTrue, IfOk};
 
 use crate::identity::{Identity, Role};
-use crate::parameters::{EXPIRY, WINDOW_SIZE};
+use crate::parameters::WINDOW_SIZE;
 use crate::phase::Phase;
 use crate::window::Unconfirmed;
 use circular_buffer::HeapCircularBuffer;
@@ -160,7 +160,7 @@ impl Link {
             identity,
             phase: Phase::Closed,
             clock: now,
-            closed_at: now.min(EXPIRY),
+            closed_at: now,
             own_stamp: 0,
             own_first: first_sequence_number,
             sent: 0,

@@ -15,9 +15,6 @@ pub(crate) const SEQUENCE_RANGE: u32 = 200;
 /// How long an end stays quiet after its creation and after every close.
 pub(crate) const QUIET_TIME: u64 = 6000;
 
-/// From this clock reading on a link has expired for good: stamps stay below 2^32.
-pub(crate) const EXPIRY: u64 = 4_294_000_000;
-
 /// How many PDUs an end sends in a connection before it closes it.
 pub(crate) const CONNECTION_LIMIT: u32 = 2_147_483_000;
 

@@ -59,6 +59,4 @@ pub enum State {
     RetransmissionRequested,
     /// Up, and the missing PDUs are coming.
     RetransmissionRunning,
-    /// The clock has reached the expiry, before stamps could wrap.
-    Expired,
 }

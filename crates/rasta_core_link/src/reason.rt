@@ -17,14 +17,12 @@ pub enum Reason {
     Version = 4,
     /// The partner has another window, or the own one is full.
     Window = 5,
-    /// The clock has reached the expiry, before stamps could wrap.
-    Expired = 6,
 }
 
 impl Reason {
     ghost use Rattle.rasta_core_link.specs.Sending.{reason_number, is_told};
 
-    /// Its number in a disconnection request, 0 to 6.
+    /// Its number in a disconnection request, 0 to 5.
     pub fn number(self) -> u16
         ensures { result ≡ reason_number self }
     {
@@ -35,6 +33,6 @@ impl Reason {
     pub(crate) fn is_told(self) -> bool
         ensures { result ≡ is_told self }
     {
-        !matches!(self, Reason::Time | Reason::Expired)
+        !matches!(self, Reason::Time)
     }
 }

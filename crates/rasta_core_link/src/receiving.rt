@@ -1,12 +1,12 @@
 //! What an end does with a PDU that could be read: the tests in their order, and what is taken.
 
-ghost use Rattle.std.specs.Prelude.{◌≡◌, ◌<◌, ◌≤◌, ◌+◌, [], IsTrue};
+ghost use Rattle.std.specs.Prelude.{◌≡◌, ◌<◌, ◌≤◌, ◌+◌, ◌-◌, [], IsTrue};
 ghost use Rattle.rasta_core_link.specs.Outbox.{HasRoomFor, posted};
 ghost use Rattle.rasta_core_link.specs.Parameters.{connection_limit, sequence_range};
 ghost use Rattle.rasta_core_link.specs.Sequence.{distance};
 
 use crate::admission::Admission;
-use crate::link::Link;
+use crate::link::{Link, Millis};
 use crate::outbox::Outbox;
 use crate::parameters::SEQUENCE_RANGE;
 use crate::phase::{Phase, State};
@@ -41,7 +41,7 @@ impl Link {
     ghost use Rattle.rasta_core_link.specs.State.{is_open};
     ghost use Rattle.rasta_core_link.specs.Sending.{closed};
     ghost use Rattle.rasta_core_link.specs.Clock.{state_at};
-    ghost use Rattle.rasta_core_link.specs.Receiving.{ahead, behind, is_stale, confirms, taking, answering, missing, handing, bringing, in_turn, violating, admission, admitting, testing, is_opening_again, connected, answers_request, asking, resting, by_state, hearing};
+    ghost use Rattle.rasta_core_link.specs.Receiving.{age, ahead, behind, is_stale, confirms, taking, answering, missing, handing, bringing, in_turn, violating, admission, admitting, testing, is_opening_again, connected, answers_request, asking, resting, by_state, hearing};
 
     /// How far a PDU is ahead of the expected one.
     #[tactic(auto, unfolding(crate::specs::Receiving::ahead))]
@@ -61,12 +61,26 @@ impl Link {
         distance(pdu.confirmed_sequence_number, last)
     }
 
-    /// The own stamp that it returns is older than the last one returned, or lies in the future.
+    /// How old the own stamp is that it returns.
+    #[tactic(auto, unfolding(crate::specs::Receiving::age))]
+    fn age(&self, pdu: &Pdu) -> u32
+        ensures { result ≡ age pdu.now self.now }
+    {
+        distance(pdu.confirmed_time_stamp, stamp(self.clock))
+    }
+
+    /// The own clock reading whose stamp it returns.
+    fn returned(&self, pdu: &Pdu) -> Millis
+        ensures { result ≡ self.now.clock - age pdu.now self.now }
+    {
+        self.clock.saturating_sub(u64::from(self.age(pdu)))
+    }
+
+    /// The own stamp that it returns is older than the last one returned.
     fn is_stale(&self, pdu: &Pdu) -> bool
         ensures { result ≡ is_stale pdu.now self.now }
     {
-        let returned = u64::from(pdu.confirmed_time_stamp);
-        returned < self.own_stamp || returned > self.clock
+        u64::from(self.age(pdu)) > self.clock.saturating_sub(self.own_stamp)
     }
 
     /// It confirms an own PDU, none before the one confirmed last.
@@ -84,9 +98,10 @@ impl Link {
         ensures { self.new ≡ taking pdu.now self.old }
     {
         let confirmed = self.sent - 1 - self.behind(pdu);
+        let returned = self.returned(pdu);
         self.expected = self.expected.wrapping_add(self.ahead(pdu) + 1);
         self.partner_stamp = pdu.time_stamp;
-        self.own_stamp = u64::from(pdu.confirmed_time_stamp);
+        self.own_stamp = returned;
         self.confirmed = confirmed;
         window::drop_confirmed(&mut self.waiting, confirmed);
     }
@@ -339,7 +354,6 @@ impl Link {
         ensures verdict { result ≡ (by_state (state_at self.old.clock self.old) pdu.now self.old).verdict }
     {
         match self.state(self.clock) {
-            State::Expired => Verdict::Expired,
             State::Quiet => Verdict::Quiet,
             State::Down => self.receive_resting(pdu, outbox),
             State::Start if self.identity.role.is_client() => self.receive_asking(pdu, outbox),

@@ -17,7 +17,7 @@ pub enum Verdict {
     WrongSender,
     /// Its sequence number isn't 0 to 200 ahead of the expected one.
     OutOfRange,
-    /// It returns a stamp older than the last one returned, or later than the clock.
+    /// It returns an older stamp than the last one returned.
     Stale,
     /// It confirms no own PDU, or one before the last confirmed.
     BadConfirm,
@@ -27,6 +27,4 @@ pub enum Verdict {
     Discarded,
     /// The link is quiet after a close.
     Quiet,
-    /// The clock has reached the expiry, before stamps could wrap.
-    Expired,
 }

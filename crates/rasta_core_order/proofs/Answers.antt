@@ -9,8 +9,8 @@ use Rattle.rasta_pdu.specs.declared.body.Body.{Body}
 use Rattle.rasta_pdu.specs.declared.body.Body.TheVariants.{RetransmissionRequest, RetransmissionResponse, Heartbeat, RetransmittedData}
 use Rattle.rasta_core_order.specs.Held.{Held, Head}
 use Rattle.rasta_core_order.specs.Part.{IsAt, Part, sent, later, items_of}
-use Rattle.rasta_core_order.specs.Order.{IsLevel, Brings, Carries, IsSent, Rises, Waits, Counts, Way}
-use Rattle.rasta_core_order.proofs.Places.{split, within, IsAfter}
+use Rattle.rasta_core_order.specs.Order.{IsLevel, Brings, Carries, IsClosing, OpensOn, IsSent, Rises, Waits, Counts, Way}
+use Rattle.rasta_core_order.proofs.Places.{split, within, only_one, IsAfter, CloseNothing, opens_more}
 use Rattle.rasta_core_order.proofs.Tags.{retagged_length, retagged_items, retagged_rises, retagged_later, rises_lower}
 use Rattle.rasta_core_order.proofs.Growing.{Extends, HasNo, place_of, is_sent_kept}
 use Rattle.rasta_core_order.proofs.Taking.{taker_sent}
@@ -38,6 +38,17 @@ answered header before part = record part {
 pub record IsHeader (own : Part) (other_first : ℕ) (header : Head) : Type 0 where
   pub first : header.first_sequence_number ≡ own.first
   pub confirmed : header.confirmed_sequence_number ≡ wire other_first (own.reached - 1)
+  pub unsaid : OpensOn own.flow
+
+-- an answer closes nothing
+pub answer_goes_on : (header : Head) (count : ℕ) (waiting : List Held) → CloseNothing (answer header count waiting)
+unfolding pdu_of
+answer_goes_on header count waiting zero pdu at closes = subst (λ (p : Pdu). IsClosing p.body) (sym at) closes
+answer_goes_on header count waiting (suc place) pdu at closes =
+    elim (split place pdu (repeated header (count + 1) waiting) (pdu_of header (count + 1 + length waiting) Heartbeat ∷ []) at) [
+      | inl old ↦ subst (λ (p : Pdu). IsClosing p.body) (repeated_at header (count + 1) waiting place pdu old).is closes
+      | inr new ↦ subst (λ (p : Pdu). IsClosing p.body) (sym (only_one new.0 pdu (pdu_of header (count + 1 + length waiting) Heartbeat) new.2).1) closes
+    ]
 
 module _ (own other : Part) (header : Head) (before : List (List ℕ)) (way : Way own other) (is_header : IsHeader own other.first header) (some : 1 ≤ own.reached)
     (fits : sent own + length own.waiting + 2 < 2 ^ 31) (last : own.given ≡ before ++ items_of own.waiting)
@@ -114,6 +125,7 @@ module _ (own other : Part) (header : Head) (before : List (List ℕ)) (way : Wa
     some_expected = omega (arith, expecting_here);
     expected = omega (arith, expecting_here);
     confirms = inl (is_header.confirmed ∙ ap (λ expected. wire other.first (expected - 1)) (sym expecting_here));
+    follows = λ two. opens_more own.flow (answer header (sent own) own.waiting) is_header.unsaid (answer_goes_on header (sent own) own.waiting);
     carries = carries;
   }
     where

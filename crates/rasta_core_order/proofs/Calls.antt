@@ -5,7 +5,7 @@ use Rattle.std.proofs.lemmas.Bool.{ltb-true}
 use Rattle.std.proofs.lemmas.List.{append-nil}
 use Rattle.rasta_core_link.specs.Parameters.{connection_limit, heartbeat_interval, window_size}
 use Rattle.rasta_core_link.specs.State.{LinkState, is_open, is_up, is_asking}
-use Rattle.rasta_core_link.specs.Clock.{alive_until, settled}
+use Rattle.rasta_core_link.specs.Clock.{deadline, settled}
 use Rattle.rasta_core_link.specs.Sending.{Step, silent, then_do, sending, telling, closing, limited, entered, beating, giving}
 use Rattle.rasta_core_link.specs.Receiving.{Receipt, hearing, refusing}
 use Rattle.rasta_core_link.specs.Calls.{ticking, closing_by, acceptance, answer_to_send, sending_item, hearing_bytes, receiving}
@@ -29,7 +29,7 @@ use Rattle.rasta_core_order.proofs.Hears.{heard_on}
 -- what a part of a call must do, inside and outside
 module _ (now : ℕ) (link : LinkState) (own other : Part) (order : InOrder own other) (act : LinkState → Step) (accepted : LinkState → List (List ℕ))
     (silent_outside : (link : LinkState) → is_open link.phase ≡ false → act link ≡ silent link) (none_outside : (link : LinkState) → is_open link.phase ≡ false → accepted link ≡ [])
-    (keeps_inside : (link : LinkState) → HasJoined link own other ⊎ IsStillAsking link own other → link.sent < connection_limit → nat_lt link.clock (alive_until link) ≡ true
+    (keeps_inside : (link : LinkState) → HasJoined link own other ⊎ IsStillAsking link own other → link.sent < connection_limit → nat_lt link.clock (deadline link) ≡ true
     → GoesOn own other (act link).link (act link).pdus (accepted link) []) where
   called_outside : (begun : Step) → is_open begun.link.phase ≡ false → GoesOn own other begun.link begun.pdus [] []
       → GoesOn own other (then_do begun act).link (then_do begun act).pdus (accepted begun.link) []
@@ -87,7 +87,7 @@ both_not false other a b e = cc (a)
 pub same_ends : (now : ℕ) (link : LinkState) → (entered now link).link.identity ≡ link.identity
 unfolding entered settled limited telling sending
 same_ends now link =
-    by_test (λ (begun : LinkState). (limited begun).link.identity ≡ link.identity) (is_open link.phase && nat_le (alive_until link) now) _ (record link { clock = now })
+    by_test (λ (begun : LinkState). (limited begun).link.identity ≡ link.identity) (is_open link.phase && nat_le (deadline link) now) _ (record link { clock = now })
     (λ e. refl)
     (λ e. by_test (λ (step : Step). step.link.identity ≡ link.identity) (is_open link.phase && nat_le connection_limit link.sent) _ (silent (record link { clock = now })) (λ e. refl) (λ e. refl))
 
@@ -105,7 +105,7 @@ module _ (now : ℕ) (link : LinkState) (own other : Part) (order : InOrder own 
       beating_inside : (l : LinkState) → HasJoined l own other ⊎ IsStillAsking l own other → l.sent < connection_limit → GoesOn own other (beating l).link (beating l).pdus [] []
       beating_inside l one room =
           by_test (λ (step : Step). GoesOn own other step.link step.pdus [] []) (is_up l.phase && nat_le heartbeat_interval (l.clock - l.sent_at)) _ (silent l)
-          (λ e. beat_on l own other order (up_joined l own other one (both_left (is_up l.phase) (nat_le heartbeat_interval (l.clock - l.sent_at)) e)) room)
+          (λ e. let up = both_left (is_up l.phase) (nat_le heartbeat_interval (l.clock - l.sent_at)) e in beat_on l own other order (up_joined l own other one up) up room)
           (λ e. stays own other l order (plays_inside l own other one))
 
   pub closing_on : (why : Reason) → GoesOn own other (closing_by now why link).link (closing_by now why link).pdus [] []
@@ -146,7 +146,7 @@ module _ (now : ℕ) (link : LinkState) (own other : Part) (order : InOrder own 
     where
       go : (l : LinkState) → HasJoined l own other ⊎ IsStillAsking l own other → l.sent < connection_limit → (ok : Bool) → is_ok (acceptance l) ≡ ok
           → GoesOn own other (if ok then giving item l else silent l).link (if ok then giving item l else silent l).pdus (if ok then item ∷ [] else []) []
-      go l one room true is = let up = accepts_up l is in gave_on item l own other order (up_joined l own other one up.0) room up.1
+      go l one room true is = let up = accepts_up l is in gave_on item l own other order (up_joined l own other one up.0) up.0 room up.1
       go l one room false is = stays own other l order (plays_inside l own other one)
 
   -- ---- hearing

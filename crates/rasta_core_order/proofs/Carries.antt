@@ -1,10 +1,10 @@
 -- What a call hands out carries the items that it accepts, and no others for the first time.
-use Rattle.std.proofs.Common.{◌≡◌, ℕ, ◌+◌, ◌-◌, Bool, true, false, List, [], ◌∷◌, ◌++◌, refl, sym, ap, subst, ◌∙◌, append_assoc}
+use Rattle.std.proofs.Common.{◌≡◌, ℕ, ◌+◌, ◌-◌, Bool, true, false, List, [], ◌∷◌, ◌++◌, inl, inr, refl, sym, ap, subst, ◌∙◌, append_assoc}
 use Rattle.std.specs.Prelude.{nat_lt, nat_le, nat_eq, ◌==◌, ◌&&◌, not, if◌then◌else◌, Result, Ok, Err, is_ok}
 use Rattle.std.specs.Cmp.Lexicographic.{pointwise}
 use Rattle.rasta_core_link.specs.Parameters.{sequence_range, connection_limit, heartbeat_interval, own_version, window_size}
 use Rattle.rasta_core_link.specs.State.{LinkState, is_open, is_up, is_client}
-use Rattle.rasta_core_link.specs.Clock.{settled, state_at}
+use Rattle.rasta_core_link.specs.Clock.{open_state, settled, state_at}
 use Rattle.rasta_core_link.specs.Sending.{Step, silent, header_of, pdu_of, sending, telling, closing, is_told, closed, limited, entered, beating, giving}
 use Rattle.rasta_core_link.specs.Opening.{own_opening, may_open, requesting, beginning, meeting, judging, granting, joining}
 use Rattle.rasta_core_link.specs.Receiving as hears
@@ -24,9 +24,9 @@ use Rattle.rasta_pdu.specs.declared.body.Body.TheVariants.{ConnectionRequest, Co
 use Rattle.rasta_core_order.specs.Held.{Held, Head}
 use Rattle.rasta_core_run.specs.Given.{new_items}
 use Rattle.rasta_core_order.specs.Carried.{carried}
-use Rattle.rasta_core_order.specs.Playing.{accepted}
+use Rattle.rasta_core_order.specs.Playing.{accepted, reads}
 use Rattle.rasta_core_order.proofs.Tests.{by_test}
-use Rattle.rasta_core_order.proofs.Phases.{Admits, violates, discards, closes, resumes, turns, admits}
+use Rattle.rasta_core_order.proofs.Phases.{response_violates, request_violates, disconnects, beat_turns, beat_discarded, data_turns, data_discarded, again_turns_up, again_discarded, asking_turns_up, asking_discarded, answer_violates, answer_comes}
 
 pub carried-append : (one other : List Pdu) → carried (one ++ other) ≡ carried one ++ carried other
 carried-append [] other = refl
@@ -126,12 +126,22 @@ module _ (pdu : Pdu) (link : LinkState) where
   none_violating : NoneNewIn (violating link)
   none_violating = none_told reason.State link
 
-  none_admitted : (receipt : Receipt) → Admits pdu link receipt → NoneNewIn receipt
-  none_admitted receipt (violates is) = subst NoneNewIn (sym is) none_violating
-  none_admitted receipt (discards is) = subst NoneNewIn (sym is) refl
-  none_admitted receipt (closes is) = subst NoneNewIn (sym is) refl
-  none_admitted receipt (resumes phase running body is) = subst NoneNewIn (sym is) refl
-  none_admitted receipt (turns reading turn is) = subst NoneNewIn (sym is) none_in_turn
+  -- of a PDU of any type, whether the link takes PDUs in turn or not
+  none_admitted : (body : Body) (turns : Bool) → reads (open_state link.phase) ≡ turns → NoneNewIn (admitting (admission body link.phase) pdu link)
+  none_admitted (ConnectionRequest opening) turns e = subst NoneNewIn (sym (request_violates pdu link opening)) none_violating
+  none_admitted (ConnectionResponse opening) turns e = subst NoneNewIn (sym (response_violates pdu link opening)) none_violating
+  none_admitted (DisconnectionRequest detail why) turns e = subst NoneNewIn (sym (disconnects pdu link detail why)) refl
+  none_admitted RetransmissionRequest true e = elim (asking_turns_up pdu link e) [ inl is ↦ subst NoneNewIn (sym is) none_in_turn | inr is ↦ subst NoneNewIn (sym is) none_violating ]
+  none_admitted RetransmissionRequest false e = subst NoneNewIn (sym (asking_discarded pdu link e)) refl
+  none_admitted RetransmissionResponse true e = subst NoneNewIn (sym (answer_violates pdu link e)) none_violating
+  none_admitted RetransmissionResponse false e = let found = answer_comes pdu link e in subst NoneNewIn (sym found.2) refl
+  none_admitted Heartbeat true e = subst NoneNewIn (sym (beat_turns pdu link e)) none_in_turn
+  none_admitted Heartbeat false e = subst NoneNewIn (sym (beat_discarded pdu link e)) refl
+  none_admitted (Data items) true e = subst NoneNewIn (sym (data_turns pdu link items e)) none_in_turn
+  none_admitted (Data items) false e = subst NoneNewIn (sym (data_discarded pdu link items e)) refl
+  none_admitted (RetransmittedData items) true e =
+      elim (again_turns_up pdu link items e) [ inl is ↦ subst NoneNewIn (sym is) none_in_turn | inr is ↦ subst NoneNewIn (sym is) none_violating ]
+  none_admitted (RetransmittedData items) false e = subst NoneNewIn (sym (again_discarded pdu link items e)) refl
 
   none_tested : NoneNewIn (testing pdu link)
   unfolding testing
@@ -139,7 +149,7 @@ module _ (pdu : Pdu) (link : LinkState) where
       by_test NoneNewIn (nat_lt sequence_range (ahead pdu link)) (refusing verdict.OutOfRange link) _ (λ e. refl)
       (λ e. by_test NoneNewIn (is_stale pdu link) (refusing verdict.Stale link) _ (λ e. refl)
       (λ e. by_test NoneNewIn (not (confirms pdu link)) (refusing verdict.BadConfirm link) (admitting (admission pdu.body link.phase) pdu link) (λ e. refl)
-      (λ e. none_admitted (admitting (admission pdu.body link.phase) pdu link) (admits pdu link))))
+      (λ e. none_admitted pdu.body (reads (open_state link.phase)) refl)))
 
   none_connected : (body : Body) → NoneNewIn (connected body pdu link)
   unfolding connected
@@ -182,7 +192,6 @@ module _ (pdu : Pdu) (link : LinkState) where
 
   none_by_state : (its : State) → NoneNewIn (by_state its pdu link)
   unfolding by_state
-  none_by_state state.Expired = refl
   none_by_state state.Quiet = refl
   none_by_state state.Down = none_resting pdu.body
   none_by_state state.Start =

@@ -4,22 +4,18 @@ use Rattle.std.specs.Prelude.{nat_lt, if◌then◌else◌}
 use Rattle.std.proofs.lemmas.Bool.{ltb-false}
 use Rattle.rasta_core_link.specs.Parameters.{sequence_range, stops_at_greatest}
 use Rattle.rasta_core_link.specs.Sequence.{wire, before, distance}
-use Rattle.rasta_core_link.specs.State.{LinkState, is_open, is_asking}
+use Rattle.rasta_core_link.specs.State.{LinkState, is_open, is_up, is_asking}
 use Rattle.rasta_core_link.specs.Clock.{open_state}
-use Rattle.rasta_core_link.specs.Receiving.{ahead, behind, is_stale, taking, still_waiting}
+use Rattle.rasta_core_link.specs.Receiving.{ahead, behind, taking, still_waiting}
 use Rattle.rasta_pdu.specs.declared.pdu.Pdu.{Pdu}
 use Rattle.rasta_core_order.specs.Held.{Stage}
 use Rattle.rasta_core_order.specs.Part.{IsAt, Part, sent}
-use Rattle.rasta_core_order.specs.Order.{IsSent, ReturnsNothing, InOrder}
-use Rattle.rasta_core_order.specs.Playing.{reads, HasJoined}
+use Rattle.rasta_core_order.specs.Order.{IsSent, InOrder}
+use Rattle.rasta_core_order.specs.Playing.{reads, HaveCome, HasJoined}
 use Rattle.rasta_core_order.proofs.Numbers.{ahead_is, behind_is, next_is}
 use Rattle.rasta_core_order.proofs.Places.{within}
 use Rattle.rasta_core_order.proofs.Taking.{taker_held}
 use Rattle.rasta_core_order.proofs.Drops.{drops, giver_dropped, farther}
-
-not_first : (one other : Bool) → (if one then true else other) ≡ false → one ≡ false
-not_first true other e = cc (e)
-not_first false other e = refl
 
 module _ (link : LinkState) (own other : Part) (order : InOrder own other) (plays : HasJoined link own other) (pdu : Pdu) (place : ℕ) (at : IsAt place pdu other.flow) where
   pub made : IsSent other own.first place pdu
@@ -46,21 +42,14 @@ module _ (link : LinkState) (own other : Part) (order : InOrder own other) (play
       place_fits : InOrder own other → place < 2 ^ 31
       place_fits o = omega (arith, within place pdu other.flow at, o.back.counts.fits)
 
-  pub fresh_stamp : is_stale pdu link ≡ false → 1 ≤ pdu.confirmed_time_stamp
-  fresh_stamp fresh = omega (arith, plays.inside.stamped, ltb-false pdu.confirmed_time_stamp link.own_stamp (not_first (nat_lt pdu.confirmed_time_stamp link.own_stamp) (nat_lt link.clock pdu.confirmed_time_stamp) fresh))
+  -- it confirms what its sender expected
+  abbrev pub Confirms : Type 0
+  Confirms = pdu.confirmed_sequence_number ≡ wire own.first (other.expecting place - 1)
 
-  -- a PDU that isn't stale confirms what its sender expected
-  pub confirms_so : is_stale pdu link ≡ false → pdu.confirmed_sequence_number ≡ wire own.first (other.expecting place - 1)
-  confirms_so fresh = go made.confirms
-    where
-      go : (pdu.confirmed_sequence_number ≡ wire own.first (other.expecting place - 1)) ⊎ ReturnsNothing pdu → pdu.confirmed_sequence_number ≡ wire own.first (other.expecting place - 1)
-      go (inl same) = same
-      go (inr nothing) = absurd (omega (arith, nothing, fresh_stamp fresh))
-
-  pub confirmed_is : is_stale pdu link ≡ false → link.sent - 1 - behind pdu link ≡ confirmed
+  pub confirmed_is : Confirms → link.sent - 1 - behind pdu link ≡ confirmed
   unfolding behind confirmed
-  confirmed_is fresh =
-      ap (λ number. link.sent - 1 - distance number (wire link.own_first (before link.sent))) (confirms_so fresh)
+  confirmed_is right =
+      ap (λ number. link.sent - 1 - distance number (wire link.own_first (before link.sent))) right
       ∙ ap (λ first. link.sent - 1 - distance (wire own.first (other.expecting place - 1)) (wire first (before link.sent))) plays.inside.own_first
       ∙ ap (λ count. count - 1 - distance (wire own.first (other.expecting place - 1)) (wire own.first (before count))) plays.inside.counted
       ∙ behind_is own.first (sent own) (other.expecting place) made.some_expected (omega (arith, made.expected, order.there.counts.most)) order.there.counts.fits
@@ -75,9 +64,9 @@ module _ (link : LinkState) (own other : Part) (order : InOrder own other) (play
     back = taker_held other own (still_waiting confirmed own.waiting) order.back;
   }
 
-  pub keeps_waiting : is_stale pdu link ≡ false → (taking pdu link).waiting ≡ still_waiting confirmed own.waiting
+  pub keeps_waiting : Confirms → (taking pdu link).waiting ≡ still_waiting confirmed own.waiting
   unfolding taking
-  keeps_waiting fresh = ap (λ number. still_waiting number link.waiting) (confirmed_is fresh) ∙ ap (still_waiting confirmed) plays.inside.keeps.waiting
+  keeps_waiting right = ap (λ number. still_waiting number link.waiting) (confirmed_is right) ∙ ap (still_waiting confirmed) plays.inside.keeps.waiting
 
   pub expects_next : (steps : ℕ) → ahead pdu link ≡ steps → place ≡ own.reached + steps → (taking pdu link).expected ≡ own.reached + steps + 1
   unfolding taking
@@ -86,22 +75,24 @@ module _ (link : LinkState) (own other : Part) (order : InOrder own other) (play
       ∙ next_is own.reached steps (omega (arith, there, within place pdu other.flow at, order.back.counts.fits))
 
   -- the link after taking, in a phase of a connection
-  pub moved_plays : is_stale pdu link ≡ false → (phase : Stage) (taken_count reached : ℕ) (reading : Bool) (taken : List (List ℕ))
+  pub moved_plays : Confirms → (phase : Stage) (taken_count reached : ℕ) (reading : Bool) (taken : List (List ℕ))
       → is_open phase ≡ true → is_asking (record (taking pdu link) { phase = phase; taken = taken_count }) ≡ false → reading ≡ reads (open_state phase)
-      → taken_count ≡ stops_at_greatest (length taken) → (taking pdu link).expected ≡ reached
+      → taken_count ≡ stops_at_greatest (length taken) → (taking pdu link).expected ≡ reached → HaveCome (is_up phase) (farther reached reading taken (drops confirmed own)) other
       → HasJoined (record (taking pdu link) { phase = phase; taken = taken_count }) (farther reached reading taken (drops confirmed own)) other
   unfolding taking
-  moved_plays fresh phase taken_count reached reading taken is_opened no_asking reads_so count next = record {
+  moved_plays right phase taken_count reached reading taken is_opened no_asking reads_so count next come = record {
     inside = record {
-      keeps = record { given = plays.inside.keeps.given; taken = count; waiting = keeps_waiting fresh };
+      keeps = record { given = plays.inside.keeps.given; taken = count; waiting = keeps_waiting right };
       connected = is_opened;
       own_first = plays.inside.own_first;
       counted = plays.inside.counted;
       room = plays.inside.room;
-      stamped = fresh_stamp fresh;
+      unsaid = plays.inside.unsaid;
+      alone = λ asks. absurd (cc (asks, no_asking));
       reading = reads_so;
     };
     joined = no_asking;
     partner_first = plays.partner_first;
     expected = next;
+    come = come;
   }

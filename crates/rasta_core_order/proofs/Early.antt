@@ -11,23 +11,23 @@ use Rattle.rasta_pdu.specs.declared.pdu.Pdu.{Pdu}
 use Rattle.rasta_pdu.specs.declared.body.Body.{Body}
 use Rattle.rasta_pdu.specs.declared.body.Body.TheVariants.{RetransmissionRequest, RetransmissionResponse, DisconnectionRequest}
 use Rattle.rasta_core_order.specs.Part.{IsAt, Part, sent}
-use Rattle.rasta_core_order.specs.Order.{Brings, Carries, ReturnsNothing, IsSent, Counts}
+use Rattle.rasta_core_order.specs.Order.{Brings, Carries, IsClosing, IsSent, Counts}
 use Rattle.rasta_core_order.specs.Playing.{IsInside, Plays, asking, left}
 use Rattle.rasta_core_order.specs.Beginning.{IsEarly, PlaysEarly, asks, gone, EarlyGoesOn}
 use Rattle.rasta_core_order.proofs.Tests.{by_test}
-use Rattle.rasta_core_order.proofs.Places.{split, within, only_one, IsAfter}
+use Rattle.rasta_core_order.proofs.Places.{split, within, only_one, begins_before, IsAfter}
 use Rattle.rasta_core_order.proofs.Growing.{Extends, is_sent_kept}
 use Rattle.rasta_core_order.proofs.Sends.{sends, upto_old, upto_new, below_old, below_new}
 
 -- such a client is in order with whatever server enters
 pub early_plays : (link : LinkState) (client server : Part) → IsEarly client → PlaysEarly link client → server.first < 2 ^ 32 → Plays link client server
-early_plays link client server early (asks inside alone) fits = asking (record { inside = inside; asking = alone; reached = early.reached; partner_first = fits })
+early_plays link client server early (asks inside alone) fits = asking (record { inside = inside; asking = alone; client = early.client_flow; reached = early.reached; partner_first = fits })
 early_plays link client server early (gone shut keeps) fits = left shut keeps
 
 -- ---- it closes and tells so
 
 module _ (client : Part) (pdu : Pdu) (early : IsEarly client) (room : sent client ≤ most_sent) (number : pdu.sequence_number ≡ wire client.first (sent client))
-    (nothing : ReturnsNothing pdu) (detail why : ℕ) (body : pdu.body ≡ DisconnectionRequest detail why) where
+    (one : sent client ≡ 1) (detail why : ℕ) (body : pdu.body ≡ DisconnectionRequest detail why) where
   counts : Counts client 1
   counts = record {
     fits = omega (arith, room);
@@ -72,7 +72,8 @@ module _ (client : Part) (pdu : Pdu) (early : IsEarly client) (room : sent clien
     number = number;
     some_expected = omega (arith, expects_one (sent client) (inr (omega arith)));
     expected = omega (arith, expects_one (sent client) (inr (omega arith)), early.reached);
-    confirms = inr nothing;
+    confirms = inr (inr (one, subst IsClosing (sym body) tt, λ begins. early.client_flow (begins_before client.flow (pdu ∷ []) (omega (arith, one)) begins)));
+    follows = λ two. absurd (omega (arith, two, one));
     carries = subst (Carries (sends pdu client) (sent client)) (sym body) brings;
   }
 
@@ -101,6 +102,7 @@ module _ (client : Part) (pdu : Pdu) (early : IsEarly client) (room : sent clien
     taken = early.taken;
     waiting = early.waiting;
     reached = early.reached;
+    client_flow = λ begins. early.client_flow (begins_before client.flow (pdu ∷ []) (omega (arith, one)) begins);
     passed = λ place. passed_none place (le_or_lt place (sent client));
     expecting = λ place. expects_one place (lt_or_le place (sent client));
     each = λ place that at. each_sent place that (split place that client.flow (pdu ∷ []) at);
@@ -121,7 +123,7 @@ early_told why client link early inside alone = record {
   first = refl;
   flow = refl;
   early = early_sends client closing_pdu early inside.room (ap (λ first. wire first link.sent) inside.own_first ∙ ap (wire client.first) inside.counted)
-      (ap (λ asking. if asking then 0 else link.partner_stamp) alone) 0 (reason_number why) refl;
+      (inside.alone alone) 0 (reason_number why) refl;
   plays = gone refl (inl (record { given = inside.keeps.given; taken = inside.keeps.taken; waiting = inside.keeps.waiting }));
 }
   where

@@ -4,7 +4,7 @@ use Rattle.std.specs.Prelude.{nat_lt, nat_le, ◌==◌, ◌&&◌, not, if◌then
 use Rattle.std.proofs.lemmas.List.{append-nil}
 use Rattle.rasta_core_link.specs.Parameters.{connection_limit, heartbeat_interval}
 use Rattle.rasta_core_link.specs.State.{LinkState, is_open, is_up, is_asking}
-use Rattle.rasta_core_link.specs.Clock.{alive_until, settled}
+use Rattle.rasta_core_link.specs.Clock.{deadline, settled}
 use Rattle.rasta_core_link.specs.Sending.{Step, silent, then_do, sending, telling, closing, limited, entered, beating, giving}
 use Rattle.rasta_core_link.specs.Receiving.{Receipt, hearing, refusing}
 use Rattle.rasta_core_link.specs.Calls.{ticking, closing_by, acceptance, answer_to_send, sending_item, hearing_bytes, receiving}
@@ -32,7 +32,8 @@ module _ (now : ℕ) (link : LinkState) (client : Part) (early : IsEarly client)
     own_first = is.own_first;
     counted = is.counted;
     room = is.room;
-    stamped = is.stamped;
+    unsaid = is.unsaid;
+    alone = is.alone;
     reading = is.reading;
   }
 
@@ -44,13 +45,13 @@ module _ (now : ℕ) (link : LinkState) (client : Part) (early : IsEarly client)
   Out step = (is_open step.link.phase ≡ false) × EarlyStep client step
 
   abbrev In : Step → Type 0
-  In step = (step ≡ silent (record link { clock = now })) × (nat_lt now (alive_until (record link { clock = now })) ≡ true)
+  In step = (step ≡ silent (record link { clock = now })) × (nat_lt now (deadline (record link { clock = now })) ≡ true)
 
   begun_gone : is_open link.phase ≡ false → Keeps link client ⊎ IsNew link → Out (entered now link)
   unfolding entered settled limited
   begun_gone shut keeps =
-      by_test (λ (begun : LinkState). Out (limited begun)) (is_open link.phase && nat_le (alive_until link) now) _ (record link { clock = now })
-      (λ e. absurd (cc (both_left (is_open link.phase) (nat_le (alive_until link) now) e, shut)))
+      by_test (λ (begun : LinkState). Out (limited begun)) (is_open link.phase && nat_le (deadline link) now) _ (record link { clock = now })
+      (λ e. absurd (cc (both_left (is_open link.phase) (nat_le (deadline link) now) e, shut)))
       (λ running. by_test Out (is_open link.phase && nat_le connection_limit link.sent) (telling reason.Sequence (record link { clock = now })) (silent (record link { clock = now }))
       (λ e. absurd (cc (both_left (is_open link.phase) (nat_le connection_limit link.sent) e, shut)))
       (λ e. (shut, early_stays client (record link { clock = now }) early (gone shut (later_gone keeps)))))
@@ -58,27 +59,27 @@ module _ (now : ℕ) (link : LinkState) (client : Part) (early : IsEarly client)
   begun_asking : IsInside link client → is_asking link ≡ true → Out (entered now link) ⊎ In (entered now link)
   unfolding entered settled limited
   begun_asking is alone =
-      by_test (λ (begun : LinkState). Out (limited begun) ⊎ In (limited begun)) (is_open link.phase && nat_le (alive_until link) now) _ (record link { clock = now })
+      by_test (λ (begun : LinkState). Out (limited begun) ⊎ In (limited begun)) (is_open link.phase && nat_le (deadline link) now) _ (record link { clock = now })
       (λ e. inl (refl, early_stays client _ early (gone refl (inl (record { given = is.keeps.given; taken = is.keeps.taken; waiting = is.keeps.waiting })))))
       (λ running. by_test (λ (step : Step). Out step ⊎ In step) (is_open link.phase && nat_le connection_limit link.sent) (telling reason.Sequence (record link { clock = now }))
       (silent (record link { clock = now }))
       (λ e. inl (told_closed reason.Sequence (record link { clock = now }), early_told reason.Sequence client (record link { clock = now }) early (later_inside is) alone))
-      (λ e. inr (refl, still_alive now link (not_right (is_open link.phase) (nat_le (alive_until link) now) is.connected running))))
+      (λ e. inr (refl, still_alive now link (not_right (is_open link.phase) (nat_le (deadline link) now) is.connected running))))
 
   pub early_settled : PlaysEarly link client → PlaysEarly (settled now link) client
   unfolding settled
   early_settled (asks is alone) =
-      by_test (λ (after : LinkState). PlaysEarly after client) (is_open link.phase && nat_le (alive_until link) now) _ (record link { clock = now })
+      by_test (λ (after : LinkState). PlaysEarly after client) (is_open link.phase && nat_le (deadline link) now) _ (record link { clock = now })
       (λ e. gone refl (inl (record { given = is.keeps.given; taken = is.keeps.taken; waiting = is.keeps.waiting })))
       (λ e. asks (later_inside is) alone)
   early_settled (gone shut keeps) =
-      by_test (λ (after : LinkState). PlaysEarly after client) (is_open link.phase && nat_le (alive_until link) now) _ (record link { clock = now })
-      (λ e. absurd (cc (both_left (is_open link.phase) (nat_le (alive_until link) now) e, shut)))
+      by_test (λ (after : LinkState). PlaysEarly after client) (is_open link.phase && nat_le (deadline link) now) _ (record link { clock = now })
+      (λ e. absurd (cc (both_left (is_open link.phase) (nat_le (deadline link) now) e, shut)))
       (λ e. gone shut (later_gone keeps))
 
   -- a call that is silent outside
   module _ (act : LinkState → Step) (silent_outside : (l : LinkState) → is_open l.phase ≡ false → act l ≡ silent l)
-      (inside_on : (l : LinkState) → IsInside l client → is_asking l ≡ true → nat_lt l.clock (alive_until l) ≡ true → EarlyStep client (act l)) where
+      (inside_on : (l : LinkState) → IsInside l client → is_asking l ≡ true → nat_lt l.clock (deadline l) ≡ true → EarlyStep client (act l)) where
     acted_outside : (begun : Step) → Out begun → EarlyStep client (then_do begun act)
     acted_outside begun out =
         subst (λ (step : Step). EarlyGoesOn client step.link (begun.pdus ++ step.pdus)) (sym (silent_outside begun.link out.0))

@@ -1,15 +1,18 @@
 -- How each call begins: the clock rules and the limit of PDUs keep the order.
-use Rattle.std.proofs.Common.{◌≡◌, ℕ, ◌^◌, ◌<◌, Bool, true, false, [], ◌⊎◌, inl, inr, refl, sym, subst, ◌∙◌}
+use Rattle.std.proofs.Common.{◌≡◌, ℕ, ◌+◌, ◌^◌, ◌<◌, ◌≤◌, Bool, true, false, List, [], ◌++◌, length, ◌⊎◌, inl, inr, refl, sym, ap, subst, ◌∙◌, arith}
 use Rattle.std.specs.Prelude.{nat_lt, nat_le, ◌&&◌}
 use Rattle.std.proofs.lemmas.Bool.{leb-false, lt-ltb}
 use Rattle.rasta_core_link.specs.Parameters.{connection_limit}
 use Rattle.rasta_core_link.specs.State.{LinkState, is_open}
-use Rattle.rasta_core_link.specs.Clock.{alive_until, settled}
+use Rattle.rasta_core_link.specs.Clock.{deadline, settled}
 use Rattle.rasta_core_link.specs.Sending.{Step, silent, telling, limited, entered}
 use Rattle.rasta_core_link.specs.declared.reason.Reason.{Reason}
 use Rattle.rasta_core_link.specs.declared.reason.Reason.TheVariants as reason
-use Rattle.rasta_core_order.specs.Part.{Part}
-use Rattle.rasta_core_order.specs.Order.{InOrder}
+use Rattle.rasta_core_order.specs.Part.{Part, sent}
+use Rattle.rasta_core_order.specs.Order.{BeginsByResponse, OpensOn, InOrder}
+use Rattle.rasta_pdu.specs.declared.pdu.Pdu.{Pdu}
+use Rattle.std.proofs.lemmas.List.{length-append}
+use Rattle.rasta_core_order.proofs.Places.{begins_after, opens_after}
 use Rattle.rasta_core_order.specs.Playing.{Keeps, IsNew, IsInside, HasJoined, IsStillAsking, Plays, joined, asking, left, GoesOn}
 use Rattle.rasta_core_order.proofs.Tests.{by_test}
 use Rattle.rasta_core_order.proofs.Steps.{stays, told_on}
@@ -18,7 +21,7 @@ use Rattle.rasta_core_order.proofs.Steps.{stays, told_on}
 pub data Enters (now : ℕ) (link : LinkState) (own other : Part) : Type 0 where
   outside : is_open (entered now link).link.phase ≡ false → GoesOn own other (entered now link).link (entered now link).pdus [] [] → Enters now link own other
   inside : entered now link ≡ silent (record link { clock = now }) → HasJoined (record link { clock = now }) own other ⊎ IsStillAsking (record link { clock = now }) own other
-      → link.sent < connection_limit → nat_lt now (alive_until (record link { clock = now })) ≡ true → Enters now link own other
+      → link.sent < connection_limit → nat_lt now (deadline (record link { clock = now })) ≡ true → Enters now link own other
 
 pub both_left : (one other : Bool) → (one && other) ≡ true → one ≡ true
 both_left true other e = refl
@@ -28,16 +31,16 @@ pub not_right : (one other : Bool) → one ≡ true → (one && other) ≡ false
 not_right true other is e = e
 not_right false other is e = cc (is)
 
-alive_timed : (now : ℕ) (link : LinkState) → alive_until (record link { clock = now }) ≡ alive_until link
-unfolding alive_until
+alive_timed : (now : ℕ) (link : LinkState) → deadline (record link { clock = now }) ≡ deadline link
+unfolding deadline
 alive_timed now link = refl
 
 pub told_closed : (why : Reason) (link : LinkState) → is_open (telling why link).link.phase ≡ false
 unfolding telling
 told_closed why link = refl
 
-pub still_alive : (now : ℕ) (link : LinkState) → nat_le (alive_until link) now ≡ false → nat_lt now (alive_until (record link { clock = now })) ≡ true
-still_alive now link e = lt-ltb now (alive_until (record link { clock = now })) (subst (λ until. now < until) (sym (alive_timed now link)) (leb-false (alive_until link) now e))
+pub still_alive : (now : ℕ) (link : LinkState) → nat_le (deadline link) now ≡ false → nat_lt now (deadline (record link { clock = now })) ≡ true
+still_alive now link e = lt-ltb now (deadline (record link { clock = now })) (subst (λ until. now < until) (sym (alive_timed now link)) (leb-false (deadline link) now e))
 
 module _ (now : ℕ) (link : LinkState) (own other : Part) (order : InOrder own other) where
   keeps_inside : IsInside link own → Keeps (record link { clock = now }) own
@@ -50,13 +53,14 @@ module _ (now : ℕ) (link : LinkState) (own other : Part) (order : InOrder own 
     own_first = is.own_first;
     counted = is.counted;
     room = is.room;
-    stamped = is.stamped;
+    unsaid = is.unsaid;
+    alone = is.alone;
     reading = is.reading;
   }
 
   one_later : HasJoined link own other ⊎ IsStillAsking link own other → HasJoined (record link { clock = now }) own other ⊎ IsStillAsking (record link { clock = now }) own other
-  one_later (inl has) = inl (record { inside = inside_later has.inside; joined = has.joined; partner_first = has.partner_first; expected = has.expected })
-  one_later (inr still) = inr (record { inside = inside_later still.inside; asking = still.asking; reached = still.reached; partner_first = still.partner_first })
+  one_later (inl has) = inl (record { inside = inside_later has.inside; joined = has.joined; partner_first = has.partner_first; expected = has.expected; come = has.come })
+  one_later (inr still) = inr (record { inside = inside_later still.inside; asking = still.asking; client = still.client; reached = still.reached; partner_first = still.partner_first })
 
   is_connected : HasJoined link own other ⊎ IsStillAsking link own other → is_open link.phase ≡ true
   is_connected (inl has) = has.inside.connected
@@ -76,13 +80,13 @@ module _ (now : ℕ) (link : LinkState) (own other : Part) (order : InOrder own 
 
   abbrev Begins : Step → Type 0
   Begins step = Outside step
-      ⊎ ((step ≡ silent (record link { clock = now })) × (link.sent < connection_limit) × (nat_lt now (alive_until (record link { clock = now })) ≡ true))
+      ⊎ ((step ≡ silent (record link { clock = now })) × (link.sent < connection_limit) × (nat_lt now (deadline (record link { clock = now })) ≡ true))
 
   begun_left : is_open link.phase ≡ false → Keeps link own ⊎ IsNew link → Outside (entered now link)
   unfolding entered settled limited
   begun_left shut keeps =
-      by_test (λ (begun : LinkState). Outside (limited begun)) (is_open link.phase && nat_le (alive_until link) now) _ (record link { clock = now })
-      (λ e. absurd (cc (both_left (is_open link.phase) (nat_le (alive_until link) now) e, shut)))
+      by_test (λ (begun : LinkState). Outside (limited begun)) (is_open link.phase && nat_le (deadline link) now) _ (record link { clock = now })
+      (λ e. absurd (cc (both_left (is_open link.phase) (nat_le (deadline link) now) e, shut)))
       (λ running. by_test Outside (is_open link.phase && nat_le connection_limit link.sent) (telling reason.Sequence (record link { clock = now })) (silent (record link { clock = now }))
       (λ e. absurd (cc (both_left (is_open link.phase) (nat_le connection_limit link.sent) e, shut)))
       (λ e. (shut, stays own other (record link { clock = now }) order (Plays.left shut (left_later keeps)))))
@@ -90,20 +94,20 @@ module _ (now : ℕ) (link : LinkState) (own other : Part) (order : InOrder own 
   begun_inside : HasJoined link own other ⊎ IsStillAsking link own other → Begins (entered now link)
   unfolding entered settled limited
   begun_inside one =
-      by_test (λ (begun : LinkState). Begins (limited begun)) (is_open link.phase && nat_le (alive_until link) now) _ (record link { clock = now })
+      by_test (λ (begun : LinkState). Begins (limited begun)) (is_open link.phase && nat_le (deadline link) now) _ (record link { clock = now })
       (λ e. inl (refl, stays own other _ order (Plays.left refl (inl (record { given = (its_keeps one).given; taken = (its_keeps one).taken; waiting = (its_keeps one).waiting })))))
       (λ running. by_test Begins (is_open link.phase && nat_le connection_limit link.sent) (telling reason.Sequence (record link { clock = now })) (silent (record link { clock = now }))
       (λ e. inl (told_closed reason.Sequence (record link { clock = now }), told_on reason.Sequence (record link { clock = now }) own other order (one_later one)))
       (λ e. inr (
         refl,
         leb-false connection_limit link.sent (not_right (is_open link.phase) (nat_le connection_limit link.sent) (is_connected one) e),
-        still_alive now link (not_right (is_open link.phase) (nat_le (alive_until link) now) (is_connected one) running),
+        still_alive now link (not_right (is_open link.phase) (nat_le (deadline link) now) (is_connected one) running),
       )))
 
   settled_inside : HasJoined link own other ⊎ IsStillAsking link own other → Plays (settled now link) own other
   unfolding settled
   settled_inside one =
-      by_test (λ (after : LinkState). Plays after own other) (is_open link.phase && nat_le (alive_until link) now) _ (record link { clock = now })
+      by_test (λ (after : LinkState). Plays after own other) (is_open link.phase && nat_le (deadline link) now) _ (record link { clock = now })
       (λ e. Plays.left refl (inl (record { given = (its_keeps one).given; taken = (its_keeps one).taken; waiting = (its_keeps one).waiting })))
       (λ e. later_plays (one_later one))
     where
@@ -114,8 +118,8 @@ module _ (now : ℕ) (link : LinkState) (own other : Part) (order : InOrder own 
   settled_left : is_open link.phase ≡ false → Keeps link own ⊎ IsNew link → Plays (settled now link) own other
   unfolding settled
   settled_left shut keeps =
-      by_test (λ (after : LinkState). Plays after own other) (is_open link.phase && nat_le (alive_until link) now) _ (record link { clock = now })
-      (λ e. absurd (cc (both_left (is_open link.phase) (nat_le (alive_until link) now) e, shut)))
+      by_test (λ (after : LinkState). Plays after own other) (is_open link.phase && nat_le (deadline link) now) _ (record link { clock = now })
+      (λ e. absurd (cc (both_left (is_open link.phase) (nat_le (deadline link) now) e, shut)))
       (λ e. Plays.left shut (left_later keeps))
 
   -- time goes on
@@ -134,8 +138,21 @@ module _ (now : ℕ) (link : LinkState) (own other : Part) (order : InOrder own 
   enters (left shut keeps) = let out = begun_left shut keeps in outside out.0 out.1
 
 -- what the partner does leaves a link as it is
-pub partner_plays : (link : LinkState) (own other later : Part) → Plays link own other → later.first ≡ other.first → Plays link own later
-partner_plays link own other later (joined has) is = joined (record { inside = has.inside; joined = has.joined; partner_first = has.partner_first ∙ sym is; expected = has.expected })
-partner_plays link own other later (asking still) is =
-    asking (record { inside = still.inside; asking = still.asking; reached = still.reached; partner_first = subst (λ first. first < 2 ^ 32) (sym is) still.partner_first })
-partner_plays link own other later (left shut keeps) is = left shut keeps
+pub partner_plays : (link : LinkState) (own other later : Part) (more : List Pdu) → Plays link own other → later.first ≡ other.first → later.flow ≡ other.flow ++ more → Plays link own later
+partner_plays link own other later more (joined has) is flow = joined (record {
+  inside = has.inside;
+  joined = has.joined;
+  partner_first = has.partner_first ∙ sym is;
+  expected = has.expected;
+  come = record { starting = has.come.starting; heard = λ up. heard_on (has.come.heard up) };
+})
+  where
+    longer : sent later ≡ sent other + length more
+    longer = ap length flow ∙ length-append other.flow more
+
+    heard_on : BeginsByResponse other.flow ⊎ ((2 ≤ sent other) × OpensOn other.flow) → BeginsByResponse later.flow ⊎ ((2 ≤ sent later) × OpensOn later.flow)
+    heard_on (inl begins) = inl (subst BeginsByResponse (sym flow) (begins_after other.flow more begins))
+    heard_on (inr (two, opens)) = inr (omega (arith, two, longer), subst OpensOn (sym flow) (opens_after other.flow more (omega (arith, two)) opens))
+partner_plays link own other later more (asking still) is flow =
+    asking (record { inside = still.inside; asking = still.asking; client = still.client; reached = still.reached; partner_first = subst (λ first. first < 2 ^ 32) (sym is) still.partner_first })
+partner_plays link own other later more (left shut keeps) is flow = left shut keeps

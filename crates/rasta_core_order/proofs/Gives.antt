@@ -6,7 +6,7 @@ use Rattle.rasta_pdu.specs.declared.pdu.Pdu.{Pdu}
 use Rattle.rasta_pdu.specs.declared.body.Body.TheVariants.{RetransmissionResponse, Data}
 use Rattle.rasta_core_order.specs.Held.{Held}
 use Rattle.rasta_core_order.specs.Part.{IsAt, Part, sent, later, items_of}
-use Rattle.rasta_core_order.specs.Order.{Brings, Carries, ReturnsNothing, IsSent, Rises, Waits, Counts, Way}
+use Rattle.rasta_core_order.specs.Order.{Brings, Carries, IsUnanswered, IsSent, Rises, Waits, Counts, Way}
 use Rattle.rasta_core_order.proofs.Places.{only_one}
 use Rattle.rasta_core_order.proofs.Tags.{later_none, later_one_more, rises_one_more, items_one_more}
 use Rattle.rasta_core_order.proofs.Growing.{Extends, grown}
@@ -89,7 +89,8 @@ module _ (own other : Part) (item : List ℕ) (pdu : Pdu) (way : Way own other) 
         number = next.number;
         some_expected = omega (arith, expecting_here);
         expected = omega (arith, expecting_here);
-        confirms = subst (λ expected. (pdu.confirmed_sequence_number ≡ wire other.first (expected - 1)) ⊎ ReturnsNothing pdu) (sym expecting_here) next.confirms;
+        confirms = subst (λ expected. (pdu.confirmed_sequence_number ≡ wire other.first (expected - 1)) ⊎ IsUnanswered (own.flow ++ pdu ∷ []) (sent own) pdu.body) (sym expecting_here) next.confirms;
+        follows = next.follows;
         carries = subst (Carries (gives item pdu own) (sent own)) (sym carried) brings_item;
       }
 

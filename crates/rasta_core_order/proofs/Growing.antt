@@ -6,8 +6,8 @@ use Rattle.rasta_pdu.specs.declared.pdu.Pdu.{Pdu}
 use Rattle.rasta_pdu.specs.declared.body.Body.{Body}
 use Rattle.rasta_pdu.specs.declared.body.Body.TheVariants.{ConnectionRequest, ConnectionResponse, RetransmissionRequest, RetransmissionResponse, DisconnectionRequest, Heartbeat, Data, RetransmittedData}
 use Rattle.rasta_core_order.specs.Part.{IsAt, Part, sent}
-use Rattle.rasta_core_order.specs.Order.{IsLevel, Brings, Opens, Carries, ReturnsNothing, IsSent, Waits, Counts, IsAnswer, IsAsking, Way}
-use Rattle.rasta_core_order.proofs.Places.{split, within, IsAfter}
+use Rattle.rasta_core_order.specs.Order.{IsLevel, Brings, Opens, Carries, BeginsByResponse, OpensOn, IsUnanswered, IsSent, Waits, Counts, IsAnswer, IsAsking, Way}
+use Rattle.rasta_core_order.proofs.Places.{split, within, IsAfter, begins_before, opens_after}
 
 -- A part with more sent: what it was stays as it was.
 pub record Extends (old new : Part) (more : List Pdu) : Type 0 where
@@ -43,18 +43,26 @@ module _ (old new : Part) (more : List Pdu) (extends : Extends old new more) (re
   carries_kept place (Data items) lt carries = brings_kept place items lt carries
   carries_kept place (RetransmittedData items) lt carries = brings_kept place items lt carries
 
+  -- a place of the longer flow is an old one or one of what follows
+  pub place_of : (place : ℕ) (pdu : Pdu) → IsAt place pdu new.flow → IsAt place pdu old.flow ⊎ IsAfter place pdu old.flow more
+  place_of place pdu at = split place pdu old.flow more (subst (IsAt place pdu) extends.flow at)
+
   pub is_sent_kept : (taker_first place : ℕ) (pdu : Pdu) → place < sent old → IsSent old taker_first place pdu → IsSent new taker_first place pdu
   is_sent_kept taker_first place pdu lt is = record {
     number = is.number ∙ ap (λ first. wire first place) (sym extends.first);
     some_expected = omega (arith, is.some_expected, extends.expecting place lt);
     expected = omega (arith, is.expected, extends.expecting place lt, extends.reached);
-    confirms = subst (λ expected. (pdu.confirmed_sequence_number ≡ wire taker_first (expected - 1)) ⊎ ReturnsNothing pdu) (sym (extends.expecting place lt)) is.confirms;
+    confirms = confirms_kept is.confirms;
+    follows = λ two. subst OpensOn (sym extends.flow) (opens_after old.flow more (omega (arith, two, lt)) (is.follows two));
     carries = carries_kept place pdu.body lt is.carries;
   }
-
-  -- a place of the longer flow is an old one or one of what follows
-  pub place_of : (place : ℕ) (pdu : Pdu) → IsAt place pdu new.flow → IsAt place pdu old.flow ⊎ IsAfter place pdu old.flow more
-  place_of place pdu at = split place pdu old.flow more (subst (IsAt place pdu) extends.flow at)
+    where
+      confirms_kept : (pdu.confirmed_sequence_number ≡ wire taker_first (old.expecting place - 1)) ⊎ IsUnanswered old.flow place pdu.body
+          → (pdu.confirmed_sequence_number ≡ wire taker_first (new.expecting place - 1)) ⊎ IsUnanswered new.flow place pdu.body
+      confirms_kept (inl same) = inl (same ∙ ap (λ expected. wire taker_first (expected - 1)) (sym (extends.expecting place lt)))
+      confirms_kept (inr (inl request)) = inr (inl request)
+      confirms_kept (inr (inr (second, closes, no_server))) =
+          inr (inr (second, closes, λ begins. no_server (begins_before old.flow more (omega (arith, lt)) (subst BeginsByResponse extends.flow begins))))
 
 -- nothing among these is a PDU of this type
 abbrev pub HasNo : Body → List Pdu → Type 0

@@ -8,10 +8,10 @@ use Rattle.rasta_core_link.specs.Opening.{own_opening, beginning, requesting, me
 use Rattle.rasta_pdu.specs.declared.pdu.Pdu.{Pdu}
 use Rattle.rasta_pdu.specs.declared.body.Body.TheVariants.{ConnectionRequest, ConnectionResponse, RetransmissionRequest, RetransmissionResponse}
 use Rattle.rasta_core_order.specs.Part.{IsAt, Part, sent, later, items_of}
-use Rattle.rasta_core_order.specs.Order.{IsLevel, Carries, ReturnsNothing, IsSent, Rises, Waits, Way}
+use Rattle.rasta_core_order.specs.Order.{IsLevel, Carries, IsRequest, IsResponse, IsSent, Rises, Waits, Way}
 use Rattle.rasta_core_order.specs.Playing.{joined}
 use Rattle.rasta_core_order.specs.Beginning.{IsEarly, asks, Asks, Grants}
-use Rattle.rasta_core_order.proofs.Places.{only_one}
+use Rattle.rasta_core_order.proofs.Places.{only_one, short}
 use Rattle.rasta_core_order.proofs.Numbers.{wire_0, wire_fits}
 
 -- a part with one PDU, an opening
@@ -30,18 +30,19 @@ opens_with first pdu = record {
 
 -- ---- the client asks
 
-request_sent : (first : ℕ) (pdu : Pdu) → pdu.sequence_number ≡ wire first 0 → ReturnsNothing pdu → pdu.body ≡ ConnectionRequest own_opening
+request_sent : (first : ℕ) (pdu : Pdu) → pdu.sequence_number ≡ wire first 0 → pdu.body ≡ ConnectionRequest own_opening
     → (server_first : ℕ) → IsSent (opens_with first pdu) server_first 0 pdu
-request_sent first pdu number nothing body server_first = record {
+request_sent first pdu number body server_first = record {
   number = number;
   some_expected = omega arith;
   expected = omega arith;
-  confirms = inr nothing;
+  confirms = inr (inl (subst IsRequest (sym body) tt));
+  follows = λ two. absurd (omega (arith, two));
   carries = subst (Carries (opens_with first pdu) 0) (sym body) ((refl, refl), refl);
 }
 
-opens_early : (first : ℕ) (pdu : Pdu) → first < 2 ^ 32 → pdu.sequence_number ≡ wire first 0 → ReturnsNothing pdu → pdu.body ≡ ConnectionRequest own_opening → IsEarly (opens_with first pdu)
-opens_early first pdu fits number nothing body = record {
+opens_early : (first : ℕ) (pdu : Pdu) → first < 2 ^ 32 → pdu.sequence_number ≡ wire first 0 → pdu.body ≡ ConnectionRequest own_opening → IsEarly (opens_with first pdu)
+opens_early first pdu fits number body = record {
   first = fits;
   some = omega arith;
   room = omega arith;
@@ -49,12 +50,13 @@ opens_early first pdu fits number nothing body = record {
   taken = refl;
   waiting = refl;
   reached = refl;
+  client_flow = λ begins. subst IsResponse (ap (λ (p : Pdu). p.body) (sym (only_one 0 begins.0 pdu begins.1).1) ∙ body) begins.2;
   passed = λ number. refl;
   expecting = λ number. refl;
   each = λ place that at server_first.
       let one = only_one place that pdu at
       in subst (λ here. IsSent (opens_with first pdu) server_first here that) (sym one.0)
-      (subst (IsSent (opens_with first pdu) server_first 0) one.1 (request_sent first pdu number nothing body server_first));
+      (subst (IsSent (opens_with first pdu) server_first 0) one.1 (request_sent first pdu number body server_first));
   no_asking = λ place that at is. no_request (sym body ∙ ap (λ (p : Pdu). p.body) (only_one place that pdu at).1 ∙ is);
   no_answer = λ place that at is. no_response (sym body ∙ ap (λ (p : Pdu). p.body) (only_one place that pdu at).1 ∙ is);
 }
@@ -70,15 +72,15 @@ unfolding requesting sending beginning header_of pdu_of
 requesting_on link role late = record {
   part = opens_with (wire link.own_first link.sent) (pdu_of (header_of (beginning link)) 0 (ConnectionRequest own_opening));
   flow = refl;
-  early = opens_early (wire link.own_first link.sent) (pdu_of (header_of (beginning link)) 0 (ConnectionRequest own_opening)) (wire_fits link.own_first link.sent) refl
-      (ap (λ asking. if asking then 0 else 0) role) refl;
+  early = opens_early (wire link.own_first link.sent) (pdu_of (header_of (beginning link)) 0 (ConnectionRequest own_opening)) (wire_fits link.own_first link.sent) refl refl;
   plays = asks (record {
     keeps = record { given = refl; taken = refl; waiting = refl };
     connected = refl;
     own_first = refl;
     counted = omega arith;
     room = omega arith;
-    stamped = late;
+    unsaid = short (pdu_of (header_of (beginning link)) 0 (ConnectionRequest own_opening) ∷ []) refl;
+    alone = λ asks. refl;
     reading = refl;
   }) role;
 }
@@ -99,6 +101,7 @@ module _ (client : Part) (early : IsEarly client) (first : ℕ) (pdu : Pdu) (num
     some_expected = omega arith;
     expected = omega arith;
     confirms = inl confirms;
+    follows = λ two. absurd (omega (arith, two));
     carries = subst (Carries (opens_with first pdu) 0) (sym body) ((refl, refl), refl);
   }
 
@@ -170,12 +173,14 @@ granting_on client early link pdu role late at = record {
       own_first = refl;
       counted = omega arith;
       room = omega arith;
-      stamped = late;
+      unsaid = short (response ∷ []) refl;
+      alone = λ asks. refl;
       reading = refl;
     };
     joined = role;
     partner_first = its_number;
     expected = refl;
+    come = record { starting = λ down. (refl, refl); heard = λ up. absurd (cc (up)) };
   });
 }
   where

@@ -4,7 +4,7 @@ use Rattle.std.specs.Prelude.{nat_le, ◌==◌, ◌&&◌, not, if◌then◌else�
 use Rattle.std.proofs.lemmas.List.{append-nil}
 use Rattle.rasta_core_link.specs.Parameters.{connection_limit}
 use Rattle.rasta_core_link.specs.State.{LinkState, is_open, is_client}
-use Rattle.rasta_core_link.specs.Clock.{alive_until, quiet_until, settled, state_at}
+use Rattle.rasta_core_link.specs.Clock.{deadline, settled, state_at}
 use Rattle.rasta_core_link.specs.Sending.{Step, silent, telling, limited, entered}
 use Rattle.rasta_core_link.specs.Opening.{may_open, requesting, granting}
 use Rattle.rasta_core_link.specs.Receiving.{accepting, refusing, resting, by_state, hearing}
@@ -28,18 +28,18 @@ use Rattle.rasta_core_order.proofs.EarlyCalls.{early_entering}
 
 -- an end that is down has a clock past the first quiet time
 pub is_late : (link : LinkState) → state_at link.clock link ≡ state.Down → 1 ≤ link.clock
-unfolding state_at quiet_until
+unfolding state_at deadline
 is_late link down = grind (arith, down)
 
 -- outside, a call begins with nothing but the clock
 pub entered_outside : (now : ℕ) (link : LinkState) → is_open link.phase ≡ false → entered now link ≡ silent (record link { clock = now })
 unfolding entered settled limited
 entered_outside now link shut =
-    by_test (λ (begun : LinkState). limited begun ≡ silent (record link { clock = now })) (is_open link.phase && nat_le (alive_until link) now) _ (record link { clock = now })
-    (λ e. absurd (cc (both_left (is_open link.phase) (nat_le (alive_until link) now) e, shut)))
+    by_test (λ (begun : LinkState). limited begun ≡ silent (record link { clock = now })) (is_open link.phase && nat_le (deadline link) now) _ (record link { clock = now })
+    (λ e. absurd (cc (both_left (is_open link.phase) (nat_le (deadline link) now) e, shut)))
     (λ e. false_then (is_open link.phase && nat_le connection_limit link.sent) _ (silent (record link { clock = now })) (closed_now e))
   where
-    closed_now : (is_open link.phase && nat_le (alive_until link) now) ≡ false → (is_open link.phase && nat_le connection_limit link.sent) ≡ false
+    closed_now : (is_open link.phase && nat_le (deadline link) now) ≡ false → (is_open link.phase && nat_le connection_limit link.sent) ≡ false
     closed_now e = shut_first (is_open link.phase) (nat_le connection_limit link.sent) shut
       where
         shut_first : (one other : Bool) → one ≡ false → (one && other) ≡ false
@@ -50,13 +50,13 @@ entered_outside now link shut =
 
 -- an end that has just closed is quiet
 told_quiet : (link : LinkState) → may_open (telling reason.Sequence link).link ≡ false
-unfolding telling state_at quiet_until alive_until
+unfolding telling state_at deadline
 told_quiet link = grind arith
 
 silent_open : (now : ℕ) (link : LinkState) → opens now link ≡ true → (entered now link).pdus ≡ []
 unfolding opens entered settled limited
 silent_open now link =
-    by_test (λ (begun : LinkState). may_open (limited begun).link ≡ true → (limited begun).pdus ≡ []) (is_open link.phase && nat_le (alive_until link) now) _ (record link { clock = now })
+    by_test (λ (begun : LinkState). may_open (limited begun).link ≡ true → (limited begun).pdus ≡ []) (is_open link.phase && nat_le (deadline link) now) _ (record link { clock = now })
     (λ e may. refl)
     (λ e. by_test (λ (step : Step). may_open step.link ≡ true → step.pdus ≡ []) (is_open link.phase && nat_le connection_limit link.sent)
     (telling reason.Sequence (record link { clock = now })) (silent (record link { clock = now }))
@@ -97,10 +97,9 @@ opening_not_early now link client early plays may =
 
 -- ---- hearing
 
-none_of : {A B C : Type 0} → (A → ⊥) → (B → ⊥) → (C → ⊥) → A ⊎ (B ⊎ C) → ⊥
-none_of a b c (inl one) = a one
-none_of a b c (inr (inl one)) = b one
-none_of a b c (inr (inr one)) = c one
+none_of : {A B : Type 0} → (A → ⊥) → (B → ⊥) → A ⊎ B → ⊥
+none_of a b (inl one) = a one
+none_of a b (inr one) = b one
 
 module _ (pdu : Pdu) (link : LinkState) where
   rests : state_at link.clock link ≡ state.Down → (body : Body) → pdu.body ≡ body → HearsOutside pdu link (resting body pdu link)
@@ -119,7 +118,7 @@ module _ (pdu : Pdu) (link : LinkState) where
   rests down (Data items) same = refuses verdict.WrongState (λ e. cc) refl
   rests down (RetransmittedData items) same = refuses verdict.WrongState (λ e. cc) refl
 
-  outside_state : is_open link.phase ≡ false → (its : State) → state_at link.clock link ≡ its → (its ≡ state.Expired) ⊎ ((its ≡ state.Quiet) ⊎ (its ≡ state.Down))
+  outside_state : is_open link.phase ≡ false → (its : State) → state_at link.clock link ≡ its → (its ≡ state.Quiet) ⊎ (its ≡ state.Down)
   unfolding state_at
   outside_state shut its is = grind (arith, shut, is)
 
@@ -131,11 +130,10 @@ module _ (pdu : Pdu) (link : LinkState) where
       (λ e. refuses verdict.WrongSender (λ e. cc) refl)
       (λ his. in_state (state_at link.clock link) refl (outside_state shut (state_at link.clock link) refl)))
     where
-      in_state : (its : State) → state_at link.clock link ≡ its → (its ≡ state.Expired) ⊎ ((its ≡ state.Quiet) ⊎ (its ≡ state.Down)) → HearsOutside pdu link (by_state its pdu link)
-      in_state state.Expired is one = refuses verdict.Expired (λ e. cc) refl
+      in_state : (its : State) → state_at link.clock link ≡ its → (its ≡ state.Quiet) ⊎ (its ≡ state.Down) → HearsOutside pdu link (by_state its pdu link)
       in_state state.Quiet is one = refuses verdict.Quiet (λ e. cc) refl
       in_state state.Down is one = rests is pdu.body refl
-      in_state state.Start is one = absurd (none_of (λ e. cc) (λ e. cc) (λ e. cc) one)
-      in_state state.Up is one = absurd (none_of (λ e. cc) (λ e. cc) (λ e. cc) one)
-      in_state state.RetransmissionRequested is one = absurd (none_of (λ e. cc) (λ e. cc) (λ e. cc) one)
-      in_state state.RetransmissionRunning is one = absurd (none_of (λ e. cc) (λ e. cc) (λ e. cc) one)
+      in_state state.Start is one = absurd (none_of (λ e. cc) (λ e. cc) one)
+      in_state state.Up is one = absurd (none_of (λ e. cc) (λ e. cc) one)
+      in_state state.RetransmissionRequested is one = absurd (none_of (λ e. cc) (λ e. cc) one)
+      in_state state.RetransmissionRunning is one = absurd (none_of (λ e. cc) (λ e. cc) one)

@@ -1,8 +1,8 @@
 -- A link in the connection answers a retransmission request that it has taken.
-use Rattle.std.proofs.Common.{◌≡◌, ℕ, ◌+◌, ◌^◌, ◌<◌, ◌≤◌, false, List, [], ◌++◌, length, refl, sym, ap, ◌∙◌, arith}
+use Rattle.std.proofs.Common.{◌≡◌, ℕ, ◌+◌, ◌^◌, ◌<◌, ◌≤◌, true, false, List, [], ◌++◌, length, refl, sym, ap, ◌∙◌, arith}
 use Rattle.std.proofs.lemmas.List.{append-nil}
 use Rattle.rasta_core_link.specs.Parameters.{connection_limit}
-use Rattle.rasta_core_link.specs.State.{LinkState}
+use Rattle.rasta_core_link.specs.State.{LinkState, is_up}
 use Rattle.rasta_core_link.specs.Sending.{header_of, pdu_of, sending}
 use Rattle.rasta_core_link.specs.Receiving.{retagged, repeating, answering}
 use Rattle.rasta_pdu.specs.declared.pdu.Pdu.{Pdu}
@@ -11,10 +11,11 @@ use Rattle.rasta_core_order.specs.Held.{Head}
 use Rattle.rasta_core_order.specs.Part.{IsAt, Part, sent, later}
 use Rattle.rasta_core_order.specs.Order.{InOrder}
 use Rattle.rasta_core_order.specs.Playing.{HasJoined, joined, GoesOn}
-use Rattle.rasta_core_order.proofs.Answers.{answer, answered, IsHeader, giver_answered, partner_answered, sent_answered}
+use Rattle.rasta_core_order.proofs.Answers.{answer, answer_goes_on, answered, IsHeader, giver_answered, partner_answered, sent_answered}
+use Rattle.rasta_core_order.proofs.Places.{opens_more}
 use Rattle.rasta_core_order.proofs.Speaking.{joined_confirms}
 
-module _ (link : LinkState) (own other : Part) (order : InOrder own other) (plays : HasJoined link own other) (room : link.sent < connection_limit)
+module _ (link : LinkState) (own other : Part) (order : InOrder own other) (plays : HasJoined link own other) (is_up_now : is_up link.phase ≡ true) (room : link.sent < connection_limit)
     (unanswered : (place : ℕ) (pdu : Pdu) → IsAt place pdu own.flow → pdu.body ≡ RetransmissionResponse → place < other.reached)
     (asked_no_more : (place : ℕ) (pdu : Pdu) → IsAt place pdu other.flow → pdu.body ≡ RetransmissionRequest → own.reached ≤ place → ⊥)
     (other_waits : other.reading ≡ false)
@@ -27,7 +28,7 @@ module _ (link : LinkState) (own other : Part) (order : InOrder own other) (play
 
   is_header : IsHeader own other.first (header_of link)
   unfolding header_of
-  is_header = record { first = plays.inside.own_first; confirmed = joined_confirms link own other order plays }
+  is_header = record { first = plays.inside.own_first; confirmed = joined_confirms link own other order plays; unsaid = plays.inside.unsaid }
 
   fits : sent own + length own.waiting + 2 < 2 ^ 31
   fits = omega (arith, plays.inside.counted, room, order.there.waits.few)
@@ -68,11 +69,13 @@ module _ (link : LinkState) (own other : Part) (order : InOrder own other) (play
         own_first = plays.inside.own_first;
         counted = omega (arith, sent_in_reply, plays.inside.counted, ap length plays.inside.keeps.waiting);
         room = omega (arith, sent_in_reply, plays.inside.counted, room, order.there.waits.few);
-        stamped = plays.inside.stamped;
+        unsaid = opens_more own.flow (answer (header_of link) (sent own) own.waiting) plays.inside.unsaid (answer_goes_on (header_of link) (sent own) own.waiting);
+        alone = λ asks. absurd (cc (asks, plays.joined));
         reading = plays.inside.reading;
       };
       joined = plays.joined;
       partner_first = plays.partner_first;
       expected = plays.expected;
+      come = record { starting = λ down. absurd (cc (is_up_now, down)); heard = plays.come.heard };
     });
   }

@@ -7,7 +7,7 @@ use Rattle.rasta_core_link.specs.Sequence.{wire}
 use Rattle.rasta_pdu.specs.declared.pdu.Pdu.{Pdu}
 use Rattle.rasta_pdu.specs.declared.body.Body.TheVariants.{RetransmissionResponse}
 use Rattle.rasta_core_order.specs.Part.{IsAt, Part, sent, later}
-use Rattle.rasta_core_order.specs.Order.{Brings, Carries, ReturnsNothing, IsSent, Counts, Way}
+use Rattle.rasta_core_order.specs.Order.{Brings, Carries, OpensOn, IsUnanswered, IsSent, Counts, Way}
 use Rattle.rasta_core_order.proofs.Tests.{by_test}
 use Rattle.rasta_core_order.proofs.Places.{only_one}
 use Rattle.rasta_core_order.proofs.Tags.{later_none, rises_higher}
@@ -44,7 +44,8 @@ below_new first number new old le =
 -- A PDU is the next one of an end: it has the next number, and confirms what the end has taken.
 pub record IsNext (own : Part) (other_first : ℕ) (place : ℕ) (pdu : Pdu) : Type 0 where
   pub number : pdu.sequence_number ≡ wire own.first place
-  pub confirms : (pdu.confirmed_sequence_number ≡ wire other_first (own.reached - 1)) ⊎ ReturnsNothing pdu
+  pub confirms : (pdu.confirmed_sequence_number ≡ wire other_first (own.reached - 1)) ⊎ IsUnanswered (own.flow ++ pdu ∷ []) place pdu.body
+  pub follows : 2 ≤ place → OpensOn (own.flow ++ pdu ∷ [])
 
 -- ---- a PDU that brings nothing
 
@@ -109,7 +110,8 @@ module _ (own other : Part) (pdu : Pdu) (way : Way own other) (next : IsNext own
         number = next.number;
         some_expected = omega (arith, expecting_here);
         expected = omega (arith, expecting_here);
-        confirms = subst (λ expected. (pdu.confirmed_sequence_number ≡ wire other.first (expected - 1)) ⊎ ReturnsNothing pdu) (sym expecting_here) next.confirms;
+        confirms = subst (λ expected. (pdu.confirmed_sequence_number ≡ wire other.first (expected - 1)) ⊎ IsUnanswered (own.flow ++ pdu ∷ []) (sent own) pdu.body) (sym expecting_here) next.confirms;
+        follows = next.follows;
         carries = carries;
       }
 

@@ -1,23 +1,23 @@
 -- What a link does by itself in a connection: it closes, sends a heartbeat, gives an item, or asks for a missing PDU.
-use Rattle.std.proofs.Common.{◌≡◌, ℕ, ◌+◌, ◌<◌, true, false, List, [], ◌∷◌, ◌++◌, length, ◌⊎◌, inl, inr, refl, sym, ap, ◌∙◌, arith}
+use Rattle.std.proofs.Common.{◌≡◌, ℕ, ◌+◌, ◌<◌, ◌≤◌, true, false, List, [], ◌∷◌, ◌++◌, length, ◌⊎◌, inl, inr, refl, sym, ap, ◌∙◌, arith}
 use Rattle.std.proofs.lemmas.List.{length-append, append-nil}
 use Rattle.rasta_core_link.specs.Parameters.{connection_limit}
-use Rattle.rasta_core_link.specs.State.{LinkState}
+use Rattle.rasta_core_link.specs.State.{LinkState, is_up}
 use Rattle.rasta_core_link.specs.Sending.{Step, silent, header_of, pdu_of, sending, closed, telling, closing, reason_number, is_told, giving}
 use Rattle.rasta_core_link.specs.Receiving.{missing}
 use Rattle.rasta_core_link.specs.declared.reason.Reason.{Reason}
 use Rattle.rasta_pdu.specs.declared.pdu.Pdu.{Pdu}
 use Rattle.rasta_pdu.specs.declared.body.Body.TheVariants.{RetransmissionRequest, DisconnectionRequest, Heartbeat, Data}
 use Rattle.rasta_core_order.specs.Part.{Part, sent}
-use Rattle.rasta_core_order.specs.Order.{InOrder}
+use Rattle.rasta_core_order.specs.Order.{BeginsByResponse, OpensOn, InOrder}
 use Rattle.rasta_core_order.specs.Playing.{IsInside, HasJoined, IsStillAsking, Plays, joined, left, GoesOn}
 use Rattle.rasta_core_order.proofs.Tests.{by_test}
-use Rattle.rasta_core_order.proofs.Places.{only_one}
+use Rattle.rasta_core_order.proofs.Places.{only_one, opens_more, close_one}
 use Rattle.rasta_core_order.proofs.Taking.{taker_sent, taker_asked, waits_for}
 use Rattle.rasta_core_order.proofs.Drops.{giver_went_on}
 use Rattle.rasta_core_order.proofs.Sends.{sends, upto, below, below_old, below_new, giver_sent}
 use Rattle.rasta_core_order.proofs.Gives.{gives, giver_gave, held}
-use Rattle.rasta_core_order.proofs.Speaking.{Confirms, joined_confirms, asking_confirms, next_pdu, sends_in_order, brings_none}
+use Rattle.rasta_core_order.proofs.Speaking.{Confirms, joined_confirms, next_pdu, sends_in_order, brings_none}
 
 -- a part that stays as it is
 pub stays : (own other : Part) (link : LinkState) → InOrder own other → Plays link own other → GoesOn own other link [] [] []
@@ -32,9 +32,10 @@ stays own other link order plays = record {
 }
 
 -- an end that is in the connection, joined or asking
-pub inside_confirms : (link : LinkState) (own other : Part) → InOrder own other → HasJoined link own other ⊎ IsStillAsking link own other → Confirms link own other
-inside_confirms link own other order (inl plays) = inl (joined_confirms link own other order plays)
-inside_confirms link own other order (inr plays) = inr (asking_confirms link own other plays)
+pub inside_confirms : (link : LinkState) (own other : Part) (detail reason : ℕ) → InOrder own other → HasJoined link own other ⊎ IsStillAsking link own other
+    → Confirms link own other (DisconnectionRequest detail reason)
+inside_confirms link own other detail reason order (inl plays) = inl (joined_confirms link own other order plays)
+inside_confirms link own other detail reason order (inr plays) = inr (plays.inside.alone plays.asking, tt, plays.client)
 
 pub inside_is : (link : LinkState) (own other : Part) → HasJoined link own other ⊎ IsStillAsking link own other → IsInside link own
 inside_is link own other (inl plays) = plays.inside
@@ -47,14 +48,14 @@ unfolding telling sending
 told_on why link own other order plays =
     let body = DisconnectionRequest 0 (reason_number why)
     in let inside = inside_is link own other plays
-    in let confirms = inside_confirms link own other order plays
+    in let confirms = inside_confirms link own other 0 (reason_number why) order plays
     in record {
       part = sends (pdu_of (header_of link) link.sent body) own;
       first = refl;
       flow = refl;
       given = sym (append-nil own.given);
       taken = sym (append-nil own.taken);
-      order = sends_in_order link own other order inside confirms body (brings_none link own other order inside confirms body) (λ e. cc) (λ e. cc);
+      order = sends_in_order link own other order inside body confirms (brings_none link own other order inside body confirms) (λ e. cc) (λ e. cc);
       plays = left refl (inl (record { given = inside.keeps.given; taken = inside.keeps.taken; waiting = inside.keeps.waiting }));
     }
 
@@ -73,11 +74,11 @@ closed_on why link own other order plays =
         in stays own other (closed link) order (left refl (inl (record { given = keeps.given; taken = keeps.taken; waiting = keeps.waiting })))
 
 -- it sends a heartbeat
-pub beat_on : (link : LinkState) (own other : Part) → InOrder own other → HasJoined link own other → link.sent < connection_limit
+pub beat_on : (link : LinkState) (own other : Part) → InOrder own other → HasJoined link own other → is_up link.phase ≡ true → link.sent < connection_limit
     → GoesOn own other (sending Heartbeat link).link (sending Heartbeat link).pdus [] []
-unfolding sending
-beat_on link own other order plays room =
-    let confirms : Confirms link own other = inl (joined_confirms link own other order plays)
+unfolding sending pdu_of
+beat_on link own other order plays up room =
+    let confirms : Confirms link own other Heartbeat = inl (joined_confirms link own other order plays)
     in let inside = plays.inside
     in record {
       part = sends (pdu_of (header_of link) link.sent Heartbeat) own;
@@ -85,7 +86,7 @@ beat_on link own other order plays room =
       flow = refl;
       given = sym (append-nil own.given);
       taken = sym (append-nil own.taken);
-      order = sends_in_order link own other order inside confirms Heartbeat (brings_none link own other order inside confirms Heartbeat) (λ e. cc) (λ e. cc);
+      order = sends_in_order link own other order inside Heartbeat confirms (brings_none link own other order inside Heartbeat confirms) (λ e. cc) (λ e. cc);
       plays = joined (record {
         inside = record {
           keeps = record { given = inside.keeps.given; taken = inside.keeps.taken; waiting = inside.keeps.waiting };
@@ -93,21 +94,23 @@ beat_on link own other order plays room =
           own_first = inside.own_first;
           counted = omega (arith, inside.counted, length-append own.flow (pdu_of (header_of link) link.sent Heartbeat ∷ []));
           room = omega (arith, inside.counted, length-append own.flow (pdu_of (header_of link) link.sent Heartbeat ∷ []), room);
-          stamped = inside.stamped;
+          unsaid = opens_more own.flow (pdu_of (header_of link) link.sent Heartbeat ∷ []) inside.unsaid (close_one (pdu_of (header_of link) link.sent Heartbeat) (λ c. c));
+          alone = λ asks. absurd (cc (asks, plays.joined));
           reading = inside.reading;
         };
         joined = plays.joined;
         partner_first = plays.partner_first;
         expected = plays.expected;
+        come = record { starting = λ down. absurd (cc (up, down)); heard = plays.come.heard };
       });
     }
 
 -- it gives an item
-pub gave_on : (item : List ℕ) (link : LinkState) (own other : Part) → InOrder own other → HasJoined link own other → link.sent < connection_limit → length link.waiting < 20
+pub gave_on : (item : List ℕ) (link : LinkState) (own other : Part) → InOrder own other → HasJoined link own other → is_up link.phase ≡ true → link.sent < connection_limit → length link.waiting < 20
     → GoesOn own other (giving item link).link (giving item link).pdus (item ∷ []) []
 unfolding giving sending pdu_of
-gave_on item link own other order plays room few =
-    let confirms : Confirms link own other = inl (joined_confirms link own other order plays)
+gave_on item link own other order plays up room few =
+    let confirms : Confirms link own other (Data (item ∷ [])) = inl (joined_confirms link own other order plays)
     in let inside = plays.inside
     in let pdu = pdu_of (header_of link) link.sent (Data (item ∷ []))
     in record {
@@ -117,7 +120,7 @@ gave_on item link own other order plays room few =
       given = refl;
       taken = sym (append-nil own.taken);
       order = record {
-        there = giver_gave own other item pdu order.there (next_pdu link own other order inside confirms (Data (item ∷ []))) order.back.counts.some (omega (arith, inside.room))
+        there = giver_gave own other item pdu order.there (next_pdu link own other order inside (Data (item ∷ [])) confirms) order.back.counts.some (omega (arith, inside.room))
             (omega (arith, few, ap length inside.keeps.waiting)) refl;
         back = taker_sent other own order.back (pdu ∷ []) (upto (sent own) (λ number. length own.given + 1) own.passed) (below (sent own) own.reached own.expecting)
             (own.given ++ item ∷ []) (own.waiting ++ held (sent own) item ∷ [])
@@ -135,12 +138,14 @@ gave_on item link own other order plays room few =
           own_first = inside.own_first;
           counted = omega (arith, inside.counted, length-append own.flow (pdu ∷ []));
           room = omega (arith, inside.counted, length-append own.flow (pdu ∷ []), room);
-          stamped = inside.stamped;
+          unsaid = opens_more own.flow (pdu ∷ []) inside.unsaid (close_one (pdu) (λ c. c));
+          alone = λ asks. absurd (cc (asks, plays.joined));
           reading = inside.reading;
         };
         joined = plays.joined;
         partner_first = plays.partner_first;
         expected = plays.expected;
+        come = record { starting = λ down. absurd (cc (up, down)); heard = plays.come.heard };
       });
     }
   where
@@ -148,11 +153,11 @@ gave_on item link own other order plays room few =
     no_request e = cc
 
 -- it misses a PDU and asks
-pub asked_on : (link : LinkState) (own other : Part) → InOrder own other → HasJoined link own other → link.sent < connection_limit → own.reading ≡ true
+pub asked_on : (link : LinkState) (own other : Part) → InOrder own other → HasJoined link own other → link.sent < connection_limit → own.reading ≡ true → BeginsByResponse other.flow ⊎ ((2 ≤ sent other) × OpensOn other.flow)
     → GoesOn own other (missing link).link (missing link).pdus [] []
 unfolding missing sending pdu_of
-asked_on link own other order plays room reading =
-    let confirms : Confirms link own other = inl (joined_confirms link own other order plays)
+asked_on link own other order plays room reading heard =
+    let confirms : Confirms link own other RetransmissionRequest = inl (joined_confirms link own other order plays)
     in let inside = plays.inside
     in let pdu = pdu_of (header_of link) link.sent RetransmissionRequest
     in record {
@@ -163,8 +168,8 @@ asked_on link own other order plays room reading =
       taken = sym (append-nil own.taken);
       order = record {
         there = giver_went_on (sends pdu own) other own.reached false own.taken
-            (giver_sent own other pdu order.there (next_pdu link own other order inside confirms RetransmissionRequest) order.back.counts.some (omega (arith, inside.room))
-            (brings_none link own other order inside confirms RetransmissionRequest) (λ e. cc)) (omega arith);
+            (giver_sent own other pdu order.there (next_pdu link own other order inside RetransmissionRequest confirms) order.back.counts.some (omega (arith, inside.room))
+            (brings_none link own other order inside RetransmissionRequest confirms) (λ e. cc)) (omega arith);
         back = taker_asked other own order.back reading pdu (upto (sent own) (λ number. length own.given) own.passed) (below (sent own) own.reached own.expecting)
             (λ number lt. below_old (sent own) number own.reached own.expecting lt) (below_new (sent own) (sent own) own.reached own.expecting (omega arith));
       };
@@ -175,11 +180,13 @@ asked_on link own other order plays room reading =
           own_first = inside.own_first;
           counted = omega (arith, inside.counted, length-append own.flow (pdu ∷ []));
           room = omega (arith, inside.counted, length-append own.flow (pdu ∷ []), room);
-          stamped = inside.stamped;
+          unsaid = opens_more own.flow (pdu ∷ []) inside.unsaid (close_one (pdu) (λ c. c));
+          alone = λ asks. absurd (cc (asks));
           reading = refl;
         };
         joined = refl;
         partner_first = plays.partner_first;
         expected = plays.expected;
+        come = record { starting = λ down. absurd (cc (down)); heard = λ up. heard };
       });
     }

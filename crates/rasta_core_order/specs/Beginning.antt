@@ -10,7 +10,7 @@ use Rattle.rasta_core_link.specs.declared.verdict.Verdict.{Verdict}
 use Rattle.rasta_core_link.specs.declared.verdict.Verdict.TheVariants as verdict
 use Rattle.rasta_pdu.specs.declared.body.Opening.{Opening}
 use Rattle.rasta_core_order.specs.Part.{IsAt, Part, sent}
-use Rattle.rasta_core_order.specs.Order.{IsSent, InOrder}
+use Rattle.rasta_core_order.specs.Order.{BeginsByResponse, IsSent, InOrder}
 use Rattle.rasta_core_order.specs.Playing.{Keeps, IsNew, IsInside, Plays}
 use Rattle.rasta_pdu.specs.declared.pdu.Pdu.{Pdu}
 use Rattle.rasta_pdu.specs.declared.body.Body.TheVariants.{ConnectionRequest, RetransmissionRequest, RetransmissionResponse}
@@ -25,6 +25,7 @@ pub record IsEarly (client : Part) : Type 0 where
   pub taken : client.taken ≡ []
   pub waiting : client.waiting ≡ []
   pub reached : client.reached ≡ 1
+  pub client_flow : BeginsByResponse client.flow → ⊥
   pub passed : (number : ℕ) → client.passed number ≡ 0
   pub expecting : (number : ℕ) → client.expecting number ≡ 1
   -- whatever the number of the server's first PDU will be

@@ -35,17 +35,38 @@ Carries giver number Heartbeat = Brings giver number []
 Carries giver number (Data items) = Brings giver number items
 Carries giver number (RetransmittedData items) = Brings giver number items
 
--- the stamp that an end returns that has taken nothing: with its request, and where it closes
-abbrev pub ReturnsNothing : Pdu → Type 0
-ReturnsNothing pdu = pdu.confirmed_time_stamp ≡ 0
+abbrev pub IsRequest : Body → Type 0
+IsRequest (ConnectionRequest opening) = Unit {0}
+IsRequest body = ⊥
 
--- What a PDU is to its sender: it has the next number, confirms all that the sender had taken then, and carries
--- what its type says.
+abbrev pub IsResponse : Body → Type 0
+IsResponse (ConnectionResponse opening) = Unit {0}
+IsResponse body = ⊥
+
+abbrev pub IsClosing : Body → Type 0
+IsClosing (DisconnectionRequest detail reason) = Unit {0}
+IsClosing body = ⊥
+
+-- a flow that a server began
+abbrev pub BeginsByResponse : List Pdu → Type 0
+BeginsByResponse flow = (pdu : Pdu) × IsAt 0 pdu flow × IsResponse pdu.body
+
+-- a flow whose second PDU, if there is one, doesn't close
+abbrev pub OpensOn : List Pdu → Type 0
+OpensOn flow = (pdu : Pdu) → IsAt 1 pdu flow → IsClosing pdu.body → ⊥
+
+-- a PDU of a client that has taken nothing: its request, and the closing right after it
+abbrev pub IsUnanswered : List Pdu → ℕ → Body → Type 0
+IsUnanswered flow place body = IsRequest body ⊎ ((place ≡ 1) × IsClosing body × (BeginsByResponse flow → ⊥))
+
+-- What a PDU is to its sender: it has the next number, confirms all that the sender had taken then, carries what its
+-- type says, and follows no closing.
 pub record IsSent (giver : Part) (taker_first : ℕ) (place : ℕ) (pdu : Pdu) : Type 0 where
   pub number : pdu.sequence_number ≡ wire giver.first place
   pub some_expected : 1 ≤ giver.expecting place
   pub expected : giver.expecting place ≤ giver.reached
-  pub confirms : (pdu.confirmed_sequence_number ≡ wire taker_first (giver.expecting place - 1)) ⊎ ReturnsNothing pdu
+  pub confirms : (pdu.confirmed_sequence_number ≡ wire taker_first (giver.expecting place - 1)) ⊎ IsUnanswered giver.flow place pdu.body
+  pub follows : 2 ≤ place → OpensOn giver.flow
   pub carries : Carries giver place pdu.body
 
 -- the tags rise, from this one on, and stay below that

@@ -1,7 +1,7 @@
 -- The link of an end, and the part of that end in a connection.
 use Rattle.std.specs.Prelude.{◌≡◌, ℕ, ◌^◌, ◌<◌, ◌≤◌, Bool, true, false, List, [], ◌∷◌, ◌++◌, length, ◌⊎◌, Result, is_ok, if◌then◌else◌}
 use Rattle.rasta_core_link.specs.Parameters.{most_sent, stops_at_greatest}
-use Rattle.rasta_core_link.specs.State.{LinkState, is_open, is_asking}
+use Rattle.rasta_core_link.specs.State.{LinkState, is_open, is_up, is_asking}
 use Rattle.rasta_core_link.specs.Clock.{open_state}
 use Rattle.rasta_core_link.specs.Sending.{Step}
 use Rattle.rasta_core_link.specs.Receiving.{Receipt}
@@ -9,7 +9,7 @@ use Rattle.rasta_core_link.specs.declared.fault.SendFault.{SendFault}
 use Rattle.rasta_core_link.specs.declared.phase.State.{State}
 use Rattle.rasta_core_link.specs.declared.phase.State.TheVariants as state
 use Rattle.rasta_core_order.specs.Part.{Part, sent}
-use Rattle.rasta_core_order.specs.Order.{InOrder}
+use Rattle.rasta_core_order.specs.Order.{BeginsByResponse, OpensOn, InOrder}
 use Rattle.rasta_pdu.specs.declared.pdu.Pdu.{Pdu}
 
 -- an end takes PDUs in turn, but where it has asked for a retransmission
@@ -35,8 +35,16 @@ pub record IsInside (link : LinkState) (part : Part) : Type 0 where
   pub own_first : link.own_first ≡ part.first
   pub counted : link.sent ≡ sent part
   pub room : sent part ≤ most_sent
-  pub stamped : 1 ≤ link.own_stamp
+  -- it hasn't closed, and has sent but its request while it asks
+  pub unsaid : OpensOn part.flow
+  pub alone : is_asking link ≡ true → sent part ≡ 1
   pub reading : part.reading ≡ reads (open_state link.phase)
+
+-- How far the two have come, of whom this one has taken the first PDU of the other: a server that isn't up has sent
+-- its response alone; where an end is up, the other is a server, or has sent more than its request and a closing.
+pub record HaveCome (up : Bool) (part other : Part) : Type 0 where
+  pub starting : up ≡ false → (sent part ≡ 1) × (part.reached ≡ 1)
+  pub heard : up ≡ true → BeginsByResponse other.flow ⊎ ((2 ≤ sent other) × OpensOn other.flow)
 
 -- A link that has taken the first PDU of its partner.
 pub record HasJoined (link : LinkState) (part other : Part) : Type 0 where
@@ -44,11 +52,13 @@ pub record HasJoined (link : LinkState) (part other : Part) : Type 0 where
   pub joined : is_asking link ≡ false
   pub partner_first : link.partner_first ≡ other.first
   pub expected : link.expected ≡ part.reached
+  pub come : HaveCome (is_up link.phase) part other
 
 -- A link that has asked, and that may still join by the response; its part has taken this response already.
 pub record IsStillAsking (link : LinkState) (part other : Part) : Type 0 where
   pub inside : IsInside link part
   pub asking : is_asking link ≡ true
+  pub client : BeginsByResponse part.flow → ⊥
   pub reached : part.reached ≡ 1
   pub partner_first : other.first < 2 ^ 32
 

@@ -65,8 +65,8 @@ pub fn hearing_keeps_order()
 /// What one end does leaves the link of the other in its part, and a link made anew is outside.
 pub fn partner_stays()
     ensures order { (own other : Part) → InOrder own other → InOrder other own }
-    ensures plays { (link : LinkState) (own other later : Part) → Plays link own other → later.first ≡ other.first
-        → Plays link own later }
+    ensures plays { (link : LinkState) (own other later : Part) (more : List Pdu) → Plays link own other → later.first ≡ other.first
+        → later.flow ≡ other.flow ++ more → Plays link own later }
     ensures anew { (identity : Identity) (first_sequence_number now : ℕ) (own other : Part)
         → Plays (created identity first_sequence_number now) own other }
 {}

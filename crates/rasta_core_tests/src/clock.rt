@@ -1,6 +1,6 @@
 //! What an end does by its clock.
 
-use crate::bench::{FIRST, client, disconnection, opening, request, starting, up};
+use crate::bench::{FIRST, client, disconnection, opening, pdu, request, server, starting, up};
 use rasta_core_link::{Reason, State, Verdict};
 use rasta_pdu::Body;
 use std::test::Fail;
@@ -44,7 +44,6 @@ fn a_close_tells_its_reason_where_there_is_one_to_tell(rt: HostRuntime) -> Resul
         (Reason::Time, None),
         (Reason::Version, Some(4)),
         (Reason::Window, Some(5)),
-        (Reason::Expired, None),
     ] {
         let mut bench = up(&rt, rt.alloc())?;
         bench.close(&rt, 10020, why);
@@ -85,4 +84,21 @@ fn each_reason_has_its_number(rt: HostRuntime) {
     ] {
         assert_eq!(rt; why.number(), number);
     }
+}
+
+#[test]
+fn a_stamp_from_after_the_turn_is_no_older_than_one_before_it(rt: HostRuntime) -> Result<(), Fail> {
+    for (returned, verdict, alive_until) in [
+        (100, Verdict::Taken, 4_294_969_196),
+        (4_294_966_999, Verdict::Stale, 4_294_968_800),
+        (105, Verdict::Stale, 4_294_968_800),
+    ] {
+        let mut bench = server(rt.alloc())?;
+        bench.hear(&rt, 4_294_967_000, &request(), Verdict::Taken);
+        bench.told(&rt, &Body::ConnectionResponse(opening(*b"0303")));
+        let heartbeat = pdu((6, FIRST), (510, returned), Body::Heartbeat);
+        bench.hear(&rt, 4_294_967_400, &heartbeat, verdict);
+        assert_eq!(rt; bench.link.alive_until(), alive_until);
+    }
+    Ok(())
 }

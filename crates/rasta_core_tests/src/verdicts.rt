@@ -39,8 +39,6 @@ fn outside_a_connection_only_the_identities_are_tested_before_the_state(
         (3, 5999, Verdict::NotForMe),
         (2, 5999, Verdict::Quiet),
         (2, 6000, Verdict::WrongState),
-        (3, 4294000000, Verdict::NotForMe),
-        (2, 4294000000, Verdict::Expired),
     ] {
         let mut heartbeat = pdu((900, 900), (520, 9999), Body::Heartbeat);
         heartbeat.receiver = receiver;

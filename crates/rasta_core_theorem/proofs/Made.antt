@@ -31,7 +31,7 @@ module _ (law : Laws) (names : Names) (ends : Ends) (made : Outcome) (none : mad
     of_server = is.of_server;
     order = goes.order;
     client_plays = goes.plays;
-    server_plays = law.partner_plays ends.server.link is.server is.client goes.part is.server_plays goes.first;
+    server_plays = law.partner_plays ends.server.link is.server is.client goes.part _ is.server_plays goes.first goes.flow;
     client_given = same_lists made.enters ends.client.given goes.part.given made.given is.client.given none is.client_given goes.given;
     client_taken = same_lists made.enters ends.client.taken goes.part.taken made.taken is.client.taken none is.client_taken goes.taken;
     server_given = is.server_given;
@@ -52,7 +52,7 @@ module _ (law : Laws) (names : Names) (ends : Ends) (made : Outcome) (none : mad
     of_client = is.of_client;
     of_server = ap (λ enters. newer enters ends.server.connection) none ∙ is.of_server;
     order = law.swapped goes.part is.client goes.order;
-    client_plays = law.partner_plays ends.client.link is.client is.server goes.part is.client_plays goes.first;
+    client_plays = law.partner_plays ends.client.link is.client is.server goes.part _ is.client_plays goes.first goes.flow;
     server_plays = goes.plays;
     client_given = is.client_given;
     client_taken = is.client_taken;

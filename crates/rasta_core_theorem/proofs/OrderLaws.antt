@@ -53,7 +53,7 @@ pub record Laws : Type 0 where
       → reading link.identity.key bytes ≡ Ok pdu → hearing pdu (entered now link).link ≡ refusing why (entered now link).link → ReceiptGoesOn own other (receiving now bytes link)
   -- what one end does leaves the other in its part
   pub swapped : (own other : Part) → InOrder own other → InOrder other own
-  pub partner_plays : (link : LinkState) (own other later : Part) → Plays link own other → later.first ≡ other.first → Plays link own later
+  pub partner_plays : (link : LinkState) (own other later : Part) (more : List Pdu) → Plays link own other → later.first ≡ other.first → later.flow ≡ other.flow ++ more → Plays link own later
   pub anew : (identity : Identity) (first now : ℕ) (own other : Part) → Plays (created identity first now) own other
   -- a client alone stays so
   pub early_plays : (link : LinkState) (client server : Part) → IsEarly client → PlaysEarly link client → server.first < 2 ^ 32 → Plays link client server

@@ -2,7 +2,7 @@
 use Rattle.std.proofs.Common.{◌≡◌, ℕ, Bool, true, false, ◌&&◌, not, nat_le, ◌-◌, List, Some, None, Result, Ok, Err, refl, sym, subst, ap, ◌∙◌}
 use Rattle.std.specs.Prelude.{if◌then◌else◌, is_ok}
 use Rattle.rasta_core_link.specs.Parameters.{connection_limit, heartbeat_interval}
-use Rattle.rasta_core_link.specs.Clock.{alive_until, settled, state_at}
+use Rattle.rasta_core_link.specs.Clock.{deadline, settled, state_at}
 use Rattle.rasta_core_link.specs.State.{LinkState, is_client, is_open, is_up}
 use Rattle.rasta_core_link.specs.Opening.{is_down, may_open, requesting}
 use Rattle.rasta_core_link.specs.Sending.{Step, silent, then_do, entered, limited, sending, telling, beating, giving, closing}
@@ -100,7 +100,7 @@ stays_outside laws (Receives bytes connection) moment end shut enters =
 -- the clock rules and the limit leave an end its identity
 settled_identity : (now : ℕ) (link : LinkState) → (settled now link).identity ≡ link.identity
 unfolding settled
-settled_identity now link = by_test (λ (l : LinkState). l.identity ≡ link.identity) (is_open link.phase && nat_le (alive_until link) now) _ (record link { clock = now }) (λ e. refl) (λ e. refl)
+settled_identity now link = by_test (λ (l : LinkState). l.identity ≡ link.identity) (is_open link.phase && nat_le (deadline link) now) _ (record link { clock = now }) (λ e. refl) (λ e. refl)
 
 limited_identity : (link : LinkState) → (limited link).link.identity ≡ link.identity
 unfolding limited telling sending

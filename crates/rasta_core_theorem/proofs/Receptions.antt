@@ -92,7 +92,7 @@ not_down_then : (link : LinkState) → IsReady link → is_open link.phase ≡ t
 unfolding telling sending
 not_down_then link ready connected shut down = elim (entering link ready) [
   | inl same ↦ cc (connected, shut, same)
-  | inr over ↦ cc (down, ap (λ (step : Step). state_at step.link.clock step.link) over.1, calm (telling reason.Sequence link).link refl refl (ready.early connected))
+  | inr over ↦ cc (down, ap (λ (step : Step). state_at step.link.clock step.link) over.1, calm (telling reason.Sequence link).link refl refl)
 ]
 
 module _ (law : Laws) (intact : ReadIsIntact) (names : Names) (are : AreNames names) (ends : Ends) (timely : Timely names ends) (bytes : List ℕ) (connection : ℕ) where

@@ -57,7 +57,6 @@ pub ready : (names : Names) (who : Role) (end : EndState) (past : Past) (time mo
 ready names who end past time moment newest is timed_so = record {
   sound = is.sound;
   young = λ o. omega (arith, is.clock, timed_so.young (subst IsInside (sym (standing_open end.link o)) tt), ap own_stamp (standing_open end.link o));
-  early = λ o. omega (arith, is.clock, timed_so.unexpired (subst IsInside (sym (standing_open end.link o)) tt));
 }
 
 pub ends_ready : (names : Names) (ends : Ends) (who : Role) → Timely names ends → IsReady (end_of who ends).link

@@ -1,8 +1,8 @@
 -- Time, restarts and losses keep the invariant, and it holds at the beginning.
-use Rattle.std.proofs.Common.{◌≡◌, ℕ, ◌∙◌, ◌+◌, ◌*◌, ◌≤◌, ◌<◌, min, Bool, true, false, ◌&&◌, ◌||◌, not, nat_le, if◌then◌else◌, List, [], ◌∷◌, refl, sym, ap, subst, arith, leb-false}
-use Rattle.rasta_core_link.specs.Parameters.{expiry, time_limit}
+use Rattle.std.proofs.Common.{◌≡◌, ℕ, ◌∙◌, ◌+◌, ◌*◌, ◌≤◌, ◌<◌, Bool, true, false, ◌&&◌, ◌||◌, not, nat_le, if◌then◌else◌, List, [], ◌∷◌, refl, sym, ap, subst, arith, leb-false}
+use Rattle.rasta_core_link.specs.Parameters.{time_limit}
 use Rattle.rasta_core_link.specs.State.{LinkState, is_open, is_asking}
-use Rattle.rasta_core_link.specs.Clock.{settled, alive_until}
+use Rattle.rasta_core_link.specs.Clock.{settled, deadline}
 use Rattle.rasta_core_link.specs.Sending.{closed}
 use Rattle.rasta_core_link.specs.Calls.{created}
 use Rattle.rasta_core_link.specs.declared.identity.Role.{Role}
@@ -57,16 +57,16 @@ and_not false b e f = cc
 
 -- a link after the clock rules, by their test
 abbrev over : ℕ → LinkState → LinkState
-over now l = record (closed l) { closed_at = alive_until l; clock = now }
+over now l = record (closed l) { closed_at = deadline l; clock = now }
 
 abbrev onward : ℕ → LinkState → LinkState
 onward now l = record l { clock = now }
 
-settled_over : (l : LinkState) (now : ℕ) → (is_open l.phase && nat_le (alive_until l) now) ≡ true → settled now l ≡ over now l
+settled_over : (l : LinkState) (now : ℕ) → (is_open l.phase && nat_le (deadline l) now) ≡ true → settled now l ≡ over now l
 unfolding settled
 settled_over l now e = ap (λ (b : Bool). if b then over now l else onward now l) e
 
-settled_onward : (l : LinkState) (now : ℕ) → (is_open l.phase && nat_le (alive_until l) now) ≡ false → settled now l ≡ onward now l
+settled_onward : (l : LinkState) (now : ℕ) → (is_open l.phase && nat_le (deadline l) now) ≡ false → settled now l ≡ onward now l
 unfolding settled
 settled_onward l now e = ap (λ (b : Bool). if b then over now l else onward now l) e
 
@@ -77,14 +77,14 @@ opened l i = pick (is_open l.phase) i
     pick true i = refl
     pick false i = absurd i
 
-until : (l : LinkState) → is_open l.phase ≡ true → alive_until l ≡ min (l.own_stamp + time_limit) expiry
-unfolding alive_until
+until : (l : LinkState) → is_open l.phase ≡ true → deadline l ≡ l.own_stamp + time_limit
+unfolding deadline
 until l o = when_open (is_open l.phase) _ _ o
 
 pub settling : (names : Names) (who : Role) (end : EndState) (past : Past) (time moment newest own : ℕ) → IsEnd names who end → IsTimed time moment newest (timed end past)
     → Settling time moment own end past
 unfolding end_later
-settling names who end past time moment newest own is timed_so = choose (is_open l.phase && nat_le (alive_until l) now) refl
+settling names who end past time moment newest own is timed_so = choose (is_open l.phase && nat_le (deadline l) now) refl
   where
     l : LinkState
     l = end.link
@@ -98,14 +98,14 @@ settling names who end past time moment newest own is timed_so = choose (is_open
     inside : is_open l.phase ≡ true → IsInside (standing l)
     inside o = subst IsInside (sym (standing_open l o)) tt
 
-    gone : (is_open l.phase && nat_le (alive_until l) now) ≡ true → is_open l.phase ≡ true → Settling time moment own end past
-    gone e o = leaves_at (alive_until l)
-        (two_same (λ (s : Standing) (left : ℕ). record { standing = s; clock = end.clock + own; connection = end.connection; left = left; past = record past { left_at = time; left_clock = alive_until l } }) _ _ _ _
+    gone : (is_open l.phase && nat_le (deadline l) now) ≡ true → is_open l.phase ≡ true → Settling time moment own end past
+    gone e o = leaves_at (deadline l)
+        (two_same (λ (s : Standing) (left : ℕ). record { standing = s; clock = end.clock + own; connection = end.connection; left = left; past = record past { left_at = time; left_clock = deadline l } }) _ _ _ _
         (ap standing (settled_over l now e))
         (left_then (is_open l.phase) (is_open (settled now l).phase) moment end.left o (ap (λ (x : LinkState). is_open x.phase) (settled_over l now e))))
-        (omega (arith, until l o, stamp_is o, timed_so.young (inside o), timed_so.unexpired (inside o))) o (ap (λ (x : LinkState). x.closed_at) (settled_over l now e))
+        (omega (arith, until l o, stamp_is o, timed_so.young (inside o))) o (ap (λ (x : LinkState). x.closed_at) (settled_over l now e))
 
-    stays : (is_open l.phase && nat_le (alive_until l) now) ≡ false → Settling time moment own end past
+    stays : (is_open l.phase && nat_le (deadline l) now) ≡ false → Settling time moment own end past
     stays e = lives
         (two_same (λ (s : Standing) (left : ℕ). record { standing = s; clock = end.clock + own; connection = end.connection; left = left; past = past }) _ _ _ _
         (ap standing (settled_onward l now e))
@@ -113,20 +113,20 @@ settling names who end past time moment newest own is timed_so = choose (is_open
         (λ i. young i)
         (ap (λ (x : LinkState). is_open x.phase) (settled_onward l now e))
       where
-        young : IsInside (standing l) → (end.clock + own < 1000 * (own_stamp (standing l) + time_limit)) × (end.clock + own < 1000 * expiry)
+        young : IsInside (standing l) → end.clock + own < 1000 * (own_stamp (standing l) + time_limit)
         young i =
             let o : is_open l.phase ≡ true = opened l i in
-            let f : now < alive_until l = leb-false _ _ (and_not (is_open l.phase) (nat_le (alive_until l) now) o e) in
-            (omega (arith, f, until l o, stamp_is o), omega (arith, f, until l o))
+            let f : now < deadline l = leb-false _ _ (and_not (is_open l.phase) (nat_le (deadline l) now) o e) in
+            omega (arith, f, until l o, stamp_is o)
 
-    choose : (b : Bool) → (is_open l.phase && nat_le (alive_until l) now) ≡ b → Settling time moment own end past
-    choose true e = gone e (and_first (is_open l.phase) (nat_le (alive_until l) now) e)
+    choose : (b : Bool) → (is_open l.phase && nat_le (deadline l) now) ≡ b → Settling time moment own end past
+    choose true e = gone e (and_first (is_open l.phase) (nat_le (deadline l) now) e)
     choose false e = stays e
 
 -- an end after the clock rules is still an end
 settled_sound : (l : LinkState) (now : ℕ) → IsSound l → IsSound (settled now l)
 unfolding settled
-settled_sound l now sound = choose (is_open l.phase && nat_le (alive_until l) now)
+settled_sound l now sound = choose (is_open l.phase && nat_le (deadline l) now)
   where
     choose : (b : Bool) → IsSound (if b then over now l else onward now l)
     choose true = record { own = sound.own; partner = sound.partner; heard = sound.heard; items = sound.items }
@@ -134,7 +134,7 @@ settled_sound l now sound = choose (is_open l.phase && nat_le (alive_until l) no
 
 settled_identity : (l : LinkState) (now : ℕ) → (settled now l).identity ≡ l.identity
 unfolding settled
-settled_identity l now = choose (is_open l.phase && nat_le (alive_until l) now)
+settled_identity l now = choose (is_open l.phase && nat_le (deadline l) now)
   where
     choose : (b : Bool) → (if b then over now l else onward now l).identity ≡ l.identity
     choose true = refl
@@ -142,7 +142,7 @@ settled_identity l now = choose (is_open l.phase && nat_le (alive_until l) now)
 
 settled_clock : (l : LinkState) (now : ℕ) → (settled now l).clock ≡ now
 unfolding settled
-settled_clock l now = choose (is_open l.phase && nat_le (alive_until l) now)
+settled_clock l now = choose (is_open l.phase && nat_le (deadline l) now)
   where
     choose : (b : Bool) → (if b then over now l else onward now l).clock ≡ now
     choose true = refl
@@ -198,7 +198,7 @@ settled_both names ends is of_client of_server (leaves_at closed e soon was at) 
   server_same = f;
   client_lives = λ i. absurd i;
   server_lives = m;
-  are = client_out_kept ends.client.clock closed closed times soon (λ early. refl) is.ends_timed;
+  are = client_out_kept ends.client.clock closed closed times soon refl is.ends_timed;
   flies = each_turned (InFlight names times) _ (in_flight_turned names times _ (known_client_out ends.client.clock closed closed times)) ends.sent is.datagrams;
   stays = λ out. not_shut (is_open ends.client.link.phase) was out;
   leaves = λ was_in out. sym at;
@@ -215,7 +215,7 @@ settled_both names ends is of_client of_server (lives e l so) (leaves_at closed 
   server_same = f;
   client_lives = l;
   server_lives = λ i. absurd i;
-  are = server_out_kept ends.server.clock closed closed times soon (λ early. refl) is.ends_timed;
+  are = server_out_kept ends.server.clock closed closed times soon refl is.ends_timed;
   flies = each_turned (InFlight names times) _ (in_flight_turned names times _ (known_server_out ends.server.clock closed closed times)) ends.sent is.datagrams;
   stays = λ out. refl;
   leaves = λ was_in out. not_shut (is_open ends.client.link.phase) was_in (sym so ∙ out);
@@ -232,7 +232,7 @@ settled_both names ends is of_client of_server (leaves_at closed e soon was at) 
   server_same = f;
   client_lives = λ i. absurd i;
   server_lives = λ i. absurd i;
-  are = server_out_kept ends.server.clock shut shut half soon_too (λ early. refl) (client_out_kept ends.client.clock closed closed times soon (λ early. refl) is.ends_timed);
+  are = server_out_kept ends.server.clock shut shut half soon_too refl (client_out_kept ends.client.clock closed closed times soon refl is.ends_timed);
   flies = each_turned (InFlight names half) _ (in_flight_turned names half _ (known_server_out ends.server.clock shut shut half)) ends.sent
       (each_turned (InFlight names times) (InFlight names half) (in_flight_turned names times half (known_client_out ends.client.clock closed closed times)) ends.sent is.datagrams);
   stays = λ out. not_shut (is_open ends.client.link.phase) was out;
@@ -305,8 +305,8 @@ client_restarted names clock first ends is = record {
     newest = is.newest;
     client = restarted_sound names role.Client ends.client clock first ends.moment is.client;
     server = is.server;
-    ends_timed = client_out_kept (clock * 1000) clock (min clock expiry) times (omega arith) (λ early. omega (arith, early)) is.ends_timed;
-    datagrams = each_turned (InFlight names times) _ (in_flight_turned names times _ (known_client_out (clock * 1000) clock (min clock expiry) times)) ends.sent is.datagrams;
+    ends_timed = client_out_kept (clock * 1000) clock clock times (omega arith) refl is.ends_timed;
+    datagrams = each_turned (InFlight names times) _ (in_flight_turned names times _ (known_client_out (clock * 1000) clock clock times)) ends.sent is.datagrams;
   };
   left_then = refl;
   is_out = refl;
@@ -325,8 +325,8 @@ server_restarted names clock first ends is = record {
     newest = is.newest;
     client = is.client;
     server = restarted_sound names role.Server ends.server clock first ends.moment is.server;
-    ends_timed = server_out_kept (clock * 1000) clock (min clock expiry) times (omega arith) (λ early. omega (arith, early)) is.ends_timed;
-    datagrams = each_turned (InFlight names times) _ (in_flight_turned names times _ (known_server_out (clock * 1000) clock (min clock expiry) times)) ends.sent is.datagrams;
+    ends_timed = server_out_kept (clock * 1000) clock clock times (omega arith) refl is.ends_timed;
+    datagrams = each_turned (InFlight names times) _ (in_flight_turned names times _ (known_server_out (clock * 1000) clock clock times)) ends.sent is.datagrams;
   };
   stays = λ shut o. refl;
   leaves = λ was o. not_shut (is_open ends.client.link.phase) was o;
@@ -390,7 +390,7 @@ unfolding created
 new_is_end names role.Client clock first moment are = record { identity = refl; clock = omega arith; sound = record { own = are.client; partner = are.server; heard = omega arith; items = tt } }
 new_is_end names role.Server clock first moment are = record { identity = refl; clock = omega arith; sound = record { own = are.server; partner = are.client; heard = omega arith; items = tt } }
 
-new_timed : (names : Names) (who : Role) (clock first time moment : ℕ) → IsTimed time moment 0 (timed (new_end names who clock first moment) (record { left_at = time; left_clock = clock; returned_at = 0; heard_at = 0 }))
+new_timed : (names : Names) (who : Role) (clock first time moment : ℕ) → IsTimed time moment 0 (timed (new_end names who clock first moment) (record { left_at = time; left_clock = clock; returned_at = 0; heard_at = 0; heard_clock = 0 }))
 unfolding created
 new_timed names who clock first time moment = record {
   left_before = omega arith;
@@ -401,9 +401,10 @@ new_timed names who clock first time moment = record {
   in_newest = λ i. absurd i;
   was_read = λ i. absurd i;
   young = λ i. absurd i;
-  unexpired = λ i. absurd i;
   apart = λ o. omega arith;
-  closed = λ o early. omega (arith, early);
+  closed = λ o. refl;
+  heard_is = λ h. absurd h;
+  prompt = λ h. absurd h;
   over = λ o c e. cc;
 }
 
@@ -411,8 +412,8 @@ pub started_timely : (names : Names) (start : Start) → AreNames names → Rene
 unfolding created
 started_timely names start are = record {
   timely = record {
-    of_client = record { left_at = start.time; left_clock = start.client_clock; returned_at = 0; heard_at = 0 };
-    of_server = record { left_at = start.time; left_clock = start.server_clock; returned_at = 0; heard_at = 0 };
+    of_client = record { left_at = start.time; left_clock = start.client_clock; returned_at = 0; heard_at = 0; heard_clock = 0 };
+    of_server = record { left_at = start.time; left_clock = start.server_clock; returned_at = 0; heard_at = 0; heard_clock = 0 };
     newest = 0;
     client = new_is_end names role.Client start.client_clock start.client_first start.moment are;
     server = new_is_end names role.Server start.server_clock start.server_first start.moment are;

@@ -1,7 +1,7 @@
 -- What follows from the invariant.
 use Rattle.std.proofs.Common.{◌≡◌, ◌≢◌, ℕ, ◌∙◌, ◌+◌, ◌≤◌, ◌<◌, Bool, true, false, ◌&&◌, not, if◌then◌else◌, List, [], Option, Some, None, Result, Ok, Err, refl, sym, ap, subst, arith}
 use native.Mathlib.Decide.{ℕ_discrete}
-use Rattle.rasta_core_link.specs.Parameters.{expiry, quiet_time}
+use Rattle.rasta_core_link.specs.Parameters.{quiet_time}
 use Rattle.rasta_core_link.specs.State.{LinkState, is_open, is_up}
 use Rattle.rasta_core_link.specs.Clock.{settled, state_at}
 use Rattle.rasta_core_link.specs.Receiving.{Receipt}
@@ -25,13 +25,13 @@ use Rattle.rasta_core_run.specs.Events.{IsDelivered}
 use Rattle.rasta_core_time.proofs.EachLaws.{each_turned}
 use Rattle.rasta_core_time.proofs.Phases.{up_open, up_heard}
 use Rattle.rasta_core_time.proofs.Sounds.{standing_open, standing_closed, inside_open, of_heard}
-use Rattle.rasta_core_time.proofs.Taking.{IsFresh}
+use Rattle.rasta_core_time.proofs.Taking.{IsFresh, client_taking_kept, server_taking_kept}
 use Rattle.rasta_core_time.proofs.States.{IsDownAt, tells, Tells, settled_same}
 use Rattle.rasta_core_time.proofs.Reception.{IsDown, IsAlive, alive_newest, request_fresh, server_gone, not_long, long_away}
 use Rattle.rasta_core_time.proofs.Deeds.{Own, IsFor, Deed, rests, speaks, asks, grants, joins, takes}
 use Rattle.rasta_core_time.proofs.Receipts.{Receives as Hears}
 use Rattle.rasta_core_time.proofs.Hearing.{read_pdu}
-use Rattle.rasta_core_time.proofs.Finishing.{open_inside}
+use Rattle.rasta_core_time.proofs.Finishing.{open_inside, reading as read_at}
 use Rattle.rasta_core_time.proofs.Openings.{down_then}
 use Rattle.rasta_core_time.proofs.CallsKept.{ends_ready, ends_clock}
 use Rattle.rasta_core_time.proofs.Called.{among_each, sent_brings, read_is, bytes_do, end_identity}
@@ -61,9 +61,9 @@ fresh_of : (names : Names) (ends : Ends) (who : Role) (is : Timely names ends) (
     → IsInside (standing (end_of who ends).link) → IsFresh (end_of who ends).link.clock (own_stamp (standing (end_of who ends).link)) pdu → IsAnswering role.Client pdu.body
     → ends.time < at + freshness
 fresh_of names ends role.Client is connection pdu at back known alive inside fresh plain =
-    omega (arith, known.returns (alive_newest _ role.Server at connection pdu back known alive) tt inside, is.ends_timed.client.young inside, fresh.later, known.heard_before)
+    omega (arith, not_long _ _ _ _ (client_taking_kept ends.client.link.clock _ at connection pdu back is.ends_timed inside (read_at _ _ is.client.clock) known alive fresh).client tt, known.heard_before)
 fresh_of names ends role.Server is connection pdu at back known alive inside fresh plain =
-    omega (arith, known.returns (alive_newest _ role.Client at connection pdu back known alive) plain inside, is.ends_timed.server.young inside, fresh.later, known.heard_before)
+    omega (arith, not_long _ _ _ _ (server_taking_kept ends.server.link.clock _ at connection pdu back is.ends_timed inside (read_at _ _ is.server.clock) known plain alive fresh).server tt, known.heard_before)
 
 -- the datagram itself, where it is of the partner
 pub of_datagram : (names : Names) (ends : Ends) (who : Role) (bytes : List ℕ) (connection : ℕ) (datagram : Sent) → AreNames names → (is : Timely names ends) → IsDelivered ends bytes connection datagram
@@ -321,11 +321,11 @@ all_dead_since names since ends has over = each_turned (InFlight names times) (�
         last role.Client k same = omega (arith, k.last_word same is_out, away)
         last role.Server k same = omega (arith, k.lonely same tt is_out, away)
 
-pub out_as_known : (names : Names) (ends : Ends) → Timely names ends → IsOut role.Client ends → ends.client.link.closed_at < expiry → HasBeenOut names ends.client.link.closed_at ends
-out_as_known names ends is shut early = record {
+pub out_as_known : (names : Names) (ends : Ends) → Timely names ends → IsOut role.Client ends → HasBeenOut names ends.client.link.closed_at ends
+out_as_known names ends is shut = record {
   timely = is;
   is_out = shut;
-  left_then = is.ends_timed.client.closed (shut_standing ends.client.link shut) (omega (arith, early, same)) ∙ same;
+  left_then = is.ends_timed.client.closed (shut_standing ends.client.link shut) ∙ same;
 }
   where
     same : closed_at (standing ends.client.link) ≡ ends.client.link.closed_at

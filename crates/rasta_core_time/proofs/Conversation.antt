@@ -95,14 +95,14 @@ go names now role.Client times count sent are reads flies =
     record {
       past = record times.client.past { left_at = times.time; left_clock = now };
       left_then = λ o. refl;
-      are = client_out_kept times.client.clock now now (sent_on count times) (omega (arith, reads.passed)) (λ early. refl) (sent_on_kept count times are);
+      are = client_out_kept times.client.clock now now (sent_on count times) (omega (arith, reads.passed)) refl (sent_on_kept count times are);
       datagrams = each_turned (InFlight names (sent_on count times)) _ (in_flight_turned names (sent_on count times) _ (known_client_out times.client.clock now now (sent_on count times))) sent
           (each_turned (InFlight names times) (InFlight names (sent_on count times)) (in_flight_turned names times (sent_on count times) (known_sent_on count times)) sent flies);
     }
 go names now role.Server times count sent are reads flies = record {
   past = record times.server.past { left_at = times.time; left_clock = now };
   left_then = λ o. refl;
-  are = server_out_kept times.server.clock now now (sent_on count times) (omega (arith, reads.passed)) (λ early. refl) (sent_on_kept count times are);
+  are = server_out_kept times.server.clock now now (sent_on count times) (omega (arith, reads.passed)) refl (sent_on_kept count times are);
   datagrams = each_turned (InFlight names (sent_on count times)) _ (in_flight_turned names (sent_on count times) _ (known_server_out times.server.clock now now (sent_on count times))) sent
       (each_turned (InFlight names times) (InFlight names (sent_on count times)) (in_flight_turned names times (sent_on count times) (known_sent_on count times)) sent flies);
 }

@@ -1,6 +1,7 @@
 -- What a call does at an end, as far as time goes.
 use Rattle.std.proofs.Common.{◌≡◌, ℕ, inl, inr, ◌-◌, ◌^◌, ◌<◌, Bool, true, false, ◌&&◌, List, [], ◌∷◌, ◌++◌, Result, Ok, Err, length, nat_le, nat_lt, is_ok, if◌then◌else◌, refl, sym, ap, subst, arith}
 use Rattle.rasta_core_link.specs.Parameters.{heartbeat_interval}
+use Rattle.rasta_core_link.specs.Sequence.{stamp}
 use Rattle.rasta_core_link.specs.State.{LinkState, is_open, is_up, is_client}
 use Rattle.rasta_core_link.specs.Clock.{state_at}
 use Rattle.rasta_core_link.specs.Sending.{Step, silent, then_do, sending, telling, closing, beating, giving, entered, header_of, pdu_of}
@@ -27,11 +28,11 @@ use Rattle.rasta_core_time.specs.Invariant.{IsSound}
 use Rattle.rasta_core_time.proofs.Sounds.{standing_closed, inside_open}
 use Rattle.rasta_core_time.proofs.Speaking.{Acts, IsKept, Speaks, IsSpeaker, sending_speaks, telling_speaks, closing_speaks, giving_speaks}
 use Rattle.rasta_core_time.proofs.States.{IsReady, IsDownAt, and_first, and_second, and_false, entering, tells, Tells, calm}
-use Rattle.rasta_core_time.proofs.Taking.{IsFresh}
+use Rattle.rasta_core_time.proofs.Taking.{IsFresh, returned_by}
 
 -- a request
 pub record IsAsked (identity : Identity) (now : ℕ) (pdu : Pdu) : Type 0 where
-  pub stamped : pdu.time_stamp ≡ now
+  pub stamped : pdu.time_stamp ≡ stamp now
   pub request : IsRequest pdu.body
   pub answers : IsAnswering role.Client pdu.body → ⊥
   pub is_pdu : IsPdu pdu
@@ -66,7 +67,7 @@ pub data Deed (identity : Identity) (now : ℕ) (heard : Heard) (old new : Stand
       → Acts identity now (Inside false (own_stamp old) pdu.time_stamp) new pdus → enters ≡ false → items ≡ [] → Deed identity now heard old new enters items pdus
   -- an end inside takes a PDU
   takes : (pdu : Pdu) → heard ≡ Word pdu → IsFor identity pdu → IsInside old → IsFresh now (own_stamp old) pdu → IsAnswering role.Client pdu.body
-      → Acts identity now (Inside false pdu.confirmed_time_stamp pdu.time_stamp) new pdus → enters ≡ false → Deed identity now heard old new enters items pdus
+      → Acts identity now (Inside false (returned_by now pdu) pdu.time_stamp) new pdus → enters ≡ false → Deed identity now heard old new enters items pdus
 
 pub record Does (link : LinkState) (heard : Heard) (enters : Bool) (items : List (List ℕ)) (new : LinkState) (pdus : List Pdu) : Type 0 where
   pub kept : IsKept link new
@@ -85,7 +86,7 @@ pub speaking : (l : LinkState) (heard : Heard) (enters : Bool) (step : Step) →
 speaking l heard enters step is e says = record { kept = says.kept; deed = speaks (inside_open l is.is_in) says.acts e refl }
 
 pub speaker : (l : LinkState) → IsReady l → is_open l.phase ≡ true → IsSpeaker l
-speaker l ready o = record { sound = ready.sound; early = ready.early o; is_in = o }
+speaker l ready o = record { sound = ready.sound; is_in = o }
 
 -- a call that does nothing at a closed link
 abbrev pub IsIdle : (LinkState → Step) → LinkState → Type 0
@@ -98,7 +99,7 @@ unfolding telling sending
 calling l call ready does idle = elim (entering l ready) [
   | inl same ↦ subst (λ (s : Step). Steps l false (then_do s call)) (sym same) does
   | inr over ↦ subst (λ (s : Step). Steps l false (then_do s call)) (sym over.1)
-      (subst (λ (s : Step). Steps l false (record { link = s.link; pdus = (telling reason.Sequence l).pdus ++ s.pdus })) (sym (idle refl (calm _ refl refl (ready.early over.0))))
+      (subst (λ (s : Step). Steps l false (record { link = s.link; pdus = (telling reason.Sequence l).pdus ++ s.pdus })) (sym (idle refl (calm _ refl refl)))
       (speaking l Own false (telling reason.Sequence l) (speaker l ready over.0) refl (telling_speaks l reason.Sequence (speaker l ready over.0))))
 ]
 
@@ -164,7 +165,7 @@ requesting_does l ready may = record {
   kept = record { identity = refl; clock = refl; sound = record { own = ready.sound.own; partner = ready.sound.partner; heard = omega arith; items = tt } };
   deed = asks _ refl (is_the_client _ client) is_down_at (ap (λ (b : Bool). Inside b l.clock 0) client) refl
       (record {
-        stamped = omega (arith, is_down_at.early);
+        stamped = refl;
         request = tt;
         answers = λ a. a;
         is_pdu = record {
@@ -210,7 +211,7 @@ opening_does l ready = elim (entering l ready) [
 
     idles : is_open l.phase ≡ true → Steps l (may_open told) (then_do (telling reason.Sequence l) asked)
     idles o =
-        let quiet : state_at told.clock told ≡ state.Quiet = calm told refl refl (ready.early o) in
+        let quiet : state_at told.clock told ≡ state.Quiet = calm told refl refl in
         let no : may_open told ≡ false = and_false (is_client l.identity.role) (is_down (state_at told.clock told)) (ap is_down quiet) in
         subst (λ (b : Bool). Steps l b (then_do (telling reason.Sequence l) (λ x. if b then requesting x else silent x))) (sym no) ended
       where

@@ -15,12 +15,12 @@ use Rattle.rasta_core_time.specs.Timely.{AreTimed, IsKnown, IsAnswering}
 use Rattle.rasta_core_time.specs.Invariant.{InFlight, Timely}
 use Rattle.rasta_core_time.proofs.EachLaws.{each_turned}
 use Rattle.rasta_core_time.proofs.Reception.{IsAlive}
-use Rattle.rasta_core_time.proofs.Taking.{IsFresh, client_taking_kept, server_taking_kept}
+use Rattle.rasta_core_time.proofs.Taking.{IsFresh, returned_by, client_taking_kept, server_taking_kept}
 use Rattle.rasta_core_time.proofs.Datagrams.{known_client_hearing, known_server_hearing}
 use Rattle.rasta_core_time.proofs.Speaking.{Acts, IsKept}
 use Rattle.rasta_core_time.proofs.Deeds.{IsFor}
 use Rattle.rasta_core_time.proofs.Conversation.{WrittenIsRead, in_flight_turned}
-use Rattle.rasta_core_time.proofs.Finishing.{made_at, open_inside, client_done, client_finished, server_done, server_finished, Follows, not_shut, client_follows, server_follows}
+use Rattle.rasta_core_time.proofs.Finishing.{made_at, open_inside, reading, client_done, client_finished, server_done, server_finished, Follows, not_shut, client_follows, server_follows}
 
 -- ---- what is delivered
 
@@ -173,12 +173,12 @@ client_speaks law names ends made is keeps inside acts outside = client_follows 
 
 pub client_takes : WrittenIsRead → (names : Names) (ends : Ends) (made : Outcome) (number : ℕ) (pdu : Pdu) → AreNames names → (is : Timely names ends) → IsKept ends.client.link made.link → IsInside (standing ends.client.link)
     → Delivered names (times_of ends is.of_client is.of_server is.newest) number pdu → IsFor ends.client.link.identity pdu → IsFresh ends.client.link.clock (own_stamp (standing ends.client.link)) pdu → IsAnswering role.Client pdu.body
-    → Acts ends.client.link.identity ends.client.link.clock (Inside false pdu.confirmed_time_stamp pdu.time_stamp) (standing made.link) made.pdus → made.enters ≡ None → Follows names ends is (made_at role.Client made ends)
+    → Acts ends.client.link.identity ends.client.link.clock (Inside false (returned_by ends.client.link.clock pdu) pdu.time_stamp) (standing made.link) made.pdus → made.enters ≡ None → Follows names ends is (made_at role.Client made ends)
 client_takes law names ends made number pdu are is keeps inside delivered is_for fresh plain acts outside = client_follows names ends is _ (open_inside ends.client.link inside) (
-    client_finished law names ends is.of_client is.of_server is.newest made (Inside false pdu.confirmed_time_stamp pdu.time_stamp) past is.client is.server
+    client_finished law names ends is.of_client is.of_server is.newest made (Inside false (returned_by ends.client.link.clock pdu) pdu.time_stamp) past is.client is.server
     (client_ready names ends made is.of_client is.of_server is.newest _ past outside
-    (client_taking_kept times by.at number pdu by.back is.ends_timed inside by.known by.alive fresh.later)
-    (each_turned (InFlight names times) _ (in_flight_turned names times _ (known_client_hearing pdu.time_stamp by.at pdu.confirmed_time_stamp by.back times inside)) ends.sent is.datagrams)
+    (client_taking_kept ends.client.link.clock times by.at number pdu by.back is.ends_timed inside (reading _ _ is.client.clock) by.known by.alive fresh)
+    (each_turned (InFlight names times) _ (in_flight_turned names times _ (known_client_hearing pdu.time_stamp by.known.read_as by.at (returned_by ends.client.link.clock pdu) by.back times inside)) ends.sent is.datagrams)
     tt acts keeps (open_inside ends.client.link inside)))
   where
     times : Times
@@ -188,7 +188,7 @@ client_takes law names ends made number pdu are is keeps inside delivered is_for
     by = by_partner names times number pdu role.Client are (subst (λ (i : Identity). IsFor i pdu) is.client.identity is_for) delivered
 
     past : Past
-    past = record is.of_client { returned_at = by.back; heard_at = by.at }
+    past = record is.of_client { returned_at = by.back; heard_at = by.at; heard_clock = by.known.read_as }
 
 -- ---- the server
 
@@ -267,12 +267,12 @@ server_speaks law names ends made is keeps inside acts outside = server_follows 
 
 pub server_takes : WrittenIsRead → (names : Names) (ends : Ends) (made : Outcome) (number : ℕ) (pdu : Pdu) → AreNames names → (is : Timely names ends) → IsKept ends.server.link made.link → IsInside (standing ends.server.link)
     → Delivered names (times_of ends is.of_client is.of_server is.newest) number pdu → IsFor ends.server.link.identity pdu → IsFresh ends.server.link.clock (own_stamp (standing ends.server.link)) pdu → IsAnswering role.Client pdu.body
-    → Acts ends.server.link.identity ends.server.link.clock (Inside false pdu.confirmed_time_stamp pdu.time_stamp) (standing made.link) made.pdus → made.enters ≡ None → Follows names ends is (made_at role.Server made ends)
+    → Acts ends.server.link.identity ends.server.link.clock (Inside false (returned_by ends.server.link.clock pdu) pdu.time_stamp) (standing made.link) made.pdus → made.enters ≡ None → Follows names ends is (made_at role.Server made ends)
 server_takes law names ends made number pdu are is keeps inside delivered is_for fresh plain acts outside = server_follows names ends is _ refl (
-    server_finished law names ends is.of_client is.of_server is.newest made (Inside false pdu.confirmed_time_stamp pdu.time_stamp) past is.client is.server
+    server_finished law names ends is.of_client is.of_server is.newest made (Inside false (returned_by ends.server.link.clock pdu) pdu.time_stamp) past is.client is.server
     (server_ready names ends made is.of_client is.of_server is.newest _ past outside
-    (server_taking_kept times by.at number pdu by.back is.ends_timed inside by.known plain by.alive fresh.later)
-    (each_turned (InFlight names times) _ (in_flight_turned names times _ (known_server_hearing pdu.time_stamp by.at pdu.confirmed_time_stamp by.back times inside)) ends.sent is.datagrams)
+    (server_taking_kept ends.server.link.clock times by.at number pdu by.back is.ends_timed inside (reading _ _ is.server.clock) by.known plain by.alive fresh)
+    (each_turned (InFlight names times) _ (in_flight_turned names times _ (known_server_hearing pdu.time_stamp by.known.read_as by.at (returned_by ends.server.link.clock pdu) by.back times inside)) ends.sent is.datagrams)
     tt acts keeps (open_inside ends.server.link inside)))
   where
     times : Times
@@ -282,4 +282,4 @@ server_takes law names ends made number pdu are is keeps inside delivered is_for
     by = by_partner names times number pdu role.Server are (subst (λ (i : Identity). IsFor i pdu) is.server.identity is_for) delivered
 
     past : Past
-    past = record is.of_server { returned_at = by.back; heard_at = by.at }
+    past = record is.of_server { returned_at = by.back; heard_at = by.at; heard_clock = by.known.read_as }

@@ -1,6 +1,5 @@
 -- What any bytes do at an end, as far as time goes.
 use Rattle.std.proofs.Common.{◌≡◌, ℕ, inl, inr, ◌∙◌, ◌<◌, Bool, true, false, ◌&&◌, not, List, [], ◌++◌, Result, Ok, Err, ◌==◌, if◌then◌else◌, refl, sym, ap, subst, eqb-true, append-nil}
-use Rattle.rasta_core_link.specs.Parameters.{expiry}
 use Rattle.rasta_core_link.specs.State.{LinkState, is_open, is_asking, is_client}
 use Rattle.rasta_core_link.specs.Clock.{state_at}
 use Rattle.rasta_core_link.specs.Sending.{Step, silent, sending, telling, closed}
@@ -37,24 +36,23 @@ is_the_server : (r : Role) → is_client r ≡ false → r ≡ role.Server
 is_the_server role.Client e = cc
 is_the_server role.Server e = refl
 
-begun_speaker : (l : LinkState) (pdu : Pdu) → IsSound l → l.clock < expiry → IsPdu pdu → IsSpeaker (meeting pdu (beginning l))
+begun_speaker : (l : LinkState) (pdu : Pdu) → IsSound l → IsPdu pdu → IsSpeaker (meeting pdu (beginning l))
 unfolding meeting beginning
-begun_speaker l pdu sound early is_pdu = record {
+begun_speaker l pdu sound is_pdu = record {
   sound = record { own = sound.own; partner = sound.partner; heard = is_pdu.time_stamp; items = tt };
-  early = early;
   is_in = refl;
 }
 
-granting_speaks : (l : LinkState) (pdu : Pdu) (opening : Opening) → IsSound l → l.clock < expiry → IsPdu pdu → is_client l.identity.role ≡ false
+granting_speaks : (l : LinkState) (pdu : Pdu) (opening : Opening) → IsSound l → IsPdu pdu → is_client l.identity.role ≡ false
     → Speaks (meeting pdu (beginning l)) (granting pdu opening l)
 unfolding granting
-granting_speaks l pdu opening sound early is_pdu server = judging_speaks begun opening (sending (ConnectionResponse own_opening)) is (sending_speaks begun (ConnectionResponse own_opening) is own_is_opening (λ r. absurd r) (λ a. begun_server))
+granting_speaks l pdu opening sound is_pdu server = judging_speaks begun opening (sending (ConnectionResponse own_opening)) is (sending_speaks begun (ConnectionResponse own_opening) is own_is_opening (λ r. absurd r) (λ a. begun_server))
   where
     begun : LinkState
     begun = meeting pdu (beginning l)
 
     is : IsSpeaker begun
-    is = begun_speaker l pdu sound early is_pdu
+    is = begun_speaker l pdu sound is_pdu
 
     begun_server : is_asking begun ≡ false
     begun_server = unfold meeting beginning in server
@@ -70,7 +68,7 @@ granting_does l pdu opening sound shut is_down is_pdu is_for request server = re
 }
   where
     spoken : Speaks (meeting pdu (beginning l)) (granting pdu opening l)
-    spoken = granting_speaks l pdu opening sound is_down.early is_pdu server
+    spoken = granting_speaks l pdu opening sound is_pdu server
 
 resting_does : (l : LinkState) (pdu : Pdu) (body : Body) → pdu.body ≡ body → IsSound l → is_open l.phase ≡ false → IsDownAt l.clock (Outside l.closed_at) → IsPdu pdu → IsFor l.identity pdu
     → Receives l (Word pdu) (resting body pdu l)
@@ -94,7 +92,6 @@ joining_speaks l pdu opening is is_pdu = judging_speaks (met pdu l) opening (sen
     by : IsSpeaker (met pdu l)
     by = unfold meeting in record {
       sound = record { own = is.sound.own; partner = is.sound.partner; heard = is_pdu.time_stamp; items = is.sound.items };
-      early = is.early;
       is_in = refl;
     }
 
@@ -133,7 +130,6 @@ asking_does l pdu _ is client is_pdu is_for = violating_does l (Word pdu) is
 
 by_state_does : (l : LinkState) (pdu : Pdu) (s : State) → Tells l s → IsReady l → IsPdu pdu → IsFor l.identity pdu → Receives l (Word pdu) (by_state s pdu l)
 unfolding by_state
-by_state_does l pdu state.Expired told ready is_pdu is_for = refuses l (Word pdu) verdict.Expired ready.sound refl
 by_state_does l pdu state.Quiet told ready is_pdu is_for = refuses l (Word pdu) verdict.Quiet ready.sound refl
 by_state_does l pdu state.Down told ready is_pdu is_for = resting_does l pdu pdu.body refl ready.sound told.0 told.1 is_pdu is_for
 by_state_does l pdu state.Start told ready is_pdu is_for = choose (is_client l.identity.role) refl
@@ -215,4 +211,4 @@ receiving_does l bytes ready is = elim (entering l ready) [
     told = (telling reason.Sequence l).link
 
     ended : is_open l.phase ≡ true → Receives l heard (record (hearing_bytes (reading l.identity.key bytes) told) { pdus = (telling reason.Sequence l).pdus ++ (hearing_bytes (reading l.identity.key bytes) told).pdus })
-    ended o = ended_with l heard (telling reason.Sequence l) (hearing_bytes (reading l.identity.key bytes) told) (speaker l ready o) (telling_speaks l reason.Sequence (speaker l ready o)) (quiet_hearing told (reading l.identity.key bytes) (calm told refl refl (ready.early o)))
+    ended o = ended_with l heard (telling reason.Sequence l) (hearing_bytes (reading l.identity.key bytes) told) (speaker l ready o) (telling_speaks l reason.Sequence (speaker l ready o)) (quiet_hearing told (reading l.identity.key bytes) (calm told refl refl))

@@ -1,9 +1,9 @@
 -- Each move keeps what is true of the two ends.
 use Rattle.std.proofs.Common.{◌≡◌, ℕ, ◌+◌, ◌*◌, ◌≤◌, ◌<◌, arith}
-use Rattle.rasta_core_link.specs.Parameters.{time_limit, expiry}
+use Rattle.rasta_core_link.specs.Parameters.{time_limit}
 use Rattle.rasta_core_time.specs.Standing.{Timed, Times, IsInside, own_stamp}
 use Rattle.rasta_core_time.specs.Moves.{clock_on, time_on, sent_on, outside}
-use Rattle.rasta_core_time.specs.Timely.{IsTimed, AreTimed}
+use Rattle.rasta_core_time.specs.Timely.{WasReadThen, IsTimed, AreTimed}
 
 -- ---- one end
 
@@ -18,9 +18,10 @@ more_sent time moment more newest end rises is = record {
   in_newest = is.in_newest;
   was_read = is.was_read;
   young = is.young;
-  unexpired = is.unexpired;
   apart = is.apart;
   closed = is.closed;
+  heard_is = is.heard_is;
+  prompt = is.prompt;
   over = is.over;
 }
 
@@ -30,7 +31,11 @@ Keeps elapsed own = (999 * elapsed ≤ 1000 * own) × (1000 * own ≤ 1001 * ela
 
 -- an end that is inside has its time left
 abbrev pub LivesOn : Timed → Type 0
-LivesOn end = IsInside end.standing → (end.clock < 1000 * (own_stamp end.standing + time_limit)) × (end.clock < 1000 * expiry)
+LivesOn end = IsInside end.standing → end.clock < 1000 * (own_stamp end.standing + time_limit)
+
+-- what a clock read stays read
+pub read_on : (time elapsed clock own reading at : ℕ) → Keeps elapsed own → WasReadThen time clock reading at → WasReadThen (time + elapsed) (clock + own) reading at
+read_on time elapsed clock own reading at keeps read = record { least = omega (arith, read.least, keeps.0); most = omega (arith, read.most, keeps.1) }
 
 pub end_on : (time moment newest elapsed own : ℕ) (end : Timed) → Keeps elapsed own → LivesOn (clock_on own end) → IsTimed time moment newest end → IsTimed (time + elapsed) moment newest (clock_on own end)
 end_on time moment newest elapsed own end keeps lives is = record {
@@ -41,16 +46,17 @@ end_on time moment newest elapsed own end keeps lives is = record {
   began = is.began;
   in_newest = is.in_newest;
   was_read = λ i. omega (arith, is.was_read i, keeps.0);
-  young = λ i. (lives i).0;
-  unexpired = λ i. (lives i).1;
+  young = λ i. lives i;
   apart = λ o. omega (arith, is.apart o, keeps.1);
   closed = is.closed;
+  heard_is = is.heard_is;
+  prompt = is.prompt;
   over = is.over;
 }
 
 -- an end leaves or is made anew
 pub end_out : (time moment newest clock since closed : ℕ) (end : Timed)
-    → clock ≤ 1000 * since + 999 → (closed < expiry → since ≡ closed)
+    → clock ≤ 1000 * since + 999 → since ≡ closed
     → IsTimed time moment newest end → IsTimed time moment newest (outside time moment clock since closed end)
 end_out time moment newest clock since closed end soon exact is = record {
   left_before = omega arith;
@@ -61,9 +67,10 @@ end_out time moment newest clock since closed end soon exact is = record {
   in_newest = λ i. absurd i;
   was_read = λ i. absurd i;
   young = λ i. absurd i;
-  unexpired = λ i. absurd i;
   apart = λ o. omega (arith, soon);
-  closed = λ o early. exact early;
+  closed = λ o. exact;
+  heard_is = λ h. absurd h;
+  prompt = λ h. absurd h;
   over = λ o c e. is.began c e;
 }
 
@@ -89,14 +96,14 @@ time_on_kept elapsed of_client of_server times keeps keeps' lives lives' are = r
   server = end_on _ _ _ _ _ _ keeps' lives' are.server;
   begun = are.begun;
   joined = are.joined;
-  client_heard = λ h i. omega (arith, are.client_heard h i, keeps'.0);
-  server_heard = λ h i. omega (arith, are.server_heard h i, keeps.0);
+  client_heard = λ h i. read_on _ _ _ _ _ _ keeps' (are.client_heard h i);
+  server_heard = λ h i. read_on _ _ _ _ _ _ keeps (are.server_heard h i);
   server_alone = are.server_alone;
   client_alone = are.client_alone;
 }
 
 -- the client leaves
-pub client_out_kept : (clock since closed : ℕ) (times : Times) → clock ≤ 1000 * since + 999 → (closed < expiry → since ≡ closed)
+pub client_out_kept : (clock since closed : ℕ) (times : Times) → clock ≤ 1000 * since + 999 → since ≡ closed
     → AreTimed times → AreTimed (record times { client = outside times.time times.moment clock since closed times.client })
 client_out_kept clock since closed times soon exact are = record {
   client = end_out _ _ _ _ _ _ _ soon exact are.client;
@@ -109,7 +116,7 @@ client_out_kept clock since closed times soon exact are = record {
   client_alone = λ i. absurd i;
 }
 
-pub server_out_kept : (clock since closed : ℕ) (times : Times) → clock ≤ 1000 * since + 999 → (closed < expiry → since ≡ closed)
+pub server_out_kept : (clock since closed : ℕ) (times : Times) → clock ≤ 1000 * since + 999 → since ≡ closed
     → AreTimed times → AreTimed (record times { server = outside times.time times.moment clock since closed times.server })
 server_out_kept clock since closed times soon exact are = record {
   client = are.client;

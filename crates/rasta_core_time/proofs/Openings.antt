@@ -35,7 +35,7 @@ client_joins law names ends made number pdu are is keeps inside delivered is_for
     client_finished law names ends is.of_client is.of_server is.newest made (Inside false (own_stamp (standing ends.client.link)) pdu.time_stamp) past is.client is.server
     (client_ready names ends made is.of_client is.of_server is.newest _ past no_entry
     (joining_kept times by.at number pdu by.back is.ends_timed inside by.known by.alive)
-    (each_turned (InFlight names times) _ (in_flight_turned names times _ (known_client_hearing pdu.time_stamp by.at (own_stamp (standing ends.client.link)) is.of_client.returned_at times inside)) ends.sent is.datagrams)
+    (each_turned (InFlight names times) _ (in_flight_turned names times _ (known_client_hearing pdu.time_stamp by.known.read_as by.at (own_stamp (standing ends.client.link)) is.of_client.returned_at times inside)) ends.sent is.datagrams)
     tt acts keeps (open_inside ends.client.link inside)))
   where
     times : Times
@@ -45,11 +45,11 @@ client_joins law names ends made number pdu are is keeps inside delivered is_for
     by = by_partner names times number pdu role.Client are (subst (λ (i : Identity). IsFor i pdu) is.client.identity is_for) delivered
 
     past : Past
-    past = record is.of_client { heard_at = by.at }
+    past = record is.of_client { heard_at = by.at; heard_clock = by.known.read_as }
 
 -- a reading at which an end is down
 pub down_then : (names : Names) (who : Role) (end : EndState) (past : Past) → IsEnd names who end → IsDownAt end.link.clock (standing end.link) → IsDown end.link.clock (timed end past)
-down_then names who end past is is_down = record { is_outside = is_down.is_outside; reads = reading _ _ is.clock; quiet = is_down.quiet; early = is_down.early }
+down_then names who end past is is_down = record { is_outside = is_down.is_outside; reads = reading _ _ is.clock; quiet = is_down.quiet }
 
 -- the server takes a request
 pub server_grants : WrittenIsRead → (names : Names) (ends : Ends) (made : Outcome) (number : ℕ) (pdu : Pdu) → AreNames names → (is : Timely names ends) → IsKept ends.server.link made.link → IsDownAt ends.server.link.clock (standing ends.server.link)
@@ -59,7 +59,7 @@ server_grants law names ends made number pdu are is keeps is_down delivered is_f
     server_finished law names ends is.of_client is.of_server is.newest made (Inside false ends.server.link.clock pdu.time_stamp) past is.client is.server (record {
       are = subst (λ (e : Option ℕ). AreTimed (at_enters e)) (sym entry) (granting_kept ends.server.link.clock times by.at number pdu by.back is.ends_timed down by.known request by.alive);
       flies = subst (λ (e : Option ℕ). Each (InFlight names (at_enters e)) ends.sent) (sym entry)
-          (each_turned (InFlight names times) _ (in_flight_turned names times _ (known_granting ends.server.link.clock pdu.time_stamp by.at number times
+          (each_turned (InFlight names times) _ (in_flight_turned names times _ (known_granting ends.server.link.clock pdu.time_stamp by.known.read_as by.at number times
           (connection_fresh ends.server.link.clock times by.at number pdu by.back is.ends_timed down by.known request by.alive)
           (alive_newest times role.Client by.at number pdu by.back by.known by.alive))) ends.sent is.datagrams);
       inside = tt;
@@ -75,7 +75,7 @@ server_grants law names ends made number pdu are is keeps is_down delivered is_f
     by = by_partner names times number pdu role.Server are (subst (λ (i : Identity). IsFor i pdu) is.server.identity is_for) delivered
 
     past : Past
-    past = record is.of_server { returned_at = ends.time; heard_at = by.at }
+    past = record is.of_server { returned_at = ends.time; heard_at = by.at; heard_clock = by.known.read_as }
 
     down : IsDown ends.server.link.clock times.server
     down = down_then names role.Server ends.server is.of_server is.server is_down

@@ -37,9 +37,6 @@ down_closed l e = grind arith
 pub never_quiet : (l : LinkState) → open_state l.phase ≡ state.Quiet → ⊥
 never_quiet l e = grind arith
 
-pub never_expired : (l : LinkState) → open_state l.phase ≡ state.Expired → ⊥
-never_expired l e = grind arith
-
 pub asking_client : (l : LinkState) → is_asking l ≡ true → is_client l.identity.role ≡ true
 asking_client l e = grind arith
 

@@ -1,9 +1,10 @@
 -- What a PDU does at an end, as far as time goes.
-use Rattle.std.proofs.Common.{◌≡◌, ℕ, ◌⊎◌, inl, inr, ◌∙◌, Bool, true, false, ◌&&◌, not, List, [], nat_lt, ◌==◌, if◌then◌else◌, refl, sym, ap, subst, ltb-false}
+use Rattle.std.proofs.Common.{◌≡◌, ℕ, ◌⊎◌, inl, inr, ◌∙◌, ◌-◌, Bool, true, false, ◌&&◌, not, List, [], nat_lt, ◌==◌, if◌then◌else◌, refl, sym, ap, subst, ltb-false}
 use Rattle.rasta_core_link.specs.Parameters.{sequence_range}
+use Rattle.rasta_core_link.specs.Sequence.{distance, stamp}
 use Rattle.rasta_core_link.specs.State.{LinkState, is_open, is_asking}
 use Rattle.rasta_core_link.specs.Sending.{Step, silent, sending, telling, closed}
-use Rattle.rasta_core_link.specs.Receiving.{Receipt, refusing, violating, ahead, confirms, taking, answering, missing, handing, up, bringing, in_turn, admission, admitting, testing, is_opening_again, connected}
+use Rattle.rasta_core_link.specs.Receiving.{Receipt, refusing, violating, age, ahead, confirms, taking, answering, missing, handing, up, bringing, in_turn, admission, admitting, testing, is_opening_again, connected}
 use Rattle.rasta_core_link.specs.declared.reason.Reason.TheVariants as reason
 use Rattle.rasta_core_link.specs.declared.verdict.Verdict.{Verdict}
 use Rattle.rasta_core_link.specs.declared.verdict.Verdict.TheVariants as verdict
@@ -21,7 +22,7 @@ use Rattle.rasta_core_time.proofs.Sounds.{standing_open, inside_open, held_later
 use Rattle.rasta_core_time.proofs.Speaking.{Acts, IsKept, Speaks, IsSpeaker, sending_speaks, telling_speaks, answering_speaks}
 use Rattle.rasta_core_time.proofs.States.{and_false}
 use Rattle.rasta_core_time.proofs.Deeds.{Heard, Word, IsFor, rests, takes, Does, kept_same, speaking}
-use Rattle.rasta_core_time.proofs.Taking.{IsFresh}
+use Rattle.rasta_core_time.proofs.Taking.{IsFresh, returned_by}
 
 abbrev pub Receives : LinkState → Heard → Receipt → Type 0
 Receives link heard receipt = Does link heard (not (is_open link.phase) && is_taken receipt.verdict) receipt.items receipt.link receipt.pdus
@@ -60,13 +61,12 @@ taker : (l : LinkState) (pdu : Pdu) → IsTaking l pdu → IsSpeaker (taking pdu
 unfolding taking
 taker l pdu is = record {
   sound = record { own = is.speaker.sound.own; partner = is.speaker.sound.partner; heard = is.is_pdu.time_stamp; items = held_later l _ l.waiting is.speaker.sound.items };
-  early = is.speaker.early;
   is_in = is.speaker.is_in;
 }
 
 took : (l : LinkState) (pdu : Pdu) (items : List (List ℕ)) (step : Step) → IsTaking l pdu → IsAnswering role.Client pdu.body → Speaks (taking pdu l) step
     → Receives l (Word pdu) (record { link = step.link; pdus = step.pdus; items = items; verdict = verdict.Taken })
-unfolding taking
+unfolding taking age
 took l pdu items step is plain spoken = record {
   kept = record { identity = spoken.kept.identity; clock = spoken.kept.clock; sound = spoken.kept.sound };
   deed = takes pdu refl is.is_for (inside_open l is.speaker.is_in)
@@ -76,8 +76,8 @@ took l pdu items step is plain spoken = record {
       (no_entry (is_open l.phase) true is.speaker.is_in);
 }
   where
-    stands : standing (taking pdu l) ≡ Inside false pdu.confirmed_time_stamp pdu.time_stamp
-    stands = standing_open (taking pdu l) is.speaker.is_in ∙ ap (λ (b : Bool). Inside b pdu.confirmed_time_stamp pdu.time_stamp) is.heard
+    stands : standing (taking pdu l) ≡ Inside false (returned_by l.clock pdu) pdu.time_stamp
+    stands = standing_open (taking pdu l) is.speaker.is_in ∙ ap (λ (b : Bool). Inside b (returned_by l.clock pdu) pdu.time_stamp) is.heard
 
 -- the same link, but for its phase and what time doesn't ask for
 same_sound : (x y : LinkState) → IsSpeaker x → IsSound y → y.identity ≡ x.identity → y.clock ≡ x.clock → IsKept x y
@@ -171,18 +171,17 @@ admitting_does l pdu value is (inr (inr (inr (inr e)))) = subst (λ (a : Admits 
 -- ---- the tests
 
 testing_does : (l : LinkState) (pdu : Pdu) → IsSpeaker l → is_asking l ≡ false → IsPdu pdu → IsFor l.identity pdu → Receives l (Word pdu) (testing pdu l)
-unfolding testing
-testing_does l pdu is heard is_pdu is_for = choose (nat_lt sequence_range (ahead pdu l)) (nat_lt pdu.confirmed_time_stamp l.own_stamp) (nat_lt l.clock pdu.confirmed_time_stamp) (not (confirms pdu l)) refl refl
+unfolding testing age
+testing_does l pdu is heard is_pdu is_for = choose (nat_lt sequence_range (ahead pdu l)) (nat_lt (l.clock - l.own_stamp) (distance pdu.confirmed_time_stamp (stamp l.clock))) (not (confirms pdu l)) refl
   where
-    choose : (a b c d : Bool) → nat_lt pdu.confirmed_time_stamp l.own_stamp ≡ b → nat_lt l.clock pdu.confirmed_time_stamp ≡ c
-        → Receives l (Word pdu) (if a then refusing verdict.OutOfRange l else if (if b then true else c) then refusing verdict.Stale l
+    choose : (a b d : Bool) → nat_lt (l.clock - l.own_stamp) (distance pdu.confirmed_time_stamp (stamp l.clock)) ≡ b
+        → Receives l (Word pdu) (if a then refusing verdict.OutOfRange l else if b then refusing verdict.Stale l
         else if d then refusing verdict.BadConfirm l else admitting (admission pdu.body l.phase) pdu l)
-    choose true b c d eb ec = refuses l (Word pdu) verdict.OutOfRange is.sound refl
-    choose false true c d eb ec = refuses l (Word pdu) verdict.Stale is.sound refl
-    choose false false true d eb ec = refuses l (Word pdu) verdict.Stale is.sound refl
-    choose false false false true eb ec = refuses l (Word pdu) verdict.BadConfirm is.sound refl
-    choose false false false false eb ec = admitting_does l pdu (admission pdu.body l.phase)
-        (record { speaker = is; heard = heard; is_pdu = is_pdu; is_for = is_for; is_fresh = record { later = ltb-false _ _ eb; past = ltb-false _ _ ec } })
+    choose true b d eb = refuses l (Word pdu) verdict.OutOfRange is.sound refl
+    choose false true d eb = refuses l (Word pdu) verdict.Stale is.sound refl
+    choose false false true eb = refuses l (Word pdu) verdict.BadConfirm is.sound refl
+    choose false false false eb = admitting_does l pdu (admission pdu.body l.phase)
+        (record { speaker = is; heard = heard; is_pdu = is_pdu; is_for = is_for; is_fresh = record { fresh = ltb-false _ _ eb } })
         (admitted l pdu.body)
 
 pub connected_does : (l : LinkState) (pdu : Pdu) (body : Body) → IsSpeaker l → is_asking l ≡ false → IsPdu pdu → IsFor l.identity pdu → Receives l (Word pdu) (connected body pdu l)

@@ -1,7 +1,7 @@
 -- What reception of a datagram says of the two ends, and that taking it keeps what is true of them.
 use Rattle.std.proofs.Common.{◌≡◌, ℕ, ◌+◌, ◌*◌, ◌≤◌, ◌<◌, Some, refl, arith}
 use native.Mathlib.Decide.{ℕ_discrete, dec_lt}
-use Rattle.rasta_core_link.specs.Parameters.{expiry, quiet_time}
+use Rattle.rasta_core_link.specs.Parameters.{quiet_time}
 use Rattle.rasta_core_link.specs.declared.identity.Role.{Role}
 use Rattle.rasta_core_link.specs.declared.identity.Role.TheVariants as role
 use Rattle.rasta_core_run.specs.Bag.{lifetime}
@@ -21,7 +21,6 @@ pub record IsDown (now : ℕ) (end : Timed) : Type 0 where
   pub is_outside : IsOutside end.standing
   pub reads : Reads now end.clock
   pub quiet : closed_at end.standing + quiet_time ≤ now
-  pub early : now < expiry
 
 abbrev pub IsAlive : ℕ → ℕ → Type 0
 IsAlive time at = time ≤ at + lifetime
@@ -34,7 +33,7 @@ alive_newest times who at connection pdu back known alive = elim (ℕ_discrete c
 -- a time that is long enough for all of the last connection to be over
 pub long_away : (times : Times) (moment newest now : ℕ) (end : Timed) → IsTimed times.time moment newest end → IsDown now end
     → end.past.left_at + 5993007 ≤ times.time
-long_away times moment newest now end is down = omega (arith, is.apart down.is_outside, is.closed down.is_outside (omega (arith, down.quiet, down.early)), down.quiet, down.reads.reached, down.reads.passed)
+long_away times moment newest now end is down = omega (arith, is.apart down.is_outside, is.closed down.is_outside, down.quiet, down.reads.reached, down.reads.passed)
 
 -- an end inside heard something that its partner sent not long ago
 pub not_long : (time moment newest : ℕ) (end : Timed) → IsTimed time moment newest end → IsInside end.standing
@@ -59,9 +58,10 @@ asking_kept now times are down = record {
     in_newest = λ i. refl;
     was_read = λ i. omega (arith, down.reads.reached);
     young = λ i. omega (arith, down.reads.passed);
-    unexpired = λ i. omega (arith, down.reads.passed, down.early);
     apart = λ o. absurd o;
     closed = λ o. absurd o;
+    heard_is = λ h. absurd h;
+    prompt = λ h. absurd h;
     over = λ o. absurd o;
   };
   server = record {
@@ -73,9 +73,10 @@ asking_kept now times are down = record {
     in_newest = λ i. absurd (gone i);
     was_read = are.server.was_read;
     young = are.server.young;
-    unexpired = are.server.unexpired;
     apart = are.server.apart;
     closed = are.server.closed;
+    heard_is = are.server.heard_is;
+    prompt = are.server.prompt;
     over = are.server.over;
   };
   begun = λ i. refl;

@@ -5,10 +5,10 @@ use Rattle.rasta_pdu.specs.SafetyCode.{code}
 use Rattle.rasta_pdu.specs.Spelling.{payload, fields, text, writing}
 use Rattle.rasta_pdu.specs.Reading.{text_of, opening_of, disconnection_of, nothing_of, item_of, items_to_end, items_of, body_of, pdu_of as pdu_read, reading}
 use Rattle.rasta_core_link.specs.Calls.{created, opens, opening, ticking, sending_item, acceptance, answer_to_send, hearing_bytes, receiving}
-use Rattle.rasta_core_link.specs.Clock.{settled, alive_until, quiet_until, state_at}
+use Rattle.rasta_core_link.specs.Clock.{settled, deadline, quiet_until, state_at}
 use Rattle.rasta_core_link.specs.Sending.{header_of, pdu_of, sending, telling, limited, entered, beating, giving}
 use Rattle.rasta_core_link.specs.Opening.{beginning, requesting, meeting, judging, granting, joining}
-use Rattle.rasta_core_link.specs.Receiving.{ahead, behind, still_waiting, taking, missing, handing, bringing, in_turn, admitting, testing, connected, asking, resting, by_state, hearing}
+use Rattle.rasta_core_link.specs.Receiving.{age, ahead, behind, still_waiting, taking, missing, handing, bringing, in_turn, admitting, testing, connected, asking, resting, by_state, hearing}
 use Rattle.rasta_core_link.specs.declared.identity.Role.{Role}
 use Rattle.rasta_core_link.specs.declared.identity.Role.TheVariants as role
 use Rattle.rasta_core_run.specs.Bag.{lifetime}
@@ -62,17 +62,17 @@ unfoldable pub anew : Ends
 anew = happened (Restarts role.Server 0 9) taken
 
 granted_two : length granted.sent ≡ 2
-unfolding asked granted padding block_words sequence after_block after_blocks digest code payload fields text writing text_of opening_of disconnection_of nothing_of item_of items_to_end items_of body_of pdu_read reading created settled alive_until quiet_until state_at header_of pdu_of sending telling limited entered beating giving beginning requesting meeting judging granting joining opens opening ticking sending_item acceptance answer_to_send hearing_bytes receiving ahead behind still_waiting taking missing handing bringing in_turn admitting testing connected asking resting by_state hearing outcome end_after end_later end_restarted called later restarted
+unfolding asked granted padding block_words sequence after_block after_blocks digest code payload fields text writing text_of opening_of disconnection_of nothing_of item_of items_to_end items_of body_of pdu_read reading created settled deadline quiet_until state_at header_of pdu_of sending telling limited entered beating giving beginning requesting meeting judging granting joining opens opening ticking sending_item acceptance answer_to_send hearing_bytes receiving age ahead behind still_waiting taking missing handing bringing in_turn admitting testing connected asking resting by_state hearing outcome end_after end_later end_restarted called later restarted
 granted_two = refl
 
 pub taken_once : taken.server.taken ≡ item ∷ []
-unfolding asked granted joined both_up given taken padding block_words sequence after_block after_blocks digest code payload fields text writing text_of opening_of disconnection_of nothing_of item_of items_to_end items_of body_of pdu_read reading created settled alive_until quiet_until state_at header_of pdu_of sending telling limited entered beating giving beginning requesting meeting judging granting joining opens opening ticking sending_item acceptance answer_to_send hearing_bytes receiving ahead behind still_waiting taking missing handing bringing in_turn admitting testing connected asking resting by_state hearing outcome end_after end_later end_restarted called later restarted
+unfolding asked granted joined both_up given taken padding block_words sequence after_block after_blocks digest code payload fields text writing text_of opening_of disconnection_of nothing_of item_of items_to_end items_of body_of pdu_read reading created settled deadline quiet_until state_at header_of pdu_of sending telling limited entered beating giving beginning requesting meeting judging granting joining opens opening ticking sending_item acceptance answer_to_send hearing_bytes receiving age ahead behind still_waiting taking missing handing bringing in_turn admitting testing connected asking resting by_state hearing outcome end_after end_later end_restarted called later restarted
 taken_once = refl
 
 pub nothing_again : ((receipt_at role.Server (nth 0 taken.sent).bytes anew).verdict ≡ verdict.Quiet)
     × ((receipt_at role.Server (nth 2 taken.sent).bytes anew).verdict ≡ verdict.Quiet)
     × ((receipt_at role.Server (nth 3 taken.sent).bytes anew).verdict ≡ verdict.Quiet)
-unfolding asked granted joined both_up given taken anew padding block_words sequence after_block after_blocks digest code payload fields text writing text_of opening_of disconnection_of nothing_of item_of items_to_end items_of body_of pdu_read reading created settled alive_until quiet_until state_at header_of pdu_of sending telling limited entered beating giving beginning requesting meeting judging granting joining opens opening ticking sending_item acceptance answer_to_send hearing_bytes receiving ahead behind still_waiting taking missing handing bringing in_turn admitting testing connected asking resting by_state hearing outcome end_after end_later end_restarted called later restarted
+unfolding asked granted joined both_up given taken anew padding block_words sequence after_block after_blocks digest code payload fields text writing text_of opening_of disconnection_of nothing_of item_of items_to_end items_of body_of pdu_read reading created settled deadline quiet_until state_at header_of pdu_of sending telling limited entered beating giving beginning requesting meeting judging granting joining opens opening ticking sending_item acceptance answer_to_send hearing_bytes receiving age ahead behind still_waiting taking missing handing bringing in_turn admitting testing connected asking resting by_state hearing outcome end_after end_later end_restarted called later restarted
 nothing_again = (refl, refl, refl)
 
 -- the whole run, and that it may happen
@@ -84,7 +84,7 @@ here : (ends : Ends) (n : ℕ) → IsAmong (nth n ends.sent) ends.sent → ends.
 here ends n among in_time = record { was_sent = among; bytes_same = refl; connection_same = refl; in_time = in_time }
 
 scenario_may : MayRun names scenario (started names start)
-unfolding asked granted joined both_up given taken padding block_words sequence after_block after_blocks digest code payload fields text writing text_of opening_of disconnection_of nothing_of item_of items_to_end items_of body_of pdu_read reading created settled alive_until quiet_until state_at header_of pdu_of sending telling limited entered beating giving beginning requesting meeting judging granting joining opens opening ticking sending_item acceptance answer_to_send hearing_bytes receiving ahead behind still_waiting taking missing handing bringing in_turn admitting testing connected asking resting by_state hearing outcome end_after end_later end_restarted called later restarted
+unfolding asked granted joined both_up given taken padding block_words sequence after_block after_blocks digest code payload fields text writing text_of opening_of disconnection_of nothing_of item_of items_to_end items_of body_of pdu_read reading created settled deadline quiet_until state_at header_of pdu_of sending telling limited entered beating giving beginning requesting meeting judging granting joining opens opening ticking sending_item acceptance answer_to_send hearing_bytes receiving age ahead behind still_waiting taking missing handing bringing in_turn admitting testing connected asking resting by_state hearing outcome end_after end_later end_restarted called later restarted
 scenario_may = (
   (record { least = omega arith; most = omega arith }, record { least = omega arith; most = omega arith }),
   (
@@ -112,5 +112,5 @@ names_are : AreNames names
 names_are = record { differ = λ e. omega (arith, e); client = omega arith; server = omega arith }
 
 pub some_run : (names : Names) × (start : Start) × (events : List Event) × AreNames names × MayRun names events (started names start) × ((run events (started names start)).server.taken ≡ (1 ∷ 2 ∷ 3 ∷ []) ∷ [])
-unfolding asked granted joined both_up given taken padding block_words sequence after_block after_blocks digest code payload fields text writing text_of opening_of disconnection_of nothing_of item_of items_to_end items_of body_of pdu_read reading created settled alive_until quiet_until state_at header_of pdu_of sending telling limited entered beating giving beginning requesting meeting judging granting joining opens opening ticking sending_item acceptance answer_to_send hearing_bytes receiving ahead behind still_waiting taking missing handing bringing in_turn admitting testing connected asking resting by_state hearing outcome end_after end_later end_restarted called later restarted
+unfolding asked granted joined both_up given taken padding block_words sequence after_block after_blocks digest code payload fields text writing text_of opening_of disconnection_of nothing_of item_of items_to_end items_of body_of pdu_read reading created settled deadline quiet_until state_at header_of pdu_of sending telling limited entered beating giving beginning requesting meeting judging granting joining opens opening ticking sending_item acceptance answer_to_send hearing_bytes receiving age ahead behind still_waiting taking missing handing bringing in_turn admitting testing connected asking resting by_state hearing outcome end_after end_later end_restarted called later restarted
 some_run = (names, start, scenario, names_are, scenario_may, refl)

@@ -1,6 +1,5 @@
 -- What every link keeps, so that what it hands out are PDUs.
 use Rattle.std.proofs.Common.{◌≡◌, ℕ, zero, suc, ◌∙◌, ◌+◌, ◌<◌, Bool, true, false, List, [], ◌∷◌, nat_le, slice_index_or, if◌then◌else◌, refl, sym, ap, subst, arith}
-use Rattle.rasta_core_link.specs.Parameters.{expiry}
 use Rattle.rasta_core_link.specs.State.{LinkState, is_open, is_asking}
 use Rattle.rasta_core_link.specs.Sending.{header_of, pdu_of}
 use Rattle.rasta_core_link.specs.Receiving.{still_waiting, repeated, retagged}
@@ -56,13 +55,13 @@ not_chosen : (b : Bool) (x : ℕ) → b ≡ false → (if b then 0 else x) ≡ x
 not_chosen true x e = cc
 not_chosen false x e = refl
 
-pub uttered : (l : LinkState) (count : ℕ) (body : Body) → IsSound l → l.clock < expiry → is_open l.phase ≡ true → IsBody body
+pub uttered : (l : LinkState) (count : ℕ) (body : Body) → IsSound l → is_open l.phase ≡ true → IsBody body
     → (IsRequest body → ⊥) → (IsAnswering l.identity.role body → is_asking l ≡ false)
     → IsUttered l.identity l.clock (standing l) (pdu_of (header_of l) count body)
 unfolding header_of pdu_of
-uttered l count body sound early is_in is_body no_request answers = record {
+uttered l count body sound is_in is_body no_request answers = record {
   spoken = record {
-    stamped = omega arith;
+    stamped = refl;
     returned = λ h. not_chosen (is_asking l) l.partner_stamp (asks h) ∙ sym (ap heard_stamp (standing_open l is_in));
     answers = λ a. subst HasHeard (sym (standing_open l is_in)) (of_heard _ _ _ (answers a));
     no_request = no_request;
@@ -90,13 +89,13 @@ one_item item is = record { some = omega arith; most = omega arith; each = one }
     one zero d h = is
     one (suc k) d h = absurd (omega (arith, h))
 
-pub uttered_again : (l : LinkState) (count : ℕ) (waiting : Waiting l) → IsSound l → l.clock < expiry → is_open l.phase ≡ true → is_asking l ≡ false
+pub uttered_again : (l : LinkState) (count : ℕ) (waiting : Waiting l) → IsSound l → is_open l.phase ≡ true → is_asking l ≡ false
     → AreHeld l waiting → Each (IsUttered l.identity l.clock (standing l)) (repeated (header_of l) count waiting)
 unfolding repeated
-uttered_again l count [] sound early is_in heard held = tt
-uttered_again l count (first ∷ others) sound early is_in heard held = (
-  uttered l count (RetransmittedData (first.item ∷ [])) sound early is_in (one_item first.item held.0) (λ r. absurd r) (λ a. heard),
-  uttered_again l (count + 1) others sound early is_in heard held.1,
+uttered_again l count [] sound is_in heard held = tt
+uttered_again l count (first ∷ others) sound is_in heard held = (
+  uttered l count (RetransmittedData (first.item ∷ [])) sound is_in (one_item first.item held.0) (λ r. absurd r) (λ a. heard),
+  uttered_again l (count + 1) others sound is_in heard held.1,
 )
 
 -- ---- items that wait

@@ -1,7 +1,7 @@
 -- What an end inside hands out, and where it stands after it.
 use Rattle.std.proofs.Common.{◌≡◌, ℕ, ◌⊎◌, inl, inr, ◌+◌, ◌^◌, ◌<◌, Bool, true, false, List, [], ◌∷◌, nat_eq, ◌==◌, if◌then◌else◌, refl, arith}
 use Rattle.std.specs.Cmp.Lexicographic.{pointwise}
-use Rattle.rasta_core_link.specs.Parameters.{expiry, window_size, own_version}
+use Rattle.rasta_core_link.specs.Parameters.{window_size, own_version}
 use Rattle.rasta_core_link.specs.State.{LinkState, is_open, is_asking, is_client}
 use Rattle.rasta_core_link.specs.Sending.{Step, silent, then_do, sending, telling, closed, closing, reason_number, is_told, giving}
 use Rattle.rasta_core_link.specs.Opening.{judging}
@@ -43,7 +43,6 @@ pub record Speaks (link : LinkState) (step : Step) : Type 0 where
 -- an end that may speak
 pub record IsSpeaker (link : LinkState) : Type 0 where
   pub sound : IsSound link
-  pub early : link.clock < expiry
   pub is_in : is_open link.phase ≡ true
 
 pub sending_speaks : (l : LinkState) (body : Body) → IsSpeaker l → IsBody body
@@ -51,7 +50,7 @@ pub sending_speaks : (l : LinkState) (body : Body) → IsSpeaker l → IsBody bo
 unfolding sending
 sending_speaks l body is is_body no_request answers = record {
   kept = record { identity = refl; clock = refl; sound = record { own = is.sound.own; partner = is.sound.partner; heard = is.sound.heard; items = is.sound.items } };
-  acts = record { uttered = (uttered l l.sent body is.sound is.early is.is_in is_body no_request answers, tt); goes = inl refl };
+  acts = record { uttered = (uttered l l.sent body is.sound is.is_in is_body no_request answers, tt); goes = inl refl };
 }
 
 small_reason : (why : Reason) → reason_number why < 2 ^ 16
@@ -61,7 +60,6 @@ small_reason reason.Sequence = omega arith
 small_reason reason.Time = omega arith
 small_reason reason.Version = omega arith
 small_reason reason.Window = omega arith
-small_reason reason.Expired = omega arith
 
 -- a disconnection request is an answer of a server alone, which has heard
 closing_answers : (r : Role) (asks : Bool) (detail number : ℕ) → (asks ≡ true → is_client r ≡ true) → IsAnswering r (DisconnectionRequest detail number) → asks ≡ false
@@ -74,7 +72,7 @@ unfolding telling sending
 telling_speaks l why is = record {
   kept = record { identity = refl; clock = refl; sound = record { own = is.sound.own; partner = is.sound.partner; heard = is.sound.heard; items = is.sound.items } };
   acts = record {
-    uttered = (uttered l l.sent (DisconnectionRequest 0 (reason_number why)) is.sound is.early is.is_in (omega arith, small_reason why) (λ r. absurd r) (closing_answers l.identity.role (is_asking l) 0 (reason_number why) (asking_client l)), tt);
+    uttered = (uttered l l.sent (DisconnectionRequest 0 (reason_number why)) is.sound is.is_in (omega arith, small_reason why) (λ r. absurd r) (closing_answers l.identity.role (is_asking l) 0 (reason_number why) (asking_client l)), tt);
     goes = inr refl;
   };
 }
@@ -109,9 +107,9 @@ answering_speaks l is heard = record {
   acts = record {
     uttered = each_join (IsUttered l.identity l.clock (standing l)) (then_do (sending RetransmissionResponse l) repeating).pdus (sending Heartbeat last).pdus
         (each_join (IsUttered l.identity l.clock (standing l)) (sending RetransmissionResponse l).pdus (repeating after).pdus
-        (uttered l l.sent RetransmissionResponse is.sound is.early is.is_in tt (λ r. absurd r) (λ a. heard), tt)
-        (uttered_again after (l.sent + 1) l.waiting (record { own = is.sound.own; partner = is.sound.partner; heard = is.sound.heard; items = is.sound.items }) is.early is.is_in heard is.sound.items))
-        (uttered last last.sent Heartbeat (record { own = is.sound.own; partner = is.sound.partner; heard = is.sound.heard; items = held_again l (l.sent + 1) l.waiting is.sound.items }) is.early is.is_in tt (λ r. absurd r) (λ a. heard), tt);
+        (uttered l l.sent RetransmissionResponse is.sound is.is_in tt (λ r. absurd r) (λ a. heard), tt)
+        (uttered_again after (l.sent + 1) l.waiting (record { own = is.sound.own; partner = is.sound.partner; heard = is.sound.heard; items = is.sound.items }) is.is_in heard is.sound.items))
+        (uttered last last.sent Heartbeat (record { own = is.sound.own; partner = is.sound.partner; heard = is.sound.heard; items = held_again l (l.sent + 1) l.waiting is.sound.items }) is.is_in tt (λ r. absurd r) (λ a. heard), tt);
     goes = inl refl;
   };
 }
@@ -127,7 +125,7 @@ unfolding giving sending
 giving_speaks l item is heard is_item = record {
   kept = record { identity = refl; clock = refl; sound = record { own = is.sound.own; partner = is.sound.partner; heard = is.sound.heard; items = each_join _ _ _ is.sound.items (is_item, tt) } };
   acts = record {
-    uttered = (uttered l l.sent (Data (item ∷ [])) is.sound is.early is.is_in (one_item item is_item) (λ r. absurd r) (λ a. heard), tt);
+    uttered = (uttered l l.sent (Data (item ∷ [])) is.sound is.is_in (one_item item is_item) (λ r. absurd r) (λ a. heard), tt);
     goes = inl refl;
   };
 }

@@ -1,12 +1,13 @@
 -- Taking a datagram keeps what is true of the two ends.
-use Rattle.std.proofs.Common.{◌≡◌, ℕ, ◌≤◌, Some, ap, arith}
+use Rattle.std.proofs.Common.{◌≡◌, ℕ, ◌+◌, ◌-◌, ◌^◌, ◌<◌, ◌≤◌, Some, sym, ap, subst, arith}
+use Rattle.rasta_core_link.specs.Sequence.{distance, stamp}
 use Rattle.rasta_core_link.specs.declared.identity.Role.TheVariants as role
 use Rattle.rasta_pdu.specs.declared.pdu.Pdu.{Pdu}
 use Rattle.rasta_core_time.specs.Standing.{Standing, Inside, Outside, Timed, Times, IsInside, HasHeard, own_stamp}
 use Rattle.rasta_core_time.specs.Moves.{asking, granting, hearing}
-use Rattle.rasta_core_time.specs.Timely.{WasRead, IsTimed, AreTimed, IsAnswering, IsKnown}
+use Rattle.rasta_core_time.specs.Timely.{WasRead, WasReadThen, IsTimed, AreTimed, IsAnswering, IsKnown}
 use Rattle.rasta_core_run.specs.Sentences.{IsRequest}
-use Rattle.rasta_core_time.proofs.Reception.{IsDown, IsAlive, alive_newest, connection_fresh}
+use Rattle.rasta_core_time.proofs.Reception.{Reads, IsDown, IsAlive, alive_newest, connection_fresh}
 
 some_same : (a b : ℕ) → Some a ≡ Some b → a ≡ b
 some_same a b e = cc
@@ -16,8 +17,8 @@ heard_inside (Inside asking own heard) h = tt
 heard_inside (Outside closed) h = absurd h
 
 pub granting_kept : (now : ℕ) (times : Times) (at connection : ℕ) (pdu : Pdu) (back : ℕ) → AreTimed times → IsDown now times.server
-    → IsKnown times role.Client at connection pdu back → IsRequest pdu.body → IsAlive times.time at
-    → AreTimed (granting now pdu.time_stamp at connection times)
+    → (known : IsKnown times role.Client at connection pdu back) → IsRequest pdu.body → IsAlive times.time at
+    → AreTimed (granting now pdu.time_stamp known.read_as at connection times)
 granting_kept now times at connection pdu back are down known request alive = record {
   client = are.client;
   server = record {
@@ -29,9 +30,10 @@ granting_kept now times at connection pdu back are down known request alive = re
     in_newest = λ i. ap (λ (c : ℕ). Some c) new;
     was_read = λ i. omega (arith, down.reads.reached);
     young = λ i. omega (arith, down.reads.passed);
-    unexpired = λ i. omega (arith, down.reads.passed, down.early);
     apart = λ o. absurd o;
     closed = λ o. absurd o;
+    heard_is = λ h. known.stamp_is;
+    prompt = λ h. alive;
     over = λ o. absurd o;
   };
   begun = λ i. known.begun;
@@ -50,8 +52,8 @@ granting_kept now times at connection pdu back are down known request alive = re
 
 -- a client that asked takes the response
 pub joining_kept : (times : Times) (at connection : ℕ) (pdu : Pdu) (back : ℕ) → AreTimed times → IsInside times.client.standing
-    → IsKnown times role.Server at connection pdu back → IsAlive times.time at
-    → AreTimed (record times { client = hearing pdu.time_stamp at (own_stamp times.client.standing) times.client.past.returned_at times.client })
+    → (known : IsKnown times role.Server at connection pdu back) → IsAlive times.time at
+    → AreTimed (record times { client = hearing pdu.time_stamp known.read_as at (own_stamp times.client.standing) times.client.past.returned_at times.client })
 joining_kept times at connection pdu back are inside known alive = record {
   client = record {
     left_before = are.client.left_before;
@@ -62,9 +64,10 @@ joining_kept times at connection pdu back are inside known alive = record {
     in_newest = λ i. are.client.in_newest inside;
     was_read = λ i. are.client.was_read inside;
     young = λ i. are.client.young inside;
-    unexpired = λ i. are.client.unexpired inside;
     apart = λ o. absurd o;
     closed = λ o. absurd o;
+    heard_is = λ h. known.stamp_is;
+    prompt = λ h. omega (arith, are.client.returned_before, alive);
     over = λ o. absurd o;
   };
   server = are.server;
@@ -79,35 +82,58 @@ joining_kept times at connection pdu back are inside known alive = record {
     new : connection ≡ times.newest
     new = alive_newest times role.Server at connection pdu back known alive
 
--- it returns a stamp that is not older than the last one returned, and not in the future
-pub record IsFresh (now own : ℕ) (pdu : Pdu) : Type 0 where
-  pub later : own ≤ pdu.confirmed_time_stamp
-  pub past : pdu.confirmed_time_stamp ≤ now
+-- the own reading of the stamp that a PDU returns, as an end finds it that reads this now
+abbrev pub returned_by : ℕ → Pdu → ℕ
+returned_by now pdu = now - distance pdu.confirmed_time_stamp (stamp now)
 
-one_end : (times : Times) (end : Timed) (at own back stamp : ℕ) → IsTimed times.time times.moment times.newest end → IsInside end.standing
-    → at ≤ times.time → back ≤ at → own_stamp end.standing ≤ own → WasRead times.time end.clock own back
-    → IsTimed times.time times.moment times.newest (hearing stamp at own back end)
-one_end times end at own back stamp is inside sent_before heard_before later was_read = record {
+-- it returns a stamp that is not older than the last one returned
+pub record IsFresh (now own : ℕ) (pdu : Pdu) : Type 0 where
+  pub fresh : distance pdu.confirmed_time_stamp (stamp now) ≤ now - own
+
+-- a stamp that is less than a turn old gives back its reading
+whole : (now reading returned : ℕ) → returned ≡ stamp reading → reading ≤ now → now < reading + 2 ^ 32 → now - distance returned (stamp now) ≡ reading
+whole now reading returned is before turn = omega (arith, is, before, turn)
+
+not_before : (now own old : ℕ) → old ≤ now - own → own ≤ now → own ≤ now - old
+not_before now own old fresh reached = omega (arith, fresh, reached)
+
+-- an end reads no less than the stamp that was returned to it
+reached : (time moment newest now : ℕ) (end : Timed) → IsTimed time moment newest end → IsInside end.standing → Reads now end.clock → own_stamp end.standing ≤ now
+reached time moment newest now end is inside reads = omega (arith, is.was_read inside, is.returned_before, reads.passed)
+
+-- what an end finds returned is what was: it was read not long ago
+pub exact : (time clock now returned at back confirmed : ℕ) → Reads now clock → confirmed ≡ stamp returned → WasReadThen time clock returned back → back ≤ at → at ≤ time
+    → at < back + 3802000 → IsAlive time at → now - distance confirmed (stamp now) ≡ returned
+exact time clock now returned at back confirmed reads is read before sent promptly alive =
+    whole now returned confirmed is (omega (arith, read.least, before, sent, reads.passed)) (omega (arith, read.most, promptly, alive, reads.reached))
+
+one_end : (times : Times) (end : Timed) (at own back heard reading : ℕ) → IsTimed times.time times.moment times.newest end → IsInside end.standing
+    → at ≤ times.time → back ≤ at → own_stamp end.standing ≤ own → WasRead times.time end.clock own back → heard ≡ stamp reading
+    → IsTimed times.time times.moment times.newest (hearing heard reading at own back end)
+one_end times end at own back heard reading is inside sent_before heard_before later was_read heard_is = record {
   left_before = is.left_before;
-  returned_before = omega arith;
+  returned_before = omega (arith, sent_before, heard_before);
   heard_before = sent_before;
   left_counted = is.left_counted;
   began = is.began;
   in_newest = λ i. is.in_newest inside;
   was_read = λ i. was_read;
-  young = λ i. omega (arith, is.young inside);
-  unexpired = λ i. is.unexpired inside;
+  young = λ i. omega (arith, is.young inside, later);
   apart = λ o. absurd o;
   closed = λ o. absurd o;
+  heard_is = λ h. heard_is;
+  prompt = λ h. omega (arith, heard_before);
   over = λ o. absurd o;
 }
 
 -- the client takes a PDU in its connection
-pub client_taking_kept : (times : Times) (at connection : ℕ) (pdu : Pdu) (back : ℕ) → AreTimed times → IsInside times.client.standing
-    → IsKnown times role.Server at connection pdu back → IsAlive times.time at → own_stamp times.client.standing ≤ pdu.confirmed_time_stamp
-    → AreTimed (record times { client = hearing pdu.time_stamp at pdu.confirmed_time_stamp back times.client })
-client_taking_kept times at connection pdu back are inside known alive later = record {
-  client = one_end times times.client at pdu.confirmed_time_stamp back pdu.time_stamp are.client inside known.sent_before known.heard_before later (known.returns new tt inside);
+pub client_taking_kept : (now : ℕ) (times : Times) (at connection : ℕ) (pdu : Pdu) (back : ℕ) → AreTimed times → IsInside times.client.standing → Reads now times.client.clock
+    → (known : IsKnown times role.Server at connection pdu back) → IsAlive times.time at → IsFresh now (own_stamp times.client.standing) pdu
+    → AreTimed (record times { client = hearing pdu.time_stamp known.read_as at (returned_by now pdu) back times.client })
+client_taking_kept now times at connection pdu back are inside reads known alive fresh = record {
+  client = one_end times times.client at (returned_by now pdu) back pdu.time_stamp known.read_as are.client inside known.sent_before known.heard_before
+      (not_before now (own_stamp times.client.standing) (distance pdu.confirmed_time_stamp (stamp now)) fresh.fresh (reached _ _ _ now times.client are.client inside reads))
+      (subst (λ (own : ℕ). WasRead times.time times.client.clock own back) (sym returned) (known.returns new tt inside).least) known.stamp_is;
   server = are.server;
   begun = are.begun;
   joined = λ h. known.entered new tt;
@@ -120,13 +146,17 @@ client_taking_kept times at connection pdu back are inside known alive later = r
     new : connection ≡ times.newest
     new = alive_newest times role.Server at connection pdu back known alive
 
-pub server_taking_kept : (times : Times) (at connection : ℕ) (pdu : Pdu) (back : ℕ) → AreTimed times → IsInside times.server.standing
-    → IsKnown times role.Client at connection pdu back → IsAnswering role.Client pdu.body → IsAlive times.time at
-    → own_stamp times.server.standing ≤ pdu.confirmed_time_stamp
-    → AreTimed (record times { server = hearing pdu.time_stamp at pdu.confirmed_time_stamp back times.server })
-server_taking_kept times at connection pdu back are inside known answering alive later = record {
+    returned : returned_by now pdu ≡ known.returned
+    returned = exact times.time times.client.clock now known.returned at back pdu.confirmed_time_stamp reads (known.returned_is tt) (known.returns new tt inside) known.heard_before known.sent_before (known.promptly tt) alive
+
+pub server_taking_kept : (now : ℕ) (times : Times) (at connection : ℕ) (pdu : Pdu) (back : ℕ) → AreTimed times → IsInside times.server.standing → Reads now times.server.clock
+    → (known : IsKnown times role.Client at connection pdu back) → IsAnswering role.Client pdu.body → IsAlive times.time at → IsFresh now (own_stamp times.server.standing) pdu
+    → AreTimed (record times { server = hearing pdu.time_stamp known.read_as at (returned_by now pdu) back times.server })
+server_taking_kept now times at connection pdu back are inside reads known answering alive fresh = record {
   client = are.client;
-  server = one_end times times.server at pdu.confirmed_time_stamp back pdu.time_stamp are.server inside known.sent_before known.heard_before later (known.returns new answering inside);
+  server = one_end times times.server at (returned_by now pdu) back pdu.time_stamp known.read_as are.server inside known.sent_before known.heard_before
+      (not_before now (own_stamp times.server.standing) (distance pdu.confirmed_time_stamp (stamp now)) fresh.fresh (reached _ _ _ now times.server are.server inside reads))
+      (subst (λ (own : ℕ). WasRead times.time times.server.clock own back) (sym returned) (known.returns new answering inside).least) known.stamp_is;
   begun = λ i. are.begun inside;
   joined = are.joined;
   client_heard = λ h i. are.client_heard h inside;
@@ -137,3 +167,6 @@ server_taking_kept times at connection pdu back are inside known answering alive
   where
     new : connection ≡ times.newest
     new = alive_newest times role.Client at connection pdu back known alive
+
+    returned : returned_by now pdu ≡ known.returned
+    returned = exact times.time times.server.clock now known.returned at back pdu.confirmed_time_stamp reads (known.returned_is answering) (known.returns new answering inside) known.heard_before known.sent_before (known.promptly answering) alive

@@ -44,19 +44,20 @@ asking now times = record times {
   newest = times.moment;
 }
 
--- a server takes a request, with this stamp and sent at this time
-abbrev pub granting : ℕ → ℕ → ℕ → ℕ → Times → Times
-granting now stamp at connection times = record times {
+-- a server takes a request, with this stamp of this reading, and sent at this time
+abbrev pub granting : ℕ → ℕ → ℕ → ℕ → ℕ → Times → Times
+granting now stamp reading at connection times = record times {
   server = record times.server {
     standing = Inside false now stamp;
     connection = Some connection;
-    past = record times.server.past { returned_at = times.time; heard_at = at };
+    past = record times.server.past { returned_at = times.time; heard_at = at; heard_clock = reading };
   };
 }
 
--- an end inside takes a PDU: of this stamp, sent at this time, which returns this own stamp, of a datagram sent then
-abbrev pub hearing : ℕ → ℕ → ℕ → ℕ → Timed → Timed
-hearing stamp at own back end = record end {
+-- an end inside takes a PDU: of this stamp of this reading, sent at this time, which returns this own reading, of a
+-- datagram sent then
+abbrev pub hearing : ℕ → ℕ → ℕ → ℕ → ℕ → Timed → Timed
+hearing stamp reading at own back end = record end {
   standing = Inside false own stamp;
-  past = record end.past { returned_at = back; heard_at = at };
+  past = record end.past { returned_at = back; heard_at = at; heard_clock = reading };
 }

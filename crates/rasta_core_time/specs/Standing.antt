@@ -1,5 +1,5 @@
 -- Two ends as far as time goes: clocks, stamps, and when what was sent that they heard.
--- All times but stamps are in microseconds; a stamp is an end's clock in milliseconds.
+-- All times but stamps are in microseconds; a stamp is an end's clock in milliseconds, modulo 2^32.
 use Rattle.std.specs.Prelude.{ℕ, Bool, true, false, Option, if◌then◌else◌}
 use Rattle.rasta_core_link.specs.State.{LinkState, is_open, is_asking}
 use Rattle.rasta_core_link.specs.declared.identity.Role.{Role}
@@ -50,8 +50,9 @@ pub record Past : Type 0 where
   pub left_clock : ℕ
   -- when it sent the datagram whose stamp the partner returned last
   pub returned_at : ℕ
-  -- when the partner sent the datagram that it took last
+  -- when the partner sent the datagram that it took last, and what the partner's clock read then
   pub heard_at : ℕ
+  pub heard_clock : ℕ
 
 -- one end, as far as time goes
 pub record Timed : Type 0 where

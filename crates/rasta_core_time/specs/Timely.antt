@@ -1,6 +1,7 @@
 -- The invariant of time: which stamps are how old, and which datagrams can still be delivered.
 use Rattle.std.specs.Prelude.{◌≡◌, ◌≢◌, ℕ, ◌+◌, ◌*◌, ◌≤◌, ◌<◌, Some}
-use Rattle.rasta_core_link.specs.Parameters.{time_limit, expiry}
+use Rattle.rasta_core_link.specs.Parameters.{time_limit}
+use Rattle.rasta_core_link.specs.Sequence.{stamp}
 use Rattle.rasta_core_link.specs.declared.identity.Role.{Role}
 use Rattle.rasta_core_link.specs.declared.identity.Role.TheVariants as role
 use Rattle.rasta_core_run.specs.Bag.{lifetime}
@@ -15,6 +16,11 @@ use Rattle.rasta_core_run.specs.Sentences.{IsRequest}
 abbrev pub WasRead : ℕ → ℕ → ℕ → ℕ → Type 0
 WasRead time clock stamp at = 999 * time + 1000000 * stamp ≤ 1000 * clock + 999 * at
 
+-- It also ran at most at 1001 in 1000 since: so a stamp of this reading tells it, within a turn of the stamps.
+pub record WasReadThen (time clock reading at : ℕ) : Type 0 where
+  pub least : WasRead time clock reading at
+  pub most : 1000 * clock + 1001 * at ≤ 1000000 * reading + 1001 * time + 999000
+
 -- what is true of each end
 pub record IsTimed (time moment newest : ℕ) (end : Timed) : Type 0 where
   -- it left, sent what was returned, and heard what it took, at some time before now
@@ -28,11 +34,13 @@ pub record IsTimed (time moment newest : ℕ) (end : Timed) : Type 0 where
   pub in_newest : IsInside end.standing → end.connection ≡ Some newest
   pub was_read : IsInside end.standing → WasRead time end.clock (own_stamp end.standing) end.past.returned_at
   pub young : IsInside end.standing → end.clock < 1000 * (own_stamp end.standing + time_limit)
-  pub unexpired : IsInside end.standing → end.clock < 1000 * expiry
   -- outside, its clock hasn't gone on by more than 1001 in 1000 of the true time since it left
   pub apart : IsOutside end.standing → 1000 * end.clock + 1001 * end.past.left_at ≤ 1000000 * end.past.left_clock + 1001 * time + 999000
-  -- outside, what it knows of that reading is right, unless it was made when its clock had passed the range of stamps
-  pub closed : IsOutside end.standing → closed_at end.standing < expiry → end.past.left_clock ≡ closed_at end.standing
+  -- outside, what it knows of that reading is right
+  pub closed : IsOutside end.standing → end.past.left_clock ≡ closed_at end.standing
+  -- inside, the stamp that it heard last is of its partner's reading then, and what was returned isn't much younger
+  pub heard_is : HasHeard end.standing → heard_stamp end.standing ≡ stamp end.past.heard_clock
+  pub prompt : HasHeard end.standing → end.past.returned_at ≤ end.past.heard_at + lifetime
   -- outside, it left its last connection after that began
   pub over : IsOutside end.standing → (connection : ℕ) → end.connection ≡ Some connection → connection < end.left
 
@@ -44,11 +52,11 @@ pub record AreTimed (times : Times) : Type 0 where
   pub begun : IsInside times.server.standing → times.client.connection ≡ Some times.newest
   -- the server has entered the connection of a client that heard of it
   pub joined : HasHeard times.client.standing → times.server.connection ≡ Some times.newest
-  -- the stamp that an end heard last was read on its partner's clock when that datagram was sent
+  -- the reading of the stamp that an end heard last was read on its partner's clock when that datagram was sent
   pub client_heard : HasHeard times.client.standing → IsInside times.server.standing
-      → WasRead times.time times.server.clock (heard_stamp times.client.standing) times.client.past.heard_at
+      → WasReadThen times.time times.server.clock times.client.past.heard_clock times.client.past.heard_at
   pub server_heard : HasHeard times.server.standing → IsInside times.client.standing
-      → WasRead times.time times.client.clock (heard_stamp times.server.standing) times.server.past.heard_at
+      → WasReadThen times.time times.client.clock times.server.past.heard_clock times.server.past.heard_at
   -- an end whose partner has left hears nothing that was sent later
   pub server_alone : IsInside times.server.standing → IsOutside times.client.standing
       → times.server.past.returned_at ≤ times.client.past.left_at + lifetime
@@ -72,6 +80,12 @@ IsServer role.Server = Unit {0}
 pub record IsKnown (times : Times) (who : Role) (at connection : ℕ) (pdu : Pdu) (back : ℕ) : Type 0 where
   pub sent_before : at ≤ times.time
   pub heard_before : back ≤ at
+  -- the readings of its stamp and of the one that it returns, and that it was sent soon after what it answers
+  pub read_as : ℕ
+  pub returned : ℕ
+  pub stamp_is : pdu.time_stamp ≡ stamp read_as
+  pub returned_is : IsAnswering who pdu.body → pdu.confirmed_time_stamp ≡ stamp returned
+  pub promptly : IsAnswering who pdu.body → at < back + 3802000
   pub counted : connection < times.moment
   pub begun : times.client.connection ≡ Some times.newest
   -- of an older connection than the newest, it can't be delivered any more
@@ -80,9 +94,9 @@ pub record IsKnown (times : Times) (who : Role) (at connection : ℕ) (pdu : Pdu
   pub entered : connection ≡ times.newest → IsAnswering who pdu.body → times.server.connection ≡ Some times.newest
   -- its stamp was read when it was sent, and the stamp that it returns when what it answers was sent
   pub was_read : connection ≡ times.newest → IsInside (at_role who times).standing
-      → WasRead times.time (at_role who times).clock pdu.time_stamp at
+      → WasReadThen times.time (at_role who times).clock read_as at
   pub returns : connection ≡ times.newest → IsAnswering who pdu.body → IsInside (at_role (partner_of who) times).standing
-      → WasRead times.time (at_role (partner_of who) times).clock pdu.confirmed_time_stamp back
+      → WasReadThen times.time (at_role (partner_of who) times).clock returned back
   -- an end that left sends nothing more in its connection, and its partner not for long
   pub last_word : connection ≡ times.newest → IsOutside (at_role who times).standing → at ≤ (at_role who times).past.left_at
   pub lonely : connection ≡ times.newest → IsServer who → IsOutside times.client.standing → at < times.client.past.left_at + 3802000

@@ -3,7 +3,7 @@
 
 ghost use Rattle.std.specs.Prelude.{◌≡◌, ◌≢◌, ℕ, ◌+◌, ◌<◌, ◌≤◌, true, List, [], ◌∷◌, Option, Some, Ok};
 ghost use Rattle.rasta_core_link.specs.Clock.{settled};
-ghost use Rattle.rasta_core_link.specs.Parameters.{expiry, quiet_time};
+ghost use Rattle.rasta_core_link.specs.Parameters.{quiet_time};
 ghost use Rattle.rasta_core_link.specs.State.{is_up};
 ghost use Rattle.rasta_core_link.specs.declared.identity.Role.{Role};
 ghost use Rattle.rasta_core_link.specs.declared.identity.Role.TheVariants as role;
@@ -91,7 +91,7 @@ pub fn one_connection()
 {}
 
 /// How long the client has been outside: since its creation or since it closed, on its own clock. What it knows of
-/// that moment is right, unless it was made when its clock had passed the range of stamps.
+/// that moment is right.
 pub fn quiet_is_counted()
     ensures made { (names : Names) (start : Start) → AreNames names → HasBeenOut names start.client_clock (started names start) }
     ensures made_anew { (names : Names) (clock first : ℕ) (ends : Ends) → Timely names ends
@@ -102,7 +102,7 @@ pub fn quiet_is_counted()
     ensures kept { (names : Names) (since : ℕ) (event : Event) (ends : Ends) → AreNames names → HasBeenOut names since ends
         → May names event ends → LeavesClient event → IsOut role.Client (happened event ends)
         → HasBeenOut names since (happened event ends) }
-    ensures known { (names : Names) (ends : Ends) → Timely names ends → IsOut role.Client ends → ends.client.link.closed_at < expiry
+    ensures known { (names : Names) (ends : Ends) → Timely names ends → IsOut role.Client ends
         → HasBeenOut names ends.client.link.closed_at ends }
 {
     written_is_read();

@@ -5,7 +5,7 @@ use Rattle.std.specs.Str.{bytes_eq}
 use Rattle.std.proofs.lemmas.Bool.Decides.{nat_tests}
 use Rattle.std.proofs.lemmas.Slice.Eq.{bytes_eq-Decides}
 use Rattle.rasta_core.specs.State.{LinkState, is_open}
-use Rattle.rasta_core.specs.Clock.{alive_until, settled}
+use Rattle.rasta_core.specs.Clock.{deadline, alive_until, settled}
 use Rattle.rasta_core.specs.identity.Role.TheVariants.{Client, Server}
 use Rattle.rasta_core.specs.Ends.{EndState, Call, Ticks, Opens, Closes, Sends, Receives, Outcome, outcome, end_after, end_later, end_restarted, kept, reading_of}
 use Rattle.rasta_core.specs.Run.{called, later, lost, restarted}
@@ -92,33 +92,38 @@ stepped_lit laws Server call pair is_server lit = server_lit laws call pair is_s
 
 -- where the link's time has come, or not
 settled_cases : (P : LinkState → Type 0) (now : ℕ) (link : LinkState)
-    → (is_open link.phase ≡ true → alive_until link ≤ now → P (settled now link)) → (settled now link ≡ record link { clock = now } → P (settled now link)) → P (settled now link)
+    → (is_open link.phase ≡ true → deadline link ≤ now → P (settled now link)) → (settled now link ≡ record link { clock = now } → P (settled now link)) → P (settled now link)
 unfolding settled
 settled_cases P now link comes goes_on = by_open (is_open link.phase) refl where
-  by_time : (come : Bool) → is_open link.phase ≡ true → nat_le (alive_until link) now ≡ come → P (settled now link)
+  by_time : (come : Bool) → is_open link.phase ≡ true → nat_le (deadline link) now ≡ come → P (settled now link)
   by_time true inside e = comes inside (grind (arith, nat_tests))
   by_time false inside e = goes_on (rw (inside, e) refl)
 
   by_open : (inside : Bool) → is_open link.phase ≡ inside → P (settled now link)
-  by_open true e = by_time (nat_le (alive_until link) now) e refl
+  by_open true e = by_time (nat_le (deadline link) now) e refl
   by_open false e = goes_on (rw e refl)
 
 alive_settled : (now : ℕ) (link : LinkState) → alive_until (settled now link) ≡ alive_until link
-unfolding alive_until settled
-alive_settled now link = by_come (is_open link.phase && nat_le (alive_until link) now) refl where
+unfolding alive_until deadline settled
+alive_settled now link = by_come (is_open link.phase && nat_le (deadline link) now) refl where
   Goal : LinkState → Type 0
   Goal after = alive_until after ≡ alive_until link
 
-  by_come : (come : Bool) → (is_open link.phase && nat_le (alive_until link) now) ≡ come → Goal (settled now link)
+  by_come : (come : Bool) → (is_open link.phase && nat_le (deadline link) now) ≡ come → Goal (settled now link)
   by_come true e = rw e refl
   by_come false e = rw e refl
+
+-- what is told of the time that has come isn't later
+told_past : (now : ℕ) (link : LinkState) → deadline link ≤ now → alive_until link ≤ now
+unfolding alive_until
+told_past now link come = omega (arith, come)
 
 later_lit : (elapsed of_client of_server : ℕ) (pair : PairState) → IsLit pair → IsLit (record pair { ends = later elapsed of_client of_server pair.ends })
 unfolding later end_later
 later_lit elapsed of_client of_server pair lit = record {
   until = lit.until ∙ sym (alive_settled now link);
   inside = λ inside. lit.inside (was_open inside);
-  outside = settled_cases Outside now link (λ inside come outside. inr (omega (arith, lit.until, come))) (λ same outside. still (lit.outside (was_shut same outside)));
+  outside = settled_cases Outside now link (λ inside come outside. inr (omega (arith, lit.until, told_past now link come))) (λ same outside. still (lit.outside (was_shut same outside)));
 }
   where
     now : ℕ

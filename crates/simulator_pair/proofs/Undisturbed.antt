@@ -1,13 +1,13 @@
 -- An end outside that doesn't take what comes to it is left as the rules of its clock alone leave it.
-use Rattle.std.proofs.Common.{◌≡◌, ℕ, ap, ◌∙◌, refl, Bool, true, false, List, ◌++◌, Result, Ok, Err}
+use Rattle.std.proofs.Common.{◌≡◌, ℕ, ◌+◌, ap, ◌∙◌, refl, Bool, true, false, List, ◌++◌, Result, Ok, Err}
 use Rattle.std.specs.Prelude.{not, nat_le, nat_lt, ◌==◌, if◌then◌else◌}
 use Rattle.std.proofs.lemmas.Bool.{true≢false}
 use Rattle.std.proofs.lemmas.List.{append-nil}
 use Rattle.rasta_core.specs.Calls.{hearing_bytes, receiving}
-use Rattle.rasta_core.specs.Clock.{quiet_until, state_at}
+use Rattle.rasta_core.specs.Clock.{deadline, state_at}
 use Rattle.rasta_core.specs.Ends.{is_taken, reading_of}
 use Rattle.rasta_core.specs.Opening.{granting}
-use Rattle.rasta_core.specs.Parameters.{expiry}
+use Rattle.rasta_core.specs.Parameters.{quiet_time}
 use Rattle.rasta_core.specs.Receiving.{Receipt, accepting, by_state, hearing, refusing, resting}
 use Rattle.rasta_core.specs.Run.{Ends, end_of}
 use Rattle.rasta_core.specs.Sending.{entered, limited}
@@ -44,12 +44,11 @@ down_refuses link pdu _ = λ untaken. (verdict.WrongState, refl, refl)
 
 state_refuses : (link : LinkState) (pdu : Pdu) → is_open link.phase ≡ false → RefusesOrTakes link (by_state (state_at link.clock link) pdu link)
 unfolding state_at by_state
-state_refuses link pdu out = rw out (choose (nat_le expiry link.clock) (nat_lt link.clock (quiet_until link)))
+state_refuses link pdu out = rw out (choose (nat_lt link.clock (deadline link + quiet_time)))
   where
-    choose : (expired quiet : Bool) → RefusesOrTakes link (by_state (if expired then state.Expired else if quiet then state.Quiet else state.Down) pdu link)
-    choose true quiet = λ untaken. (verdict.Expired, refl, refl)
-    choose false true = λ untaken. (verdict.Quiet, refl, refl)
-    choose false false = down_refuses link pdu pdu.body
+    choose : (quiet : Bool) → RefusesOrTakes link (by_state (if quiet then state.Quiet else state.Down) pdu link)
+    choose true = λ untaken. (verdict.Quiet, refl, refl)
+    choose false = down_refuses link pdu pdu.body
 
 bytes_refused : (link : LinkState) (read : Result Pdu PduFault) → is_open link.phase ≡ false → RefusesOrTakes link (hearing_bytes read link)
 unfolding hearing_bytes hearing

@@ -66,7 +66,7 @@ fn new_node(alloc: Global, link: Link) -> Node
 }
 
 /// The parts of a new pair.
-#[tactic(auto, unfolding(crate::specs::inside::Parts::seen, crate::specs::inside::Parts::seen_ends, crate::specs::inside::Seen::seen_end, crate::proofs::Below::created, crate::proofs::Below::alive_until))]
+#[tactic(auto, unfolding(crate::specs::inside::Parts::seen, crate::specs::inside::Parts::seen_ends, crate::specs::inside::Seen::seen_end, crate::proofs::Below::created, crate::proofs::Below::deadline, crate::proofs::Below::alive_until))]
 fn new_parts(alloc: Global) -> Result<Parts, AllocError>
     ensures state { IfOk result (λ parts. seen parts ≡ new_pair (record { 0 = STANDARD })) }
     ensures whole { IfOk result IsPair }

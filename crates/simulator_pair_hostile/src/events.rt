@@ -9,8 +9,8 @@ const MICROS: u64 = 1000;
 /// How long a datagram can be delivered, in microseconds.
 const LIFETIME: u64 = 2_000_000;
 
-/// From this clock in milliseconds on a link has expired.
-const EXPIRY: u64 = 4_294_000_000;
+/// After so many milliseconds the stamps of a clock begin anew.
+const TURN: u64 = 1 << 32;
 
 /// A run of events: which datagrams it has delivered in their turn.
 #[derive(Drop)]
@@ -192,25 +192,26 @@ impl Hostile {
     }
 
     fn reason(&mut self) -> Reason {
-        match self.chance.below(7) {
+        match self.chance.below(6) {
             0 => Reason::User,
             1 => Reason::State,
             2 => Reason::Sequence,
             3 => Reason::Time,
             4 => Reason::Version,
-            5 => Reason::Window,
-            _ => Reason::Expired,
+            _ => Reason::Window,
         }
     }
 
     /// An end is made anew: with the clock and the number that it once had, or others; with numbers that are about
-    /// to wrap, or a clock that is about to expire, has, or is past its limit.
+    /// to wrap, or a clock whose stamps are, the first time or a later one, or a clock past its limit.
     fn restart(&mut self, pair: &Pair) -> PairEvent {
         let clock = match self.chance.below(12) {
             0..=4 => 0,
             5..=7 => pair.time() / MICROS,
-            8 => EXPIRY - u64::from(self.chance.below(20_000)),
-            9 => u64::from(self.chance.word()) * 2,
+            8..=9 => {
+                TURN * (1 + u64::from(self.chance.below(4))) - u64::from(self.chance.below(20_000))
+            }
+            10 => u64::from(self.chance.word()) * 2,
             _ => u64::MAX - u64::from(self.chance.word()),
         };
         let first_sequence_number = match self.chance.below(3) {

@@ -159,7 +159,7 @@ fn each_faulty_line_is_told_and_nothing_is_applied(rt: HostRuntime) -> Result<()
         ("close C x", 3),
         ("restart C 1", 1),
         ("restart X 1 y", 2),
-        ("restart C 4294967296 0", 3),
+        ("restart C 9000000000001 0", 3),
         ("restart C 0 4294967296", 3),
         ("flow", 1),
         ("flow x", 3),
@@ -198,7 +198,7 @@ fn too_many_bytes_are_a_fault(rt: HostRuntime) -> Result<(), Fail> {
 fn the_forms_of_lines_are_read(rt: HostRuntime) {
     expect_run(&rt, rt.alloc(), "", 0, "", "");
     let text =
-        "# empty lines and comments pass\n\ntime 0010 S=10\ntime 1000 C=1001\ntime 1000 C=1002\ntime 9000000000000000\ntick C\ndeliver S -\ndeliver C aBcD\nlose 00\nclose S 5\nrestart C 4294967295 4294967295\ngive S 0401";
+        "# empty lines and comments pass\n\ntime 0010 S=10\ntime 1000 C=1001\ntime 1000 C=1002\ntime 9000000000000000\ntick C\ndeliver S -\ndeliver C aBcD\nlose 00\nclose S 5\nrestart C 9000000000000 4294967295\ngive S 0401";
     let answers = "ok\nok\nno 3\nno 5\nok\nok\nok\nno 2\nok\nok\nrefused 1\n";
     expect_run(&rt, rt.alloc(), text, 0, answers, "");
 }
@@ -216,6 +216,18 @@ fn a_closed_link_opens_again(rt: HostRuntime) {
         "flow 6030\nclose C 0\nflow 6030\npicture\n",
         0,
         "ok\nok\nok\ntime 12060\nlamp stop\nC up given 0 taken 0\nS up given 0 taken 0\n",
+        "",
+    );
+}
+
+#[test]
+fn a_link_goes_on_over_the_turn_of_its_stamps(rt: HostRuntime) {
+    expect_run(
+        &rt,
+        rt.alloc(),
+        "restart C 4294960000 0\nrestart S 4294961000 7\nflow 6030\ngive C 04\nflow 10\npicture\nflow 4000\npicture\n",
+        0,
+        "ok\nok\nok\naccepted\nok\ntime 6040\nlamp proceed\nC up given 1 taken 0\nS up given 0 taken 1\nok\ntime 10040\nlamp proceed\nC up given 1 taken 0\nS up given 0 taken 1\n",
         "",
     );
 }

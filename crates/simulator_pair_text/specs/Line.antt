@@ -7,7 +7,7 @@
 --     deliver END HEX               0 to 512 bytes, for 0 bytes `-`
 --     lose HEX                      1 to 512 bytes
 --     close END REASON              0 to 5
---     restart END CLOCK SN          each at most 4294967295
+--     restart END CLOCK SN          at most 9000000000000, and 4294967295
 --     flow MS                       10 to 600000, a multiple of 10
 --     picture
 use Rattle.std.specs.Prelude.{ℕ, ◌==◌, ◌%◌, ◌&&◌, nat_le, if◌then◌else◌, Option, Some, None, unwrap_or, List, [], ◌∷◌, length, codes, Result, Ok, Err}
@@ -144,7 +144,7 @@ close other = Err Words
 
 abbrev pub restart : List (List ℕ) → Result PairLine Fault
 restart (end ∷ clock ∷ number ∷ []) = do
-  of ← both (end_named end) (both (number_up_to 4294967295 clock) (number_up_to 4294967295 number))
+  of ← both (end_named end) (both (number_up_to 9000000000000 clock) (number_up_to 4294967295 number))
   Ok (Event (Restart of.0 of.1.0 of.1.1))
 restart other = Err Words
 

@@ -31,6 +31,9 @@ use simulator_pair::{Item, PairEvent, Reason, Role};
 /// The length of a round of a flow, in milliseconds.
 pub(crate) const ROUND: u64 = 10;
 
+// The latest clock with which an end is made anew, in milliseconds.
+const LATEST_CLOCK: u64 = 9_000_000_000_000;
+
 // The bounds of a flow, in milliseconds.
 const SHORTEST_FLOW: u64 = 10;
 
@@ -142,11 +145,11 @@ fn restart(mut words: Words<'_>) -> Result<PairLine, Fault>
     ) else {
         return Err(Fault::Words);
     };
-    let numbers = both(number_up_to_most(clock), number_up_to_most(number));
+    let numbers = both(clock_reading(clock), sequence_number(number));
     let (end, (clock, number)) = both(end_named(end), numbers)?;
     Ok(PairLine::Event(PairEvent::Restart {
         end,
-        clock: u64::from(clock),
+        clock,
         first_sequence_number: number,
     }))
 }
@@ -202,8 +205,19 @@ fn reason(word: &str) -> Result<Reason, Fault>
     }
 }
 
-// A clock reading or a sequence number, each of 32 bits.
-fn number_up_to_most(word: &str) -> Result<u32, Fault>
+// A clock reading, in milliseconds.
+fn clock_reading(word: &str) -> Result<u64, Fault>
+    ensures { result ≡ number_up_to 9000000000000 word.now }
+{
+    let clock = decimal(word)?;
+    if clock > LATEST_CLOCK {
+        return Err(Fault::Number);
+    }
+    Ok(clock)
+}
+
+// A sequence number.
+fn sequence_number(word: &str) -> Result<u32, Fault>
     ensures { result ≡ number_up_to 4294967295 word.now }
 {
     u32::try_from(decimal(word)?).map_err(|_| Fault::Number)
