@@ -1,5 +1,5 @@
 -- The table of the small station is sound; and what is broken at the end of each run by a changed rule.
-use Rattle.std.proofs.Common.{◌≡◌, ℕ, zero, suc, Bool, true, false, refl, arith}
+use Rattle.std.proofs.Common.{◌≡◌, ℕ, zero, suc, Bool, true, false, refl, subst, arith}
 use Rattle.std.specs.Prelude.{not, ◌≢◌, ◌∷◌, ◌++◌}
 use Rattle.simulator_machine.specs.Lists.{is_same}
 use Rattle.simulator_machine.specs.Signal.{Proceed}
@@ -10,9 +10,9 @@ use Rattle.simulator_machine.specs.Machine.{Machine, is_held}
 use Rattle.simulator_machine.specs.Moves.{Sets}
 use Rattle.simulator_machine.specs.Run.{run, right_rules}
 use Rattle.simulator_machine.specs.Promise.{Promise}
-use Rattle.simulator_machine.specs.Small.{small, small_entry, small_aspect, small_requires, start, ready, clears}
-use Rattle.simulator_machine.specs.Wrong.{ends_unconfirmed, ended_unconfirmed, believes, believed, moves_held, moved_held, authorises_twice, authorised_twice, forgets_frozen, forgotten, ends_hold_early, hold_ended_early, sets_at_once, set_at_once, sets_blocked, set_blocked, keeps_aspect, aspect_kept, one_way, cleared_one_way, loose, cleared_loose}
-use Rattle.simulator_machine.proofs.Lists.{same_is}
+use Rattle.simulator_machine.specs.Small.{small, small_entry, small_aspect, small_requires, start, ready, cleared, clears}
+use Rattle.simulator_machine.specs.Wrong.{ends_unconfirmed, ended_unconfirmed, believes, believed, moves_held, sparse, moved_held, authorises_twice, authorised_twice, forgets_frozen, forgotten, ends_hold_early, hold_ended_early, sets_at_once, set_at_once, sets_blocked, set_blocked, keeps_aspect, aspect_kept, one_way, cleared_one_way, loose, cleared_loose}
+use Rattle.simulator_machine.proofs.Lists.{same_is, same_self}
 
 pub small_sound : IsSound small
 small_sound = record { both_ways = both_ways; one_entry = one_entry }
@@ -66,10 +66,26 @@ believed_broken promise =
     others zero = refl
     others (suc route) = refl
 
-pub moved_broken : Promise small (run moves_held small moved_held start) → ⊥
+-- the table in which routes conflict only if they begin at one signal
+pub sparse_sound : IsSound sparse
+sparse_sound = record {
+  both_ways = λ a b e. subst (λ n. is_same n (small_entry a) ≡ true) (same_is (small_entry a) (small_entry b) e) (same_self (small_entry a));
+  one_entry = λ a b other e. subst (λ n. is_same (small_entry a) n ≡ true) e (same_self (small_entry a));
+}
+
+-- route 1 may be set beside route 0
+pub unblocked_sparse : (other : ℕ) → is_whole ((run moves_held sparse cleared start).routes other) ≡ true → sparse.conflict 1 other ≡ true → ⊥
+unblocked_sparse zero whole conflict = cc (conflict)
+unblocked_sparse (suc other) whole conflict = cc (whole)
+
+pub moved_broken : Promise sparse (run moves_held sparse moved_held start) → ⊥
 moved_broken promise =
     let protected = promise.each 0 (λ e. cc (e))
-    in driven (run moves_held small moved_held start) refl (λ route. refl) protected.route protected.held.1 protected.points
+    in driven (run moves_held sparse moved_held start) refl (λ route. others route) protected.route protected.held.1 protected.points
+  where
+    others : (route : ℕ) → is_held (run moves_held sparse moved_held start) (suc route) ≡ false
+    others zero = refl
+    others (suc route) = refl
 
 -- the routes 0 and 3 conflict
 pub twice_broken : Promise small (run authorises_twice small authorised_twice start) → ⊥

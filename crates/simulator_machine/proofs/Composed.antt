@@ -9,7 +9,7 @@ use Rattle.simulator_machine.specs.Point.{PointLink, point_linked, Point, PointM
 use Rattle.simulator_machine.specs.Table.{Table, IsSound}
 use Rattle.simulator_machine.specs.Machine.{Machine, with_signal, with_point}
 use Rattle.simulator_machine.specs.Moves.{Move, AtSignal, AtPoint, May, after}
-use Rattle.simulator_machine.specs.Run.{right_rules, run, MayRun}
+use Rattle.simulator_machine.specs.Run.{Rules, right_rules, run, MayRun}
 use Rattle.simulator_machine.specs.Invariant.{Invariant}
 use Rattle.simulator_machine.specs.Chains.{link_chained, LinkMayChain, MovesTo, chained, MayChain, signal_chained, SignalMayChain, point_chained, PointMayChain, signals_chained, points_chained, NoneFrom}
 use Rattle.simulator_machine.proofs.Lists.{same_or_not, at_each}
@@ -36,6 +36,13 @@ changed_twice place new between old = fun_ext (λ n. go n (same_or_not n place))
     go n (inr other) =
         changed_elsewhere place new (changed_at place between old) n other ∙ (changed_elsewhere place between old n other ∙ sym (changed_elsewhere place new old n other))
 
+-- one list of moves may be made after another, by whatever rules
+pub both_may_by : (rules : Rules) (table : Table) (moves later : List Move) (machine : Machine) → MayRun rules table moves machine
+    → MayRun rules table later (run rules table moves machine) → MayRun rules table (moves ++ later) machine
+both_may_by rules table [] later machine may may_later = may_later
+both_may_by rules table (move ∷ moves) later machine may may_later =
+    (may.0, both_may_by rules table moves later (rules.after table machine move) may.1 may_later)
+
 module _ (table : Table) where
   pub stays : (machine : Machine) → MovesTo table machine machine
   stays machine = record { moves = []; may = tt; leads = refl }
@@ -45,8 +52,7 @@ module _ (table : Table) where
 
   pub both_may : (moves later : List Move) (machine : Machine) → MayRun right_rules table moves machine → MayRun right_rules table later (run right_rules table moves machine)
       → MayRun right_rules table (moves ++ later) machine
-  both_may [] later machine may may_later = may_later
-  both_may (move ∷ moves) later machine may may_later = (may.0, both_may moves later (after table machine move) may.1 may_later)
+  both_may moves later machine may may_later = both_may_by right_rules table moves later machine may may_later
 
   both_run : (moves later : List Move) (machine : Machine) → run right_rules table (moves ++ later) machine ≡ run right_rules table later (run right_rules table moves machine)
   both_run [] later machine = refl

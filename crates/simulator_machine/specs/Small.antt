@@ -123,6 +123,10 @@ report_lost =
     ready ++ (Sets 0 ∷ GivesMove 0 ∷ AtPoint 0 (Takes true) ∷ AtPoint 0 (Reaches (Some Right)) ∷ AtPoint 0 DriveEnds ∷ AtPoint 0 (Reports (Some Right))
     ∷ point_recovers (Some Right))
 
+-- when its report was heard, and the route has no authority yet
+abbrev pub known_lost : List Move
+known_lost = ready ++ (Sets 0 ∷ point_moved Right ++ point_recovers (Some Right))
+
 -- while the signal shows the route's aspect: it goes on showing it
 abbrev pub point_lost : List Move
 point_lost = cleared ++ at_point (Leaves ∷ [])
@@ -133,7 +137,11 @@ abbrev pub signal_recovers : List Move
 signal_recovers =
     at_signal 0 (Leaves ∷ Closes ∷ QuietEnds ∷ []) ++ (Ends 0 ∷ Frees 0 ∷ at_signal 0 (Opens ∷ Enters ∷ ComesUp ∷ []) ++ Sets 0 ∷ clears 0)
 
--- the signal's controller is made anew while the aspect is under way
+-- route 0 is given authority, and the signal's controller made anew before any aspect is given in the connection
+abbrev pub silent_lost : List Move
+silent_lost = ready ++ (Sets 0 ∷ point_moved Right ++ (Authorises 0 ∷ signal_recovers))
+
+-- while the aspect is under way
 abbrev pub aspect_lost : List Move
 aspect_lost = ready ++ (Sets 0 ∷ point_moved Right ++ (Authorises 0 ∷ GivesAspect 0 ∷ signal_recovers))
 
@@ -147,3 +155,7 @@ shown_lost = cleared ++ signal_recovers
 -- while stop is under way
 abbrev pub stop_lost : List Move
 stop_lost = cleared ++ AtSignal 0 GivesStop ∷ signal_recovers
+
+-- when stop was acted on, and isn't confirmed yet
+abbrev pub stopped_lost : List Move
+stopped_lost = cleared ++ AtSignal 0 GivesStop ∷ AtSignal 0 Acts ∷ signal_recovers

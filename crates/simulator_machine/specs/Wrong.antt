@@ -10,7 +10,7 @@ use Rattle.simulator_machine.specs.Machine.{Machine, with_signal, made_anew}
 use Rattle.simulator_machine.specs.Moves.{Move, AtSignal, AtPoint, GivesMove, Sets, Authorises, Ends, FreesPart, Frees, Restarts, HoldEnds, AllKnown, May, after}
 use Rattle.simulator_machine.specs.Run.{Rules, right_rules, run, MayRun}
 use Rattle.simulator_machine.specs.Promise.{Promise}
-use Rattle.simulator_machine.specs.Small.{small, start, ready, cleared, point_moved, clears, withdraws, opens_again, at_signal}
+use Rattle.simulator_machine.specs.Small.{small, small_entry, start, ready, cleared, point_moved, clears, withdraws, opens_again, at_signal}
 
 -- by these rules the moves can be made at this table, from the start of the small station, and break the promise
 abbrev pub BreaksAt : Table → Rules → List Move → Type 0
@@ -60,8 +60,15 @@ MayMoveHeld table machine move = May table machine move
 abbrev pub moves_held : Rules
 moves_held = record right_rules { may = MayMoveHeld }
 
+-- Routes conflict only if they begin at one signal. This table is sound. The routes 0 and 1 don't conflict in it, though
+-- they require point 0 at different sides.
+abbrev pub sparse : Table
+sparse = record small { conflict = λ a b. is_same (small_entry a) (small_entry b) }
+
+-- route 1 is set beside route 0, which is cleared; point 0 is given a move for route 1 (a move names no route), and the
+-- controller takes it and drives
 abbrev pub moved_held : List Move
-moved_held = cleared ++ GivesMove 0 ∷ AtPoint 0 (Takes true) ∷ []
+moved_held = cleared ++ Sets 1 ∷ GivesMove 0 ∷ AtPoint 0 (Takes true) ∷ []
 
 -- ---- a route is given authority twice in a setting
 
