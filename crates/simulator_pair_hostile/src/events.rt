@@ -10,7 +10,10 @@ const MICROS: u64 = 1000;
 const LIFETIME: u64 = 2_000_000;
 
 /// After so many milliseconds the stamps of a clock begin anew.
-const TURN: u64 = 1 << 32;
+pub(crate) const TURN: u64 = 1 << 32;
+
+/// How many turns a clock has at most: it stays below 9000000000000 ms.
+const TURNS: u32 = 2095;
 
 /// A run of events: which datagrams it has delivered in their turn.
 #[derive(Drop)]
@@ -202,16 +205,14 @@ impl Hostile {
         }
     }
 
-    /// An end is made anew: with the clock and the number that it once had, or others; with numbers that are about
-    /// to wrap, or a clock whose stamps are, the first time or a later one, or a clock past its limit.
+    /// An end is made anew: with the clock and the number that it once had, or others; with numbers or stamps that are
+    /// about to wrap, or a clock that is past its limit.
     fn restart(&mut self, pair: &Pair) -> PairEvent {
         let clock = match self.chance.below(12) {
-            0..=4 => 0,
-            5..=7 => pair.time() / MICROS,
-            8..=9 => {
-                TURN * (1 + u64::from(self.chance.below(4))) - u64::from(self.chance.below(20_000))
-            }
-            10 => u64::from(self.chance.word()) * 2,
+            0..=3 => 0,
+            4..=6 => pair.time() / MICROS,
+            7..=8 => self.before_a_turn(),
+            9 => u64::from(self.chance.word()) * 2,
             _ => u64::MAX - u64::from(self.chance.word()),
         };
         let first_sequence_number = match self.chance.below(3) {
@@ -224,5 +225,32 @@ impl Hostile {
             clock,
             first_sequence_number,
         }
+    }
+
+    /// A clock whose stamp wraps soon after the end may open again: for the first time, or for some later one.
+    fn before_a_turn(&mut self) -> u64 {
+        let turns = if self.chance.once_in(2) {
+            1
+        } else {
+            1 + self.chance.below(TURNS)
+        };
+        TURN * u64::from(turns) - u64::from(5000 + self.chance.below(5000))
+    }
+
+    /// The events with which a run begins: both ends are made anew with a clock just below a turn of the stamps.
+    pub(crate) fn begin(&mut self) -> [PairEvent; 2] {
+        let [client, server] = [self.before_a_turn(), self.before_a_turn()];
+        [
+            PairEvent::Restart {
+                end: Role::Client,
+                clock: client,
+                first_sequence_number: self.chance.word(),
+            },
+            PairEvent::Restart {
+                end: Role::Server,
+                clock: server,
+                first_sequence_number: self.chance.word(),
+            },
+        ]
     }
 }

@@ -12,11 +12,18 @@ const EVENTS: usize = 20_000;
 /// How many runs there are; a run's seed is its number.
 const RUNS: u64 = 20;
 
-/// Runs a pair through events drawn from a seed, and looks at it after each one.
+/// Runs a pair through events drawn from a seed, and looks at it after each one. In every second run both clocks begin
+/// just below a turn of the stamps.
 fn hostile_run(rt: &impl Abort, alloc: Global, seed: u64, tally: &mut Tally) {
     let mut pair = Pair::new(alloc).expect(rt, "there is memory");
     let mut hostile = Hostile::seeded(seed);
     let mut watch = Watch::new(&pair);
+    if seed % 2 == 0 {
+        for event in hostile.begin() {
+            let answer = pair.apply(&event);
+            watch.look(rt, &pair, &event, answer, tally);
+        }
+    }
     for _ in 0..EVENTS {
         let event = hostile.next(&pair);
         let answer = pair.apply(&event);
@@ -44,6 +51,7 @@ fn the_sentences_hold_of_hostile_runs(rt: HostRuntime) {
         (tally.never_sent, 10_000),
         (tally.drift, 1000),
         (tally.clock_limit, 30),
+        (tally.turns, 5),
     ] {
         assert!(rt; count >= least, "{tally:?}");
     }

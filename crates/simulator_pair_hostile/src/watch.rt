@@ -1,6 +1,6 @@
 //! The sentences of the theorem, evaluated on what a pair stores.
 
-use crate::events::partner;
+use crate::events::{TURN, partner};
 use simulator_pair::{
     Aspect, Item, Pair, PairAnswer, PairEvent, PairReply, Refused, Role, SendFault, Sent,
 };
@@ -11,6 +11,9 @@ const LIFETIME: u64 = 2_000_000;
 
 /// How fresh an item is that is taken, in microseconds.
 const FRESHNESS: u64 = 1_802_000;
+
+/// How many microseconds a millisecond has.
+const MICROS: u64 = 1000;
 
 const PROCEED: [u8; 1] = [0x04];
 
@@ -40,6 +43,8 @@ pub(crate) struct Watch {
     sent: usize,
     time: u64,
     lamp: Aspect,
+    /// The clocks of the client and of the server, in microseconds.
+    clocks: [u64; 2],
     /// How many datagrams were sent when the server last left a connection, or was made anew.
     left: usize,
 }
@@ -149,6 +154,8 @@ pub(crate) struct Tally {
     pub(crate) never_sent: usize,
     pub(crate) drift: usize,
     pub(crate) clock_limit: usize,
+    /// How often the stamp of an end wrapped while both were up.
+    pub(crate) turns: usize,
 }
 
 impl Tally {
@@ -167,6 +174,7 @@ impl Tally {
             never_sent: 0,
             drift: 0,
             clock_limit: 0,
+            turns: 0,
         }
     }
 }
@@ -179,6 +187,7 @@ impl Watch {
             sent: pair.sent().len(),
             time: pair.time(),
             lamp: pair.shown(),
+            clocks: [0, 0],
             left: 0,
         }
     }
@@ -211,8 +220,10 @@ impl Watch {
     ) {
         let mut now = Watch::new(pair);
         now.left = self.left;
+        now.clocks = self.clocks;
         match answer {
             Ok(reply) => {
+                now.clocks = clocks_after(self.clocks, event);
                 if self.server_left(&now, event) {
                     now.left = now.sent;
                 }
@@ -305,6 +316,18 @@ impl Watch {
         }
     }
 
+    /// Counts the stamps that wrapped while both ends were up.
+    fn count_turns(&self, now: &Watch, tally: &mut Tally) {
+        if !self.client.is_up || !self.server.is_up {
+            return;
+        }
+        for (old, new) in self.clocks.iter().zip(now.clocks.as_slice()) {
+            if has_turned(*old, *new) {
+                once_more(&mut tally.turns);
+            }
+        }
+    }
+
     fn count(
         &self,
         now: &Watch,
@@ -343,11 +366,43 @@ impl Watch {
         }
         match (event, reply.answer) {
             (PairEvent::Restart { .. }, _) => once_more(&mut tally.restarts),
+            (PairEvent::Time { .. }, _) => self.count_turns(now, tally),
             (PairEvent::Close(..), _) => once_more(&mut tally.closes),
             (_, PairAnswer::Given(Err(SendFault::WindowFull))) => once_more(&mut tally.window_full),
             _ => {}
         }
     }
+}
+
+/// Both clocks after an event.
+fn clocks_after(clocks: [u64; 2], event: &PairEvent) -> [u64; 2] {
+    let [client, server] = clocks;
+    match event {
+        PairEvent::Time {
+            of_client,
+            of_server,
+            ..
+        } => [
+            client.saturating_add(*of_client),
+            server.saturating_add(*of_server),
+        ],
+        PairEvent::Restart {
+            end: Role::Client,
+            clock,
+            ..
+        } => [clock.saturating_mul(MICROS), server],
+        PairEvent::Restart {
+            end: Role::Server,
+            clock,
+            ..
+        } => [client, clock.saturating_mul(MICROS)],
+        _ => clocks,
+    }
+}
+
+/// Whether time took a clock past a turn of the stamps.
+fn has_turned(old: u64, new: u64) -> bool {
+    old / (TURN * MICROS) < new / (TURN * MICROS)
 }
 
 fn once_more(count: &mut usize) {
