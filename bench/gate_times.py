@@ -13,6 +13,9 @@ import shutil
 import sys
 import tempfile
 
+# what is noted of a run of the prover that is for no crate
+NO_CRATE = "-"
+
 # stands for the prover: runs it, and notes what it took
 NOTING = """#!{python}
 import os, sys
@@ -21,7 +24,7 @@ if not child:
     os.execv({prover!r}, [{prover!r}, *sys.argv[1:]])
 _, status, used = os.wait4(child, 0)
 words = sys.argv[1:]
-crate = words[words.index("--crate-name") + 1] if "--crate-name" in words else "-"
+crate = words[words.index("--crate-name") + 1] if "--crate-name" in words else {no_crate!r}
 kind = "edits" if os.path.basename(os.getcwd()).startswith("rt-edit-") else "tests" if "--test" in words else "proof"
 with open({notes!r}, "a") as it:
     it.write(f"{{crate}} {{kind}} {{used.ru_utime + used.ru_stime:.1f}} {{used.ru_maxrss}}\\n")
@@ -55,6 +58,8 @@ def table(notes):
     times, memory = collections.defaultdict(collections.Counter), collections.Counter()
     for line in notes:
         crate, kind, seconds, kilobytes = line.split()
+        if crate == NO_CRATE:
+            continue
         times[crate][kind] += float(seconds)
         memory[crate] = max(memory[crate], int(kilobytes))
     kinds = ("proof", "tests", "edits")
@@ -72,7 +77,7 @@ def main(names):
     with tempfile.TemporaryDirectory(prefix="gate-times-") as room:
         notes, prover = f"{room}/notes", f"{room}/rattle"
         with open(prover, "w") as it:
-            it.write(NOTING.format(python=sys.executable, prover=rt.rtlib.RATTLE, notes=notes))
+            it.write(NOTING.format(python=sys.executable, prover=rt.rtlib.RATTLE, notes=notes, no_crate=NO_CRATE))
         os.chmod(prover, 0o755)
         open(notes, "w").close()
         rt.rtlib.RATTLE = prover
