@@ -6,6 +6,8 @@ mod bench;
 #[cfg(test)]
 mod clock;
 #[cfg(test)]
+mod faults;
+#[cfg(test)]
 mod opening;
 #[cfg(test)]
 mod retransmission;
