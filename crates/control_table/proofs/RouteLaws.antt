@@ -1,14 +1,17 @@
 -- Two routes of a table: conflicts go both ways, and no route requires a point at both sides.
 use Rattle.std.proofs.Common.{◌≡◌, ◌≢◌, ◌⊎◌, List, inl, inr, sym, subst, ◌∙◌}
+use Rattle.std.specs.Prelude.{◌↔◌}
+use Rattle.std.specs.List.{Contains}
 use Rattle.sci_telegram.specs.declared.message.Side.TheVariants as side
 use Rattle.layout.specs.declared.ids.PointId.{PointId}
+use Rattle.layout.specs.declared.ids.SectionId.{SectionId}
 use Rattle.layout.specs.declared.ids.RouteId.{RouteId}
 use Rattle.layout.specs.Entries.{RouteEntry, Plan}
 use Rattle.layout.specs.Once.{Once}
 use Rattle.control_table.specs.declared.fault.FaultyRoute.{FaultyRoute}
-use Rattle.control_table.specs.Path.{Passage, Follows}
+use Rattle.control_table.specs.Path.{Passage, Path, Follows, sections}
 use Rattle.control_table.specs.Sides.{Requires}
-use Rattle.control_table.specs.Table.{Conflict, Lists, RequireDifferently, RouteRequires, SameEntry, ShareSection, Sound}
+use Rattle.control_table.specs.Table.{AreSections, Conflict, LeadsOver, Lists, RequireDifferently, RouteRequires, SameEntry, ShareSection, Sound}
 use Rattle.control_table.proofs.Members.{some-injective}
 use Rattle.control_table.proofs.Joints.{one-beyond}
 use Rattle.control_table.proofs.PathLaws.{one-path}
@@ -41,3 +44,18 @@ one-side l a p once sound left right =
     route.consistent p
     (subst (λ (path : List Passage). Requires l path p side.Left) of_left left.4)
     (subst (λ (path : List Passage). Requires l path p side.Right) of_right right.4)
+
+-- what one path of a route leads over, the other does
+pub over-its-sections : (l : Plan) → Once l → (a : RouteId) (ss : List SectionId) → AreSections l a ss → (s : SectionId) → Contains ss s ↔ LeadsOver l a s
+over-its-sections l once a ss are s =
+    let r = are.0 in
+    let path = are.1 in
+    let H : List SectionId → Type 0 = λ xs. Contains xs s in (
+      λ c. (r, path, are.2, are.3, subst H are.4 c),
+      λ k.
+          let same : k.0 ≡ r = some-injective k.0 r (sym k.2 ∙ are.2) in
+          let is : Path l r k.1 = subst (λ (x : RouteEntry). Path l x k.1) same k.3 in
+          let place : FaultyRoute = record { id = a; name = r.name } in
+          let one = one-path l (one-beyond l once) r place k.1 path is.follows are.3.follows in
+          subst H (sym are.4) (subst (λ (p : List Passage). Contains (sections l p) s) one k.4),
+    )

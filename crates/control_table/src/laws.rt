@@ -1,7 +1,7 @@
 //! What holds of every layout.
 
-ghost use Rattle.std.specs.Prelude.{◌≡◌, ◌≢◌, ◌≤◌, List, length, Some};
-ghost use Rattle.std.specs.List.{All};
+ghost use Rattle.std.specs.Prelude.{◌≡◌, ◌≢◌, ◌≤◌, ◌↔◌, List, length, Some};
+ghost use Rattle.std.specs.List.{All, Contains};
 ghost use Rattle.sci_telegram.specs.declared.message.Side.{Side};
 ghost use Rattle.sci_telegram.specs.declared.message.Side.TheVariants.{Left, Right};
 ghost use Rattle.layout.specs.declared.ids.PointId.{PointId};
@@ -31,6 +31,11 @@ pub fn routes_of_one_entry_conflict()
 /// sides.
 pub fn points_are_required_at_one_side()
     ensures { (l : Plan) (a : RouteId) (p : PointId) → Once l → Sound l → RouteRequires l a p Left → RouteRequires l a p Right → ⊥ }
+{}
+
+/// A route leads over its sections, and over no other.
+pub fn a_route_leads_over_its_sections_alone()
+    ensures { (l : Plan) → Once l → (a : RouteId) (ss : List SectionId) → AreSections l a ss → (s : SectionId) → Contains ss s ↔ LeadsOver l a s }
 {}
 
 /// A route of a station leads over 1 to 64 sections, all of which are there.

@@ -20,8 +20,9 @@ mod written;
 pub use checked::{Checked, check};
 pub use fault::{FaultyRoute, TableFault};
 pub use laws::{
-    a_route_leads_over_sections_that_are_there, a_route_leads_over_the_sections_of_its_points,
-    conflicts_go_both_ways, points_are_required_at_one_side, required_points_are_there,
+    a_route_leads_over_its_sections_alone, a_route_leads_over_sections_that_are_there,
+    a_route_leads_over_the_sections_of_its_points, conflicts_go_both_ways,
+    points_are_required_at_one_side, required_points_are_there,
     required_points_await_a_section_of_the_route, routes_of_one_entry_conflict,
 };
 pub use masks::RouteMasks;
