@@ -123,7 +123,7 @@ module _ {Object : Type 0} (does : Behaviour Object) where
     cases false = violating_refuses now item host
 
   -- nothing is done on a closed link
-  closed_silent : (now : ℕ) (items : List (List ℕ)) (host : HostState Object) → is_open host.link.phase ≡ false → acting_all does now items host ≡ silent host
+  pub closed_silent : (now : ℕ) (items : List (List ℕ)) (host : HostState Object) → is_open host.link.phase ≡ false → acting_all does now items host ≡ silent host
   unfolding acting_all
   closed_silent now [] host closed = refl
   closed_silent now (item ∷ others) host closed = rw closed refl

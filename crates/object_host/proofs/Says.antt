@@ -315,7 +315,7 @@ module _ {Object : Type 0} (does : Behaviour Object) where
         version_is = ap (λ (h : HostState Object). h.version) host-same ∙ says.version_is;
       }
 
-  following_says : (now : ℕ) (item : List ℕ) (telegram : Telegram) (c : Course) (host : HostState Object) → course telegram.message host.stage ≡ c →
+  pub following_says : (now : ℕ) (item : List ℕ) (telegram : Telegram) (c : Course) (host : HostState Object) → course telegram.message host.stage ≡ c →
       Says now host (following does now item telegram c host)
   unfolding following is_check is_command is_request
   following_says now item telegram (courses.Checks version) host is =
@@ -326,7 +326,7 @@ module _ {Object : Type 0} (does : Behaviour Object) where
       as_says now host _ _ (commanding_says now telegram host (commands_late telegram.message host.stage (ap is_command is))) refl refl
   following_says now item telegram courses.Violates host is = violating_says now host
 
-  acting_says : (now : ℕ) (item : List ℕ) (read : Result Telegram SciFault) (host : HostState Object) → Says now host (acting does now item read host)
+  pub acting_says : (now : ℕ) (item : List ℕ) (read : Result Telegram SciFault) (host : HostState Object) → Says now host (acting does now item read host)
   unfolding acting
   acting_says now item (Err fault) host = violating_says now host
   acting_says now item (Ok telegram) host = cases (is_admitted does telegram host) where
@@ -334,7 +334,7 @@ module _ {Object : Type 0} (does : Behaviour Object) where
     cases true = following_says now item telegram _ host refl
     cases false = violating_says now host
 
-  acting_all_says : (now : ℕ) (items : List (List ℕ)) (host : HostState Object) → Says now host (acting_all does now items host)
+  pub acting_all_says : (now : ℕ) (items : List (List ℕ)) (host : HostState Object) → Says now host (acting_all does now items host)
   unfolding acting_all
   acting_all_says now [] host = silent_says now host
   acting_all_says now (item ∷ others) host = cases (is_open host.link.phase) (acting_all_says now others first.host) where

@@ -1,5 +1,5 @@
 -- What a step tells its object and sends of what it owes, call by call.
-use Rattle.std.proofs.Common.{◌≡◌, ◌⊎◌, inl, inr, ℕ, suc, zero, Bool, true, false, not, ◌&&◌, ◌==◌, if◌then◌else◌, List, [], ◌∷◌, ◌++◌, map, append_assoc, refl, ap, sym, ◌∙◌, subst}
+use Rattle.std.proofs.Common.{◌≡◌, ℕ, suc, zero, Bool, true, false, not, ◌&&◌, ◌==◌, if◌then◌else◌, List, [], ◌∷◌, ◌++◌, map, append_assoc, refl, ap, sym, ◌∙◌, subst}
 use Rattle.std.specs.Prelude.{Option, Some, None, Result, Ok, Err, is_ok}
 use Rattle.std.proofs.lemmas.Bool.{true≢false, false≢true}
 use Rattle.std.proofs.lemmas.List.{append-nil}
@@ -16,7 +16,7 @@ use Rattle.object_host.specs.Hosted.{IsNamedAs}
 use Rattle.object_host.specs.Made.{IsMadeOf, calls_made, items_given}
 use Rattle.object_host.specs.Object.{ObjectCall, Takes, Ticks, Senses, Keeps, Pays, Loses, object_after, contacts_in, object_after_all, one_of, paid_in, reports_paid, telegrams_in}
 use Rattle.object_host.specs.Step.{acting, acting_all, answering, beating, beginning, commanding, ending, following, given, goes_on, hearing, host_step, initialising, is_admitted, most_owed, paid, paying, paying_first, posting, posting_all, received, violating}
-use Rattle.object_host.specs.Told.{AreInStep, IsToldIn, contacts_of, has_lost, item_of, loss_where}
+use Rattle.object_host.specs.Told.{AllFit, AreComing, ArePayments, IsToldIn, contacts_of, has_lost, item_of, loss_where}
 use Rattle.object_host.specs.declared.course.Course.{Course}
 use Rattle.object_host.specs.declared.course.Course.TheVariants as courses
 use Rattle.object_host.specs.declared.input.Input.{Input}
@@ -24,19 +24,30 @@ use Rattle.object_host.specs.declared.input.Input.TheVariants as inputs
 use Rattle.object_host.specs.declared.report.Report.{Report}
 use Rattle.object_host.specs.declared.stage.Stage.TheVariants as stage
 use Rattle.object_host.specs.declared.sense.Sense.{Sense}
-use Rattle.object_host.proofs.Says.{given_joined, given_says, items_same, map_joined}
-use Rattle.object_host.proofs.Acts.{beating_quiet, paying_quiet}
-use Rattle.object_host.proofs.Made.{begun_link, fallen_link, given_made, made_then, paying_first_part, paying_part}
+use Rattle.object_host.proofs.Says.{acting_all_says, following_says, given_joined, given_says, items_same, map_joined}
+use Rattle.object_host.proofs.Between.{commands_late, is_command}
+use Rattle.object_host.proofs.Acts.{beating_quiet, closed_silent, own_closed, paying_quiet}
+use Rattle.object_host.proofs.Closed.{closing_closes}
+use Rattle.object_host.proofs.Made.{IsPart, beating_part, begun_link, fallen_link, given_made, made_then, paying_first_part, paying_part}
 
 -- lists of calls joined
-in_step_joined : (now : ℕ) (first others : List ObjectCall) → AreInStep now first → AreInStep now others → AreInStep now (first ++ others)
-in_step_joined now [] others one more = more
-in_step_joined now (Takes at telegram ∷ calls) others one more = (one.0, in_step_joined now calls others one.1 more)
-in_step_joined now (Senses at sense ∷ calls) others one more = (one.0, in_step_joined now calls others one.1 more)
-in_step_joined now (Pays ∷ calls) others one more = in_step_joined now calls others one more
-in_step_joined now (Ticks at ∷ calls) others one more = absurd one
-in_step_joined now (Keeps moment ∷ calls) others one more = absurd one
-in_step_joined now (Loses ∷ calls) others one more = absurd one
+coming_joined : (now : ℕ) (first others : List ObjectCall) → AreComing now first → AreComing now others → AreComing now (first ++ others)
+coming_joined now [] others one more = more
+coming_joined now (Takes at telegram ∷ calls) others one more = (one.0, coming_joined now calls others one.1 more)
+coming_joined now (Senses at sense ∷ calls) others one more = (one.0, coming_joined now calls others one.1 more)
+coming_joined now (Pays ∷ calls) others one more = absurd one
+coming_joined now (Ticks at ∷ calls) others one more = absurd one
+coming_joined now (Keeps moment ∷ calls) others one more = absurd one
+coming_joined now (Loses ∷ calls) others one more = absurd one
+
+payments_joined : (first others : List ObjectCall) → ArePayments first → ArePayments others → ArePayments (first ++ others)
+payments_joined [] others one more = more
+payments_joined (Pays ∷ calls) others one more = payments_joined calls others one more
+payments_joined (Takes at telegram ∷ calls) others one more = absurd one
+payments_joined (Senses at sense ∷ calls) others one more = absurd one
+payments_joined (Ticks at ∷ calls) others one more = absurd one
+payments_joined (Keeps moment ∷ calls) others one more = absurd one
+payments_joined (Loses ∷ calls) others one more = absurd one
 
 telegrams_joined : (first others : List ObjectCall) → telegrams_in (first ++ others) ≡ telegrams_in first ++ telegrams_in others
 unfolding telegrams_in
@@ -73,34 +84,52 @@ module _ {Object : Type 0} (does : Behaviour Object) where
       ap (λ rest. paid_in does call object ++ rest) (paid_joined calls others (object_after does call object))
       ∙ sym (append_assoc (paid_in does call object) _ _)
 
-  -- what an object is told from one state to another, with nothing paid
-  record AreCalls (now : ℕ) (old new : Object) (told : List Telegram) (senses : List Sense) : Type 0 where
+  fit_joined : (first others : List ObjectCall) (object : Object) → AllFit does first object → AllFit does others (object_after_all does first object) →
+      AllFit does (first ++ others) object
+  unfolding AllFit object_after_all
+  fit_joined [] others object one more = more
+  fit_joined (Takes at telegram ∷ calls) others object one more = (one.0, fit_joined calls others (does.after_take at telegram object) one.1 more)
+  fit_joined (Ticks at ∷ calls) others object one more = fit_joined calls others (does.after_tick at object) one more
+  fit_joined (Senses at sense ∷ calls) others object one more = fit_joined calls others (does.after_sense at sense object) one more
+  fit_joined (Keeps moment ∷ calls) others object one more = fit_joined calls others (does.after_keep moment object) one more
+  fit_joined (Pays ∷ calls) others object one more = fit_joined calls others (does.after_paid object) one more
+  fit_joined (Loses ∷ calls) others object one more = fit_joined calls others (does.after_loss object) one more
+
+  -- what an object is told from one state to another, with nothing paid; where the link is open behind it, all fit
+  record AreCalls (now : ℕ) (old new : Object) (told : List Telegram) (senses : List Sense) (opened : Bool) : Type 0 where
     calls : List ObjectCall
     object_is : new ≡ object_after_all does calls old
-    are_in_step : AreInStep now calls
+    are_coming : AreComing now calls
     takes : telegrams_in calls ≡ told
     feels : contacts_in calls ≡ senses
-    none_paid : reports_paid does calls old ≡ []
+    fit : opened ≡ true → AllFit does calls old
 
-  told_nothing : (now : ℕ) (old new : Object) → new ≡ old → AreCalls now old new [] []
-  unfolding object_after_all telegrams_in contacts_in reports_paid
-  told_nothing now old new same = record { calls = []; object_is = same; are_in_step = tt; takes = refl; feels = refl; none_paid = refl }
+  told_nothing : (now : ℕ) (old new : Object) (opened : Bool) → new ≡ old → AreCalls now old new [] [] opened
+  unfolding object_after_all telegrams_in contacts_in reports_paid AllFit
+  told_nothing now old new opened same = record { calls = []; object_is = same; are_coming = tt; takes = refl; feels = refl; fit = λ _. tt }
 
-  told_then : (now : ℕ) (old middle new : Object) (first others : List Telegram) → AreCalls now old middle first [] → AreCalls now middle new others [] →
-      AreCalls now old new (first ++ others) []
-  told_then now old middle new first others one more = record {
+  told_then : (now : ℕ) (old middle new : Object) (first others : List Telegram) (before after : Bool) → (after ≡ true → before ≡ true) →
+      AreCalls now old middle first [] before → AreCalls now middle new others [] after → AreCalls now old new (first ++ others) [] after
+  told_then now old middle new first others before after stays one more = record {
     calls = one.calls ++ more.calls;
     object_is = more.object_is ∙ ap (object_after_all does more.calls) one.object_is ∙ sym (after_joined one.calls more.calls old);
-    are_in_step = in_step_joined now one.calls more.calls one.are_in_step more.are_in_step;
+    are_coming = coming_joined now one.calls more.calls one.are_coming more.are_coming;
     takes = telegrams_joined one.calls more.calls ∙ ap (λ ts. ts ++ telegrams_in more.calls) one.takes ∙ ap (λ ts. first ++ ts) more.takes;
     feels = contacts_joined one.calls more.calls ∙ ap (λ ss. ss ++ contacts_in more.calls) one.feels ∙ more.feels;
-    none_paid = paid_joined one.calls more.calls old ∙ ap (λ rs. rs ++ reports_paid does more.calls (object_after_all does one.calls old)) one.none_paid
-        ∙ ap (reports_paid does more.calls) (sym one.object_is) ∙ more.none_paid;
+    fit = λ opened. fit_joined one.calls more.calls old (one.fit (stays opened)) (subst (AllFit does more.calls) one.object_is (more.fit opened));
   }
 
-  told_one : (now : ℕ) (telegram : Telegram) (old : Object) → AreCalls now old (does.after_take now telegram old) (telegram ∷ []) []
-  unfolding object_after_all telegrams_in contacts_in reports_paid
-  told_one now telegram old = record { calls = Takes now telegram ∷ []; object_is = refl; are_in_step = (refl, tt); takes = refl; feels = refl; none_paid = refl }
+  told_one : (now : ℕ) (telegram : Telegram) (old : Object) (opened : Bool) → (opened ≡ true → does.accepts now telegram old ≡ true) →
+      AreCalls now old (does.after_take now telegram old) (telegram ∷ []) [] opened
+  unfolding object_after_all telegrams_in contacts_in reports_paid AllFit
+  told_one now telegram old opened fits = record {
+    calls = Takes now telegram ∷ [];
+    object_is = refl;
+    are_coming = (refl, tt);
+    takes = refl;
+    feels = refl;
+    fit = λ is. (fits is, tt);
+  }
 
   -- the parts of a step before what is owed is sent
   posting_all_object : (now : ℕ) (reports : List Report) (host : HostState Object) → (posting_all now reports host).host.object ≡ host.object
@@ -119,55 +148,67 @@ module _ {Object : Type 0} (does : Behaviour Object) where
     cases true is = rw is refl
     cases false is = rw is refl
 
-  violating_told : (now : ℕ) (host : HostState Object) → AreCalls now host.object (violating now host).host.object (violating now host).told []
-  unfolding violating
-  violating_told now host = told_nothing now host.object _ refl
+  -- the calls of a part, where what it tells is known
+  abbrev TellsOf : ℕ → HostState Object → Part Object → List Telegram → List Sense → Type 0
+  TellsOf now host part told senses = AreCalls now host.object part.host.object told senses (is_open part.host.link.phase)
 
-  commanding_told : (now : ℕ) (telegram : Telegram) (host : HostState Object) → AreCalls now host.object (commanding does now telegram host).host.object (telegram ∷ []) []
+  violating_told : (now : ℕ) (host : HostState Object) → TellsOf now host (violating now host) (violating now host).told []
+  unfolding violating
+  violating_told now host = told_nothing now host.object _ _ refl
+
+  commanding_told : (now : ℕ) (telegram : Telegram) (host : HostState Object) → TellsOf now host (commanding does now telegram host) (telegram ∷ []) []
   unfolding commanding violating
-  commanding_told now telegram host = cases (does.accepts now telegram host.object) where
+  commanding_told now telegram host = cases (does.accepts now telegram host.object) refl where
     told : HostState Object
     told = record host { object = does.after_take now telegram host.object }
 
-    cases : (b : Bool) → AreCalls now host.object (if b then silent told else violating now told).host.object (telegram ∷ []) []
-    cases true = told_one now telegram host.object
-    cases false = told_one now telegram host.object
+    cases : (b : Bool) → does.accepts now telegram host.object ≡ b → TellsOf now host (if b then silent told else violating now told) (telegram ∷ []) []
+    cases true fits = told_one now telegram host.object _ (λ _. fits)
+    cases false fits = told_one now telegram host.object _ (λ opened. absurd (true≢false (sym opened ∙ closing_closes now host.link)))
 
   following_told : (now : ℕ) (item : List ℕ) (telegram : Telegram) (c : Course) (host : HostState Object) →
-      AreCalls now host.object (following does now item telegram c host).host.object (following does now item telegram c host).told []
+      TellsOf now host (following does now item telegram c host) (following does now item telegram c host).told []
   unfolding following
-  following_told now item telegram (courses.Checks version) host = told_nothing now host.object _ (answering_object now version host)
-  following_told now item telegram courses.Initialises host = told_nothing now host.object _ (initialising_object now host)
+  following_told now item telegram (courses.Checks version) host = told_nothing now host.object _ _ (answering_object now version host)
+  following_told now item telegram courses.Initialises host = told_nothing now host.object _ _ (initialising_object now host)
   following_told now item telegram courses.Commands host = commanding_told now telegram host
   following_told now item telegram courses.Violates host = violating_told now host
 
   acting_told : (now : ℕ) (item : List ℕ) (read : Result Telegram SciFault) (host : HostState Object) →
-      AreCalls now host.object (acting does now item read host).host.object (acting does now item read host).told []
+      TellsOf now host (acting does now item read host) (acting does now item read host).told []
   unfolding acting
   acting_told now item (Err fault) host = violating_told now host
   acting_told now item (Ok telegram) host = cases (is_admitted does telegram host) where
     made : Bool → Part Object
     made b = if b then following does now item telegram (course telegram.message host.stage) host else violating now host
 
-    cases : (b : Bool) → AreCalls now host.object (made b).host.object (made b).told []
+    cases : (b : Bool) → TellsOf now host (made b) (made b).told []
     cases true = following_told now item telegram _ host
     cases false = violating_told now host
 
   acting_all_told : (now : ℕ) (items : List (List ℕ)) (host : HostState Object) →
-      AreCalls now host.object (acting_all does now items host).host.object (acting_all does now items host).told []
+      TellsOf now host (acting_all does now items host) (acting_all does now items host).told []
   unfolding acting_all
-  acting_all_told now [] host = told_nothing now host.object _ refl
+  acting_all_told now [] host = told_nothing now host.object _ _ refl
   acting_all_told now (item ∷ others) host = cases (is_open host.link.phase) (acting_all_told now others first.host) where
     first : Part Object
     first = acting does now item (reading item) host
 
+    rest : Part Object
+    rest = acting_all does now others first.host
+
     made : Bool → Part Object
     made b = if b then then_do first (acting_all does now others) else silent host
 
-    cases : (b : Bool) → AreCalls now first.host.object (acting_all does now others first.host).host.object (acting_all does now others first.host).told [] →
-        AreCalls now host.object (made b).host.object (made b).told []
-    cases true more = told_then now host.object first.host.object _ first.told _ (acting_told now item (reading item) host) more
-    cases false more = told_nothing now host.object _ refl
+    stays : is_open rest.host.link.phase ≡ true → is_open first.host.link.phase ≡ true
+    stays opened = by (is_open first.host.link.phase) refl where
+      by : (b : Bool) → is_open first.host.link.phase ≡ b → b ≡ true
+      by true is = refl
+      by false is = absurd (true≢false (sym opened ∙ ap (λ (p : Part Object). is_open p.host.link.phase) (closed_silent does now others first.host is) ∙ is))
+
+    cases : (b : Bool) → TellsOf now first.host rest rest.told [] → TellsOf now host (made b) (made b).told []
+    cases true more = told_then now host.object first.host.object _ first.told _ _ _ stays (acting_told now item (reading item) host) more
+    cases false more = told_nothing now host.object _ _ refl
 
   risen_object : (host : HostState Object) → (risen host).object ≡ host.object
   unfolding risen
@@ -176,16 +217,23 @@ module _ {Object : Type 0} (does : Behaviour Object) where
     cases true = refl
     cases false = refl
 
-  given_told : (now : ℕ) (input : Input) (host : HostState Object) → AreCalls now host.object (given does now input host).host.object (given does now input host).told (contacts_of input)
-  unfolding given hearing received object_after_all telegrams_in contacts_in reports_paid
-  given_told now inputs.Tick host = told_nothing now host.object _ refl
+  given_told : (now : ℕ) (input : Input) (host : HostState Object) → TellsOf now host (given does now input host) (given does now input host).told (contacts_of input)
+  unfolding given hearing received object_after_all telegrams_in contacts_in reports_paid AllFit
+  given_told now inputs.Tick host = told_nothing now host.object _ _ refl
   given_told now (inputs.Datagram bytes) host =
       let begun : HostState Object = risen (record host { link = (receiving now bytes.now host.link).link })
-      in subst (λ o. AreCalls now o (acting_all does now (receiving now bytes.now host.link).items begun).host.object
-      (acting_all does now (receiving now bytes.now host.link).items begun).told [])
+      in let part : Part Object = acting_all does now (receiving now bytes.now host.link).items begun
+      in subst (λ o. AreCalls now o part.host.object part.told [] (is_open part.host.link.phase))
       (risen_object (record host { link = (receiving now bytes.now host.link).link }))
       (acting_all_told now (receiving now bytes.now host.link).items begun)
-  given_told now (inputs.Sense sense) host = record { calls = Senses now sense ∷ []; object_is = refl; are_in_step = (refl, tt); takes = refl; feels = refl; none_paid = refl }
+  given_told now (inputs.Sense sense) host = record {
+    calls = Senses now sense ∷ [];
+    object_is = refl;
+    are_coming = (refl, tt);
+    takes = refl;
+    feels = refl;
+    fit = λ _. tt;
+  }
 
   -- how a step begins and ends, as calls of the object
   fallen_is : (host : HostState Object) → (fallen does host).object ≡ object_after_all does (loss_where (has_lost host)) host.object
@@ -208,27 +256,6 @@ module _ {Object : Type 0} (does : Behaviour Object) where
   ended_is host =
       ap (does.after_keep (alive_until (fallen does host).link)) (fallen_is host)
       ∙ sym (after_joined (loss_where (has_lost host)) (Keeps (alive_until (fallen does host).link) ∷ []) host.object)
-
-  -- neither pays
-  loss_pays_none : (b : Bool) (object : Object) → reports_paid does (loss_where b) object ≡ []
-  unfolding reports_paid
-  loss_pays_none true object = refl
-  loss_pays_none false object = refl
-
-  one_pays_none : (b : Bool) (call : ObjectCall) (object : Object) → ((o : Object) → reports_paid does (call ∷ []) o ≡ []) →
-      reports_paid does (loss_where b ++ call ∷ []) object ≡ []
-  one_pays_none b call object none =
-      paid_joined (loss_where b) (call ∷ []) object
-      ∙ ap (λ rs. rs ++ reports_paid does (call ∷ []) (object_after_all does (loss_where b) object)) (loss_pays_none b object)
-      ∙ none (object_after_all does (loss_where b) object)
-
-  tick_pays_none : (now : ℕ) (object : Object) → reports_paid does (Ticks now ∷ []) object ≡ []
-  unfolding reports_paid
-  tick_pays_none now object = refl
-
-  keep_pays_none : (moment : ℕ) (object : Object) → reports_paid does (Keeps moment ∷ []) object ≡ []
-  unfolding reports_paid
-  keep_pays_none moment object = refl
 
   -- a host that is in a connection isn't taken out of it before the end of the step
   violating_inside : (now : ℕ) (host : HostState Object) → is_outside host.stage ≡ false → is_outside (violating now host).host.stage ≡ false
@@ -300,13 +327,63 @@ module _ {Object : Type 0} (does : Behaviour Object) where
       in acting_all_inside now (receiving now bytes.now host.link).items (risen heard) (risen_inside heard inside)
   given_inside now (inputs.Sense sense) host inside = inside
 
+  -- before the initialisation was completed the object is told no telegram
+  following_untold : (now : ℕ) (item : List ℕ) (telegram : Telegram) (c : Course) (host : HostState Object) → course telegram.message host.stage ≡ c →
+      is_completed (following does now item telegram c host).host.stage ≡ false → (following does now item telegram c host).told ≡ []
+  unfolding following is_command violating
+  following_untold now item telegram (courses.Checks version) host is early = refl
+  following_untold now item telegram courses.Initialises host is early = refl
+  following_untold now item telegram courses.Commands host is early =
+      absurd (true≢false (sym ((following_says does now item telegram courses.Commands host is).stays (commands_late telegram.message host.stage (ap is_command is))) ∙ early))
+  following_untold now item telegram courses.Violates host is early = refl
+
+  acting_untold : (now : ℕ) (item : List ℕ) (read : Result Telegram SciFault) (host : HostState Object) →
+      is_completed (acting does now item read host).host.stage ≡ false → (acting does now item read host).told ≡ []
+  unfolding acting violating
+  acting_untold now item (Err fault) host early = refl
+  acting_untold now item (Ok telegram) host early = cases (is_admitted does telegram host) early where
+    made : Bool → Part Object
+    made b = if b then following does now item telegram (course telegram.message host.stage) host else violating now host
+
+    cases : (b : Bool) → is_completed (made b).host.stage ≡ false → (made b).told ≡ []
+    cases true is = following_untold now item telegram _ host refl is
+    cases false is = refl
+
+  acting_all_untold : (now : ℕ) (items : List (List ℕ)) (host : HostState Object) →
+      is_completed (acting_all does now items host).host.stage ≡ false → (acting_all does now items host).told ≡ []
+  unfolding acting_all
+  acting_all_untold now [] host early = refl
+  acting_all_untold now (item ∷ others) host early = cases (is_open host.link.phase) (acting_all_untold now others first.host) early where
+    first : Part Object
+    first = acting does now item (reading item) host
+
+    rest : Part Object
+    rest = acting_all does now others first.host
+
+    made : Bool → Part Object
+    made b = if b then then_do first (acting_all does now others) else silent host
+
+    before : (b : Bool) → is_completed first.host.stage ≡ b → is_completed rest.host.stage ≡ false → b ≡ false
+    before true completed is = absurd (true≢false (sym ((acting_all_says does now others first.host).stays completed) ∙ is))
+    before false completed is = refl
+
+    cases : (b : Bool) → (is_completed rest.host.stage ≡ false → rest.told ≡ []) → is_completed (made b).host.stage ≡ false → (made b).told ≡ []
+    cases true more is =
+        ap (λ ts. ts ++ rest.told) (acting_untold now item (reading item) host (before (is_completed first.host.stage) refl is)) ∙ more is
+    cases false more is = refl
+
+  given_untold : (now : ℕ) (input : Input) (host : HostState Object) → is_completed (given does now input host).host.stage ≡ false → (given does now input host).told ≡ []
+  unfolding given hearing received
+  given_untold now inputs.Tick host early = refl
+  given_untold now (inputs.Datagram bytes) host early =
+      acting_all_untold now (receiving now bytes.now host.link).items (risen (record host { link = (receiving now bytes.now host.link).link })) early
+  given_untold now (inputs.Sense sense) host early = refl
+
   -- what is owed is paid
   pub record IsPaying (now : ℕ) (host : HostState Object) (part : Part Object) : Type 0 where
     calls : List ObjectCall
     object_is : part.host.object ≡ object_after_all does calls host.object
-    are_in_step : AreInStep now calls
-    takes_none : telegrams_in calls ≡ []
-    feels_none : contacts_in calls ≡ []
+    are_payments : ArePayments calls
     pub stage_is : part.host.stage ≡ host.stage
     pub own_name_is : part.host.own_name ≡ host.own_name
     pub peer_name_is : part.host.peer_name ≡ host.peer_name
@@ -321,9 +398,7 @@ module _ {Object : Type 0} (does : Behaviour Object) where
   pays_nothing now host = record {
     calls = [];
     object_is = refl;
-    are_in_step = tt;
-    takes_none = refl;
-    feels_none = refl;
+    are_payments = tt;
     stage_is = refl;
     own_name_is = refl;
     peer_name_is = refl;
@@ -346,9 +421,7 @@ module _ {Object : Type 0} (does : Behaviour Object) where
     cases false k completed accepted = record {
       calls = Pays ∷ [];
       object_is = refl;
-      are_in_step = tt;
-      takes_none = refl;
-      feels_none = refl;
+      are_payments = tt;
       stage_is = refl;
       own_name_is = refl;
       peer_name_is = refl;
@@ -361,9 +434,7 @@ module _ {Object : Type 0} (does : Behaviour Object) where
     cases true true completed accepted = record {
       calls = Pays ∷ [];
       object_is = refl;
-      are_in_step = tt;
-      takes_none = refl;
-      feels_none = refl;
+      are_payments = tt;
       stage_is = refl;
       own_name_is = refl;
       peer_name_is = refl;
@@ -376,9 +447,7 @@ module _ {Object : Type 0} (does : Behaviour Object) where
     cases true false completed accepted = record {
       calls = [];
       object_is = refl;
-      are_in_step = tt;
-      takes_none = refl;
-      feels_none = refl;
+      are_payments = tt;
       stage_is = refl;
       own_name_is = refl;
       peer_name_is = refl;
@@ -394,9 +463,7 @@ module _ {Object : Type 0} (does : Behaviour Object) where
   pays_then now host first next made one more = record {
     calls = one.calls ++ more.calls;
     object_is = more.object_is ∙ ap (object_after_all does more.calls) one.object_is ∙ sym (after_joined one.calls more.calls host.object);
-    are_in_step = in_step_joined now one.calls more.calls one.are_in_step more.are_in_step;
-    takes_none = telegrams_joined one.calls more.calls ∙ ap (λ ts. ts ++ telegrams_in more.calls) one.takes_none ∙ more.takes_none;
-    feels_none = contacts_joined one.calls more.calls ∙ ap (λ ss. ss ++ contacts_in more.calls) one.feels_none ∙ more.feels_none;
+    are_payments = payments_joined one.calls more.calls one.are_payments more.are_payments;
     stage_is = more.stage_is ∙ one.stage_is;
     own_name_is = more.own_name_is ∙ one.own_name_is;
     peer_name_is = more.peer_name_is ∙ one.peer_name_is;
@@ -476,6 +543,10 @@ module _ {Object : Type 0} (does : Behaviour Object) where
   unfolding keeping
   falls_closed host inside closed = rw (inside, sym (ap (λ (l : LinkState). is_open l.phase) (fallen_link does host)) ∙ closed) refl
 
+  open_ending : (host : HostState Object) → is_open (ending does host).link.phase ≡ true → is_open host.link.phase ≡ true
+  unfolding keeping
+  open_ending host opened = sym (ap (λ (l : LinkState). is_open l.phase) (fallen_link does host)) ∙ opened
+
   -- a step: what comes, what is paid and what ends it
   pub step_told : (now : ℕ) (input : Input) (host : HostState Object) → IsToldIn does now input host (host_step does now input host)
   unfolding host_step
@@ -497,18 +568,11 @@ module _ {Object : Type 0} (does : Behaviour Object) where
       in let says = given_says does now input begun
       in let middle : told.host.object ≡ object_after_all does during begun.object =
       payment.object_is ∙ ap (object_after_all does payment.calls) comes.object_is ∙ sym (after_joined comes.calls payment.calls begun.object)
-      in let paid_during : reports_paid does during begun.object ≡ reports_paid does payment.calls heard.host.object =
-      paid_joined comes.calls payment.calls begun.object
-      ∙ ap (λ rs. rs ++ reports_paid does payment.calls (object_after_all does comes.calls begun.object)) comes.none_paid
-      ∙ ap (reports_paid does payment.calls) (sym comes.object_is)
-      in let paid_in_all : reports_paid does (first ++ (during ++ last)) host.object ≡ reports_paid does payment.calls heard.host.object =
-      paid_joined first (during ++ last) host.object
-      ∙ ap (λ rs. rs ++ reports_paid does (during ++ last) (object_after_all does first host.object)) (one_pays_none (has_lost clocked) (Ticks now) host.object (tick_pays_none now))
-      ∙ ap (reports_paid does (during ++ last)) (sym (begun_is now host))
-      ∙ paid_joined during last begun.object
-      ∙ ap (λ rs. reports_paid does during begun.object ++ rs) (one_pays_none (has_lost done.host) (Keeps (alive_until (ending does done.host).link)) (object_after_all does during begun.object) (keep_pays_none (alive_until (ending does done.host).link)))
-      ∙ append-nil (reports_paid does during begun.object)
-      ∙ paid_during
+      in let told_is : heard.told ≡ done.told =
+      sym (ap (λ ts. (heard.told ++ ts) ++ (beating now input told.host).told) (paying_quiet does now most_owed heard.host).tells_none
+      ∙ ap (λ ts. (heard.told ++ []) ++ ts) (beating_quiet does now input told.host).tells_none
+      ∙ append-nil (heard.told ++ [])
+      ∙ append-nil heard.told)
       in let heard_link : heard.host.link ≡ (calls_made now heard.calls begun.link).link = (given_made does now input begun).link_is
       in let told_link : told.host.link ≡ (calls_made now told.calls begun.link).link =
       (made_then now begun.link heard (paying does now most_owed) (given_made does now input begun) (paying_part does now most_owed heard.host).made).link_is
@@ -521,23 +585,23 @@ module _ {Object : Type 0} (does : Behaviour Object) where
       ∙ ap (λ l. items_given now heard.calls begun.link ++ items_given now (paying does now most_owed heard.host).calls l) (sym heard_link)
       ∙ ap (λ xs. items_given now heard.calls begun.link ++ xs) payment.gives
       in record {
-        during = during;
-        are_in_step = in_step_joined now comes.calls payment.calls comes.are_in_step payment.are_in_step;
+        comes = comes.calls;
+        pays = payment.calls;
+        are_coming = comes.are_coming;
+        are_payments = payment.are_payments;
         is_lost = has_lost done.host;
+        begun_is = begun_is now host;
         object_is = ended_is done.host
             ∙ ap (object_after_all does last) (beat.object_is ∙ middle)
             ∙ sym (after_joined during last begun.object)
             ∙ ap (object_after_all does (during ++ last)) (begun_is now host)
             ∙ sym (after_joined first (during ++ last) host.object);
-        takes = telegrams_joined comes.calls payment.calls
-            ∙ ap (λ ts. ts ++ telegrams_in payment.calls) comes.takes ∙ ap (λ ts. heard.told ++ ts) payment.takes_none
-            ∙ sym (ap (λ ts. (heard.told ++ ts) ++ (beating now input told.host).told) (paying_quiet does now most_owed heard.host).tells_none
-            ∙ ap (λ ts. (heard.told ++ []) ++ ts) (beating_quiet does now input told.host).tells_none
-            ∙ append-nil (heard.told ++ []));
-        senses = contacts_joined comes.calls payment.calls ∙ ap (λ ss. ss ++ contacts_in payment.calls) comes.feels
-            ∙ ap (λ ss. contacts_of input ++ ss) payment.feels_none ∙ append-nil (contacts_of input);
+        takes = comes.takes ∙ told_is;
+        untold = λ early. sym told_is ∙ given_untold now input begun early;
+        fit = λ opened. comes.fit (opened_before (is_open heard.host.link.phase) refl (open_ending done.host opened));
+        senses = comes.feels;
         stays = stays_open done.host;
-        falls = λ inside closed. falls_closed done.host (ap is_outside (beat.stage_is ∙ payment.stage_is) ∙ given_inside now input begun inside) closed;
+        falls = λ inside closed. falls_closed done.host (ap is_outside (beat.stage_is ∙ payment.stage_is) ∙ inside) closed;
         own = says.own;
         reports = payment.reports;
         gives = ap (items_given now done.calls) (sym (begun_link does now host)) ∙ given_in_all
@@ -547,12 +611,24 @@ module _ {Object : Type 0} (does : Behaviour Object) where
             ∙ ap (λ xs. map (item_of (ending does done.host)) says.own ++ xs) (sym (items_same payment.reports heard.host (ending does done.host) own_name_is peer_name_is))
             ∙ sym (map_joined (item_of (ending does done.host)) says.own payment.reports);
         says = says.said_is;
+        remains = given_inside now input begun;
+        completed = says.stays;
         stage_is = λ opened. open_stage done.host opened ∙ beat.stage_is ∙ payment.stage_is;
-        paid = cases payment paid_in_all (is_completed heard.host.stage) refl;
+        paid = λ is. payment.sent is ∙ ap (reports_paid does payment.calls) comes.object_is;
+        dropped = payment.dropped;
       }
     where
-      cases : {all : List Report} {heard : HostState Object} (payment : IsPaying now heard (paying does now most_owed heard)) →
-          all ≡ reports_paid does payment.calls heard.object → (b : Bool) → is_completed heard.stage ≡ b →
-          (payment.reports ≡ all) ⊎ ((payment.reports ≡ []) × (is_completed heard.stage ≡ false))
-      cases payment all_is true is = inl (payment.sent is ∙ sym all_is)
-      cases payment all_is false is = inr (payment.dropped is, is)
+      part : Part Object
+      part = given does now input (beginning does now host)
+
+      both : Part Object
+      both = then_do part (paying does now most_owed)
+
+      own : (first : LinkState) (part : Part Object) → IsPart now first part → is_open first.phase ≡ false → is_open part.host.link.phase ≡ false
+      own first part is closed = ap (λ (l : LinkState). is_open l.phase) is.made.link_is ∙ own_closed now part.calls first is.own closed
+
+      opened_before : (b : Bool) → is_open part.host.link.phase ≡ b → is_open (beating now input both.host).host.link.phase ≡ true → b ≡ true
+      opened_before true is opened = refl
+      opened_before false is opened = absurd (true≢false (sym opened
+          ∙ own both.host.link (beating now input both.host) (beating_part does now input both.host)
+          (own part.host.link (paying does now most_owed part.host) (paying_part does now most_owed part.host) is)))

@@ -6,6 +6,8 @@ mod bench;
 #[cfg(test)]
 mod detection;
 #[cfg(test)]
+mod faults;
+#[cfg(test)]
 mod point;
 #[cfg(test)]
 mod signal;
