@@ -4,7 +4,7 @@ use Rattle.sci_telegram.specs.declared.message.Aspect.{Aspect}
 use Rattle.sci_telegram.specs.declared.message.Aspect.TheVariants.{Stop}
 use Rattle.sci_telegram.specs.declared.telegram.Telegram.{Telegram}
 use Rattle.object_host.specs.Object.{ObjectCall, Takes, Ticks, Senses, Keeps, Pays, Loses, telegrams_in}
-use Rattle.object_host.specs.Told.{AreInStep, loss_where}
+use Rattle.object_host.specs.Told.{AreComing, ArePayments, loss_where}
 use Rattle.signal_ctl.specs.History.{last_aspect, last_kept, or_else}
 use Rattle.signal_ctl.specs.Signal.{indicates}
 use Rattle.controller_theorems.specs.Signal.{last_indicated}
@@ -29,15 +29,25 @@ kept_last (Keeps until ∷ calls) moment last = kept_last calls moment until
 kept_last (Pays ∷ calls) moment last = kept_last calls moment last
 kept_last (Loses ∷ calls) moment last = kept_last calls moment last
 
-pub during_is : (now : ℕ) (calls : List ObjectCall) (last : Aspect) → AreInStep now calls → last_aspect calls last ≡ last_indicated (telegrams_in calls) last
+pub coming_is : (now : ℕ) (calls : List ObjectCall) (last : Aspect) → AreComing now calls → last_aspect calls last ≡ last_indicated (telegrams_in calls) last
 unfolding last_aspect last_indicated telegrams_in
-during_is now [] last are = refl
-during_is now (Takes at telegram ∷ calls) last are = during_is now calls (or_else (indicates telegram.message) last) are.1
-during_is now (Ticks at ∷ calls) last are = absurd are
-during_is now (Senses at sense ∷ calls) last are = during_is now calls last are.1
-during_is now (Keeps moment ∷ calls) last are = absurd are
-during_is now (Pays ∷ calls) last are = during_is now calls last are
-during_is now (Loses ∷ calls) last are = absurd are
+coming_is now [] last are = refl
+coming_is now (Takes at telegram ∷ calls) last are = coming_is now calls (or_else (indicates telegram.message) last) are.1
+coming_is now (Ticks at ∷ calls) last are = absurd are
+coming_is now (Senses at sense ∷ calls) last are = coming_is now calls last are.1
+coming_is now (Keeps moment ∷ calls) last are = absurd are
+coming_is now (Pays ∷ calls) last are = absurd are
+coming_is now (Loses ∷ calls) last are = absurd are
+
+pub paying_is : (calls : List ObjectCall) (last : Aspect) → ArePayments calls → last_aspect calls last ≡ last
+unfolding last_aspect
+paying_is [] last are = refl
+paying_is (Takes at telegram ∷ calls) last are = absurd are
+paying_is (Ticks at ∷ calls) last are = absurd are
+paying_is (Senses at sense ∷ calls) last are = absurd are
+paying_is (Keeps moment ∷ calls) last are = absurd are
+paying_is (Pays ∷ calls) last are = paying_is calls last are
+paying_is (Loses ∷ calls) last are = absurd are
 
 pub told_joined : (first others : List Telegram) (last : Aspect) → last_indicated (first ++ others) last ≡ last_indicated others (last_indicated first last)
 unfolding last_indicated

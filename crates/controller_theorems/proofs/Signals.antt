@@ -31,7 +31,7 @@ use Rattle.signal_ctl.specs.History.{last_aspect, last_kept}
 use Rattle.signal_ctl.specs.Lamp.{aspect_shown, standing}
 use Rattle.signal_ctl.specs.Signal.{SignalState, is_stop, signal_behaviour}
 use Rattle.controller_theorems.specs.Signal.{IsTold, aspect_due, last_indicated}
-use Rattle.controller_theorems.proofs.Calls.{aspect_joined, begins, begins_lost, during_is, ends, kept_last, told_joined}
+use Rattle.controller_theorems.proofs.Calls.{aspect_joined, begins, begins_lost, coming_is, ends, kept_last, paying_is, told_joined}
 
 -- a stopped signal indicates stop
 pub stopped : (aspect : Aspect) → is_stop aspect ≡ true → aspect ≡ Stop
@@ -83,7 +83,7 @@ unfolding alive_until deadline
 alive_by now link true = refl
 alive_by now link false = refl
 
-alive_settled : (now : ℕ) (link : LinkState) → alive_until (settled now link) ≡ alive_until link
+pub alive_settled : (now : ℕ) (link : LinkState) → alive_until (settled now link) ≡ alive_until link
 unfolding settled
 alive_settled now link = alive_by now link (is_open link.phase && nat_le (deadline link) now)
 
@@ -92,16 +92,16 @@ open_by : (now : ℕ) (link : LinkState) (b : Bool) →
 open_by now link true opened = absurd (false≢true opened)
 open_by now link false opened = opened
 
-open_before : (now : ℕ) (link : LinkState) → is_open (settled now link).phase ≡ true → is_open link.phase ≡ true
+pub open_before : (now : ℕ) (link : LinkState) → is_open (settled now link).phase ≡ true → is_open link.phase ≡ true
 unfolding settled
 open_before now link = open_by now link (is_open link.phase && nat_le (deadline link) now)
 
 -- what is told of the time that has come isn't later
-told_past : (now : ℕ) (link : LinkState) → deadline link ≤ now → alive_until link ≤ now
+pub told_past : (now : ℕ) (link : LinkState) → deadline link ≤ now → alive_until link ≤ now
 unfolding alive_until
 told_past now link come = omega (arith, come)
 
-closed_late : (now : ℕ) (link : LinkState) → is_open link.phase ≡ true → is_open (settled now link).phase ≡ false → nat_le (deadline link) now ≡ true
+pub closed_late : (now : ℕ) (link : LinkState) → is_open link.phase ≡ true → is_open (settled now link).phase ≡ false → nat_le (deadline link) now ≡ true
 unfolding settled
 closed_late now link opened closed = cases (nat_le (deadline link) now) refl where
   by : (o b : Bool) → is_open (if o && b then record link { phase = phase.Closed; closed_at = deadline link; clock = now } else record link { clock = now }).phase ≡ false →
@@ -113,11 +113,11 @@ closed_late now link opened closed = cases (nat_le (deadline link) now) refl whe
   cases : (b : Bool) → nat_le (deadline link) now ≡ b → nat_le (deadline link) now ≡ true
   cases b is = by (is_open link.phase) (nat_le (deadline link) now) closed opened opened
 
-reached : (until now : ℕ) → nat_le until now ≡ true → until ≤ now
+pub reached : (until now : ℕ) → nat_le until now ≡ true → until ≤ now
 reached until now is = grind (arith, nat_tests)
 
 -- a later clock reads no less
-reads_later : (clock later : ℕ) → clock ≤ later → clock / 1000 ≤ later / 1000
+pub reads_later : (clock later : ℕ) → clock ≤ later → clock / 1000 ≤ later / 1000
 reads_later clock later goes =
     let below : clock / 1000 * 1000 ≤ clock = div-mul-le_self clock 1000
     in le-div (clock / 1000) later 1000 (lit< tt) (omega (arith, below, goes))
@@ -150,7 +150,7 @@ no_loss true true is = refl
 no_loss false true is = refl
 no_loss out false is = absurd (false≢true is)
 
-stays_in : (input : Input) (connection : ℕ) (ends : Ends) → is_open ends.server.link.phase ≡ true → entering input connection ends ≡ None
+pub stays_in : (input : Input) (connection : ℕ) (ends : Ends) → is_open ends.server.link.phase ≡ true → entering input connection ends ≡ None
 unfolding outcome
 stays_in inputs.Tick connection ends opened = refl
 stays_in (inputs.Datagram bytes) connection ends opened = rw opened refl
@@ -223,7 +223,7 @@ module _
         step_told =
             let after = hosted now input (host_of world) told.steady
             in let steady = steady_of part.host after
-            in let during = tells.during
+            in let during = tells.comes ++ tells.pays
             in let last : Bool → List ObjectCall = λ lost. loss_where lost ++ Keeps (alive_until part.host.link) ∷ []
             in let open_is : is_open new.ends.server.link.phase ≡ is_open part.host.link.phase = ap (λ (l : LinkState). is_open l.phase) link_is
             in record {
@@ -242,7 +242,9 @@ module _
                   ∙ aspect_joined first (during ++ last false) world.object.lamp.indicated
                   ∙ aspect_joined during (last false) (last_aspect first world.object.lamp.indicated)
                   ∙ ends (alive_until part.host.link) (last_aspect during (last_aspect first world.object.lamp.indicated))
-                  ∙ during_is now during (last_aspect first world.object.lamp.indicated) tells.are_in_step
+                  ∙ aspect_joined tells.comes tells.pays (last_aspect first world.object.lamp.indicated)
+                  ∙ paying_is tells.pays (last_aspect tells.comes (last_aspect first world.object.lamp.indicated)) tells.are_payments
+                  ∙ coming_is now tells.comes (last_aspect first world.object.lamp.indicated) tells.are_coming
                   ∙ ap (λ ts. last_indicated ts (last_aspect first world.object.lamp.indicated)) tells.takes
                   ∙ ap (last_indicated part.told) (found opened)
                   ∙ sym (told_joined (told_since (entering input connection world.ends) world.told) part.told Stop);

@@ -3,4 +3,4 @@
 
 mod laws;
 
-pub use laws::signal_shows_what_was_told;
+pub use laws::{point_makes_a_step, point_reports_its_moves, signal_shows_what_was_told};
