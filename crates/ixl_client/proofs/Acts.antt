@@ -164,7 +164,7 @@ posting_heard now told a = cases (is_refused_by_window (answer_to_send now a.cli
   cases true = refl
   cases false = refl
 
-posting_peer : (now : ℕ) (told : Message) (a : Part) → (posting now told a).client.peer ≡ a.client.peer
+pub posting_peer : (now : ℕ) (told : Message) (a : Part) → (posting now told a).client.peer ≡ a.client.peer
 unfolding posting calling
 posting_peer now told a = cases (is_refused_by_window (answer_to_send now a.client.link)) where
   sent : Part
@@ -197,7 +197,7 @@ acting_fate : (now : ℕ) (item : List ℕ) (a : Part) → Fate item a (acting n
 unfolding acting
 acting_fate now item a = following_fate now item _ a (item_tells a.client.peer a.client.stage (reading item))
 
-acting_peer : (now : ℕ) (item : List ℕ) (a : Part) → (acting now item a).client.peer ≡ a.client.peer
+pub acting_peer : (now : ℕ) (item : List ℕ) (a : Part) → (acting now item a).client.peer ≡ a.client.peer
 unfolding acting
 acting_peer now item a = following_peer now item _ a
 

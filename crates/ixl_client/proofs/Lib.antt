@@ -3,3 +3,4 @@ pub mod Acting
 pub mod Steady
 pub mod Made
 pub mod Acts
+pub mod Partner

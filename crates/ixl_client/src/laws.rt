@@ -1,9 +1,10 @@
 //! What holds of every step of a client.
 
-ghost use Rattle.std.specs.Prelude.{ℕ, List};
+ghost use Rattle.std.specs.Prelude.{◌≡◌, ℕ, List};
 ghost use Rattle.ixl_client.specs.Made.{ActsOn, MakesAfterReceipt, MakesOwn};
+ghost use Rattle.ixl_client.specs.Client.{ClientState};
 ghost use Rattle.ixl_client.specs.Part.{Part};
-ghost use Rattle.ixl_client.specs.Step.{commanding, hearing, ticking};
+ghost use Rattle.ixl_client.specs.Step.{clocked, commanding, hearing, ticking};
 ghost use Rattle.ixl_client.specs.declared.command.Command.{Command};
 
 /// A step is a list of calls of the link at its clock: they are all that it does to the link and hands out. A datagram
@@ -20,4 +21,13 @@ pub fn step_is_calls()
 #[tactic(auto, using(crate::proofs::Acts::hearing_acts))]
 pub fn step_hears_what_was_taken()
     ensures { (now : ℕ) (bytes : List ℕ) (part : Part) → ActsOn now bytes part (hearing now bytes part) }
+{}
+
+/// A client speaks with one controller for good.
+#[tactic(auto, using(crate::proofs::Partner::clocked_peer, crate::proofs::Partner::hearing_peer, crate::proofs::Partner::commanding_peer, crate::proofs::Partner::ticking_peer))]
+pub fn step_keeps_the_peer()
+    ensures clock { (now : ℕ) (client : ClientState) → (clocked now client).peer ≡ client.peer }
+    ensures receipt { (now : ℕ) (bytes : List ℕ) (part : Part) → (hearing now bytes part).client.peer ≡ part.client.peer }
+    ensures command { (now : ℕ) (command : Command) (part : Part) → (commanding now command part).client.peer ≡ part.client.peer }
+    ensures tick { (now : ℕ) (part : Part) → (ticking now part).client.peer ≡ part.client.peer }
 {}

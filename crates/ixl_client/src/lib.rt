@@ -16,5 +16,5 @@ mod stage;
 pub use client::Client;
 pub use command::Command;
 pub use indication::{Indication, Indications, ObjectState};
-pub use laws::{step_hears_what_was_taken, step_is_calls};
+pub use laws::{step_hears_what_was_taken, step_is_calls, step_keeps_the_peer};
 pub use peer::Peer;
