@@ -1,0 +1,58 @@
+-- What the rows say of sections and points.
+use Rattle.std.proofs.Common.{◌≡◌, ℕ, ◌<◌, ◌≤◌, Bool, false, not, List, length, get_or, refl, ap, sym, ◌∙◌}
+use Rattle.std.specs.FinSet.{contains}
+use Rattle.std.proofs.lemmas.Option.{slice_get_past, slice_get_read}
+use Rattle.bit_row.specs.Places.{Places}
+use Rattle.sci_telegram.specs.declared.message.Side.{Side}
+use Rattle.ixl_client.specs.Client.{is_ready}
+use Rattle.ixl_rules.specs.Rules.{is_unmoved}
+use Rattle.ixl_rules.specs.State.{LampState, SwitchState}
+use Rattle.ixl_rules.specs.Table.{Table, at, passes}
+use Rattle.ixl_rules.specs.View.{is_at_known_stop, is_clear, is_known, is_lamp_at_stop, is_occupied, is_signal_ready}
+use Rattle.ixl_field.specs.Field.{FieldState, Rest, kept}
+use Rattle.ixl_field.specs.inside.Rows.{is_at, is_told_clear, is_told_occupied}
+
+pub clear_known : (table : Table) (rest : Rest) (inside old : FieldState) (row : Places) → inside ≡ old → ((s : ℕ) → contains row s ≡ is_told_clear inside.reporters inside.detectors s) → table.reporters ≡ old.reporters →
+    (s : ℕ) → contains row s ≡ is_clear table (kept old rest) s
+unfolding is_clear
+clear_known table rest inside old row same fits is s =
+    fits s ∙ ap (λ (f : FieldState). is_told_clear f.reporters f.detectors s) same ∙ ap (λ (r : List (ℕ × ℕ)). is_told_clear r old.detectors s) (sym is)
+
+pub occupied_known : (table : Table) (rest : Rest) (inside old : FieldState) (row : Places) → inside ≡ old → ((s : ℕ) → contains row s ≡ is_told_occupied inside.reporters inside.detectors s) → table.reporters ≡ old.reporters →
+    (s : ℕ) → contains row s ≡ is_occupied table (kept old rest) s
+unfolding is_occupied
+occupied_known table rest inside old row same fits is s =
+    fits s ∙ ap (λ (f : FieldState). is_told_occupied f.reporters f.detectors s) same ∙ ap (λ (r : List (ℕ × ℕ)). is_told_occupied r old.detectors s) (sym is)
+
+pub known_at : (side : Side) (rest : Rest) (inside old : FieldState) (row : Places) → inside ≡ old → ((p : ℕ) → contains row p ≡ is_at side inside.switches p) → (p : ℕ) → contains row p ≡ is_known (kept old rest) p side
+unfolding is_known
+known_at side rest inside old row same fits p = fits p ∙ ap (λ (f : FieldState). is_at side f.switches p) same
+
+there : {A : Type 0} (list : List A) (test : A → Bool) (k : ℕ) (one : A) → k < length list → one ≡ get_or list k one → at list k test ≡ test one
+unfolding at
+there list test k one within is = ap (λ found. passes test found) (slice_get_read list (length list) k one refl within is)
+
+nowhere : {A : Type 0} (list : List A) (test : A → Bool) (k : ℕ) → length list ≤ k → at list k test ≡ false
+unfolding at
+nowhere list test k beyond = ap (λ found. passes test found) (slice_get_past list k beyond)
+
+pub signal_ready : (rest : Rest) (inside old : FieldState) (signal : ℕ) (lamp : LampState) → inside ≡ old → signal < length inside.lamps → lamp ≡ get_or inside.lamps signal lamp → is_ready lamp.client.stage ≡ is_signal_ready (kept old rest) signal
+signal_ready rest inside old signal lamp same within is = sym (there inside.lamps (λ (l : LampState). is_ready l.client.stage) signal lamp within is) ∙ ap (λ (f : FieldState). is_signal_ready (kept f rest) signal) same
+
+pub no_signal_ready : (rest : Rest) (inside old : FieldState) (signal : ℕ) → inside ≡ old → length inside.lamps ≤ signal → false ≡ is_signal_ready (kept old rest) signal
+no_signal_ready rest inside old signal same beyond = sym (nowhere inside.lamps (λ (l : LampState). is_ready l.client.stage) signal beyond) ∙ ap (λ (f : FieldState). is_signal_ready (kept f rest) signal) same
+
+pub known_stop : (now : ℕ) (rest : Rest) (inside old : FieldState) (signal : ℕ) (lamp : LampState) → inside ≡ old → signal < length inside.lamps → lamp ≡ get_or inside.lamps signal lamp → is_lamp_at_stop now lamp ≡ is_at_known_stop now (kept old rest) signal
+unfolding is_at_known_stop
+known_stop now rest inside old signal lamp same within is = sym (there inside.lamps (is_lamp_at_stop now) signal lamp within is) ∙ ap (λ (f : FieldState). at f.lamps signal (is_lamp_at_stop now)) same
+
+pub no_known_stop : (now : ℕ) (rest : Rest) (inside old : FieldState) (signal : ℕ) → inside ≡ old → length inside.lamps ≤ signal → false ≡ is_at_known_stop now (kept old rest) signal
+unfolding is_at_known_stop
+no_known_stop now rest inside old signal same beyond = sym (nowhere inside.lamps (is_lamp_at_stop now) signal beyond) ∙ ap (λ (f : FieldState). at f.lamps signal (is_lamp_at_stop now)) same
+
+pub unmoved : (rest : Rest) (inside old : FieldState) (point route : ℕ) (switch : SwitchState) → inside ≡ old → point < length inside.switches → switch ≡ get_or inside.switches point switch →
+    not (contains switch.moved route) ≡ is_unmoved (kept old rest) point route
+unmoved rest inside old point route switch same within is = sym (there inside.switches (λ (w : SwitchState). not (contains w.moved route)) point switch within is) ∙ ap (λ (f : FieldState). is_unmoved (kept f rest) point route) same
+
+pub none_unmoved : (rest : Rest) (inside old : FieldState) (point route : ℕ) → inside ≡ old → length inside.switches ≤ point → false ≡ is_unmoved (kept old rest) point route
+none_unmoved rest inside old point route same beyond = sym (nowhere inside.switches (λ (w : SwitchState). not (contains w.moved route)) point beyond) ∙ ap (λ (f : FieldState). is_unmoved (kept f rest) point route) same

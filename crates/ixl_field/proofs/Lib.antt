@@ -1,0 +1,6 @@
+pub mod RowLaws
+pub mod Leading
+pub mod Turning
+pub mod Settling
+pub mod FieldGoing
+pub mod Known

@@ -1,0 +1,84 @@
+//! What is known of sections and points, as rows of bits.
+
+ghost use Rattle.std.specs.Prelude.{◌≡◌, ◌==◌, ◌&&◌, ◌||◌, ◌<◌, ◌≤◌, ℕ, length};
+ghost use Rattle.std.specs.FinSet.{contains};
+ghost use Rattle.ixl_field.specs.inside.Rows.{ArePointRows, AreSectionRows, told_as};
+
+use bit_row::BitRow;
+use ixl_nodes::{Detector, Switch};
+use sci_telegram::Side;
+
+/// The sections that are clear, and those that are occupied. The others are unknown.
+#[derive(Clone, Copy, Debug)]
+pub(crate) struct SectionRows {
+    pub(crate) clear: BitRow,
+    pub(crate) occupied: BitRow,
+}
+
+/// The points that are available, and those that are known at a side.
+#[derive(Clone, Copy, Debug)]
+pub(crate) struct PointRows {
+    pub(crate) available: BitRow,
+    pub(crate) right: BitRow,
+    pub(crate) left: BitRow,
+}
+
+/// Whether the section that a detector reports at this place was last told as occupied; nothing where the detector isn't
+/// ready.
+fn told(detectors: &[Detector], reporter: (usize, usize)) -> Option<bool>
+    ensures { result ≡ told_as detectors.now reporter }
+{
+    if reporter.0 >= detectors.len() || !detectors[reporter.0].is_ready() {
+        return None;
+    }
+    Some(detectors[reporter.0].occupied().contains(reporter.1))
+}
+
+impl SectionRows {
+    /// What the detectors tell of the sections.
+    pub(crate) fn of(reporters: &[(usize, usize)], detectors: &[Detector]) -> SectionRows
+        requires { length reporters.now ≤ 64 }
+        ensures { AreSectionRows reporters.now detectors.now result }
+    {
+        let mut clear = BitRow::empty();
+        let mut occupied = BitRow::empty();
+        for (section, reporter) in reporters.iter().enumerate() {
+            match told(detectors, *reporter) {
+                Some(true) => occupied = occupied.with(section),
+                Some(false) => clear = clear.with(section),
+                None => {}
+            }
+        }
+        SectionRows { clear, occupied }
+    }
+}
+
+/// A row that also has a place, where a test of it passes.
+fn with_where(row: BitRow, place: usize, passes: bool) -> BitRow
+    requires { place < 64 }
+    ensures { (other : ℕ) → contains result other ≡ (passes && other == place || contains row other) }
+{
+    if passes { row.with(place) } else { row }
+}
+
+impl PointRows {
+    /// What is known of the points.
+    pub(crate) fn of(switches: &[Switch]) -> PointRows
+        requires { length switches.now ≤ 64 }
+        ensures { ArePointRows switches.now result }
+    {
+        let mut available = BitRow::empty();
+        let mut right = BitRow::empty();
+        let mut left = BitRow::empty();
+        for (point, switch) in switches.iter().enumerate() {
+            available = with_where(available, point, switch.is_available());
+            right = with_where(right, point, switch.is_known(Side::Right));
+            left = with_where(left, point, switch.is_known(Side::Left));
+        }
+        PointRows {
+            available,
+            right,
+            left,
+        }
+    }
+}

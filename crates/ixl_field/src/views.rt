@@ -1,0 +1,165 @@
+//! What is known of the objects of the field.
+
+ghost use Rattle.std.specs.Prelude.{◌≡◌, ◌<◌, ℕ, length, slice_get, IfSome};
+ghost use Rattle.std.specs.FinSet.{contains};
+ghost use Rattle.std.specs.List.{position};
+ghost use Rattle.ixl_rules.specs.State.{DetectorState as DetectorAt, LampState as LampAt, SwitchState as SwitchAt};
+ghost use Rattle.ixl_rules.specs.Step.{partner_at};
+ghost use Rattle.sci_telegram.specs.declared.message.Side.TheVariants as side;
+ghost use Rattle.ixl_client.specs.Client.{is_ready};
+ghost use Rattle.ixl_rules.specs.View.{is_at_known_stop, is_clear, is_known, is_occupied, is_point_available, is_signal_ready};
+ghost use Rattle.ixl_rules.specs.Rules.{is_unmoved};
+ghost use Rattle.ixl_rules.specs.Table.{Table};
+ghost use Rattle.ixl_field.specs.Field.{Rest, kept};
+
+use crate::field::Field;
+use bit_row::BitRow;
+use ixl_client::Client;
+use rasta_core::Millis;
+use sci_telegram::Side;
+
+/// Whether a client's controller has this identity.
+fn is_partner(client: &Client, id: u32) -> bool
+    ensures { result ≡ partner_at id client.now }
+{
+    client.link().identity().partner == id
+}
+
+impl Field {
+    /// Whether the detector of a section is ready, and last told it as clear.
+    pub fn is_clear(&self, section: usize) -> bool
+        ensures { (table : Table) (rest : Rest) → table.reporters ≡ self.now.reporters → result ≡ is_clear table (kept self.now rest) section }
+    {
+        self.sections.clear.contains(section)
+    }
+
+    /// Whether the detector of a section is ready, and last told it as occupied.
+    pub fn is_occupied(&self, section: usize) -> bool
+        ensures { (table : Table) (rest : Rest) → table.reporters ≡ self.now.reporters → result ≡ is_occupied table (kept self.now rest) section }
+    {
+        self.sections.occupied.contains(section)
+    }
+
+    /// The sections that are clear.
+    pub fn clear(&self) -> BitRow
+        ensures { (table : Table) (rest : Rest) → table.reporters ≡ self.now.reporters → (section : ℕ) → contains result section ≡ is_clear table (kept self.now rest) section }
+    {
+        self.sections.clear
+    }
+
+    /// Whether a point's link is ready, and every move given in the present connection is answered.
+    pub fn is_point_available(&self, point: usize) -> bool
+        ensures { (rest : Rest) → result ≡ is_point_available (kept self.now rest) point }
+    {
+        self.points.available.contains(point)
+    }
+
+    /// Whether a point is available, and its last report in the present connection told this side.
+    pub fn is_known(&self, point: usize, side: Side) -> bool
+        ensures { (rest : Rest) → result ≡ is_known (kept self.now rest) point side }
+    {
+        match side {
+            Side::Right => self.points.right.contains(point),
+            Side::Left => self.points.left.contains(point),
+        }
+    }
+
+    /// The points that are known right.
+    pub fn known_right(&self) -> BitRow
+        ensures { (rest : Rest) (point : ℕ) → contains result point ≡ is_known (kept self.now rest) point side.Right }
+    {
+        self.points.right
+    }
+
+    /// The points that are known left.
+    pub fn known_left(&self) -> BitRow
+        ensures { (rest : Rest) (point : ℕ) → contains result point ≡ is_known (kept self.now rest) point side.Left }
+    {
+        self.points.left
+    }
+
+    /// Whether no move was given to a point in its present connection since a route was set.
+    pub fn is_unmoved(&self, point: usize, route: usize) -> bool
+        ensures { (rest : Rest) → result ≡ is_unmoved (kept self.now rest) point route }
+    {
+        point < self.switches.len() && !self.switches[point].is_moved_for(route)
+    }
+
+    /// Whether the initialisation of a signal was completed in its present connection.
+    pub fn is_signal_ready(&self, signal: usize) -> bool
+        ensures { (rest : Rest) → result ≡ is_signal_ready (kept self.now rest) signal }
+    {
+        signal < self.lamps.len() && self.lamps[signal].is_ready()
+    }
+
+    /// Whether a signal is at known stop.
+    pub fn is_at_known_stop(&self, now: Millis, signal: usize) -> bool
+        ensures { (rest : Rest) → result ≡ is_at_known_stop now (kept self.now rest) signal }
+    {
+        signal < self.lamps.len() && self.lamps[signal].is_at_stop(now)
+    }
+
+    /// How many signals there are.
+    pub fn signals(&self) -> usize
+        ensures { result ≡ length self.now.lamps }
+    {
+        self.lamps.len()
+    }
+
+    /// How many points there are.
+    pub fn points(&self) -> usize
+        ensures { result ≡ length self.now.switches }
+    {
+        self.switches.len()
+    }
+
+    /// How many detectors there are.
+    pub fn detectors(&self) -> usize
+        ensures { result ≡ length self.now.detectors }
+    {
+        self.detectors.len()
+    }
+
+    /// Whether a detector is ready.
+    pub fn is_detector_ready(&self, place: usize) -> bool
+        requires { place < length self.now.detectors }
+        ensures { IfSome (slice_get self.now.detectors place) (λ detector. result ≡ is_ready detector.client.stage) }
+    {
+        self.detectors[place].is_ready()
+    }
+
+    /// The sections that a detector last told as occupied, by their places in its order.
+    pub fn occupied_at(&self, place: usize) -> BitRow
+        requires { place < length self.now.detectors }
+        ensures { IfSome (slice_get self.now.detectors place) (λ detector. result ≡ detector.occupied) }
+    {
+        self.detectors[place].occupied()
+    }
+
+    /// The signal whose controller has this identity.
+    pub fn signal_of(&self, id: u32) -> Option<usize>
+        ensures { result ≡ position (λ (lamp : LampAt). partner_at id lamp.client) self.now.lamps }
+    {
+        self.lamps
+            .iter()
+            .position(|lamp| is_partner(lamp.client(), id))
+    }
+
+    /// The point whose controller has this identity.
+    pub fn point_of(&self, id: u32) -> Option<usize>
+        ensures { result ≡ position (λ (switch : SwitchAt). partner_at id switch.client) self.now.switches }
+    {
+        self.switches
+            .iter()
+            .position(|switch| is_partner(switch.client(), id))
+    }
+
+    /// The detector whose controller has this identity.
+    pub fn detector_of(&self, id: u32) -> Option<usize>
+        ensures { result ≡ position (λ (detector : DetectorAt). partner_at id detector.client) self.now.detectors }
+    {
+        self.detectors
+            .iter()
+            .position(|detector| is_partner(detector.client(), id))
+    }
+}

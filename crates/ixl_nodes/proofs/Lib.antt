@@ -1,0 +1,4 @@
+pub mod Fallen
+pub mod Peers
+pub mod Heard
+pub mod Went

@@ -1,0 +1,7 @@
+use Rattle.std.proofs.Common.{take}
+use Rattle.bit_row.specs.Places.{Has}
+use Rattle.ixl_table.specs.inside.Made.{IsPastLast}
+use Rattle.ixl_table.proofs.need.past_last.Given as goal
+
+abbrev pub invariant-loop-place : goal.invariant-loop-place
+invariant-loop-place l = IsPastLast (take l.place l.sections) (Has l.set) l.past

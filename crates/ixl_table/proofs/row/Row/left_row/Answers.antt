@@ -1,0 +1,8 @@
+use Rattle.std.proofs.Common.{subst}
+use Rattle.sci_telegram.specs.declared.message.Side.TheVariants as side
+use Rattle.ixl_rules.specs.Table.{Row}
+use Rattle.ixl_table.specs.Table.{AreNeededAt}
+use Rattle.ixl_table.proofs.row.Row.left_row.Goals as goal
+
+pub returns : goal.returns
+returns c = subst (λ (x : Row). AreNeededAt x.needs side.Left c.self.inside.left_row) c.self.view_is c.self.invariant.at_left

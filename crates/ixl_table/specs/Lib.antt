@@ -1,0 +1,3 @@
+pub mod Table
+pub mod Locks
+pub mod inside

@@ -1,0 +1,143 @@
+//! The table of a station.
+
+ghost use Rattle.std.specs.Prelude.{◌≡◌, ◌<◌, IfOk, Some, length, slice_get};
+ghost use Rattle.layout.specs.Once.{Once};
+ghost use Rattle.layout.specs.Station.{IsStation};
+ghost use Rattle.control_table.specs.Table.{Sound};
+ghost use Rattle.ixl_table.specs.Table.{AreRows, IsTableOf, IsTableThere};
+
+use crate::reporters::{reported_by, reporters_of, sections_of};
+use crate::row::{Row, row_of};
+use control_table::{
+    Checked, a_route_leads_over_sections_that_are_there, required_points_are_there,
+};
+use layout::RouteId;
+use std::alloc::{AllocError, Global};
+use std::marker::Model;
+
+/// The control table of a station, and its plan.
+#[derive(Debug, Drop)]
+pub struct Table {
+    checked: Checked,
+    rows: Vec<Row>,
+    point_sections: Vec<usize>,
+    reporters: Vec<(usize, usize)>,
+    detectors: Vec<Vec<usize>>,
+}
+
+impl Model for Table {
+    ghost use Rattle.std.specs.Prelude.{map};
+    ghost use Rattle.ixl_table.specs.Table.{PlannedTable};
+    ghost use Rattle.ixl_table.specs.inside.Made.{IsKept};
+
+    ghost Value = { PlannedTable };
+
+    ghost view = { λ t. record {
+      plan = t.checked;
+      table = record {
+        rows = t.rows.items;
+        point_sections = t.point_sections.items;
+        reporters = t.reporters.items;
+        detectors = map (λ sections. sections.items) t.detectors.items;
+      };
+    } };
+
+    ghost invariant = { λ t. IsKept t.checked (record {
+      rows = t.rows.items;
+      point_sections = t.point_sections.items;
+      reporters = t.reporters.items;
+      detectors = map (λ sections. sections.items) t.detectors.items;
+    }) };
+}
+
+/// What holds of the layout of every table.
+fn facts_of(table: &Checked)
+    ensures once { Once table.now }
+    ensures station { IsStation table.now }
+    ensures sound { Sound table.now }
+{
+    table.layout();
+}
+
+/// A row for each route.
+fn rows_of(alloc: Global, table: &Checked) -> Result<Vec<Row>, AllocError>
+    ensures { IfOk result (λ v. AreRows table.now v.items) }
+{
+    let mut rows = Vec::new(alloc);
+    for route in 0..table.layout().routes().len() {
+        rows.push(row_of(alloc, table, RouteId(route))?)?;
+    }
+    Ok(rows)
+}
+
+impl Table {
+    /// The table that was checked, as the rules read it.
+    pub fn new(alloc: Global, checked: Checked) -> Result<Table, AllocError>
+        ensures plan { IfOk result (λ t. t.plan ≡ checked) }
+        ensures table { IfOk result (λ t. IsTableOf t.plan t.table) }
+    {
+        facts_of(&checked);
+        let rows = rows_of(alloc, &checked)?;
+        let layout = checked.layout();
+        let point_sections = sections_of(alloc, layout.points())?;
+        let reporters = reporters_of(alloc, &checked)?;
+        let detectors = reported_by(alloc, layout.detectors())?;
+        Ok(Table {
+            checked,
+            rows,
+            point_sections,
+            reporters,
+            detectors,
+        })
+    }
+
+    /// The table that was checked, which lends the layout. What the rules read is its table, and all that it names is there.
+    pub fn checked(&self) -> &Checked
+        ensures plan { result.now ≡ self.now.plan }
+        ensures table { IsTableOf self.now.plan self.now.table }
+        ensures there { IsTableThere self.now.plan self.now.table }
+        ensures sound { Sound self.now.plan }
+        ensures once { Once self.now.plan }
+        ensures station { IsStation self.now.plan }
+    {
+        a_route_leads_over_sections_that_are_there();
+        required_points_are_there();
+        &self.checked
+    }
+
+    /// A row for each route.
+    pub fn rows(&self) -> &[Row]
+        ensures { result.now ≡ self.now.table.rows }
+    {
+        &self.rows
+    }
+
+    /// The section of each point.
+    pub fn point_sections(&self) -> &[usize]
+        ensures { result.now ≡ self.now.table.point_sections }
+    {
+        &self.point_sections
+    }
+
+    /// For each section the detector that reports it, and the section's place there.
+    pub fn reporters(&self) -> &[(usize, usize)]
+        ensures { result.now ≡ self.now.table.reporters }
+    {
+        &self.reporters
+    }
+
+    /// How many detectors there are.
+    pub fn detectors(&self) -> usize
+        ensures { result ≡ length self.now.table.detectors }
+    {
+        self.detectors.len()
+    }
+
+    /// The sections that a detector reports, in its own order.
+    pub fn reported_by(&self, detector: usize) -> &[usize]
+        requires { detector < length self.now.table.detectors }
+        ensures { slice_get self.now.table.detectors detector ≡ Some result.now }
+    {
+        &self.detectors[detector]
+    }
+}
