@@ -1,0 +1,49 @@
+//! What happens to a station.
+
+use crate::readings::{ClockSteps, RawDatagram};
+use ixl_rules::Command;
+use layout::{PointId, SectionId};
+use rasta_core::Millis;
+use sci_telegram::{Occupancy, Position};
+
+/// A node, by its place among all: the station is 0, then come the signals, the points and the
+/// detectors, each in layout order.
+#[derive(Clone, Copy, Debug, PartialEq, Eq)]
+pub struct NodeId(pub usize);
+
+/// What happens to a station and the network between its nodes.
+#[derive(Debug, Drop)]
+pub enum Event {
+    /// The interlocking is commanded. The route may be one that its table lacks.
+    Request(Command),
+    /// A section is occupied or cleared.
+    Occupy {
+        section: SectionId,
+        occupancy: Occupancy,
+    },
+    /// A node is called by its timer.
+    Tick(NodeId),
+    /// Time goes on: true time in microseconds, and each node's clock.
+    Time {
+        elapsed: u64,
+        clocks: ClockSteps,
+    },
+    /// The network delivers bytes to a node: a copy of a datagram that was sent, or damaged ones.
+    Deliver {
+        node: NodeId,
+        bytes: RawDatagram,
+    },
+    /// The network loses the oldest copy of a datagram.
+    Lose(RawDatagram),
+    /// A point that is driven comes to lie somewhere.
+    Reach {
+        point: PointId,
+        position: Position,
+    },
+    /// A node is made anew, with a clock in milliseconds and the number of its first PDU.
+    Restart {
+        node: NodeId,
+        clock: Millis,
+        first_sequence_number: u32,
+    },
+}

@@ -1,0 +1,12 @@
+//! What happens to a station, and what it answers.
+#![tactic(auto)]
+
+mod event;
+mod readings;
+mod refused;
+mod reply;
+
+pub use event::{Event, NodeId};
+pub use readings::{ClockSteps, RawDatagram};
+pub use refused::Refused;
+pub use reply::{Answer, Reply};

@@ -1,0 +1,11 @@
+pub mod State
+pub mod Nodes
+pub mod First
+pub mod Servers
+pub mod Station
+pub mod Network
+pub mod Refusals
+pub mod Happens
+pub mod Seen
+pub mod Picture
+pub mod Links

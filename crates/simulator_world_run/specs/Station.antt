@@ -1,0 +1,97 @@
+-- What the interlocking does in the world: a step, and being made anew.
+use Rattle.std.specs.Prelude.{ℕ, zero, suc, ◌*◌, ◌==◌, ◌&&◌, Bool, List, [], ◌∷◌, ◌++◌, length, Option, Some, None, slice_index_or, slice_set, unwrap_or, if◌then◌else◌}
+use Rattle.std.specs.List.{position}
+use Rattle.layout.specs.Entries.{Plan}
+use Rattle.rasta_pdu.specs.Reading.{u16_at, u32_at}
+use Rattle.rasta_core.specs.Ends.{handed_out, reading_of}
+use Rattle.rasta_core.specs.Links.{OnLink, sent_on}
+use Rattle.rasta_core.specs.Outbox.{OutboxState}
+use Rattle.rasta_core.specs.identity.Role.TheVariants as role
+use Rattle.ixl_rules.specs.Part.{Part, begun_with}
+use Rattle.ixl_rules.specs.State.{IxlState, RouteState}
+use Rattle.ixl_rules.specs.Step as ixl
+use Rattle.ixl_rules.specs.Table.{Row, Table}
+use Rattle.ixl_rules.specs.View.{has_authority, is_holding}
+use Rattle.simulator_world_snapshot.specs.declared.snapshot.Held.{Held}
+use Rattle.simulator_world_run.specs.Nodes.{key_of, partners}
+use Rattle.simulator_world_run.specs.State.{StationState}
+
+-- ---- a step
+
+-- an empty outbox for all links that a station can have
+abbrev pub empty_outbox : OutboxState
+empty_outbox = record { datagrams = []; capacity = 5120 }
+
+-- what a step does at the station's clock
+abbrev pub station_step : Plan → Table → ixl.Input → StationState → Part
+station_step plan table input station =
+    ixl.stepped (reading_of station.clock) table (key_of plan) input (begun_with station.ixl empty_outbox)
+
+abbrev pub station_reply : Plan → Table → ixl.Input → StationState → ixl.Reply
+station_reply plan table input station = ixl.reply (reading_of station.clock) table (key_of plan) input station.ixl
+
+-- the type number of a connection request, and where type and receiver stand in a datagram
+abbrev pub is_request : List ℕ → Bool
+is_request bytes = u16_at 2 bytes == 6200
+
+-- the link to the controller that a datagram names as its receiver
+abbrev pub link_of : Plan → List ℕ → ℕ
+link_of plan bytes = unwrap_or (position (λ id. id == u32_at 4 bytes) (partners plan)) (length (partners plan))
+
+-- the connections that were begun on each link, and every datagram that was sent
+pub record Sending : Type 0 where
+  pub connections : List (Option ℕ)
+  pub sent : List OnLink
+
+-- A request begins a connection, which has its number: how many datagrams were sent before it.
+abbrev pub begun_by : ℕ → ℕ → List ℕ → List (Option ℕ) → List (Option ℕ)
+begun_by link moment bytes connections = if is_request bytes then slice_set connections link (Some moment) else connections
+
+-- a datagram is sent on its link, in the connection that was begun there last
+unfoldable pub sending_one : Plan → ℕ → List ℕ → Sending → Sending
+sending_one plan time bytes sending =
+    let link = link_of plan bytes
+    in let connections = begun_by link (length sending.sent) bytes sending.connections
+    in record {
+      connections = connections;
+      sent = sending.sent ++ sent_on link (handed_out time role.Client (slice_index_or connections link None) (bytes ∷ []));
+    }
+
+-- one after another
+unfoldable pub sending_all : Plan → ℕ → List (List ℕ) → Sending → Sending
+sending_all plan time [] sending = sending
+sending_all plan time (first ∷ others) sending = sending_all plan time others (sending_one plan time first sending)
+
+-- ---- what is held
+
+-- the route that has authority from a signal, looked for from this number on in table order
+abbrev pub authority_from : ℕ → ℕ → List Row → List RouteState → Option ℕ
+authority_from signal number [] routes = None
+authority_from signal number (row ∷ rows) [] = None
+authority_from signal number (row ∷ rows) (route ∷ routes) =
+    if row.entry == signal && has_authority route.phase then Some number else authority_from signal (suc number) rows routes
+
+abbrev pub pair_then : ℕ → Option ℕ → List Held → List Held
+pair_then signal None others = others
+pair_then signal (Some route) others = (record { signal = record { 0 = signal }; route = record { 0 = route } }) ∷ others
+
+-- the routes with authority, each with its signal, for this many signals from a place on
+abbrev pub authorities : Table → IxlState → ℕ → ℕ → List Held
+authorities table ixl place zero = []
+authorities table ixl place (suc more) =
+    pair_then place (authority_from place 0 table.rows ixl.routes) (authorities table ixl (suc place) more)
+
+-- The pairs that are held: in the hold the frozen ones, and otherwise each signal with the route that has authority from
+-- it; of such a route nothing is freed.
+unfoldable pub held_of : Table → StationState → List Held → List Held
+held_of table station frozen =
+    if is_holding (reading_of station.clock) station.ixl then frozen else authorities table station.ixl 0 (length station.ixl.lamps)
+
+-- The pairs that stand for the locks in the hold of an interlocking that is made anew now: inside a hold those of the
+-- last stop outside one.
+abbrev pub frozen_by_restart : Table → StationState → List Held → List Held
+frozen_by_restart table station frozen = held_of table station frozen
+
+-- it is made anew, with this clock in milliseconds
+abbrev pub station_anew : IxlState → ℕ → StationState → StationState
+station_anew ixl clock station = record station { ixl = ixl; clock = clock * 1000 }
