@@ -1,0 +1,4 @@
+pub mod Lists
+pub mod Places
+pub mod Lamps
+pub mod Turns

@@ -1,0 +1,55 @@
+//! A point in its host, as the machine sees it.
+
+ghost use Rattle.std.specs.Prelude.{◌≡◌, ℕ, true, false, List, Some, length};
+ghost use Rattle.sci_telegram.specs.declared.message.Side.{Side};
+ghost use Rattle.rasta_core.specs.Ends.{reading_of};
+ghost use Rattle.rasta_core.specs.Run.{Ends, later, restarted};
+ghost use Rattle.rasta_core.specs.State.{is_open};
+ghost use Rattle.rasta_core.specs.identity.Role.TheVariants.{Server};
+ghost use Rattle.object_host.specs.Host.{HostState};
+ghost use Rattle.object_host.specs.Hosted.{new_host};
+ghost use Rattle.point_ctl.specs.Controlled.{point_behaviour};
+ghost use Rattle.point_ctl.specs.Drive.{PointState, drives};
+ghost use Rattle.simulator_machine.specs.Link.{LinkMove};
+ghost use Rattle.simulator_machine.specs.Point.{Point as MachinePoint, moves_given, reports_made};
+ghost use Rattle.simulator_items.specs.Items.{moves_in, reports_in};
+ghost use Rattle.simulator_links.specs.Flows.{reports_given};
+ghost use Rattle.simulator_links.specs.LinkMoves.{LinkGoes, moves_by};
+ghost use Rattle.simulator_links.specs.Picture.{pictured};
+ghost use Rattle.simulator_controllers.specs.Ends.{AreFit, OpensNone};
+ghost use Rattle.simulator_controllers.specs.Point.{IsPointSeen, PointGoes};
+
+use controller_theorems::point_reports_its_moves;
+use simulator_machine::moves_of_links_are_moves;
+
+/// Time that passes, and a restart of the controller with the position in which the point stands, are moves of the point's
+/// link, whatever the host does later.
+pub fn points_pass_time_and_restart()
+    ensures passes { (elapsed of_client of_server : ℕ) (moves : List LinkMove) (ends : Ends) (host : HostState PointState) (point : MachinePoint) → AreFit ends
+        → AreFit (later elapsed of_client of_server ends) → IsPointSeen ends host point → OpensNone moves → LinkGoes moves (pictured ends) (pictured (later elapsed of_client of_server ends))
+        → PointGoes point (IsPointSeen (later elapsed of_client of_server ends) host) }
+    ensures restarts { (clock first : ℕ) (object : PointState) (ends : Ends) (host : HostState PointState) (point : MachinePoint) → AreFit ends → AreFit (restarted Server clock first ends)
+        → IsPointSeen ends host point → object.sensed ≡ host.object.sensed
+        → LinkGoes (moves_by false (is_open ends.server.link.phase) false) (pictured ends) (pictured (restarted Server clock first ends))
+        → PointGoes point (IsPointSeen (restarted Server clock first ends)
+        (new_host point_behaviour ends.server.link.identity host.own_name host.peer_name first clock object host.version)) }
+{
+    moves_of_links_are_moves();
+    point_reports_its_moves();
+}
+
+/// What leaves the server's end as it is leaves what is seen, where the link, the moves given and the reports made are seen
+/// still.
+pub fn points_stay_elsewhere()
+    ensures { (ends new : Ends) (host : HostState PointState) (point other : MachinePoint) → new.server ≡ ends.server → IsPointSeen ends host point → other.link ≡ pictured new
+        → moves_given other ≡ length (moves_in new.client.given) → (is_open new.server.link.phase ≡ true → other.taken ≡ point.taken) → reports_made other ≡ reports_in (reports_given new)
+        → other.position ≡ point.position → other.driven ≡ point.driven → IsPointSeen new host other }
+{}
+
+/// Where a point is driven at its controller's clock, so is the machine's.
+pub fn driven_points_are_seen_driven()
+    ensures { (ends : Ends) (host : HostState PointState) (point : MachinePoint) → IsPointSeen ends host point → (side : Side)
+        → drives (reading_of ends.server.clock) host.object ≡ Some side → point.driven ≡ true }
+{
+    point_reports_its_moves();
+}

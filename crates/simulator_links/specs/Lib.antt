@@ -1,0 +1,4 @@
+pub mod Picture
+pub mod LinkMoves
+pub mod Lawful
+pub mod Flows

@@ -1,0 +1,10 @@
+pub mod Rows
+pub mod Calls
+pub mod Telegrams
+pub mod Link
+pub mod Nodes
+pub mod Sees
+pub mod Facts
+pub mod Step
+pub mod During
+pub mod Made
