@@ -1,0 +1,6 @@
+pub mod Given
+pub mod Events
+pub mod Line
+pub mod Text
+pub mod Written
+pub mod inside

@@ -1,0 +1,8 @@
+//! The names by which lines call the nodes, sections, points and routes of a station.
+#![tactic(auto)]
+
+mod names;
+mod nodes;
+
+pub use names::{point_named, route_named, route_word, section_named};
+pub use nodes::{node_count, node_name, node_named};
