@@ -37,7 +37,7 @@ use Rattle.simulator_rules.proofs.Changes.{at_here, at_other, changed_elsewhere,
 use Rattle.simulator_rules.specs.During.{During, LampDuring, LampSoFar, Leads, SwitchSoFar}
 
 -- what changes nothing of the far end changes no fact of it
-signal_facts_stay : (now : ℕ) (link : LinkState) (items : Items) (old new : MachineSignal) → SignalStays old new → SignalFacts now link items old → SignalFacts now link items new
+pub signal_facts_stay : (now : ℕ) (link : LinkState) (items : Items) (old new : MachineSignal) → SignalStays old new → SignalFacts now link items old → SignalFacts now link items new
 signal_facts_stay now link items old new stays facts = record {
   ends = record {
     up = λ is before. facts.ends.up is (sym stays.server ∙ before);
@@ -100,13 +100,13 @@ module _ (now : ℕ) (input : Input) (table : Table) (ixl : IxlState) (given : G
     first_lamp (Some one) None lamp before calls old new is so_far = absurd so_far
     first_lamp (Some one) (Some other) lamp before calls old new is so_far = (one, refl, subst (λ (l : Option LampState). LampSoFar now input table ixl given machine (Some one) before calls l old new) is so_far)
 
-    lamp_client : (aspect : Option TelegramAspect) (number : ℕ) (client : ClientState) → (lamp_after aspect number client).client ≡ client
+    pub lamp_client : (aspect : Option TelegramAspect) (number : ℕ) (client : ClientState) → (lamp_after aspect number client).client ≡ client
     unfolding lamp_after
     lamp_client aspect number client = by_test (λ (l : LampState). l.client ≡ client) (is_outside client.stage) (record { client = client; aspect = None; number = 0 })
         (record { client = client; aspect = aspect; number = number }) (λ e. refl) (λ e. refl)
 
     -- a lamp that is outside notes no aspect, and has none
-    lamp_arrives : (aspect : Option TelegramAspect) (number : ℕ) (client : ClientState) (items : Items) (commands : List Command) (signal : MachineSignal) → ClientFits now client items commands →
+    pub lamp_arrives : (aspect : Option TelegramAspect) (number : ℕ) (client : ClientState) (items : Items) (commands : List Command) (signal : MachineSignal) → ClientFits now client items commands →
         SignalFacts now client.link items signal → (is_inside now client.link ≡ true → aspects_given signal ≡ aspects_of commands) →
         (is_inside now client.link ≡ true → is_outside client.stage ≡ false → IsLastGiven aspect number commands) →
         (is_inside now client.link ≡ true → is_up client.link.phase ≡ false → signal.link.client ≡ Start) → SignalGoes (LampFits now (lamp_after aspect number client) items) signal

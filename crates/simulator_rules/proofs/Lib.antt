@@ -23,3 +23,8 @@ mod Given
 mod Start
 mod Steps
 mod Made
+mod Entered
+mod Ticking
+mod NodeTicks
+mod Ticks
+mod Whole

@@ -4,7 +4,7 @@ use Rattle.std.specs.Prelude.{nat_lt, min, Option, Some, None, slice_get}
 use Rattle.std.proofs.lemmas.Bool.{true≢false, lt-ltb, ltb-true}
 use Rattle.rasta_core.specs.Clock.{deadline, state_at}
 use Rattle.rasta_core.specs.Parameters.{greatest, quiet_time}
-use Rattle.rasta_core.specs.State.{is_open, is_up}
+use Rattle.rasta_core.specs.State.{LinkState, is_open, is_up}
 use Rattle.ixl_client.specs.Client.{ClientState, is_outside}
 use Rattle.ixl_rules.specs.State.{IxlState, LampState, RouteState, SwitchState}
 use Rattle.ixl_rules.specs.View.{is_holding}
@@ -16,7 +16,7 @@ use Rattle.simulator_rules.specs.Calls.{Items}
 use Rattle.simulator_rules.specs.Link.{ClientFits, client_at, is_inside}
 use Rattle.simulator_rules.specs.Made.{IsJustMade, IsMadeClient, IsQuietMachine}
 use Rattle.simulator_rules.specs.Nodes.{LampFits, phase_seen, route_seen}
-use Rattle.simulator_rules.specs.Sees.{Given, Sees, SeesPoint, SeesSignal}
+use Rattle.simulator_rules.specs.Sees.{Given, IsClosedSince, Sees, SeesPoint, SeesSignal}
 use Rattle.simulator_rules.proofs.Places.{inside_open}
 
 module _ (now : ℕ) (ixl : IxlState) (holds : is_holding now ixl ≡ true) where
@@ -31,9 +31,9 @@ module _ (now : ℕ) (ixl : IxlState) (holds : is_holding now ixl ≡ true) wher
     within : now < min (ixl.created + quiet_time) greatest → now < ixl.created + quiet_time
     within less = omega (arith, less)
 
-  client_quiet : (client : ClientState) → IsMadeClient ixl.created client → client_at now client.link ≡ Quiet
+  pub link_quiet : (link : LinkState) → IsClosedSince ixl.created link → client_at now link ≡ Quiet
   unfolding state_at deadline
-  client_quiet client is = rw is.since.closed (rw is.since.at (rw quiet_still refl))
+  link_quiet link is = rw is.closed (rw is.at (rw quiet_still refl))
 
   client_fits : (client : ClientState) (items : Items) → IsMadeClient ixl.created client → ClientFits now client items []
   client_fits client items is = record {
@@ -46,7 +46,7 @@ module _ (now : ℕ) (ixl : IxlState) (holds : is_holding now ixl ≡ true) wher
   lamp_seen lamp items signal is quiet = record {
     commands = [];
     client = client_fits lamp.client items is;
-    place = quiet ∙ sym (client_quiet lamp.client is);
+    place = quiet ∙ sym (link_quiet lamp.client.link is.since);
     aspects = λ inside. never_inside lamp.client is inside;
     last = λ inside. never_inside lamp.client is inside;
     confirmed = λ up. absurd (cc (quiet, up));
@@ -70,7 +70,7 @@ module _ (now : ℕ) (ixl : IxlState) (holds : is_holding now ixl ≡ true) wher
         commands = [];
         client = client_fits switch.client (given.points place) client.0;
         peer = client.1;
-        place = quiet.points place ∙ sym (client_quiet switch.client client.0);
+        place = quiet.points place ∙ sym (link_quiet switch.client.link client.0.since);
         moves = λ inside. never_inside switch.client client.0 inside;
         told = λ inside. never_inside switch.client client.0 inside;
         heard = λ inside. never_inside switch.client client.0 inside;

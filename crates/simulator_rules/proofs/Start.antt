@@ -49,7 +49,7 @@ unfolding settled deadline
 inside_settled now link = by_test (λ (l : LinkState). is_inside now l ≡ true → is_inside now link ≡ true) (is_open link.phase && nat_le (deadline link) now)
     (record link { phase = link_phase.Closed; closed_at = deadline link; clock = now }) (record link { clock = now }) (λ e. λ inside. absurd (false≢true inside)) (λ e. λ inside. inside)
 
-place_settled : (now : ℕ) (link : LinkState) → client_at now (settled now link) ≡ client_at now link
+pub place_settled : (now : ℕ) (link : LinkState) → client_at now (settled now link) ≡ client_at now link
 unfolding settled deadline state_at
 place_settled now link = by_test (λ (l : LinkState). client_at now l ≡ client_at now link) (is_open link.phase && nat_le (deadline link) now)
     (record link { phase = link_phase.Closed; closed_at = deadline link; clock = now }) (record link { clock = now }) (λ late. out late) (λ e. refl)
@@ -58,7 +58,7 @@ place_settled now link = by_test (λ (l : LinkState). client_at now l ≡ client
     out late = by_test (λ s. client_in (if nat_lt now (deadline link + quiet_time) then state.Quiet else state.Down) ≡ client_in s) (is_inside now link) (open_state link.phase)
         (if nat_lt now (deadline link + quiet_time) then state.Quiet else state.Down) (λ inside. absurd (true≢false (sym inside ∙ late_is_out now link late))) (λ e. refl)
 
-confirmed_settled : (now : ℕ) (link : LinkState) → confirmed_items (settled now link) ≡ confirmed_items link
+pub confirmed_settled : (now : ℕ) (link : LinkState) → confirmed_items (settled now link) ≡ confirmed_items link
 unfolding settled
 confirmed_settled now link = by_test (λ (l : LinkState). confirmed_items l ≡ confirmed_items link) (is_open link.phase && nat_le (deadline link) now)
     (record link { phase = link_phase.Closed; closed_at = deadline link; clock = now }) (record link { clock = now }) (λ e. refl) (λ e. refl)

@@ -52,7 +52,7 @@ none_heard stage.Completed list n out heard = absurd (false≢true out)
 none_heard stage.AwaitsReport list n out heard = absurd (false≢true out)
 
 -- what changes nothing of the far end changes no fact of it
-point_facts_stay : (now : ℕ) (peer : PeerState) (link : LinkState) (items : Items) (old new : MachinePoint) → PointStays old new → PointFacts now peer link items old → PointFacts now peer link items new
+pub point_facts_stay : (now : ℕ) (peer : PeerState) (link : LinkState) (items : Items) (old new : MachinePoint) → PointStays old new → PointFacts now peer link items old → PointFacts now peer link items new
 point_facts_stay now peer link items old new stays facts = record {
   ends = record {
     up = λ is before. facts.ends.up is (sym stays.server ∙ before);
@@ -104,13 +104,13 @@ module _ (now : ℕ) (input : Input) (table : Table) (ixl : IxlState) (given : G
     first_switch (Some one) None switch before calls old new is so_far = absurd so_far
     first_switch (Some one) (Some other) switch before calls old new is so_far = (one, refl, subst (λ (l : Option SwitchState). SwitchSoFar now input table ixl given machine (Some one) before calls l old new) is so_far)
 
-    switch_client : (side : Option TelegramSide) (moved : Places) (client : ClientState) → (switch_after side moved client).client ≡ client
+    pub switch_client : (side : Option TelegramSide) (moved : Places) (client : ClientState) → (switch_after side moved client).client ≡ client
     unfolding switch_after
     switch_client side moved client = by_test (λ (l : SwitchState). l.client ≡ client) (is_outside client.stage) (record { client = client; side = None; moved = empty })
         (record { client = client; side = side; moved = moved }) (λ e. refl) (λ e. refl)
 
     -- a switch that is outside notes no side, and heard none
-    switch_arrives : (side : Option TelegramSide) (moved : Places) (client : ClientState) (items : Items) (commands : List Command) (point : MachinePoint) → ClientFits now client items commands → IsOfPoint client.peer →
+    pub switch_arrives : (side : Option TelegramSide) (moved : Places) (client : ClientState) (items : Items) (commands : List Command) (point : MachinePoint) → ClientFits now client items commands → IsOfPoint client.peer →
         LinkFacts now client.link items point.link → (is_inside now client.link ≡ true → moves_given point ≡ length commands) →
         (is_inside now client.link ≡ true → point.heard ≡ positions_told client.peer items.taken) →
         (is_inside now client.link ≡ true → AreHeard client.stage (length point.heard) (length commands)) →

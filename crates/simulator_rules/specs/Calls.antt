@@ -1,5 +1,5 @@
 -- The calls that a step makes of one link, and what its client gave and took in its last connection after them.
-use Rattle.std.specs.Prelude.{ℕ, Bool, false, List, [], ◌∷◌, ◌++◌, is_ok, if◌then◌else◌}
+use Rattle.std.specs.Prelude.{ℕ, ◌||◌, Bool, false, List, [], ◌∷◌, ◌++◌, is_ok, if◌then◌else◌}
 use Rattle.rasta_core.specs.State.{LinkState}
 use Rattle.rasta_core.specs.Calls.{answer_to_send, opens, receiving}
 use Rattle.ixl_client.specs.Part.{LinkCall, Opens, Ticks, Closes, Sends, Receives, call_made}
@@ -27,6 +27,18 @@ items_by now (Receives bytes) link items = record items { taken = items.taken ++
 unfoldable pub items_after : ℕ → List LinkCall → LinkState → Items → Items
 items_after now [] link items = items
 items_after now (first ∷ others) link items = items_after now others (call_made now first link).link (items_by now first link items)
+
+-- a call begins a connection, and so does one of a list
+abbrev pub begins : ℕ → LinkCall → LinkState → Bool
+begins now Opens link = opens now link
+begins now Ticks link = false
+begins now (Closes why) link = false
+begins now (Sends item) link = false
+begins now (Receives bytes) link = false
+
+unfoldable pub has_begun : ℕ → List LinkCall → LinkState → Bool
+has_begun now [] link = false
+has_begun now (first ∷ others) link = begins now first link || has_begun now others (call_made now first link).link
 
 abbrev pub is_node : Node → Node → Bool
 is_node (Signal place) (Signal other) = is_same place other

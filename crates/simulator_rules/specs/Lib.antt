@@ -7,4 +7,5 @@ pub mod Sees
 pub mod Facts
 pub mod Step
 pub mod During
+pub mod Behind
 pub mod Made

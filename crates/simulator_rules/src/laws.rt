@@ -16,7 +16,8 @@ ghost use Rattle.simulator_machine.specs.Run.{first};
 ghost use Rattle.ixl_rules.specs.View.{is_holding};
 ghost use Rattle.simulator_rules.specs.Made.{IsJustMade, IsQuietMachine};
 ghost use Rattle.simulator_machine.specs.Table.{IsSound};
-ghost use Rattle.simulator_rules.specs.During.{Leads, until_ticked};
+ghost use Rattle.simulator_rules.specs.Behind.{LeadsBehind};
+ghost use Rattle.simulator_rules.specs.During.{Leads};
 ghost use Rattle.simulator_rules.specs.Facts.{FarEnds};
 ghost use Rattle.simulator_rules.specs.Rows.{AreHeldAtFirst, machine_table};
 ghost use Rattle.simulator_rules.specs.Sees.{Given, Sees};
@@ -57,8 +58,8 @@ pub fn datagrams_are_moves()
     step_hears_what_was_taken();
 }
 
-/// A step is a list of moves of the machine: with the input's datagram at whatever node, and with a command. So is a step
-/// at a tick up to what each link then does by itself.
+/// A step is a list of moves of the machine: with the input's datagram at whatever node, with a command, and on a tick, with
+/// the heartbeat that is due at each link, and the opening of a link that is down.
 pub fn steps_are_moves()
     ensures datagram { (now : ℕ) (table : Table) (key : Key) (bytes : List ℕ) (ixl : IxlState) (outbox : OutboxState) (given : Given) (machine : Machine)
         → Sees now ixl given machine → FarEnds now (Datagram bytes) ixl given machine → AreHeldAtFirst table → length ixl.routes ≡ length table.rows
@@ -68,7 +69,7 @@ pub fn steps_are_moves()
         → Leads now (Commands command) (machine_table table) ixl given machine (stepped now table key (Commands command) (begun_with ixl outbox)) }
     ensures tick { (now : ℕ) (table : Table) (key : Key) (ixl : IxlState) (outbox : OutboxState) (given : Given) (machine : Machine)
         → Sees now ixl given machine → FarEnds now Tick ixl given machine → AreHeldAtFirst table → length ixl.routes ≡ length table.rows
-        → Leads now Tick (machine_table table) ixl given machine (until_ticked now table key Tick ixl outbox) }
+        → LeadsBehind now Tick (machine_table table) ixl given machine (stepped now table key Tick (begun_with ixl outbox)) }
 {
     lists_of_moves_compose();
     moves_of_one_are_moves();
