@@ -1,0 +1,5 @@
+mod Copies
+mod Kept
+mod Order
+mod Searches
+mod Views
