@@ -2,7 +2,7 @@
 
 ghost use Rattle.std.specs.Prelude.{◌≡◌, ◌≤◌, ◌↔◌, ℕ, true, false, [], drop, slice_get, IsTrue, IfOk};
 ghost use Rattle.std.specs.Option.{option_map};
-ghost use Rattle.rasta_core.specs.Calls.{MayStep};
+ghost use Rattle.rasta_core.specs.Calls.{IsAt, MayStep};
 ghost use Rattle.rasta_core.specs.Clock.{alive_until};
 ghost use Rattle.rasta_core.specs.Outbox.{posted};
 ghost use Rattle.rasta_core.specs.identity.Role.TheVariants.{Server};
@@ -115,6 +115,8 @@ impl<C: Controller> Hosted<C> {
     pub fn step(&mut self, now: Millis, input: Input)
         requires { MayStep now self.old.host.link }
         ensures host { self.new.host ≡ (host_step C.behaviour now input.entry self.old.host).host }
+        // Its link has this clock, and the identity that it had.
+        ensures kept { IsAt now self.old.host.link self.new.host.link }
         ensures posted { self.new.outbox ≡ posted self.old.host.link.identity.key (host_step C.behaviour now input.entry self.old.host).pdus empty_outbox }
         // What it sends are items, so each call of the link is one that may be made.
         ensures items { AreItems (host_step C.behaviour now input.entry self.old.host).calls }

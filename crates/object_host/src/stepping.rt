@@ -110,7 +110,8 @@ impl<C: Controller> Host<C> {
     /// How a step ends: a loss in the step itself, and the moment at which the link dies.
     #[tactic(auto, unfolding(crate::specs::Host::keeping))]
     fn end(&mut self)
-        ensures { self.new ≡ ending C.behaviour self.old }
+        ensures host { self.new ≡ ending C.behaviour self.old }
+        ensures link { self.new.link ≡ self.old.link }
     {
         self.fall();
         self.object.keep(self.link.alive_until());
@@ -122,6 +123,7 @@ impl<C: Controller> Host<C> {
         requires clock { MayStep now self.old.link }
         requires room { HasRoomFor 128 outbox.old }
         ensures host { self.new ≡ (host_step C.behaviour now input.now self.old).host }
+        ensures kept { IsAt now self.old.link self.new.link }
         ensures posted { outbox.new ≡ posted self.old.link.identity.key (host_step C.behaviour now input.now self.old).pdus outbox.old }
         ensures items { AreItems (host_step C.behaviour now input.now self.old).calls }
         ensures rightly { RefusesRightly now input.now (settled now self.old.link) }
