@@ -69,7 +69,8 @@ impl Network {
 
     /// How many datagrams were sent.
     pub fn len(&self) -> usize
-        ensures { result ≡ length self.now.sent }
+        ensures count { result ≡ length self.now.sent }
+        ensures fits { length self.now.sent + self.now.room < 2 ^ 64 }
     {
         self.entries.len()
     }
@@ -165,7 +166,7 @@ impl Network {
     /// The datagram at this place, lost or not.
     pub fn get(&self, place: usize) -> Option<SentOn<'_>>
         ensures one { option_map lent result ≡ slice_get self.now.sent place }
-        ensures counted { length self.now.sent < 2 ^ 64 }
+        ensures fits { length self.now.sent + self.now.room < 2 ^ 64 }
     {
         let entry = self.entries.as_slice().get(place)?;
         Some(entry.lend(&self.row))
