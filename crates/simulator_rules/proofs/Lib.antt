@@ -27,4 +27,8 @@ mod Entered
 mod Ticking
 mod NodeTicks
 mod Ticks
+mod Seen
 mod Whole
+mod Passing
+mod Anew
+mod Events

@@ -17,8 +17,10 @@ use Rattle.simulator_machine.specs.Signal.{SignalMove}
 use Rattle.simulator_rules.specs.Behind.{LeadsBehind}
 use Rattle.simulator_rules.specs.During.{Leads, until_ticked}
 use Rattle.simulator_rules.specs.Facts.{FarEnds}
+use Rattle.simulator_rules.specs.Onward.{IsStepped}
 use Rattle.simulator_rules.specs.Rows.{AreHeldAtFirst, machine_table}
 use Rattle.simulator_rules.specs.Sees.{Given, Sees}
+use Rattle.simulator_rules.proofs.Seen.{sees_behind}
 use Rattle.simulator_rules.proofs.Steps.{steps_so}
 use Rattle.simulator_rules.proofs.Ticks.{during_is_behind, ticks_lead}
 
@@ -42,3 +44,9 @@ module _ (now : ℕ) (rows : Rows) (ixl : IxlState) (given : Given) (machine : M
   steps_lead Tick far = ticks_lead now (machine_table rows) ixl given machine far chain_signal chain_point onward (until_ticked now rows key Tick ixl outbox) (until Tick far)
   steps_lead (Datagram bytes) far = behind_so (Datagram bytes) (until_ticked now rows key (Datagram bytes) ixl outbox) (until (Datagram bytes) far)
   steps_lead (Commands command) far = behind_so (Commands command) (until_ticked now rows key (Commands command) ixl outbox) (until (Commands command) far)
+
+  pub steps_sees : (input : Input) → FarEnds now input ixl given machine →
+      (new : Machine) × IsStepped now input (machine_table rows) ixl given machine (stepped now rows key input (begun_with ixl outbox)) new
+  steps_sees input far =
+      let led = steps_lead input far
+      in (led.0, record { behind = led.1; sees = sees_behind now input (machine_table rows) ixl given machine (stepped now rows key input (begun_with ixl outbox)) led.0 sees led.1 })

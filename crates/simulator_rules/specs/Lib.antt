@@ -9,3 +9,5 @@ pub mod Step
 pub mod During
 pub mod Behind
 pub mod Made
+pub mod Onward
+pub mod Course

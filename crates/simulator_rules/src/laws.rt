@@ -1,6 +1,6 @@
 //! What a step of an interlocking is to the machine.
 
-ghost use Rattle.std.specs.Prelude.{◌≡◌, ℕ, List, None, length, slice_get, true};
+ghost use Rattle.std.specs.Prelude.{◌≡◌, ◌≤◌, ◌<◌, ℕ, List, None, length, slice_get, true};
 ghost use Rattle.rasta_core.specs.Outbox.{OutboxState};
 ghost use Rattle.rasta_pdu.specs.declared.key.Key.{Key};
 ghost use Rattle.ixl_rules.specs.Part.{Part, begun_with};
@@ -9,13 +9,17 @@ ghost use Rattle.ixl_rules.specs.State.{IxlState};
 ghost use Rattle.ixl_rules.specs.Step.{Commands, Datagram, Input, Tick, lamp_hearing, stepped, switch_hearing};
 ghost use Rattle.ixl_rules.specs.declared.command.Command.{Command};
 ghost use Rattle.ixl_rules.specs.Table.{Table};
-ghost use Rattle.simulator_machine.specs.Machine.{Machine, made_anew};
+ghost use Rattle.simulator_machine.specs.Machine.{Machine, is_held, made_anew};
 ghost use Rattle.simulator_machine.specs.Link.{Gone};
 ghost use Rattle.simulator_machine.specs.Point.{Position};
 ghost use Rattle.simulator_machine.specs.Run.{first};
 ghost use Rattle.ixl_rules.specs.View.{is_holding};
 ghost use Rattle.simulator_rules.specs.Made.{IsJustMade, IsQuietMachine};
-ghost use Rattle.simulator_machine.specs.Table.{IsSound};
+ghost use Rattle.simulator_machine.specs.Table.{IsSound, Table as MachineTable};
+ghost use Rattle.simulator_machine.specs.Chains.{MovesTo};
+ghost use Rattle.rasta_core.specs.Parameters.{greatest};
+ghost use Rattle.simulator_rules.specs.Course.{Happening, MayAllHappen, Moment, SeesAt, moments_after};
+ghost use Rattle.simulator_rules.specs.Onward.{AreAloneAfterQuiet, IsMadeAnew, IsPassed, IsStepped, LooksAlike, held_routes};
 ghost use Rattle.simulator_rules.specs.Behind.{LeadsBehind};
 ghost use Rattle.simulator_rules.specs.During.{Leads};
 ghost use Rattle.simulator_rules.specs.Facts.{FarEnds};
@@ -23,7 +27,7 @@ ghost use Rattle.simulator_rules.specs.Rows.{AreHeldAtFirst, machine_table};
 ghost use Rattle.simulator_rules.specs.Sees.{Given, Sees};
 
 use ixl_client::{step_hears_what_was_taken, step_is_calls};
-use simulator_machine::{lists_of_moves_compose, moves_of_one_are_moves};
+use simulator_machine::{lists_of_moves_compose, moves_of_each_are_moves, moves_of_one_are_moves};
 
 /// Conflicts go both ways, and two routes that begin at one signal conflict.
 pub fn tables_are_sound()
@@ -84,3 +88,54 @@ pub fn made_interlockings_are_seen()
     ensures first { (ixl : IxlState) (positions : ℕ → Position) → IsQuietMachine ixl (first positions) }
     ensures anew { (ixl : IxlState) (machine : Machine) → ((place : ℕ) → slice_get ixl.lamps place ≡ None → (machine.signals place).link.server ≡ Gone) → IsQuietMachine ixl (made_anew machine) }
 {}
+
+/// Behind a whole step the machine sees the interlocking as it is then, just as it did before: steps may follow one another.
+pub fn steps_are_seen()
+    ensures { (now : ℕ) (input : Input) (table : Table) (key : Key) (ixl : IxlState) (outbox : OutboxState) (given : Given) (machine : Machine)
+        → Sees now ixl given machine → FarEnds now input ixl given machine → AreHeldAtFirst table → length ixl.routes ≡ length table.rows
+        → (new : Machine) × IsStepped now input (machine_table table) ixl given machine (stepped now table key input (begun_with ixl outbox)) new }
+{
+    lists_of_moves_compose();
+    moves_of_one_are_moves();
+    step_is_calls();
+    step_hears_what_was_taken();
+}
+
+/// What happens to an interlocking by the clock alone is moves of the machine: links close, quiet times end, and so does the
+/// hold, when no server is in a connection any more.
+pub fn passing_time_is_moves()
+    ensures { (now later : ℕ) (table : MachineTable) (ixl : IxlState) (given : Given) (machine : Machine) → now ≤ later → Sees now ixl given machine
+        → AreAloneAfterQuiet later ixl machine → (new : Machine) × IsPassed later table ixl given machine new }
+{
+    lists_of_moves_compose();
+    moves_of_each_are_moves();
+}
+
+/// What the machine holds, the interlocking holds: in a hold the frozen routes, and outside it those with authority.
+pub fn held_routes_are_seen()
+    ensures { (now : ℕ) (ixl : IxlState) (given : Given) (machine : Machine) → Sees now ixl given machine
+        → (number : ℕ) → is_held machine number ≡ held_routes now ixl machine.frozen number }
+{}
+
+/// An interlocking that is made anew is a move of the machine: its hold begins, and the routes that were held are frozen.
+pub fn restarts_are_moves()
+    ensures { (now later : ℕ) (table : MachineTable) (old anew : IxlState) (given anew_given : Given) (machine : Machine) → Sees now old given machine
+        → IsJustMade anew → anew.created ≡ later → later < greatest → length anew.lamps ≡ length old.lamps
+        → IsMadeAnew now later table old anew anew_given machine (made_anew machine) }
+{}
+
+/// What controllers do changes nothing that the machine sees of the interlocking.
+pub fn controllers_change_nothing_seen()
+    ensures { (now : ℕ) (ixl : IxlState) (given : Given) (old new : Machine) → Sees now ixl given old → LooksAlike ixl old new → Sees now ixl given new }
+{}
+
+/// One after another, steps, passing time, interlockings made anew and what controllers do between them lead the machine by
+/// its moves, and it sees the interlocking at the end.
+pub fn courses_are_moves()
+    ensures { (table : Table) (course : List Happening) (moment : Moment) (machine : Machine) → AreHeldAtFirst table → SeesAt table moment machine
+        → MayAllHappen table course moment machine → (new : Machine) × MovesTo (machine_table table) machine new × SeesAt table (moments_after table course moment) new }
+{
+    lists_of_moves_compose();
+    passing_time_is_moves();
+    steps_are_seen();
+}

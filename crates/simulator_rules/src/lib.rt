@@ -4,6 +4,7 @@
 mod laws;
 
 pub use laws::{
-    datagrams_are_moves, made_interlockings_are_seen, rules_are_moves, steps_are_moves,
-    tables_are_sound,
+    controllers_change_nothing_seen, courses_are_moves, datagrams_are_moves, held_routes_are_seen,
+    made_interlockings_are_seen, passing_time_is_moves, restarts_are_moves, rules_are_moves,
+    steps_are_moves, steps_are_seen, tables_are_sound,
 };
