@@ -36,7 +36,7 @@ use Rattle.point_ctl.specs.Drive.{PointState, drive_end, driven, drives, move_in
 use Rattle.point_ctl.specs.History.{unanswered}
 use Rattle.controller_theorems.specs.Point.{GivesStanding, IsFinal, IsPointStep, IsReported, IsReporting, TellsOnly, initial_reports, is_moving, moved_by}
 use Rattle.controller_theorems.proofs.Points.{early_outside}
-use Rattle.controller_theorems.proofs.Reporting.{items_same}
+use Rattle.controller_theorems.proofs.Found.{items_same}
 use Rattle.controller_theorems.proofs.Signals.{alive_settled, closed_late, open_before, reached, reads_later, told_past}
 
 -- the same reports of the same point, whatever its link

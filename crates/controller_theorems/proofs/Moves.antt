@@ -74,7 +74,7 @@ sense_waits now (sense.Section place occupancy) point = refl
 moving : Progress → Bool
 moving progress = is_some (move_in progress)
 
-limit_moves : (now : ℕ) (progress : Progress) → is_some (move_in (limited now progress)) ≡ true → is_some (move_in progress) ≡ true
+pub limit_moves : (now : ℕ) (progress : Progress) → is_some (move_in (limited now progress)) ≡ true → is_some (move_in progress) ≡ true
 limit_moves now Answered is = is
 limit_moves now (Driving side since) is = refl
 limit_moves now Arrived is = is

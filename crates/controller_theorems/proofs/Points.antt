@@ -1,5 +1,5 @@
 -- A step of a host, as a step of its point.
-use Rattle.std.proofs.Common.{◌≡◌, ◌≤◌, ◌⊎◌, ℕ, ◌+◌, inl, inr, Bool, true, false, List, [], ◌∷◌, ◌++◌, length, arith, refl, ap, sym, ◌∙◌, subst}
+use Rattle.std.proofs.Common.{◌≡◌, ◌≤◌, ◌⊎◌, ℕ, ◌+◌, inl, inr, Bool, true, false, if◌then◌else◌, List, [], ◌∷◌, ◌++◌, length, arith, refl, ap, sym, ◌∙◌, subst}
 use Rattle.std.specs.List.{All}
 use Rattle.std.proofs.lemmas.Bool.{true≢false, false≢true}
 use Rattle.std.proofs.lemmas.List.Elements.{All-nil}
@@ -10,7 +10,7 @@ use Rattle.object_host.specs.Host.{HostState, Part, is_completed, is_outside}
 use Rattle.object_host.specs.Object.{ObjectCall, Keeps, Ticks, object_after_all, reports_paid, telegrams_in}
 use Rattle.object_host.specs.Step.{beginning, given, initial_status}
 use Rattle.object_host.specs.Host.{fallen}
-use Rattle.object_host.specs.Told.{AreSomeOf, IsToldIn, has_lost, initialisation, loss_where}
+use Rattle.object_host.specs.Told.{AreSomeOf, IsToldIn, IsVersionAnswer, has_lost, initialisation, loss_where}
 use Rattle.object_host.specs.declared.input.Input.{Input}
 use Rattle.object_host.specs.declared.input.Input.TheVariants as inputs
 use Rattle.object_host.specs.declared.sense.Sense.TheVariants as sense
@@ -42,6 +42,19 @@ sensed_stage now position host = refl
 pub begun_stage : (now : ℕ) (host : HostState PointState) → has_lost (record host { link = settled now host.link }) ≡ false → (beginning point_behaviour now host).stage ≡ host.stage
 unfolding beginning fallen
 begun_stage now host none = rw none refl
+
+begun_version : (now : ℕ) (host : HostState PointState) → (beginning point_behaviour now host).version ≡ host.version
+unfolding beginning fallen
+begun_version now host = cases (has_lost (record host { link = settled now host.link })) where
+  clocked : HostState PointState
+  clocked = record host { link = settled now host.link }
+
+  after : Bool → HostState PointState
+  after b = if b then record clocked { stage = stage.Outside; object = losing clocked.object } else clocked
+
+  cases : (b : Bool) → (after b).version ≡ host.version
+  cases true = refl
+  cases false = refl
 
 none_sent : {X : Type 0} (sent : List X) (n : ℕ) → sent ≡ [] → length sent ≤ n
 none_sent sent n none = omega (arith, ap length none)
@@ -190,6 +203,7 @@ module _ (now : ℕ) (input : Input) (host : HostState PointState) (part : Part 
     finals = finals_are;
     still = still;
     few = few;
+    versions = subst (λ v. All (IsVersionAnswer point_behaviour v) tells.says.answers) (begun_version now host) tells.says.are_answers;
     initial = subst (AreSomeOf tells.says.begins) (initialisation_is found ∙ ap initial_reports found_stands) tells.says.are_some;
     contacts = contacts input refl;
     stands_after = by_loss tells.is_lost refl;

@@ -80,6 +80,8 @@ pub record IsPointStep (now : ℕ) (input : Input) (host : HostState PointState)
   pub finals : All (IsFinal (moved_by tells).sensed) tells.reports
   pub still : is_moving (moved_by tells) ≡ true → tells.reports ≡ []
   pub few : length tells.reports ≤ unanswered (moved_by tells).progress
+  -- answers of the version tell the host's own one
+  pub versions : All (IsVersionAnswer point_behaviour host.version) tells.says.answers
   -- the initial status, if any, is where it stood as the step began, and what contacts tell has none
   pub initial : AreSomeOf tells.says.begins (initial_reports host.object.sensed)
   pub contacts : (position_told input host.object.sensed ≡ host.object.sensed) ⊎ (tells.says.begins ≡ [])
@@ -121,6 +123,17 @@ pub record IsReported (world : World PointState) : Type 0 where
   pub inside : is_open world.ends.server.link.phase ≡ true → IsReporting world.ends.server.given world.told (host_of world)
   pub late : is_open world.ends.server.link.phase ≡ false → is_outside world.stage ≡ false
       → alive_until world.ends.server.link ≤ reading_of world.ends.server.clock
+
+-- the host as a step finds it, but for its link
+abbrev pub found_host : ℕ → HostState PointState → HostState PointState
+found_host now host = record host { stage = (beginning point_behaviour now host).stage; object = found_by now host }
+
+-- How a step finds a point, where these are the items given and the telegrams told in its connection: it has reported so;
+-- until the initialisation was completed every move is answered; and it is driven only if it was before.
+pub record IsFound (now : ℕ) (items : List (List ℕ)) (told : List Telegram) (host : HostState PointState) : Type 0 where
+  pub reporting : IsReporting items told (found_host now host)
+  pub answered : is_completed (beginning point_behaviour now host).stage ≡ false → (found_by now host).progress ≡ Answered
+  pub drive : is_moving (found_by now host) ≡ true → is_moving host.object ≡ true
 
 -- a report that tells a position tells this one
 abbrev pub TellsOnly : Position → Report → Type 0

@@ -1,6 +1,6 @@
 //! What a signal shows, by what its host acted on in the connection.
 
-ghost use Rattle.std.specs.Prelude.{◌≡◌, ℕ, true, List, Some};
+ghost use Rattle.std.specs.Prelude.{◌≡◌, ℕ, true, false, List, [], Some};
 ghost use Rattle.sci_telegram.specs.declared.message.Side.{Side};
 ghost use Rattle.rasta_core.specs.State.{is_open};
 ghost use Rattle.rasta_core.specs.Clock.{settled};
@@ -11,12 +11,13 @@ ghost use Rattle.object_host.specs.Host.{HostState};
 ghost use Rattle.object_host.specs.Made.{items_given};
 ghost use Rattle.object_host.specs.Step.{host_step};
 ghost use Rattle.object_host.specs.declared.input.Input.{Input};
-ghost use Rattle.object_host_theorem.specs.World.{Event, World, begun, happened};
+ghost use Rattle.object_host_theorem.specs.World.{Event, World, begun, happened, host_of};
 ghost use Rattle.signal_ctl.specs.Lamp.{aspect_shown};
 ghost use Rattle.signal_ctl.specs.Signal.{SignalState, signal_behaviour};
 ghost use Rattle.point_ctl.specs.Controlled.{point_behaviour};
 ghost use Rattle.point_ctl.specs.Drive.{PointState, drives};
-ghost use Rattle.controller_theorems.specs.Point.{GivesStanding, IsPointStep, IsReported, is_moving};
+ghost use Rattle.point_ctl.specs.declared.progress.Progress.TheVariants.{Answered};
+ghost use Rattle.controller_theorems.specs.Point.{GivesStanding, IsFound, IsPointStep, IsReported, found_by, is_moving};
 ghost use Rattle.controller_theorems.specs.Signal.{IsTold, aspect_due};
 
 use object_host::{step_is_told_to_the_object, steps_keep_a_host};
@@ -45,6 +46,19 @@ pub fn point_makes_a_step()
     ensures { (now : ℕ) (input : Input) (host : HostState PointState) → IsPointStep now input host (host_step point_behaviour now input host) }
 {
     step_is_told_to_the_object::<Point>();
+}
+
+/// A step finds a point as its events have left it: in a connection, as one that has reported there what it was told
+/// (*inside*); out of any, as one that has reported nothing and has answered every move (*outside*, *undriven*).
+pub fn steps_find_what_was_reported()
+    ensures inside { (world : World PointState) → settled (reading_of world.ends.server.clock) world.ends.server.link ≡ world.ends.server.link → IsReported world
+        → is_open world.ends.server.link.phase ≡ true → IsFound (reading_of world.ends.server.clock) world.ends.server.given world.told (host_of world) }
+    ensures outside { (world : World PointState) → settled (reading_of world.ends.server.clock) world.ends.server.link ≡ world.ends.server.link → IsReported world
+        → is_open world.ends.server.link.phase ≡ false → IsFound (reading_of world.ends.server.clock) [] [] (host_of world) }
+    ensures undriven { (world : World PointState) → settled (reading_of world.ends.server.clock) world.ends.server.link ≡ world.ends.server.link → IsReported world
+        → is_open world.ends.server.link.phase ≡ false → (found_by (reading_of world.ends.server.clock) (host_of world)).progress ≡ Answered }
+{
+    point_makes_a_step();
 }
 
 /// What a point in its host has reported in the connection that it is in: answers of the version, what the initialisation

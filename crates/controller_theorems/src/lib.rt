@@ -3,4 +3,7 @@
 
 mod laws;
 
-pub use laws::{point_makes_a_step, point_reports_its_moves, signal_shows_what_was_told};
+pub use laws::{
+    point_makes_a_step, point_reports_its_moves, signal_shows_what_was_told,
+    steps_find_what_was_reported,
+};

@@ -1,5 +1,5 @@
 -- What an end that is in no connection does with a datagram: it takes no items, and only what it takes opens it.
-use Rattle.std.proofs.Common.{◌+◌, ◌≡◌, ℕ, Bool, true, false, not, nat_le, nat_lt, ◌==◌, if◌then◌else◌, List, [], refl, ap, sym, ◌∙◌, subst}
+use Rattle.std.proofs.Common.{◌+◌, ◌≡◌, ℕ, Bool, true, false, not, nat_lt, ◌==◌, if◌then◌else◌, List, [], refl, ap, sym, ◌∙◌, subst}
 use Rattle.std.specs.Prelude.{Result, Ok, Err}
 use Rattle.std.proofs.lemmas.Bool.{true≢false}
 use Rattle.rasta_pdu.specs.Reading.{reading}
@@ -72,7 +72,7 @@ limited_is : (link : LinkState) → is_open link.phase ≡ false → limited lin
 unfolding limited
 limited_is link closed = rw closed refl
 
-entered_is : (now : ℕ) (link : LinkState) → is_open link.phase ≡ false → entered now link ≡ silent (record link { clock = now })
+pub entered_is : (now : ℕ) (link : LinkState) → is_open link.phase ≡ false → entered now link ≡ silent (record link { clock = now })
 unfolding entered
 entered_is now link closed = ap limited (settled_is now link closed) ∙ limited_is (record link { clock = now }) closed
 

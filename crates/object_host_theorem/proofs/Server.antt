@@ -1,20 +1,26 @@
 -- What the calls of a host do at its end of the link.
-use Rattle.std.proofs.Common.{◌≡◌, ℕ, Bool, true, false, List, [], ◌∷◌, ◌++◌, append_assoc, refl, ap, sym, ◌∙◌, subst}
-use Rattle.std.specs.Prelude.{None}
+use Rattle.std.proofs.Common.{◌≡◌, ℕ, Bool, true, false, nat_lt, if◌then◌else◌, List, [], ◌∷◌, ◌++◌, length, append_assoc, refl, ap, sym, ◌∙◌, subst}
+use Rattle.std.specs.Prelude.{None, Ok, Err, is_ok}
+use Rattle.std.proofs.lemmas.Bool.{true≢false}
 use Rattle.std.proofs.lemmas.List.{append-nil}
 use Rattle.std.proofs.lemmas.Option.{none-some}
-use Rattle.rasta_core.specs.State.{LinkState, is_open}
-use Rattle.rasta_core.specs.Calls.{receiving}
+use Rattle.rasta_core.specs.Parameters.{window_size}
+use Rattle.rasta_core.specs.State.{LinkState, is_open, is_up}
+use Rattle.rasta_core.specs.Calls.{acceptance, answer_to_send, receiving}
+use Rattle.rasta_core.specs.Sending.{Step}
+use Rattle.rasta_core.specs.fault.SendFault.TheVariants as fault
+use Rattle.rasta_core.specs.phase.Phase.{Phase}
+use Rattle.rasta_core.specs.phase.Phase.TheVariants as phase
 use Rattle.rasta_core.specs.identity.Role.TheVariants as role
 use Rattle.rasta_core.specs.Ends as calls
 use Rattle.rasta_core.specs.Ends.{end_after, entered_by, is_taken, kept, outcome, reading_of}
 use Rattle.rasta_core.specs.Run.{Ends, called}
 use Rattle.object_host.specs.Host.{LinkCall, Ticks, Closes, Sends, Receives}
-use Rattle.object_host.specs.Made.{AreCallsFor, AreOwn, calls_made, items_given, items_given_by, items_taken}
+use Rattle.object_host.specs.Made.{AreCallsFor, AreOwn, IsOwn, call_made, calls_made, items_given, items_given_by, items_taken}
 use Rattle.object_host.specs.declared.input.Input.{Input}
 use Rattle.object_host.specs.declared.input.Input.TheVariants as inputs
 use Rattle.object_host_theorem.specs.World.{as_call, called_all, entering}
-use Rattle.object_host_theorem.proofs.Hearing.{receiving_outside}
+use Rattle.object_host_theorem.proofs.Hearing.{entered_is, receiving_outside}
 
 -- what the host's clock reads
 abbrev pub now_of : Ends → ℕ
@@ -109,23 +115,57 @@ given_after connection (inputs.Datagram bytes) made ends first =
     (received_given connection bytes.now first.0 ends first.2)
 given_after connection (inputs.Sense sense) made ends own = own_given connection made ends own
 
--- an end that stays outside in a step: it takes nothing
+-- an end that stays outside in a step: it takes and gives nothing
 pub record StaysOut (made : List LinkCall) (ends : Ends) : Type 0 where
   pub no_items : items_taken (now_of ends) made ends.server.link ≡ []
+  pub none_given : items_given (now_of ends) made ends.server.link ≡ []
   pub out : is_open (calls_made (now_of ends) made ends.server.link).link.phase ≡ false
 
 abbrev pub OpensNothing : Type 0
 OpensNothing = (now : ℕ) (made : List LinkCall) (link : LinkState) → AreOwn made → is_open link.phase ≡ false → is_open (calls_made now made link).link.phase ≡ false
 
+not_up : (link : LinkState) → is_open link.phase ≡ false → is_up link.phase ≡ false
+not_up link closed = by link.phase closed where
+  by : (p : Phase) → is_open p ≡ false → is_up p ≡ false
+  by phase.Closed closed = refl
+  by phase.Start closed = refl
+  by phase.Up closed = absurd (true≢false closed)
+  by phase.RetransmissionRequested closed = absurd (true≢false closed)
+  by phase.RetransmissionRunning closed = absurd (true≢false closed)
+
+-- out of a connection no item is accepted
+refused_outside : (now : ℕ) (link : LinkState) → is_open link.phase ≡ false → is_ok (answer_to_send now link) ≡ false
+unfolding answer_to_send acceptance
+refused_outside now link closed =
+    ap (λ (s : Step). is_ok (acceptance s.link)) (entered_is now link closed)
+    ∙ ap (λ up. is_ok (if up then (if nat_lt (length link.waiting) window_size then Ok tt else Err fault.WindowFull) else Err fault.NotUp)) (not_up link closed)
+
+stays_closed : OpensNothing → (now : ℕ) (call : LinkCall) (link : LinkState) → IsOwn call → is_open link.phase ≡ false → is_open (call_made now call link).link.phase ≡ false
+unfolding calls_made
+stays_closed opens now call link own closed = opens now (call ∷ []) link (own, tt) closed
+
+own_gives_nothing : OpensNothing → (now : ℕ) (made : List LinkCall) (link : LinkState) → AreOwn made → is_open link.phase ≡ false → items_given now made link ≡ []
+unfolding items_given
+own_gives_nothing opens now [] link own closed = refl
+own_gives_nothing opens now (Ticks ∷ others) link own closed =
+    own_gives_nothing opens now others _ own.1 (stays_closed opens now Ticks link tt closed)
+own_gives_nothing opens now (Closes why ∷ others) link own closed =
+    own_gives_nothing opens now others _ own.1 (stays_closed opens now (Closes why) link tt closed)
+own_gives_nothing opens now (Sends item ∷ others) link own closed =
+    ap (λ ok. (if ok then item ∷ [] else []) ++ items_given now others (call_made now (Sends item) link).link) (refused_outside now link closed)
+    ∙ own_gives_nothing opens now others _ own.1 (stays_closed opens now (Sends item) link tt closed)
+own_gives_nothing opens now (Receives bytes ∷ others) link own closed = absurd own.0
+
 received_out : OpensNothing → (connection : ℕ) (bytes : List ℕ) (others : List LinkCall) (ends : Ends) → AreOwn others →
     (outcome (calls.Receives bytes connection) ends.moment ends.server).enters ≡ None → is_open ends.server.link.phase ≡ false → StaysOut (Receives bytes ∷ others) ends
-unfolding outcome items_taken calls_made
+unfolding outcome items_taken items_given calls_made
 received_out opens connection bytes others ends own stays closed =
     let receipt = receiving (now_of ends) bytes ends.server.link
     in let heard = receiving_outside (now_of ends) bytes ends.server.link closed
     in let out : is_open receipt.link.phase ≡ false = cases receipt.link receipt.verdict stays heard.taken (is_open receipt.link.phase) refl
     in record {
       no_items = ap (λ items. items ++ items_taken (now_of ends) others receipt.link) heard.no_items ∙ own_takes_nothing (now_of ends) others receipt.link own;
+      none_given = own_gives_nothing opens (now_of ends) others receipt.link own out;
       out = opens (now_of ends) others receipt.link own out;
     }
   where
@@ -137,8 +177,16 @@ received_out opens connection bytes others ends own stays closed =
 pub stays_out : OpensNothing → (connection : ℕ) (input : Input) (made : List LinkCall) (ends : Ends) → AreCallsFor input made →
     entering input connection ends ≡ None → is_open ends.server.link.phase ≡ false → StaysOut made ends
 stays_out opens connection inputs.Tick made ends own stays closed =
-    record { no_items = own_takes_nothing (now_of ends) made _ own; out = opens (now_of ends) made _ own closed }
+    record {
+      no_items = own_takes_nothing (now_of ends) made _ own;
+      none_given = own_gives_nothing opens (now_of ends) made _ own closed;
+      out = opens (now_of ends) made _ own closed;
+    }
 stays_out opens connection (inputs.Datagram bytes) made ends first stays closed =
     subst (λ cs. StaysOut cs ends) (sym first.1) (received_out opens connection bytes.now first.0 ends first.2 stays closed)
 stays_out opens connection (inputs.Sense sense) made ends own stays closed =
-    record { no_items = own_takes_nothing (now_of ends) made _ own; out = opens (now_of ends) made _ own closed }
+    record {
+      no_items = own_takes_nothing (now_of ends) made _ own;
+      none_given = own_gives_nothing opens (now_of ends) made _ own closed;
+      out = opens (now_of ends) made _ own closed;
+    }

@@ -1,6 +1,7 @@
 -- What is true of a world after every list of events: what the host acted on is a beginning of what its end took.
 use Rattle.std.proofs.Common.{◌≡◌, ℕ, false, List, [], ◌∷◌, ◌++◌, append_assoc, refl, ap, sym, ◌∙◌, subst}
-use Rattle.std.specs.Prelude.{None, Some}
+use Rattle.std.specs.Prelude.{Option, None, Some}
+use Rattle.std.proofs.lemmas.List.{append-nil}
 use Rattle.rasta_core.specs.State.{LinkState, is_open}
 use Rattle.rasta_core.specs.Clock.{settled}
 use Rattle.rasta_core.specs.identity.Role.TheVariants as role
@@ -56,6 +57,23 @@ step_outside does opens calls_for input connection world stays closed =
     let part = step_of does input world
     in ap (λ (l : LinkState). is_open l.phase) (links_after connection part.calls world.ends)
     ∙ (stays_out opens connection input part.calls world.ends (calls_for (now_of world.ends) input (host_of world)) stays closed).out
+
+-- out of a connection, and where it enters none, it takes and gives nothing
+pub step_idle : {Object : Type 0} (does : Behaviour Object) → OpensNothing → ((now : ℕ) (input : Input) (host : HostState Object) → AreCallsFor input (host_step does now input host).calls) →
+    (input : Input) (connection : ℕ) (world : World Object) → entering input connection world.ends ≡ None → is_open world.ends.server.link.phase ≡ false →
+    ((stepped does input connection world).ends.server.taken ≡ world.ends.server.taken) × ((stepped does input connection world).ends.server.given ≡ world.ends.server.given)
+step_idle does opens calls_for input connection world stays closed =
+    let part = step_of does input world
+    in let first = calls_for (now_of world.ends) input (host_of world)
+    in let out = stays_out opens connection input part.calls world.ends first stays closed
+    in (
+      step_taken does input connection world first
+          ∙ ap (λ (e : Option ℕ). kept e world.ends.server.taken ++ items_taken (now_of world.ends) part.calls world.ends.server.link) stays
+          ∙ ap (λ items. world.ends.server.taken ++ items) out.no_items ∙ append-nil world.ends.server.taken,
+      step_given does input connection world first
+          ∙ ap (λ (e : Option ℕ). kept e world.ends.server.given ++ items_given (now_of world.ends) part.calls world.ends.server.link) stays
+          ∙ ap (λ items. world.ends.server.given ++ items) out.none_given ∙ append-nil world.ends.server.given,
+    )
 
 module _ {Object : Type 0} (does : Behaviour Object) (names : Names)
     -- the laws of the link and of the steps of a host

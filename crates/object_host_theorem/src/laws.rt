@@ -58,6 +58,7 @@ pub fn what_is_taken_is_acted_on<C: Controller>()
 
 /// What a step takes and gives is what the host's end of the link has taken and given by it, in the connection that it is
 /// in or that the step enters. The step's link is the end's, which enters nothing but by what it takes, and its clock stays.
+/// In no connection, and where it enters none, it takes and gives nothing.
 pub fn step_takes_and_gives<C: Controller>()
     ensures taken { (input : Input) (connection : ℕ) (world : World C) → (stepped C.behaviour input connection world).ends.server.taken
         ≡ kept (entering input connection world.ends) world.ends.server.taken ++ items_taken (reading_of world.ends.server.clock) (step_of C.behaviour input world).calls world.ends.server.link }
@@ -68,6 +69,10 @@ pub fn step_takes_and_gives<C: Controller>()
     ensures clock { (input : Input) (connection : ℕ) (world : World C) → (stepped C.behaviour input connection world).ends.server.clock ≡ world.ends.server.clock }
     ensures outside { (input : Input) (connection : ℕ) (world : World C) → entering input connection world.ends ≡ None → is_open world.ends.server.link.phase ≡ false
         → is_open (stepped C.behaviour input connection world).ends.server.link.phase ≡ false }
+    ensures takes_none { (input : Input) (connection : ℕ) (world : World C) → entering input connection world.ends ≡ None → is_open world.ends.server.link.phase ≡ false
+        → (stepped C.behaviour input connection world).ends.server.taken ≡ world.ends.server.taken }
+    ensures gives_none { (input : Input) (connection : ℕ) (world : World C) → entering input connection world.ends ≡ None → is_open world.ends.server.link.phase ≡ false
+        → (stepped C.behaviour input connection world).ends.server.given ≡ world.ends.server.given }
 {
     own_calls_open_nothing();
     step_is_calls::<C>();

@@ -2,3 +2,9 @@ pub mod Lists
 pub mod Places
 pub mod Lamps
 pub mod Turns
+pub mod Moves
+pub mod Telling
+pub mod Starts
+pub mod Switches
+pub mod Reported
+pub mod Steps

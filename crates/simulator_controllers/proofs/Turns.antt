@@ -138,16 +138,21 @@ module _
 same_number : (n : ℕ) → (n == n) ≡ true
 same_number n = grind (arith, nat_tests)
 
+in_one : (ends : Ends) → ((one : ℕ) × (ends.client.connection ≡ Some one) × (ends.server.connection ≡ Some one)) → is_same_connection ends.client.connection ends.server.connection ≡ true
+in_one ends here = ap (λ c. is_same_connection c ends.server.connection) here.1 ∙ ap (is_same_connection (Some here.0)) here.2 ∙ same_number here.0
+
 was_there : (ends : Ends) → AreFit ends → is_open ends.server.link.phase ≡ true → is_same_connection ends.client.connection ends.server.connection ≡ true
-was_there ends fit opened =
-    let here = fit.same opened
-    in ap (λ c. is_same_connection c ends.server.connection) here.1 ∙ ap (is_same_connection (Some here.0)) here.2 ∙ same_number here.0
+was_there ends fit opened = in_one ends (fit.same opened)
 
 closed_is : (ends : Ends) → AreFit ends → is_open ends.server.link.phase ≡ false → server_of ends ≡ server_in false (is_same_connection ends.client.connection ends.server.connection)
 closed_is ends fit closed = ap (λ inside. server_in inside (is_same_connection ends.client.connection ends.server.connection)) (inside_is ends.server fit.settled_at ∙ closed)
 
+-- a server outside the last connection of both ends has left it
+pub gone_where_closed : (ends : Ends) → AreFit ends → is_open ends.server.link.phase ≡ false → ((one : ℕ) × (ends.client.connection ≡ Some one) × (ends.server.connection ≡ Some one)) → server_of ends ≡ Gone
+gone_where_closed ends fit closed here = closed_is ends fit closed ∙ ap (server_in false) (in_one ends here)
+
 -- a server that leaves has given what it gave
-reports_stay : (ends new : Ends) → AreFit ends → AreFit new → new.client.connection ≡ ends.client.connection → new.server.connection ≡ ends.server.connection →
+pub reports_stay : (ends new : Ends) → AreFit ends → AreFit new → new.client.connection ≡ ends.client.connection → new.server.connection ≡ ends.server.connection →
     new.server.given ≡ ends.server.given → (is_open new.server.link.phase ≡ true → is_open ends.server.link.phase ≡ true) → reports_given new ≡ reports_given ends
 reports_stay ends new fit fit_after client-same server-same given-same opens =
     ap (of_server (server_of new)) given-same ∙ by (is_open new.server.link.phase) (is_open ends.server.link.phase) refl refl

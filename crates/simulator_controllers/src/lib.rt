@@ -9,6 +9,7 @@ mod signals;
 pub use ends::lawful_ends_are_fit;
 pub use points::{
     driven_points_are_seen_driven, points_pass_time_and_restart, points_stay_elsewhere,
+    steps_of_points_are_moves,
 };
 pub use signals::{
     signal_shows_what_is_seen, signals_pass_time_and_restart, signals_stay_elsewhere,

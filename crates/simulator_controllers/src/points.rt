@@ -8,19 +8,53 @@ ghost use Rattle.rasta_core.specs.State.{is_open};
 ghost use Rattle.rasta_core.specs.identity.Role.TheVariants.{Server};
 ghost use Rattle.object_host.specs.Host.{HostState};
 ghost use Rattle.object_host.specs.Hosted.{new_host};
+ghost use Rattle.object_host.specs.Step.{host_step};
+ghost use Rattle.object_host.specs.declared.input.Input.{Input};
+ghost use Rattle.object_host_theorem.specs.World.{called_all};
 ghost use Rattle.point_ctl.specs.Controlled.{point_behaviour};
 ghost use Rattle.point_ctl.specs.Drive.{PointState, drives};
+ghost use Rattle.simulator_machine.specs.Invariant.{IsPointSound};
 ghost use Rattle.simulator_machine.specs.Link.{LinkMove};
 ghost use Rattle.simulator_machine.specs.Point.{Point as MachinePoint, moves_given, reports_made};
 ghost use Rattle.simulator_items.specs.Items.{moves_in, reports_in};
 ghost use Rattle.simulator_links.specs.Flows.{reports_given};
 ghost use Rattle.simulator_links.specs.LinkMoves.{LinkGoes, moves_by};
 ghost use Rattle.simulator_links.specs.Picture.{pictured};
-ghost use Rattle.simulator_controllers.specs.Ends.{AreFit, OpensNone};
-ghost use Rattle.simulator_controllers.specs.Point.{IsPointSeen, PointGoes};
+ghost use Rattle.simulator_controllers.specs.Ends.{AreFit, OpensNone, Steps};
+ghost use Rattle.simulator_controllers.specs.Point.{IsMovedDriven, IsPointSeen, PointGoes};
 
-use controller_theorems::point_reports_its_moves;
+use controller_theorems::{
+    point_makes_a_step, point_reports_its_moves, steps_find_what_was_reported,
+};
+use object_host::{
+    step_is_calls, step_settles_first, step_tells_what_was_taken, steps_keep_a_host,
+};
+use object_host_theorem::{step_takes_and_gives, what_is_taken_is_acted_on};
+use point_ctl::Point;
+use simulator_items::{items_join, written_items_are_read};
 use simulator_machine::moves_of_links_are_moves;
+
+/// A step of a point's host, whatever comes in it, is a list of moves of the machine's point, where contacts tell of another
+/// position only while the point is driven.
+pub fn steps_of_points_are_moves()
+    ensures { (input : Input) (connection : ℕ) (ends : Ends) (host : HostState PointState) (point : MachinePoint) → IsPointSound point → IsPointSeen ends host point → IsMovedDriven ends input host
+        → Steps input connection ends (called_all connection (host_step point_behaviour (reading_of ends.server.clock) input host).calls ends)
+        → PointGoes point (IsPointSeen (called_all connection (host_step point_behaviour (reading_of ends.server.clock) input host).calls ends)
+        (host_step point_behaviour (reading_of ends.server.clock) input host).host) }
+{
+    items_join();
+    moves_of_links_are_moves();
+    point_makes_a_step();
+    point_reports_its_moves();
+    step_is_calls::<Point>();
+    step_settles_first::<Point>();
+    step_takes_and_gives::<Point>();
+    step_tells_what_was_taken::<Point>();
+    steps_find_what_was_reported();
+    steps_keep_a_host::<Point>();
+    what_is_taken_is_acted_on::<Point>();
+    written_items_are_read();
+}
 
 /// Time that passes, and a restart of the controller with the position in which the point stands, are moves of the point's
 /// link, whatever the host does later.

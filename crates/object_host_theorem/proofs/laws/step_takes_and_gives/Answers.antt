@@ -1,6 +1,6 @@
 use Rattle.object_host_theorem.specs.World.{host_of}
 use Rattle.object_host_theorem.proofs.Server.{now_of}
-use Rattle.object_host_theorem.proofs.Told.{step_clock, step_given, step_link, step_outside, step_taken}
+use Rattle.object_host_theorem.proofs.Told.{step_clock, step_given, step_idle, step_link, step_outside, step_taken}
 use Rattle.object_host_theorem.proofs.laws.step_takes_and_gives.Goals as goal
 
 pub returns-clause-taken : goal.returns-clause-taken
@@ -19,3 +19,11 @@ returns-clause-clock g c = step_clock g.C.Controller.behaviour
 
 pub returns-clause-outside : goal.returns-clause-outside
 returns-clause-outside g c = step_outside g.C.Controller.behaviour c.own_calls_open_nothing.ensures c.step_is_calls.ensures.first
+
+pub returns-clause-takes_none : goal.returns-clause-takes_none
+returns-clause-takes_none g c = λ input connection world none closed.
+    (step_idle g.C.Controller.behaviour c.own_calls_open_nothing.ensures c.step_is_calls.ensures.first input connection world none closed).0
+
+pub returns-clause-gives_none : goal.returns-clause-gives_none
+returns-clause-gives_none g c = λ input connection world none closed.
+    (step_idle g.C.Controller.behaviour c.own_calls_open_nothing.ensures c.step_is_calls.ensures.first input connection world none closed).1
