@@ -1,12 +1,43 @@
 -- How a text is cut into lines, and a line into words.
-use Rattle.std.specs.Prelude.{ℕ, ◌==◌, if◌then◌else◌, Bool, true, List, [], ◌∷◌, length, Result, Ok, Err}
-use Rattle.std.specs.List.{slice_split, before_first, after_first, position_or_len}
+use Rattle.std.specs.Prelude.{ℕ, ◌==◌, if◌then◌else◌, Bool, true, false, Option, Some, None, List, [], ◌∷◌, length, codes, Result, Ok, Err}
+use Rattle.std.specs.List.{slice_split, before_first, after_first, position_or_len, list_any}
+use Rattle.std.specs.Borrow.{Bor}
+use Rattle.std.specs.Str.{bytes_eq}
 use Rattle.event_words.specs.declared.fault.Fault.{Fault}
 use Rattle.event_words.specs.declared.fault.Fault.TheVariants.{Words}
 
 -- the words of a line, parted by single spaces: a second space, or one at an end, makes an empty word
 abbrev pub words : List ℕ → List (List ℕ)
 words line = slice_split (λ b. b == 32) line
+
+-- what is left of the words of a line
+abbrev pub words_left : Option (Bor (List ℕ)) → List (List ℕ)
+words_left (Some text) = words text.now
+words_left None = []
+
+-- the word that parts an event and its answer
+abbrev pub is_equals : List ℕ → Bool
+is_equals word = bytes_eq word (codes "=")
+
+-- the words before the first `=`
+abbrev pub before_equals : List (List ℕ) → List (List ℕ)
+before_equals [] = []
+before_equals (word ∷ more) = if is_equals word then [] else word ∷ before_equals more
+
+-- the words behind the first `=`
+abbrev pub behind_equals : List (List ℕ) → List (List ℕ)
+behind_equals [] = []
+behind_equals (word ∷ more) = if is_equals word then more else behind_equals more
+
+-- all words, or those before the first `=`
+abbrev pub up_to_equals : Bool → List (List ℕ) → List (List ℕ)
+up_to_equals true words = before_equals words
+up_to_equals false words = words
+
+-- the words of an event and those of its answer, which the first `=` parts
+abbrev pub event_and_answer : List (List ℕ) → Result (List (List ℕ) × List (List ℕ)) Fault
+event_and_answer words =
+    if list_any is_equals words then Ok (before_equals words, behind_equals words) else Err Words
 
 -- parts without an empty one at the end
 abbrev pub without_empty_last : List (List ℕ) → List (List ℕ)

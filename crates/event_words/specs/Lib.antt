@@ -1,3 +1,4 @@
 pub mod Cut
 pub mod Fault
 pub mod Read
+pub mod Words

@@ -1,10 +1,10 @@
 //! How a text is cut into lines, and a line into words.
 
-ghost use Rattle.std.specs.Prelude.{◌≡◌, ◌+◌, ◌^◌, ◌<◌, ℕ, List, [], length, MatchResult, Ok, Err, ⊤};
+ghost use Rattle.std.specs.Prelude.{◌≡◌, ◌+◌, ◌^◌, ◌<◌, ℕ, List, [], ◌∷◌, length, MatchResult, Ok, Err, ⊤};
 ghost use Rattle.std.specs.List.{enumerate_from};
 ghost use Rattle.std.specs.Option.{option_map_or};
 ghost use Rattle.std.specs.Iterator.{YieldsFirstBy, item_count};
-ghost use Rattle.event_words.specs.Cut.{words, lines, is_passed_over, name_and_number};
+ghost use Rattle.event_words.specs.Cut.{words, words_left, up_to_equals, event_and_answer, lines, is_passed_over, name_and_number};
 
 use crate::fault::Fault;
 use std::alloc::AllocError;
@@ -16,12 +16,14 @@ use std::marker::Model;
 pub struct Words<'a> {
     /// What no word was taken of, or nothing after the last word.
     rest: Option<&'a str>,
+    /// Whether the words end before the first `=`.
+    ends_at_equals: bool,
 }
 
 impl<'a> Model for Words<'a> {
     ghost Value = { List (List ℕ) };
 
-    ghost view = { λ w. option_map_or (λ t. words t.now) w.rest [] };
+    ghost view = { λ w. up_to_equals w.ends_at_equals (words_left w.rest) };
 }
 
 impl<'a> Words<'a> {
@@ -29,7 +31,10 @@ impl<'a> Words<'a> {
     pub fn of(line: &'a str) -> Self
         ensures { result ≡ words line.now }
     {
-        Words { rest: Some(line) }
+        Words {
+            rest: Some(line),
+            ends_at_equals: false,
+        }
     }
 }
 
@@ -39,7 +44,10 @@ impl<'a> Clone for Words<'a> {
     ghost is_infallible = { λ _. ⊤ };
 
     fn clone(&self) -> Result<Self, AllocError> {
-        Ok(Words { rest: self.rest })
+        Ok(Words {
+            rest: self.rest,
+            ends_at_equals: self.ends_at_equals,
+        })
     }
 }
 
@@ -51,18 +59,42 @@ impl<'a> Iterator for Words<'a> {
     ghost remaining = { item_count (λ left. left) };
 
     fn next(&mut self) -> Option<&'a str> {
-        let text = self.rest?;
-        match text.split_once(' ') {
-            Some((word, rest)) => {
-                self.rest = Some(rest);
-                Some(word)
-            }
-            None => {
-                self.rest = None;
-                Some(text)
-            }
+        let (word, rest) = first_word(self.rest?);
+        if self.ends_at_equals && word == "=" {
+            self.rest = None;
+            return None;
+        }
+        self.rest = rest;
+        Some(word)
+    }
+}
+
+/// The first word of a text, and what stands behind it.
+fn first_word<'a>(text: &'a str) -> (&'a str, Option<&'a str>)
+    ensures { words text.now ≡ result.0.now ∷ words_left result.1 }
+{
+    match text.split_once(' ') {
+        Some((word, rest)) => (word, Some(rest)),
+        None => (text, None),
+    }
+}
+
+/// The words of the event and those of its answer in a line of a session: what stands before the first
+/// word `=`, and what stands behind it; fault 1 where there is none.
+pub fn event_and_answer<'a>(line: &'a str) -> Result<(Words<'a>, Words<'a>), Fault>
+    ensures { MatchResult result (λ sides. event_and_answer (words line.now) ≡ Ok (sides.0, sides.1)) (λ fault. event_and_answer (words line.now) ≡ Err fault) }
+{
+    let mut words = Words::of(line);
+    while let Some(word) = words.next() {
+        if word == "=" {
+            let event = Words {
+                rest: Some(line),
+                ends_at_equals: true,
+            };
+            return Ok((event, words));
         }
     }
+    Err(Fault::Words)
 }
 
 /// The lines of a text, each with its number from 1. A line ends at a line feed, which the last may

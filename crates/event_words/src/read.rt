@@ -1,6 +1,7 @@
 //! What a word says as a number, and as bytes, and the word for some bytes.
 
-ghost use Rattle.std.specs.Prelude.{◌≡◌, ◌≤◌, length, IfOk, MatchResult, Ok, Err, string_bytes};
+ghost use Rattle.std.specs.Prelude.{◌≡◌, ◌≤◌, length, IfOk, MatchResult, Ok, Err, string_bytes, true};
+ghost use Rattle.event_words.specs.Words.{is_without};
 ghost use Rattle.event_words.specs.Read.{decimal, hexadecimal, hexadecimal_or_none, hex_word};
 
 use crate::fault::Fault;
@@ -58,6 +59,7 @@ pub fn hexadecimal_or_none(word: &str) -> Result<Bytes, Fault>
 pub fn hex_word(alloc: Global, bytes: &[u8]) -> Result<String, AllocError>
     ensures word { IfOk result (λ word. string_bytes word ≡ hex_word bytes.now) }
     ensures read_back { IfOk result (λ word. length bytes.now ≤ 512 → hexadecimal_or_none (string_bytes word) ≡ Ok bytes.now) }
+    ensures no_space { IfOk result (λ word. is_without 32 (string_bytes word) ≡ true) }
 {
     if bytes.is_empty() {
         String::from_str(alloc, "-")

@@ -4,14 +4,19 @@ use super::*;
 use std::alloc::{AllocError, Global};
 use std::test::Fail;
 
-// The words of `line`, each behind a bar.
-fn barred(alloc: Global, line: &str) -> Result<String, AllocError> {
+// Words, each behind a bar.
+fn barred_words(alloc: Global, words: Words<'_>) -> Result<String, AllocError> {
     let mut text = String::new(alloc);
-    for word in Words::of(line) {
+    for word in words {
         text.push_str("|")?;
         text.push_str(word)?;
     }
     Ok(text)
+}
+
+// The words of `line`, each behind a bar.
+fn barred(alloc: Global, line: &str) -> Result<String, AllocError> {
+    barred_words(alloc, Words::of(line))
 }
 
 // The lines of `text` with their numbers, a semicolon behind each.
@@ -155,4 +160,31 @@ fn the_lower_of_two_faults_is_told(rt: HostRuntime) {
         Err(Fault::Hexadecimal)
     );
     assert_eq!(rt; Fault::Memory.number(), 7);
+}
+
+#[test]
+fn an_event_and_its_answer_are_parted_by_the_first_equals_sign(
+    rt: HostRuntime,
+) -> Result<(), Fail> {
+    for (line, event, answer) in [
+        ("tick C = ok", "|tick|C", "|ok"),
+        ("tick C =", "|tick|C", ""),
+        ("= = ok", "", "|=|ok"),
+        ("tick =C =  ok", "|tick|=C", "||ok"),
+    ] {
+        let (of_event, of_answer) = event_and_answer(line)?;
+        let told = match barred_words(rt.alloc(), of_event.clone().unwrap()) {
+            Ok(told) => told,
+            Err(_) => barred_words(rt.alloc(), of_event)?,
+        };
+        assert_eq!(rt; told.as_str(), event, "in {line:?}");
+        let told = match barred_words(rt.alloc(), of_answer.clone().unwrap()) {
+            Ok(told) => told,
+            Err(_) => barred_words(rt.alloc(), of_answer)?,
+        };
+        assert_eq!(rt; told.as_str(), answer, "in {line:?}");
+    }
+    assert!(rt; matches!(event_and_answer("tick C"), Err(Fault::Words)));
+    assert!(rt; matches!(event_and_answer("tick C =ok"), Err(Fault::Words)));
+    Ok(())
 }

@@ -8,5 +8,5 @@ mod written;
 
 pub use line::{ROUND, SimLine, read_line};
 pub use text::{LineFault, read_lines};
-pub use words::read_event;
+pub use words::{read_event, read_script_event};
 pub use written::write_event;

@@ -5,6 +5,7 @@ ghost use Rattle.std.specs.List.{list_any};
 ghost use Rattle.replay_names.specs.Names.{node_names};
 ghost use Rattle.replay_lines.specs.Events.{are_formed, cancel, clear, deliver, event, has_name, lose, name_nodes, number_up_to, occupy, position_named, reach, restart, resume, set, steps_set, tick, time};
 ghost use Rattle.replay_lines.specs.Given.{Gives};
+ghost use Rattle.replay_lines.specs.Scripted.{script_event};
 
 use event_words::{
     Bytes, Fault, Words, both, decimal, hexadecimal, hexadecimal_or_none, name_and_number,
@@ -37,6 +38,23 @@ pub fn read_event(alloc: Global, layout: &Layout, words: Words<'_>) -> Result<Ev
         Some("lose") => lose(alloc, words),
         Some("reach") => reach(layout, words),
         Some("restart") => restart(layout, words),
+        _ => Err(Fault::Words),
+    }
+}
+
+/// The event that words say in a script, which has commands, occupancies and restarts alone, or the lowest
+/// fault of the words. It takes no memory.
+pub fn read_script_event(layout: &Layout, words: Words<'_>) -> Result<Event, Fault>
+    ensures { result ≡ script_event layout.now words.entry }
+{
+    let mut rest = words;
+    match rest.next() {
+        Some("set") => set(layout, rest),
+        Some("cancel") => cancel(layout, rest),
+        Some("resume") => resume(rest),
+        Some("occupy") => occupy(layout, rest),
+        Some("clear") => clear(layout, rest),
+        Some("restart") => restart(layout, rest),
         _ => Err(Fault::Words),
     }
 }

@@ -40,3 +40,11 @@ route_named plan word = record { 0 = unwrap_or (position (λ r. bytes_eq r.name 
 -- the word that stands for a route: its name, or `_` where the table lacks it
 abbrev pub route_word : Plan → RouteId → List ℕ
 route_word plan route = option_map_or (λ r. r.name) (slice_get plan.routes route.0) (codes "_")
+
+-- the word that stands for a section: its name, or `_` where the layout lacks it
+abbrev pub section_word : Plan → SectionId → List ℕ
+section_word plan section = option_map_or (λ name. name) (slice_get plan.sections section.0) (codes "_")
+
+-- the word that stands for a point: its name, or `_` where the layout lacks it
+abbrev pub point_word : Plan → PointId → List ℕ
+point_word plan point = option_map_or (λ p. p.name) (slice_get plan.points point.0) (codes "_")

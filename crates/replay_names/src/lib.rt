@@ -4,5 +4,5 @@
 mod names;
 mod nodes;
 
-pub use names::{point_named, route_named, route_word, section_named};
+pub use names::{point_named, point_word, route_named, route_word, section_named, section_word};
 pub use nodes::{node_count, node_name, node_named};

@@ -3,7 +3,7 @@
 ghost use Rattle.std.specs.Prelude.{◌≡◌, ◌<◌, length, IfSome};
 ghost use Rattle.std.specs.List.{position};
 ghost use Rattle.std.specs.Str.{bytes_eq};
-ghost use Rattle.replay_names.specs.Names.{point_named, route_named, route_word, section_named};
+ghost use Rattle.replay_names.specs.Names.{point_named, point_word, route_named, route_word, section_named, section_word};
 
 use event_words::Fault;
 use layout::{Layout, Point, PointId, Route, RouteId, SectionId};
@@ -43,6 +43,26 @@ pub fn route_word(layout: &Layout, route: RouteId) -> &str
 {
     match layout.routes().get(route.0) {
         Some(route) => route.name().as_str(),
+        None => "_",
+    }
+}
+
+/// The word that stands for a section: its name, or `_` where the layout lacks it.
+pub fn section_word(layout: &Layout, section: SectionId) -> &str
+    ensures { result.now ≡ section_word layout.now section }
+{
+    match layout.sections().get(section.0) {
+        Some(name) => name.as_str(),
+        None => "_",
+    }
+}
+
+/// The word that stands for a point: its name, or `_` where the layout lacks it.
+pub fn point_word(layout: &Layout, point: PointId) -> &str
+    ensures { result.now ≡ point_word layout.now point }
+{
+    match layout.points().get(point.0) {
+        Some(point) => point.name.as_str(),
         None => "_",
     }
 }

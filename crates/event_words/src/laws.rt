@@ -1,0 +1,27 @@
+//! What is written in a line is read again.
+
+ghost use Rattle.std.specs.Prelude.{◌≡◌, ◌^◌, ◌<◌, ◌∷◌, ◌++◌, ℕ, List, length, true, Ok};
+ghost use Rattle.std.specs.Fmt.{decimal as written};
+ghost use Rattle.std.specs.List.{join_with_byte};
+ghost use Rattle.event_words.specs.Cut.{words, name_and_number};
+ghost use Rattle.event_words.specs.Read.{decimal};
+ghost use Rattle.event_words.specs.Words.{are_words, is_without};
+
+/// Words without spaces are the words of the line that they make, parted by single spaces.
+#[tactic(auto, using(crate::proofs::Written::joined))]
+pub fn joined_words_are_read_again()
+    ensures { (ws : List (List ℕ)) → 0 < length ws → are_words ws ≡ true → words (join_with_byte 32 ws) ≡ ws }
+{}
+
+/// A number below 2^64 is read as it was written, in a word without spaces.
+#[tactic(auto, using(crate::proofs::Written::number_read, crate::proofs::Written::number_word))]
+pub fn a_number_is_read_again()
+    ensures read { (n : ℕ) → n < 2 ^ 64 → decimal (written n) ≡ Ok n }
+    ensures word { (n : ℕ) → n < 2 ^ 64 → is_without 32 (written n) ≡ true }
+{}
+
+/// A name without an equals sign and what stands behind the sign are parted again.
+#[tactic(auto, using(crate::proofs::Written::sides_read))]
+pub fn a_name_and_its_number_are_parted_again()
+    ensures { (name number : List ℕ) → is_without 61 name ≡ true → name_and_number (name ++ 61 ∷ number) ≡ Ok (name, number) }
+{}
