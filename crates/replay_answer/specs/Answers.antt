@@ -4,8 +4,7 @@
 --     accepted              the interlocking took the command
 --     refused N             it refused the command, by number; 5 with the route, 6 with the section, 7 with the point
 --     no N                  the event couldn't happen, by number
-use Rattle.std.specs.Prelude.{ℕ, List, [], ◌∷◌, ◌++◌, codes, Option, Some, None, Result, Ok, Err}
-use Rattle.std.specs.Option.{option_map_or}
+use Rattle.std.specs.Prelude.{ℕ, List, ◌∷◌, ◌++◌, codes, Option, Some, None, Result, Ok, Err}
 use Rattle.std.specs.Fmt.{decimal}
 use Rattle.layout.specs.Entries.{Plan}
 use Rattle.ixl_rules.specs.Commands.{refusal_number}

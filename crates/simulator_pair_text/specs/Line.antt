@@ -117,10 +117,14 @@ tick (end ∷ []) = do
   Ok (Event (Tick of))
 tick other = Err Words
 
+-- the numbers of both ends, of those that are named
+abbrev pub clocks : List (List ℕ) → Result (Option ℕ × Option ℕ) Fault
+clocks words = both (sole (numbers_for Client words)) (sole (numbers_for Server words))
+
 abbrev pub time : List (List ℕ) → Result PairLine Fault
-time (d ∷ clocks) = do
-  none ← names clocks
-  of ← both (decimal d) (both (sole (numbers_for Client clocks)) (sole (numbers_for Server clocks)))
+time (d ∷ words) = do
+  none ← names words
+  of ← both (decimal d) (clocks words)
   Ok (Event (Time of.0 (unwrap_or of.1.0 of.0) (unwrap_or of.1.1 of.0)))
 time [] = Err Words
 

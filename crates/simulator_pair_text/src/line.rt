@@ -3,6 +3,7 @@
 ghost use Rattle.std.specs.Prelude.{◌≡◌, ◌==◌, length, MatchResult, Ok, Err};
 ghost use Rattle.std.specs.Option.{option_copied};
 ghost use Rattle.simulator_pair_text.specs.Line.{
+  clocks,
   close,
   deliver,
   end_named,
@@ -95,9 +96,7 @@ fn time(mut words: Words<'_>) -> Result<PairLine, Fault>
         return Err(Fault::Words);
     };
     check_names(words.clone().unwrap())?;
-    let client = clock(Role::Client, words.clone().unwrap());
-    let server = clock(Role::Server, words);
-    let (elapsed, (client, server)) = both(decimal(elapsed), both(client, server))?;
+    let (elapsed, (client, server)) = both(decimal(elapsed), clocks(words))?;
     Ok(PairLine::Event(PairEvent::Time {
         elapsed,
         of_client: client.unwrap_or(elapsed),
@@ -262,6 +261,15 @@ fn number_for<'a>(end: Role, word: &'a str) -> Option<&'a str>
         (Role::Server, Ok((Role::Server, number))) => Some(number),
         _ => None,
     }
+}
+
+// The numbers of both ends, of those that words name.
+fn clocks(words: Words<'_>) -> Result<(Option<u64>, Option<u64>), Fault>
+    ensures { result ≡ clocks words.entry }
+{
+    let client = clock(Role::Client, words.clone().unwrap());
+    let server = clock(Role::Server, words);
+    both(client, server)
 }
 
 // The number of an end, if a word names it; an end that is named twice has a fault in its name.
