@@ -11,12 +11,12 @@ use Rattle.ixl_rules.specs.Table.{Table as Rows}
 use Rattle.simulator_machine.specs.Chains.{MovesTo}
 use Rattle.simulator_machine.specs.Machine.{Machine, made_anew}
 use Rattle.simulator_rules.specs.Course.{ComesTo, Happening, IsAnswered, IsReplaced, MayAllHappen, MayHappen, Moment, Passes, SeesAt, Steps, moment_after, moments_after}
-use Rattle.simulator_rules.specs.Facts.{FarEnds}
+use Rattle.simulator_rules_seen.specs.Facts.{FarEnds}
 use Rattle.simulator_rules.specs.Onward.{AreAloneAfterQuiet, IsPassed, IsStepped, has_authority_there, held_routes}
-use Rattle.simulator_rules.specs.Rows.{machine_table}
-use Rattle.simulator_rules.specs.Sees.{Given, Sees}
+use Rattle.simulator_rules_seen.specs.Rows.{machine_table}
+use Rattle.simulator_rules_seen.specs.Sees.{Given, Sees}
 use Rattle.simulator_rules.proofs.Anew.{is_made_anew}
-use Rattle.simulator_rules.proofs.Nodes.{stays_so}
+use Rattle.simulator_rules_nodes.proofs.Nodes.{stays_so}
 use Rattle.simulator_rules.proofs.Seen.{alike_sees}
 
 held_same : (now : ℕ) (ixl : IxlState) (one other : ℕ → Bool) → ((number : ℕ) → one number ≡ other number) → (number : ℕ) → held_routes now ixl one number ≡ held_routes now ixl other number

@@ -27,18 +27,18 @@ use Rattle.simulator_machine.specs.Point.{Point as MachinePoint, PointMove}
 use Rattle.simulator_machine.specs.Route.{Waiting, is_whole}
 use Rattle.simulator_machine.specs.Signal.{SignalMove}
 use Rattle.simulator_machine.specs.Chains.{MovesTo, PointMayChain, SignalMayChain, point_chained, signal_chained}
-use Rattle.simulator_rules.specs.Calls.{Items, calls_at}
-use Rattle.simulator_rules.specs.During.{Leads, SwitchSoFar}
-use Rattle.simulator_rules.specs.Facts.{FarEnds}
-use Rattle.simulator_rules.specs.Nodes.{phase_seen, route_seen}
-use Rattle.simulator_rules.specs.Rows.{AreHeldAtFirst, machine_table}
-use Rattle.simulator_rules.specs.Sees.{Given}
-use Rattle.simulator_rules.proofs.Blocks.{unblocked}
-use Rattle.simulator_rules.proofs.Nodes.{lamp_hears}
-use Rattle.simulator_rules.proofs.Routes.{route_on, route_same}
-use Rattle.simulator_rules.proofs.RulesKept.{one_move}
-use Rattle.simulator_rules.proofs.SwitchNodes.{switch_hears}
-use Rattle.simulator_rules.proofs.Watching.{detector_hears}
+use Rattle.simulator_rules_seen.specs.Calls.{Items, calls_at}
+use Rattle.simulator_rules_nodes.specs.During.{Leads, SwitchSoFar}
+use Rattle.simulator_rules_seen.specs.Facts.{FarEnds}
+use Rattle.simulator_rules_seen.specs.Nodes.{phase_seen, route_seen}
+use Rattle.simulator_rules_seen.specs.Rows.{AreHeldAtFirst, machine_table}
+use Rattle.simulator_rules_seen.specs.Sees.{Given}
+use Rattle.simulator_rules_routes.proofs.Blocks.{unblocked}
+use Rattle.simulator_rules_nodes.proofs.Nodes.{lamp_hears}
+use Rattle.simulator_rules_nodes.proofs.Routes.{route_on, route_same}
+use Rattle.simulator_rules_routes.proofs.RulesKept.{one_move}
+use Rattle.simulator_rules_nodes.proofs.SwitchNodes.{switch_hears}
+use Rattle.simulator_rules_nodes.proofs.Watching.{detector_hears}
 
 not_refused : (fails : Bool) (told : Refusal) (otherwise : Option Refusal) → refused_where fails told otherwise ≡ None → (fails ≡ false) × (otherwise ≡ None)
 not_refused true told otherwise is = absurd (cc (is))

@@ -17,14 +17,14 @@ use Rattle.simulator_machine.specs.Moves.{HoldEnds}
 use Rattle.simulator_machine.specs.Point.{Point, PointLink, PointMove}
 use Rattle.simulator_machine.specs.Signal.{Signal, SignalLink, SignalMove}
 use Rattle.simulator_machine.specs.Table.{Table}
-use Rattle.simulator_rules.specs.Calls.{Items}
-use Rattle.simulator_rules.specs.Link.{ClientFits, client_at, is_inside}
+use Rattle.simulator_rules_seen.specs.Calls.{Items}
+use Rattle.simulator_rules_seen.specs.Link.{ClientFits, client_at, is_inside}
 use Rattle.simulator_rules.specs.Onward.{AreAloneAfterQuiet, IsPassed}
-use Rattle.simulator_rules.specs.Sees.{Given, IsClosedSince, PointFits, Sees, SeesPoint, SeesSignal, SignalFits}
-use Rattle.simulator_rules.proofs.Tests.{both_true, true_both}
-use Rattle.simulator_rules.proofs.Places.{by_place, inside_start, inside_up}
-use Rattle.simulator_rules.proofs.RulesKept.{one_move}
-use Rattle.simulator_rules.proofs.Signals.{PointGoes, SignalGoes}
+use Rattle.simulator_rules_seen.specs.Sees.{Given, IsClosedSince, PointFits, Sees, SeesPoint, SeesSignal, SignalFits}
+use Rattle.simulator_rules_seen.proofs.Tests.{both_true, true_both}
+use Rattle.simulator_rules_seen.proofs.Places.{by_place, inside_start, inside_up}
+use Rattle.simulator_rules_routes.proofs.RulesKept.{one_move}
+use Rattle.simulator_rules_nodes.proofs.Signals.{PointGoes, SignalGoes}
 
 -- a link closed since a creation is down when the hold after it is over
 ended_down : (later : ℕ) (ixl : IxlState) (link : LinkState) → is_holding later ixl ≡ false → later < greatest → IsClosedSince ixl.created link → client_at later link ≡ Down

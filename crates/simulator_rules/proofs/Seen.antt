@@ -11,11 +11,11 @@ use Rattle.simulator_machine.specs.Machine.{Machine}
 use Rattle.simulator_machine.specs.Point.{Point as MachinePoint, Position}
 use Rattle.simulator_machine.specs.Signal.{Signal as MachineSignal}
 use Rattle.simulator_machine.specs.Table.{Table}
-use Rattle.simulator_rules.specs.Behind.{Behind, LampIsBehind, SwitchIsBehind, given_behind, lamp_items, switch_items}
-use Rattle.simulator_rules.specs.Calls.{Items, calls_at}
+use Rattle.simulator_rules_ticks.specs.Behind.{Behind, LampIsBehind, SwitchIsBehind, given_behind, lamp_items, switch_items}
+use Rattle.simulator_rules_seen.specs.Calls.{Items, calls_at}
 use Rattle.simulator_rules.specs.Onward.{LooksAlike, PointLooksAlike, SignalLooksAlike}
-use Rattle.simulator_rules.specs.Sees.{Given, IsClosedSince, Sees, SeesPoint, SeesSignal}
-use Rattle.simulator_rules.specs.Telegrams.{AreHeard}
+use Rattle.simulator_rules_seen.specs.Sees.{Given, IsClosedSince, Sees, SeesPoint, SeesSignal}
+use Rattle.simulator_rules_seen.specs.Telegrams.{AreHeard}
 
 module _ (now : ℕ) (input : Input) (table : Table) (ixl : IxlState) (given : Given) (machine : Machine) (later : IxlState) (created : later.created ≡ ixl.created) where
   holds_there : is_holding now later ≡ true → is_holding now ixl ≡ true

@@ -23,56 +23,20 @@ use Rattle.simulator_machine.specs.Machine.{Machine}
 use Rattle.simulator_machine.specs.Point.{Point}
 use Rattle.simulator_machine.specs.Signal.{Signal}
 use Rattle.simulator_machine.specs.Table.{Table}
-use Rattle.simulator_rules.specs.Calls.{Items, calls_at, items_after}
-use Rattle.simulator_rules.specs.During.{LampSoFar, Leads, SwitchSoFar}
-use Rattle.simulator_rules.specs.Link.{ClientFits, client_at, client_in, is_inside}
-use Rattle.simulator_rules.specs.Nodes.{IsLastGiven, IsOfPoint, LampFits, SwitchFits}
-use Rattle.simulator_rules.specs.Sees.{Given, IsClosedSince, Sees, SeesPoint, SeesSignal}
-use Rattle.simulator_rules.specs.Telegrams.{AreHeard, given_by, position_seen, positions_told}
-use Rattle.simulator_rules.proofs.Tests.{by_test, both_true}
-use Rattle.simulator_rules.proofs.During.{stays_closed}
-use Rattle.simulator_rules.proofs.Fitting.{fallen_link, not_ready}
-use Rattle.simulator_rules.proofs.Hearing.{is_outside_at}
-use Rattle.simulator_rules.proofs.Nodes.{stays_so}
-use Rattle.simulator_rules.proofs.Receipts.{settled_goes}
-use Rattle.simulator_rules.proofs.Switching.{none_heard}
-
--- a link whose time has come isn't in a connection
-late_is_out : (now : ℕ) (link : LinkState) → is_open link.phase && nat_le (deadline link) now ≡ true → is_inside now link ≡ false
-late_is_out now link late = cases (is_inside now link) refl where
-  cases : (b : Bool) → is_inside now link ≡ b → is_inside now link ≡ false
-  cases true e = absurd (omega (arith, leb-true (deadline link) now (both_true (is_open link.phase) (nat_le (deadline link) now) late).1, ltb-true now (deadline link) (both_true (is_open link.phase) (nat_lt now (deadline link)) e).1))
-  cases false e = e
-
-inside_settled : (now : ℕ) (link : LinkState) → is_inside now (settled now link) ≡ true → is_inside now link ≡ true
-unfolding settled deadline
-inside_settled now link = by_test (λ (l : LinkState). is_inside now l ≡ true → is_inside now link ≡ true) (is_open link.phase && nat_le (deadline link) now)
-    (record link { phase = link_phase.Closed; closed_at = deadline link; clock = now }) (record link { clock = now }) (λ e. λ inside. absurd (false≢true inside)) (λ e. λ inside. inside)
-
-pub place_settled : (now : ℕ) (link : LinkState) → client_at now (settled now link) ≡ client_at now link
-unfolding settled deadline state_at
-place_settled now link = by_test (λ (l : LinkState). client_at now l ≡ client_at now link) (is_open link.phase && nat_le (deadline link) now)
-    (record link { phase = link_phase.Closed; closed_at = deadline link; clock = now }) (record link { clock = now }) (λ late. out late) (λ e. refl)
-  where
-    out : is_open link.phase && nat_le (deadline link) now ≡ true → client_at now (record link { phase = link_phase.Closed; closed_at = deadline link; clock = now }) ≡ client_at now link
-    out late = by_test (λ s. client_in (if nat_lt now (deadline link + quiet_time) then state.Quiet else state.Down) ≡ client_in s) (is_inside now link) (open_state link.phase)
-        (if nat_lt now (deadline link + quiet_time) then state.Quiet else state.Down) (λ inside. absurd (true≢false (sym inside ∙ late_is_out now link late))) (λ e. refl)
-
-pub confirmed_settled : (now : ℕ) (link : LinkState) → confirmed_items (settled now link) ≡ confirmed_items link
-unfolding settled
-confirmed_settled now link = by_test (λ (l : LinkState). confirmed_items l ≡ confirmed_items link) (is_open link.phase && nat_le (deadline link) now)
-    (record link { phase = link_phase.Closed; closed_at = deadline link; clock = now }) (record link { clock = now }) (λ e. refl) (λ e. refl)
-
-pub up_settled : (now : ℕ) (link : LinkState) → is_up (settled now link).phase ≡ true → is_up link.phase ≡ true
-unfolding settled
-up_settled now link = by_test (λ (l : LinkState). is_up l.phase ≡ true → is_up link.phase ≡ true) (is_open link.phase && nat_le (deadline link) now)
-    (record link { phase = link_phase.Closed; closed_at = deadline link; clock = now }) (record link { clock = now }) (λ e. λ up. absurd (false≢true up)) (λ e. λ up. up)
-
--- inside a connection it keeps its phase
-phase_settled : (now : ℕ) (link : LinkState) → is_inside now (settled now link) ≡ true → (settled now link).phase ≡ link.phase
-unfolding settled
-phase_settled now link = by_test (λ (l : LinkState). is_inside now l ≡ true → l.phase ≡ link.phase) (is_open link.phase && nat_le (deadline link) now)
-    (record link { phase = link_phase.Closed; closed_at = deadline link; clock = now }) (record link { clock = now }) (λ e. λ inside. absurd (false≢true inside)) (λ e. λ inside. refl)
+use Rattle.simulator_rules_seen.specs.Calls.{Items, calls_at, items_after}
+use Rattle.simulator_rules_nodes.specs.During.{LampSoFar, Leads, SwitchSoFar}
+use Rattle.simulator_rules_seen.specs.Link.{ClientFits, client_at, client_in, is_inside}
+use Rattle.simulator_rules_seen.specs.Nodes.{IsLastGiven, IsOfPoint, LampFits, SwitchFits}
+use Rattle.simulator_rules_seen.specs.Sees.{Given, IsClosedSince, Sees, SeesPoint, SeesSignal}
+use Rattle.simulator_rules_seen.specs.Telegrams.{AreHeard, given_by, position_seen, positions_told}
+use Rattle.simulator_rules_seen.proofs.Tests.{by_test, both_true}
+use Rattle.simulator_rules_nodes.proofs.During.{stays_closed}
+use Rattle.simulator_rules_client.proofs.Fitting.{fallen_link, not_ready}
+use Rattle.simulator_rules_client.proofs.Hearing.{is_outside_at}
+use Rattle.simulator_rules_nodes.proofs.Nodes.{stays_so}
+use Rattle.simulator_rules_client.proofs.Receipts.{settled_goes}
+use Rattle.simulator_rules_client.proofs.Settled.{confirmed_settled, inside_settled, phase_settled, place_settled, up_settled}
+use Rattle.simulator_rules_nodes.proofs.Switching.{none_heard}
 
 pub clocked_link : (now : ℕ) (client : ClientState) → (clocked now client).link ≡ settled now client.link
 unfolding clocked

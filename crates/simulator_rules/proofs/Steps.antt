@@ -14,20 +14,20 @@ use Rattle.simulator_machine.specs.Machine.{Machine, with_point, with_signal}
 use Rattle.simulator_machine.specs.Point.{PointMove}
 use Rattle.simulator_machine.specs.Signal.{SignalMove}
 use Rattle.simulator_machine.specs.Chains.{MovesTo, PointMayChain, SignalMayChain, point_chained, signal_chained}
-use Rattle.simulator_rules.specs.During.{Leads}
-use Rattle.simulator_rules.specs.Facts.{FarEnds}
-use Rattle.simulator_rules.specs.Rows.{AreHeldAtFirst, machine_table}
-use Rattle.simulator_rules.specs.Sees.{Given}
+use Rattle.simulator_rules_nodes.specs.During.{Leads}
+use Rattle.simulator_rules_seen.specs.Facts.{FarEnds}
+use Rattle.simulator_rules_seen.specs.Rows.{AreHeldAtFirst, machine_table}
+use Rattle.simulator_rules_seen.specs.Sees.{Given}
 use Rattle.rasta_core.specs.Outbox.{OutboxState}
 use Rattle.ixl_rules.specs.Part.{begun_with, over}
 use Rattle.ixl_rules.specs.Rules.{count}
 use Rattle.ixl_rules.specs.Step.{all_clocked, watching}
-use Rattle.simulator_rules.specs.During.{until_ticked}
-use Rattle.simulator_rules.specs.Sees.{Sees}
+use Rattle.simulator_rules_nodes.specs.During.{until_ticked}
+use Rattle.simulator_rules_seen.specs.Sees.{Sees}
 use Rattle.simulator_rules.proofs.Given.{inputs_kept}
-use Rattle.simulator_rules.proofs.RulesKept.{rules_kept}
+use Rattle.simulator_rules_routes.proofs.RulesKept.{rules_kept}
 use Rattle.simulator_rules.proofs.Start.{begins_so}
-use Rattle.simulator_rules.proofs.Watching.{all_watch}
+use Rattle.simulator_rules_nodes.proofs.Watching.{all_watch}
 
 module _ (now : ℕ) (input : Input) (rows : Rows) (ixl : IxlState) (given : Given) (machine : Machine) (far : FarEnds now input ixl given machine)
     (chain_signal : (machine : Machine) (place : ℕ) (moves : List SignalMove) → SignalMayChain moves (machine.signals place)

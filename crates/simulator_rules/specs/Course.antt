@@ -9,12 +9,12 @@ use Rattle.ixl_rules.specs.Step.{Input, stepped}
 use Rattle.ixl_rules.specs.Table.{Table}
 use Rattle.simulator_machine.specs.Chains.{MovesTo}
 use Rattle.simulator_machine.specs.Machine.{Machine}
-use Rattle.simulator_rules.specs.Behind.{given_behind}
-use Rattle.simulator_rules.specs.Facts.{FarEnds}
-use Rattle.simulator_rules.specs.Made.{IsJustMade}
+use Rattle.simulator_rules_ticks.specs.Behind.{given_behind}
+use Rattle.simulator_rules_seen.specs.Facts.{FarEnds}
+use Rattle.simulator_rules_seen.specs.Made.{IsJustMade}
 use Rattle.simulator_rules.specs.Onward.{AreAloneAfterQuiet, IsMadeAnew, IsPassed, IsStepped, LooksAlike, held_routes}
-use Rattle.simulator_rules.specs.Rows.{machine_table}
-use Rattle.simulator_rules.specs.Sees.{Given, Sees}
+use Rattle.simulator_rules_seen.specs.Rows.{machine_table}
+use Rattle.simulator_rules_seen.specs.Sees.{Given, Sees}
 
 -- an interlocking at a reading of its clock, what its clients gave and took in their last connections, and the routes that
 -- were frozen when it was last made anew

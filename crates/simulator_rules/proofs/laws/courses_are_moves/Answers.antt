@@ -1,4 +1,4 @@
-use Rattle.simulator_rules.specs.Rows.{machine_table}
+use Rattle.simulator_rules_seen.specs.Rows.{machine_table}
 use Rattle.simulator_rules.proofs.Events.{all}
 use Rattle.simulator_rules.proofs.laws.courses_are_moves.Goals as goal
 

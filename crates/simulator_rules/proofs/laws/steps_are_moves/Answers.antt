@@ -1,5 +1,5 @@
 use Rattle.ixl_rules.specs.Step.{Commands, Datagram, Tick, stepped, ticked}
-use Rattle.simulator_rules.specs.Rows.{machine_table}
+use Rattle.simulator_rules_seen.specs.Rows.{machine_table}
 use Rattle.simulator_rules.proofs.Steps.{steps_so}
 use Rattle.simulator_rules.proofs.Whole.{steps_lead}
 use Rattle.simulator_rules.proofs.laws.steps_are_moves.Goals as goal

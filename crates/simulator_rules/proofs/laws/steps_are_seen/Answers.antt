@@ -1,4 +1,4 @@
-use Rattle.simulator_rules.specs.Rows.{machine_table}
+use Rattle.simulator_rules_seen.specs.Rows.{machine_table}
 use Rattle.simulator_rules.proofs.Whole.{steps_sees}
 use Rattle.simulator_rules.proofs.laws.steps_are_seen.Goals as goal
 

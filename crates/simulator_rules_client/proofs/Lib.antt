@@ -1,0 +1,11 @@
+pub mod Phases
+pub mod Receipts
+pub mod Calls
+pub mod Courses
+pub mod Clients
+pub mod Hearing
+pub mod Fitting
+pub mod Settled
+pub mod Entered
+pub mod Ticking
+pub mod Parts

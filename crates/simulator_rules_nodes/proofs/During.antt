@@ -1,0 +1,251 @@
+-- A step so far: the machine sees the interlocking, and each link is what the step's calls made of it.
+use Rattle.std.proofs.Common.{inl, inr, ◌≡◌, ◌⊎◌, ℕ, ◌≤◌, Bool, true, false, not, List, ◌++◌, length, map, refl, sym, ap, subst, ◌∙◌}
+use Rattle.std.specs.Prelude.{◌-◌, Option, Some, None, slice_get}
+use Rattle.std.proofs.lemmas.Bool.{true≢false}
+use Rattle.sci_telegram.specs.declared.message.Aspect.{Aspect as TelegramAspect}
+use Rattle.rasta_core.specs.Clock.{settled}
+use Rattle.rasta_core.specs.State.{LinkState, confirmed_items, is_open, is_up}
+use Rattle.ixl_client.specs.Client.{ClientState, is_outside}
+use Rattle.ixl_client.specs.Made.{link_after}
+use Rattle.ixl_client.specs.Part as client
+use Rattle.ixl_client.specs.Part.{LinkCall, begun}
+use Rattle.ixl_client.specs.declared.command.Command.{Command}
+use Rattle.ixl_rules.specs.Part.{Signal, Point, Part, lamp_after, noted, with_lamp}
+use Rattle.ixl_rules.specs.State.{IxlState, LampState, changed}
+use Rattle.ixl_rules.specs.Step.{Input}
+use Rattle.simulator_machine.specs.Lists.{is_same, changed_at}
+use Rattle.simulator_machine.specs.Link.{Gone, Start}
+use Rattle.simulator_machine.specs.Signal.{Signal as MachineSignal, aspects_given, SignalMove}
+use Rattle.simulator_machine.specs.Point.{Point as MachinePoint}
+use Rattle.simulator_machine.specs.Machine.{Machine, with_signal}
+use Rattle.simulator_machine.specs.Table.{Table}
+use Rattle.simulator_machine.specs.Chains.{MovesTo, SignalMayChain, signal_chained}
+use Rattle.simulator_rules_seen.specs.Calls.{Items, calls_at, items_after}
+use Rattle.simulator_rules_seen.specs.Facts.{AreCallsIn, FarEnds, SignalFacts}
+use Rattle.simulator_rules_seen.specs.Link.{ClientFits, is_inside}
+use Rattle.simulator_rules_seen.specs.Nodes.{IsLastGiven, LampFits, openings}
+use Rattle.simulator_rules_seen.specs.Sees.{Given, IsClosedSince}
+use Rattle.simulator_rules_seen.specs.Step.{SignalStays}
+use Rattle.simulator_rules_seen.specs.Telegrams.{aspects_of}
+use Rattle.simulator_rules_seen.proofs.Tests.{by_test}
+use Rattle.simulator_rules_client.proofs.Phases.{Goes, shut_is_closed, stays_open, stays_up}
+use Rattle.simulator_rules_seen.proofs.Places.{inside_open, inside_start, open_inside}
+use Rattle.simulator_rules_client.proofs.Clients.{Standing, calls_go, calls_then, items_then, link_then}
+use Rattle.simulator_rules_client.proofs.Fitting.{fits_behind, not_ready}
+use Rattle.simulator_rules_nodes.proofs.Signals.{SignalGoes, arrives}
+use Rattle.simulator_rules_seen.proofs.Changes.{at_here, at_other, changed_elsewhere, changed_here, noted_elsewhere, noted_here, same_is, same_self}
+use Rattle.simulator_rules_nodes.specs.During.{During, LampDuring, LampSoFar, Leads, SwitchSoFar}
+
+-- what changes nothing of the far end changes no fact of it
+pub signal_facts_stay : (now : ℕ) (link : LinkState) (items : Items) (old new : MachineSignal) → SignalStays old new → SignalFacts now link items old → SignalFacts now link items new
+signal_facts_stay now link items old new stays facts = record {
+  ends = record {
+    up = λ is before. facts.ends.up is (sym stays.server ∙ before);
+    quiet = λ is inside. facts.ends.quiet is (sym stays.server ∙ inside);
+    alive = facts.ends.alive;
+    counted = facts.ends.counted;
+  };
+  confirmed = λ is. moved (facts.confirmed is);
+} where
+  moved : (old.link.server ≡ Gone) ⊎ (confirmed_items link - openings ≤ length old.done) → (new.link.server ≡ Gone) ⊎ (confirmed_items link - openings ≤ length new.done)
+  moved (inl gone) = inl (stays.server ∙ gone)
+  moved (inr few) = inr (subst (λ n. confirmed_items link - openings ≤ n) (ap length (sym stays.done)) few)
+
+-- a closed link stays so, since the same moment
+pub stays_closed : (since : ℕ) (old new : LinkState) → Goes old new → IsClosedSince since old → IsClosedSince since new
+stays_closed since old new goes is = record {
+  closed = shut_is_closed new.phase (shut (is_open new.phase) refl);
+  at = goes.shut (ap is_open is.closed) ∙ is.at;
+} where
+  shut : (b : Bool) → is_open new.phase ≡ b → is_open new.phase ≡ false
+  shut true opened = absurd (true≢false (sym (stays_open old.phase new.phase goes.may opened) ∙ ap is_open is.closed))
+  shut false e = e
+
+module _ (now : ℕ) (input : Input) (table : Table) (ixl : IxlState) (given : Given) (machine : Machine) where
+  module _ (far : FarEnds now input ixl given machine) (chain : (machine : Machine) (place : ℕ) (moves : List SignalMove) → SignalMayChain moves (machine.signals place)
+      → MovesTo table machine (with_signal place (signal_chained moves (machine.signals place)) machine))
+      (onward : (old between new : Machine) → MovesTo table old between → MovesTo table between new → MovesTo table old new) where
+    -- the facts at a signal
+    pub lamp_facts : (place : ℕ) (first lamp : LampState) (calls : List LinkCall) (new : MachineSignal) → slice_get ixl.lamps place ≡ Some first → AreCallsIn input first.client.peer calls →
+        lamp.client.link ≡ link_after now calls (settled now first.client.link) → SignalStays (machine.signals place) new →
+        SignalFacts now lamp.client.link (items_after now calls (settled now first.client.link) (given.signals place)) new
+    lamp_facts place first lamp calls new is are made stays =
+        subst (λ l. SignalFacts now l (items_after now calls (settled now first.client.link) (given.signals place)) new) (sym made)
+        (signal_facts_stay now (link_after now calls (settled now first.client.link)) (items_after now calls (settled now first.client.link) (given.signals place)) (machine.signals place) new stays
+        (far.signals place first is calls are))
+
+    -- What a signal's client does next, after these moves of the machine that leave all else as it is, comes to a lamp that
+    -- notes this last aspect.
+    pub record NextLamp (place : ℕ) (lamp : LampState) (items : Items) (part : Part) (old between : Machine) (done : client.Part) (aspect : Option TelegramAspect) (number : ℕ) : Type 0 where
+      pub commands : List Command
+      pub stands : Standing now input lamp.client.link items lamp.client.peer commands false 0 done
+      pub outside : is_outside done.client.stage ≡ not (is_up done.client.link.phase)
+      pub moves : MovesTo table old between
+      pub others : (n : ℕ) → is_same n place ≡ false → between.signals n ≡ old.signals n
+      pub points : between.points ≡ old.points
+      pub routes : between.routes ≡ old.routes
+      pub holding : between.holding ≡ old.holding
+      pub frozen : between.frozen ≡ old.frozen
+      pub stays : SignalStays (old.signals place) (between.signals place)
+      pub client : (between.signals place).link.client ≡ (old.signals place).link.client
+      pub aspects : is_inside now lamp.client.link ≡ true → is_inside now done.client.link ≡ true → aspects_given (between.signals place) ≡ aspects_of commands
+      pub last : is_inside now lamp.client.link ≡ true → is_inside now done.client.link ≡ true → done.client.link.given ≡ length (items_after now done.calls lamp.client.link items).given
+          → is_outside done.client.stage ≡ false → IsLastGiven aspect number commands
+
+    -- the lamp that the signal had at the beginning
+    pub first_lamp : (first current : Option LampState) (lamp : LampState) (before : Items) (calls : List LinkCall) (old new : MachineSignal) → current ≡ Some lamp →
+        LampSoFar now input table ixl given machine first before calls current old new → (one : LampState) × (first ≡ Some one) × LampDuring now input table ixl given machine one before calls lamp old new
+    first_lamp None None lamp before calls old new is so_far = absurd (cc (is))
+    first_lamp None (Some other) lamp before calls old new is so_far = absurd so_far
+    first_lamp (Some one) None lamp before calls old new is so_far = absurd so_far
+    first_lamp (Some one) (Some other) lamp before calls old new is so_far = (one, refl, subst (λ (l : Option LampState). LampSoFar now input table ixl given machine (Some one) before calls l old new) is so_far)
+
+    pub lamp_client : (aspect : Option TelegramAspect) (number : ℕ) (client : ClientState) → (lamp_after aspect number client).client ≡ client
+    unfolding lamp_after
+    lamp_client aspect number client = by_test (λ (l : LampState). l.client ≡ client) (is_outside client.stage) (record { client = client; aspect = None; number = 0 })
+        (record { client = client; aspect = aspect; number = number }) (λ e. refl) (λ e. refl)
+
+    -- a lamp that is outside notes no aspect, and has none
+    pub lamp_arrives : (aspect : Option TelegramAspect) (number : ℕ) (client : ClientState) (items : Items) (commands : List Command) (signal : MachineSignal) → ClientFits now client items commands →
+        SignalFacts now client.link items signal → (is_inside now client.link ≡ true → aspects_given signal ≡ aspects_of commands) →
+        (is_inside now client.link ≡ true → is_outside client.stage ≡ false → IsLastGiven aspect number commands) →
+        (is_inside now client.link ≡ true → is_up client.link.phase ≡ false → signal.link.client ≡ Start) → SignalGoes (LampFits now (lamp_after aspect number client) items) signal
+    unfolding lamp_after
+    lamp_arrives aspect number client items commands signal fits facts aspects last start =
+        by_test (λ (l : LampState). SignalGoes (LampFits now l items) signal) (is_outside client.stage) none some
+        (λ e. arrives now none items commands signal fits facts aspects (λ inside. fits.early inside (not_ready client.stage e)) start)
+        (λ e. arrives now some items commands signal fits facts aspects (λ inside. last inside e) start)
+      where
+        none : LampState
+        none = record { client = client; aspect = None; number = 0 }
+
+        some : LampState
+        some = record { client = client; aspect = aspect; number = number }
+
+    pub lamp_next : (place : ℕ) (lamp : LampState) (part : Part) (new between : Machine) (done : client.Part) (aspect : Option TelegramAspect) (number : ℕ) → During now input table ixl given machine part new →
+        slice_get part.ixl.lamps place ≡ Some lamp →
+        ((first : LampState) → slice_get ixl.lamps place ≡ Some first → LampDuring now input table ixl given machine first (given.signals place) (calls_at (Signal place) part.calls) lamp (machine.signals place) (new.signals place) →
+        NextLamp place lamp (items_after now (calls_at (Signal place) part.calls) (settled now first.client.link) (given.signals place)) part new between done aspect number) →
+        Leads now input table ixl given machine (with_lamp place (lamp_after aspect number done.client) (noted (Signal place) done part))
+    lamp_next place lamp part new between done aspect number during is next = on (first_lamp (slice_get ixl.lamps place) (slice_get part.ixl.lamps place) lamp (given.signals place) (calls_at (Signal place) part.calls)
+        (machine.signals place) (new.signals place) is (during.signals place))
+      where
+        calls : List LinkCall
+        calls = calls_at (Signal place) part.calls
+
+        on : (one : LampState) × (slice_get ixl.lamps place ≡ Some one) × LampDuring now input table ixl given machine one (given.signals place) calls lamp (machine.signals place) (new.signals place) →
+            Leads now input table ixl given machine (with_lamp place (lamp_after aspect number done.client) (noted (Signal place) done part))
+        on (first, is_first, was) = (
+          with_signal place arrived between,
+          record {
+            signals = each;
+            points = λ p. subst (λ cs. SwitchSoFar now input table ixl given machine (slice_get ixl.switches p) (given.points p) cs (slice_get part.ixl.switches p) (machine.points p) (between.points p))
+                (sym (noted_elsewhere (Point p) (Signal place) part.calls done.calls refl))
+                (subst (λ (points : ℕ → MachinePoint). SwitchSoFar now input table ixl given machine (slice_get ixl.switches p) (given.points p) (calls_at (Point p) part.calls) (slice_get part.ixl.switches p) (machine.points p) (points p)) (sym it.points) (during.points p));
+            routes = λ n. ap (λ routes. routes n) it.routes ∙ during.routes n;
+            count = during.count;
+            created = during.created;
+            holding = it.holding ∙ during.holding;
+            frozen = it.frozen ∙ during.frozen;
+            moves = onward machine between (with_signal place arrived between) (onward machine new between during.moves it.moves) (chain between place goes.moves goes.may);
+          },
+        ) where
+          start : LinkState
+          start = settled now first.client.link
+
+          items : Items
+          items = items_after now calls start (given.signals place)
+
+          it : NextLamp place lamp items part new between done aspect number
+          it = next first is_first was
+
+          behind : List LinkCall
+          behind = calls ++ done.calls
+
+          made : done.client.link ≡ link_after now behind start
+          made = it.stands.runs.made ∙ ap (link_after now done.calls) was.made ∙ sym (link_then now calls done.calls start)
+
+          items_are : items_after now done.calls lamp.client.link items ≡ items_after now behind start (given.signals place)
+          items_are = ap (λ l. items_after now done.calls l items) was.made ∙ sym (items_then now calls done.calls start (given.signals place))
+
+          are : AreCallsIn input first.client.peer behind
+          are = calls_then input first.client.peer calls done.calls was.are (subst (λ p. AreCallsIn input p done.calls) was.same it.stands.runs.are)
+
+          went : Goes lamp.client.link done.client.link
+          went = subst (Goes lamp.client.link) (sym it.stands.runs.made)
+              (calls_go now input lamp.client.peer done.calls lamp.client.link it.stands.runs.are was.fits.client.steady.opens)
+
+          same_signal : SignalStays (machine.signals place) (between.signals place)
+          same_signal = record { server = it.stays.server ∙ was.stays.server; done = it.stays.done ∙ was.stays.done }
+
+          facts : SignalFacts now done.client.link (items_after now behind start (given.signals place)) (between.signals place)
+          facts = subst (λ l. SignalFacts now l (items_after now behind start (given.signals place)) (between.signals place)) (sym made)
+              (signal_facts_stay now (link_after now behind start) (items_after now behind start (given.signals place)) (machine.signals place) (between.signals place) same_signal
+              (far.signals place first is_first behind are))
+
+          was_facts : SignalFacts now lamp.client.link items (new.signals place)
+          was_facts = lamp_facts place first lamp calls (new.signals place) is_first was.are was.made was.stays
+
+          was_inside : is_inside now done.client.link ≡ true → is_inside now lamp.client.link ≡ true
+          was_inside inside = open_inside now lamp.client.link was_facts.ends.alive
+              (stays_open lamp.client.link.phase done.client.link.phase went.may (inside_open now done.client.link inside))
+
+          asked : is_inside now done.client.link ≡ true → is_up done.client.link.phase ≡ false → (between.signals place).link.client ≡ Start
+          asked inside down = it.client ∙ was.fits.place ∙ inside_start now lamp.client.link (was_inside inside) (still_down inside down)
+            where
+              still_down : is_inside now done.client.link ≡ true → is_up done.client.link.phase ≡ false → is_up lamp.client.link.phase ≡ false
+              still_down inside down = cases (is_up lamp.client.link.phase) refl where
+                cases : (b : Bool) → is_up lamp.client.link.phase ≡ b → is_up lamp.client.link.phase ≡ false
+                cases true up = absurd (true≢false (sym (stays_up lamp.client.link.phase done.client.link.phase went.may up (inside_open now done.client.link inside)) ∙ down))
+                cases false e = e
+
+          goes : SignalGoes (LampFits now (lamp_after aspect number done.client) (items_after now behind start (given.signals place))) (between.signals place)
+          goes = lamp_arrives aspect number done.client (items_after now behind start (given.signals place)) it.commands (between.signals place)
+              (subst (λ i. ClientFits now done.client i it.commands) items_are (fits_behind now input lamp.client.link items lamp.client.peer it.commands false 0 done it.stands it.outside))
+              facts (λ inside. it.aspects (was_inside inside) inside) (λ inside. it.last (was_inside inside) inside
+              (facts.ends.counted (inside_open now done.client.link inside) ∙ ap (λ (i : Items). length i.given) (sym items_are))) asked
+
+          arrived : MachineSignal
+          arrived = signal_chained goes.moves (between.signals place)
+
+          lamp_now : LampState
+          lamp_now = lamp_after aspect number done.client
+
+          link_now : lamp_now.client.link ≡ done.client.link
+          link_now = ap (λ (c : ClientState). c.link) (lamp_client aspect number done.client)
+
+          so_far : LampDuring now input table ixl given machine first (given.signals place) behind lamp_now (machine.signals place) arrived
+          so_far = record {
+            fits = goes.fits;
+            held = λ holds. subst (IsClosedSince ixl.created) (sym link_now) (stays_closed ixl.created lamp.client.link done.client.link went (was.held holds));
+            are = are;
+            made = link_now ∙ made;
+            same = ap (λ (c : ClientState). c.peer) (lamp_client aspect number done.client) ∙ it.stands.runs.same ∙ was.same;
+            stays = record { server = goes.stays.server ∙ same_signal.server; done = goes.stays.done ∙ same_signal.done };
+          }
+
+          Goal : ℕ → Type 0
+          Goal n = LampSoFar now input table ixl given machine (slice_get ixl.lamps n) (given.signals n) (calls_at (Signal n) (part.calls ++ map (λ call. (Signal place, call)) done.calls))
+              (slice_get (changed (λ (old : LampState). lamp_now) place part.ixl.lamps) n) (machine.signals n) (changed_at place arrived between.signals n)
+
+          here : Goal place
+          here =
+              subst (λ l. LampSoFar now input table ixl given machine l (given.signals place) (calls_at (Signal place) (part.calls ++ map (λ call. (Signal place, call)) done.calls))
+              (slice_get (changed (λ (old : LampState). lamp_now) place part.ixl.lamps) place) (machine.signals place) (changed_at place arrived between.signals place)) (sym is_first)
+              (subst (λ cs. LampSoFar now input table ixl given machine (Some first) (given.signals place) cs (slice_get (changed (λ (old : LampState). lamp_now) place part.ixl.lamps) place) (machine.signals place) (changed_at place arrived between.signals place))
+              (sym (noted_here (Signal place) (Signal place) part.calls done.calls (same_self place)))
+              (subst (λ l. LampSoFar now input table ixl given machine (Some first) (given.signals place) behind l (machine.signals place) (changed_at place arrived between.signals place))
+              (sym (changed_here (λ (old : LampState). lamp_now) place part.ixl.lamps lamp is))
+              (subst (λ s. LampDuring now input table ixl given machine first (given.signals place) behind lamp_now (machine.signals place) s) (sym (at_here place arrived between.signals)) so_far)))
+
+          each : (n : ℕ) → Goal n
+          each n = cases (is_same n place) refl where
+            cases : (b : Bool) → is_same n place ≡ b → Goal n
+            cases true e = subst Goal (sym (same_is n place e)) here
+            cases false e =
+                subst (λ cs. LampSoFar now input table ixl given machine (slice_get ixl.lamps n) (given.signals n) cs (slice_get (changed (λ (old : LampState). lamp_now) place part.ixl.lamps) n) (machine.signals n) (changed_at place arrived between.signals n))
+                (sym (noted_elsewhere (Signal n) (Signal place) part.calls done.calls e))
+                (subst (λ l. LampSoFar now input table ixl given machine (slice_get ixl.lamps n) (given.signals n) (calls_at (Signal n) part.calls) l (machine.signals n) (changed_at place arrived between.signals n))
+                (sym (changed_elsewhere (λ (old : LampState). lamp_now) place part.ixl.lamps n e))
+                (subst (LampSoFar now input table ixl given machine (slice_get ixl.lamps n) (given.signals n) (calls_at (Signal n) part.calls) (slice_get part.ixl.lamps n) (machine.signals n))
+                (sym (at_other place arrived between.signals n e ∙ it.others n e)) (during.signals n)))

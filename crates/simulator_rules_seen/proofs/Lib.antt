@@ -1,0 +1,5 @@
+pub mod Tests
+pub mod Places
+pub mod Changes
+pub mod Tables
+pub mod Made

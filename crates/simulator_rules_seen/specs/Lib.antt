@@ -1,0 +1,9 @@
+pub mod Rows
+pub mod Calls
+pub mod Telegrams
+pub mod Link
+pub mod Nodes
+pub mod Sees
+pub mod Facts
+pub mod Step
+pub mod Made

@@ -1,0 +1,35 @@
+-- What the machine sees of a client and its link.
+use Rattle.std.specs.Prelude.{◌≡◌, ℕ, nat_lt, ◌&&◌, Bool, true, false, List, []}
+use Rattle.rasta_core.specs.Clock.{deadline, state_at}
+use Rattle.rasta_core.specs.State.{LinkState, is_open}
+use Rattle.rasta_core.specs.phase.State.{State}
+use Rattle.rasta_core.specs.phase.State.TheVariants as state
+use Rattle.ixl_client.specs.Client.{ClientState, IsClient, is_ready}
+use Rattle.ixl_client.specs.declared.command.Command.{Command}
+use Rattle.simulator_machine.specs.Link.{Client, Quiet, Down, Start, Up}
+use Rattle.simulator_rules_seen.specs.Calls.{Items}
+use Rattle.simulator_rules_seen.specs.Telegrams.{given_by}
+
+abbrev pub client_in : State → Client
+client_in state.Quiet = Quiet
+client_in state.Down = Down
+client_in state.Start = Start
+client_in state.Up = Up
+client_in state.RetransmissionRequested = Up
+client_in state.RetransmissionRunning = Up
+
+-- where a client is by its clock
+abbrev pub client_at : ℕ → LinkState → Client
+client_at now link = client_in (state_at now link)
+
+-- it is in a connection by its clock
+abbrev pub is_inside : ℕ → LinkState → Bool
+is_inside now link = is_open link.phase && nat_lt now (deadline link)
+
+-- A client, and what it gave in its last connection.
+pub record ClientFits (now : ℕ) (client : ClientState) (items : Items) (commands : List Command) : Type 0 where
+  -- it is outside exactly where its link isn't up
+  pub steady : IsClient client
+  -- inside a connection it gave there what belongs to its stage: commands only after the initialisation
+  pub given : is_inside now client.link ≡ true → items.given ≡ given_by client.peer client.stage commands
+  pub early : is_inside now client.link ≡ true → is_ready client.stage ≡ false → commands ≡ []

@@ -1,0 +1,2 @@
+pub mod NodeTicks
+pub mod Ticks
