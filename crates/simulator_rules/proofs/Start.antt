@@ -1,14 +1,10 @@
 -- How a step begins: the clock acts on every link, and the machine sees nothing of it.
-use Rattle.std.proofs.Common.{◌≡◌, ℕ, ◌+◌, arith, Bool, true, false, not, if◌then◌else◌, List, [], length, refl, sym, ap, subst, ◌∙◌}
-use Rattle.std.specs.Prelude.{◌&&◌, ◌-◌, nat_le, nat_lt, Option, Some, None, option_map, slice_get}
-use Rattle.std.proofs.lemmas.Bool.{true≢false, false≢true, leb-true, ltb-true}
+use Rattle.std.proofs.Common.{◌≡◌, ℕ, true, false, not, List, [], length, refl, sym, ap, subst, ◌∙◌}
+use Rattle.std.specs.Prelude.{◌-◌, Option, Some, None, option_map, slice_get}
 use Rattle.std.proofs.lemmas.Option.{slice_get-map}
-use Rattle.rasta_core.specs.Clock.{deadline, open_state, settled, state_at}
+use Rattle.rasta_core.specs.Clock.{settled}
 use Rattle.rasta_core.specs.Outbox.{OutboxState}
-use Rattle.rasta_core.specs.Parameters.{quiet_time}
-use Rattle.rasta_core.specs.State.{LinkState, confirmed_items, is_client, is_open, is_up}
-use Rattle.rasta_core.specs.phase.Phase.TheVariants as link_phase
-use Rattle.rasta_core.specs.phase.State.TheVariants as state
+use Rattle.rasta_core.specs.State.{LinkState, confirmed_items, is_client, is_up}
 use Rattle.ixl_client.specs.Client.{ClientState, IsClient, is_outside, is_ready}
 use Rattle.ixl_client.specs.Made.{link_after}
 use Rattle.ixl_client.specs.Step.{clocked, fallen}
@@ -25,11 +21,11 @@ use Rattle.simulator_machine.specs.Signal.{Signal}
 use Rattle.simulator_machine.specs.Table.{Table}
 use Rattle.simulator_rules_seen.specs.Calls.{Items, calls_at, items_after}
 use Rattle.simulator_rules_nodes.specs.During.{LampSoFar, Leads, SwitchSoFar}
-use Rattle.simulator_rules_seen.specs.Link.{ClientFits, client_at, client_in, is_inside}
+use Rattle.simulator_rules_seen.specs.Link.{ClientFits, client_at, is_inside}
 use Rattle.simulator_rules_seen.specs.Nodes.{IsLastGiven, IsOfPoint, LampFits, SwitchFits}
 use Rattle.simulator_rules_seen.specs.Sees.{Given, IsClosedSince, Sees, SeesPoint, SeesSignal}
 use Rattle.simulator_rules_seen.specs.Telegrams.{AreHeard, given_by, position_seen, positions_told}
-use Rattle.simulator_rules_seen.proofs.Tests.{by_test, both_true}
+use Rattle.simulator_rules_seen.proofs.Tests.{by_test}
 use Rattle.simulator_rules_nodes.proofs.During.{stays_closed}
 use Rattle.simulator_rules_client.proofs.Fitting.{fallen_link, not_ready}
 use Rattle.simulator_rules_client.proofs.Hearing.{is_outside_at}

@@ -1,15 +1,14 @@
 -- What a client gave and took fits to its stage behind each part of a step.
 use Rattle.std.proofs.Common.{◌≡◌, ℕ, Bool, true, false, not, List, [], ◌∷◌, ◌++◌, refl, sym, ap, subst, ◌∙◌}
 use Rattle.std.specs.Prelude.{if◌then◌else◌}
-use Rattle.std.proofs.lemmas.Bool.{true≢false, false≢true}
+use Rattle.std.proofs.lemmas.Bool.{false≢true}
 use Rattle.rasta_core.specs.Calls.{opens, ticking as link_ticking}
 use Rattle.rasta_core.specs.Outbox.{OutboxState}
 use Rattle.rasta_core.specs.State.{LinkState, is_client, is_open, is_up}
 use Rattle.ixl_client.specs.Client.{ClientState, is_ready}
-use Rattle.ixl_client.specs.Part.{LinkCall, Opens, Ticks, begun}
+use Rattle.ixl_client.specs.Part.{Opens, Ticks, begun}
 use Rattle.ixl_client.specs.Step.{commanding, fallen, hearing, ticking}
 use Rattle.ixl_client.specs.declared.command.Command.{Command}
-use Rattle.ixl_client.specs.declared.stage.Stage.TheVariants as stage
 use Rattle.ixl_rules.specs.Step.{Datagram}
 use Rattle.simulator_rules_client.specs.Fits.{FitsBehind, IsAlive, commands_after_tick}
 use Rattle.simulator_rules_seen.specs.Calls.{Items, items_after, no_items}
@@ -17,7 +16,7 @@ use Rattle.simulator_rules_seen.specs.Link.{ClientFits, is_inside}
 use Rattle.simulator_rules_seen.proofs.Places.{open_inside}
 use Rattle.simulator_rules_client.proofs.Clients.{Standing}
 use Rattle.simulator_rules_client.proofs.Entered.{TickedAnew, TickedOn, ticked_link, ticks_anew, ticks_on}
-use Rattle.simulator_rules_client.proofs.Fitting.{Commanded, begins, commands_on, fits_behind, inside_ready}
+use Rattle.simulator_rules_client.proofs.Fitting.{begins, commands_on, fits_behind, inside_ready}
 use Rattle.simulator_rules_client.proofs.Hearing.{hears}
 use Rattle.simulator_rules_client.proofs.Ticking.{anew_fits, anew_outside, ticking_calls, ticking_client, two_take, went_fits}
 
