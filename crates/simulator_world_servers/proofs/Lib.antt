@@ -1,0 +1,4 @@
+mod Below
+mod Taking
+mod Inside
+mod Lists
