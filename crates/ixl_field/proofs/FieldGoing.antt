@@ -15,7 +15,7 @@ use Rattle.ixl_field.specs.inside.Turns.{DetectorsTurned, LampsTurned, SwitchesT
 
 pub nothing_done : (now most : ℕ) (does : Part → Part) (rest : Rest) (old : FieldState) (box : OutboxState) → AllAt now old → Leads does (kept old rest) box (kept old rest) box →
     FieldGoes now most does rest old box old box
-nothing_done now most does rest old box at leads = record { leads = leads; reporters = refl; detectors = refl; clock = at; capacity = refl; few = omega arith }
+nothing_done now most does rest old box at leads = record { leads = leads; reporters = refl; lamps = refl; switches = refl; detectors = refl; clock = at; capacity = refl; few = omega arith }
 
 pub field_in : (now most : ℕ) (does : Part → Part) (rest : Rest) (inside old : FieldState) (box : OutboxState) (new : FieldState) (out : OutboxState) → inside ≡ old →
     FieldGoes now most does rest inside box new out → FieldGoes now most does rest old box new out
@@ -28,6 +28,8 @@ pub lamp_field : (now most : ℕ) (does : Part → Part) (each : LampState → O
 lamp_field now most does each rest old box signal one new out at within is goes turn = record {
   leads = turn (slice_get_read old.lamps (length old.lamps) signal one refl within is) goes.node goes.outbox;
   reporters = refl;
+  lamps = length-set old.lamps signal new;
+  switches = refl;
   detectors = refl;
   clock = record { lamps = All-set (λ (l : LampState). l.client.link.clock ≡ now) old.lamps signal new goes.clock at.lamps; switches = at.switches; detectors = at.detectors };
   capacity = goes.capacity;
@@ -41,6 +43,8 @@ pub switch_field : (now most : ℕ) (does : Part → Part) (each : SwitchState �
 switch_field now most does each rest old box point one new out at within is goes turn = record {
   leads = turn (slice_get_read old.switches (length old.switches) point one refl within is) goes.node goes.outbox;
   reporters = refl;
+  lamps = refl;
+  switches = length-set old.switches point new;
   detectors = refl;
   clock = record { lamps = at.lamps; switches = All-set (λ (s : SwitchState). s.client.link.clock ≡ now) old.switches point new goes.clock at.switches; detectors = at.detectors };
   capacity = goes.capacity;
@@ -54,6 +58,8 @@ pub detector_field : (now most : ℕ) (does : Part → Part) (each : DetectorSta
 detector_field now most does each rest old box place one new out at within is goes turn = record {
   leads = turn (slice_get_read old.detectors (length old.detectors) place one refl within is) goes.node goes.outbox;
   reporters = refl;
+  lamps = refl;
+  switches = refl;
   detectors = length-set old.detectors place new;
   clock = record { lamps = at.lamps; switches = at.switches; detectors = All-set (λ (d : DetectorState). d.client.link.clock ≡ now) old.detectors place new goes.clock at.detectors };
   capacity = goes.capacity;
@@ -99,6 +105,8 @@ all_tick now rest old box lamps one switches two detectors out first second thir
       second.leads (with_lamps lamps (kept old rest)) refl _ begins.0 begins.1
       in third.leads (with_switches switches (with_lamps lamps (kept old rest))) refl _ goes_on.0 goes_on.1);
   reporters = refl;
+  lamps = first.each;
+  switches = second.each;
   detectors = third.each;
   clock = record { lamps = first.clock; switches = second.clock; detectors = third.clock };
   capacity = third.capacity ∙ second.capacity ∙ first.capacity;

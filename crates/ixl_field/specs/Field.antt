@@ -61,6 +61,8 @@ field_clocked now field = record field {
 pub record FieldGoes (now most : ℕ) (does : Part → Part) (rest : Rest) (old : FieldState) (box : OutboxState) (new : FieldState) (out : OutboxState) : Type 0 where
   pub leads : Leads does (kept old rest) box (kept new rest) out
   pub reporters : new.reporters ≡ old.reporters
+  pub lamps : length new.lamps ≡ length old.lamps
+  pub switches : length new.switches ≡ length old.switches
   pub detectors : length new.detectors ≡ length old.detectors
   pub clock : AllAt now new
   pub capacity : out.capacity ≡ box.capacity

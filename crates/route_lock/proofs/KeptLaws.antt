@@ -117,6 +117,21 @@ module _ (l : Plan) (locks : List Locked) (all : Locked) (kept : AreKept l locks
       (λ r. inr (subst (λ (x : Locked). Has x.left p.0) (sym kept.together) ((in-all (λ k. Has k.left p.0) (left-split p.0) (has-none p.0) locks).1 (a.0, k.0, k.1, r))))
       (at-side p a k.0 k.1 t h)
 
+  held-as : (p : PointId) (a : RouteId) (k : Locked) (t : Side) → slice_get locks a.0 ≡ Some k → Holds st a p t → HoldsBy l a k.sections p t
+  held-as p a k t at h = (h.0, (h.1.0, h.1.1, subst (λ (x : Places). Has x h.1.0.0) (locked-is l locks a k at) h.1.2))
+
+  pub held-right : (p : PointId) (a : RouteId) → Holds st a p side.Right → Has all.right p.0
+  held-right p a h =
+      let k = locks-has locks a.0 h.1.0.0 h.1.2 in
+      let row = ((kept.rows a k.0 k.1).right p).1 (held-as p a k.0 side.Right k.1 h) in
+      subst (λ (x : Locked). Has x.right p.0) (sym kept.together) ((in-all (λ k. Has k.right p.0) (right-split p.0) (has-none p.0) locks).1 (a.0, k.0, k.1, row))
+
+  pub held-left : (p : PointId) (a : RouteId) → Holds st a p side.Left → Has all.left p.0
+  held-left p a h =
+      let k = locks-has locks a.0 h.1.0.0 h.1.2 in
+      let row = ((kept.rows a k.0 k.1).left p).1 (held-as p a k.0 side.Left k.1 h) in
+      subst (λ (x : Locked). Has x.left p.0) (sym kept.together) ((in-all (λ k. Has k.left p.0) (left-split p.0) (has-none p.0) locks).1 (a.0, k.0, k.1, row))
+
   pub holds-is : (p : PointId) (a : RouteId) (k : Locked) (b : Bool) → slice_get locks a.0 ≡ Some k → Decides b (Has k.right p.0 ⊎ Has k.left p.0) → IsTrue b ↔ ((t : Side) × Holds st a p t)
   holds-is p a k b at d = (
     λ h. ⊎_elim (λ r. (side.Right, holds-of p a k side.Right at (((kept.rows a k at).right p).0 r))) (λ r. (side.Left, holds-of p a k side.Left at (((kept.rows a k at).left p).0 r))) (d.0 h),

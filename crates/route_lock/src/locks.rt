@@ -100,7 +100,8 @@ impl Locks {
 
     /// The table.
     pub fn table(&self) -> &Checked
-        ensures { result.now ≡ self.now.table }
+        ensures table { result.now ≡ self.now.table }
+        ensures each { length self.now.locked ≡ length self.now.table.routes }
     {
         &self.table
     }
@@ -145,6 +146,16 @@ impl Locks {
         None
     }
 
+    /// Whether some set route holds a point at this side.
+    pub fn is_held(&self, point: PointId, side: Side) -> bool
+        ensures { IsTrue result ↔ ((a : Route) × Holds self.now a point side) }
+    {
+        match side {
+            Side::Right => self.all.right.contains(point.0),
+            Side::Left => self.all.left.contains(point.0),
+        }
+    }
+
     /// Whether a route holds a point, at whichever side.
     pub fn holds(&self, route: RouteId, point: PointId) -> bool
         requires { route.0 < length self.now.table.routes }
@@ -164,7 +175,7 @@ impl Locks {
     }
 
     /// Why a route that isn't set can't be reserved, if it can't.
-    fn fault(&self, route: RouteId) -> Option<LockFault>
+    pub fn fault(&self, route: RouteId) -> Option<LockFault>
         requires there { route.0 < length self.now.table.routes }
         requires free { IsSet self.now route → ⊥ }
         ensures some { IfSome result (IsFault self.now route) }

@@ -1,0 +1,5 @@
+pub mod Lists
+pub mod Sections
+pub mod Putting
+pub mod Freeing
+pub mod Turns

@@ -1,0 +1,130 @@
+-- A route is changed: what holds of the routes and of the locks is kept.
+use Rattle.std.proofs.Common.{◌≡◌, ◌≢◌, ◌∙◌, ◌⊎◌, not, true, false, Bool, ℕ, zero, suc, ◌+◌, ◌<◌, ◌≤◌, List, length, map, drop, slice_set, get_or, Some, refl, sym, ap, subst, ⊎_elim, arith, add-one}
+use Rattle.std.specs.Prelude.{slice_get, ◌↔◌, IsTrue}
+use Rattle.std.specs.List.{AllPairs, Contains}
+use Rattle.std.specs.FinSet.{contains, empty, remove, contains-empty, contains-remove}
+use Rattle.std.specs.Cmp.{nat_cmp_total, unsigned_tied}
+use Rattle.std.specs.Ordering.{nat_cmp}
+use Rattle.std.proofs.lemmas.Bool.{cases_eq, false≢true}
+use Rattle.std.proofs.lemmas.List.{get_or-set_other, get_or-set_same, length-set}
+use Rattle.std.proofs.lemmas.Option.{same_Some, slice_get_within}
+use Rattle.layout.specs.declared.ids.RouteId.{RouteId}
+use Rattle.layout.specs.declared.ids.SectionId.{SectionId}
+use Rattle.bit_row.specs.Places.{Has, Places}
+use Rattle.control_table.specs.Table.{AreSections, LeadsOver}
+use Rattle.route_lock.specs.Locks.{AreAllSections, IsSection, LockState, LocksAt, locked_by, locking}
+use Rattle.ixl_rules.specs.Due.{HoldsSection}
+use Rattle.ixl_rules.specs.State.{IxlState, RouteState, changed}
+use Rattle.ixl_rules.specs.Table.{Row}
+use Rattle.ixl_rules.specs.View.{freed_sections, is_set}
+use Rattle.ixl_rules.specs.declared.phase.Phase.{Phase}
+use Rattle.ixl_rules.specs.declared.phase.Phase.TheVariants as phase
+use Rattle.ixl_table.specs.Locks.{AreLocksOf, HaveSectionsLeft, IsKeptRoute}
+use Rattle.ixl_table.specs.Table.{IsRowOf, PlannedTable, as_route, as_section}
+use Rattle.ixl_field.specs.Field.{FieldState, Rest, kept}
+use Rattle.ixl_state.specs.State.{AtRoute, StateView, route_changed}
+use Rattle.ixl_state.specs.inside.Kept.{AreRoutesOf, HoldsAlike, IsFieldOf, IsPassageOf, IsState}
+use Rattle.ixl_state.proofs.Lists.{after-rest, apart-after, changed-is-set, get-below, rest-after, set-cases}
+
+abbrev pub view_of : PlannedTable → FieldState → List RouteState → ℕ → Bool → StateView
+view_of planned field routes created resumed = record { planned = planned; ixl = kept field (record { routes = routes; created = created; resumed = resumed }) }
+
+-- ---- where a route is
+
+pub place-below : (planned : PlannedTable) (field : FieldState) (routes : List RouteState) (created : ℕ) (resumed : Bool) (now : StateView) (number : ℕ) → view_of planned field routes created resumed ≡ now
+    → AreRoutesOf planned routes → number < length now.planned.table.rows → (number < length planned.table.rows) × (number < length routes)
+place-below planned field routes created resumed now number is are there =
+    let same = ap (λ (s : StateView). length s.planned.table.rows) is in
+    let each = are.each in
+    (omega (arith, same, there), omega (arith, same, each, there))
+
+pub kept-at : (planned : PlannedTable) (routes : List RouteState) (number : ℕ) → AreRoutesOf planned routes → number < length planned.table.rows → (row : Row) × (route : RouteState) × IsKeptRoute planned.table routes number row route
+kept-at planned routes number are there =
+    let each = are.each in
+    let row = get-below planned.table.rows number there in
+    let route = get-below routes number (omega (arith, each, there)) in
+    (row.0, route.0, (row.1, route.1))
+
+-- ---- one route is set
+
+module _ (planned : PlannedTable) (routes : List RouteState) (number : ℕ) (row : Row) (old new : RouteState) (is : IsKeptRoute planned.table routes number row old) where
+  at-set : (P : ℕ → Row → RouteState → Type 0) → P number row new → ((m : ℕ) (r : Row) (route : RouteState) → m ≢ number → IsKeptRoute planned.table routes m r route → P m r route)
+      → (m : ℕ) (r : Row) (route : RouteState) → IsKeptRoute planned.table (slice_set routes number new) m r route → P m r route
+  at-set P here there m r route at = ⊎_elim
+      (λ h.
+      let same : row ≡ r = same_Some row r (sym is.0 ∙ ap (slice_get planned.table.rows) (sym h.0) ∙ at.0) in
+      subst (λ (n : ℕ). P n r route) (sym h.0) (subst (λ (x : Row). P number x route) same (subst (λ (x : RouteState). P number row x) (sym h.1) here)))
+      (λ h. there m r route h.0 (at.0, h.1)) (set-cases routes number m new route at.1)
+
+  pub routes-kept : AreRoutesOf planned routes → (IsTrue (is_set new.phase) → freed_sections new.phase < length row.sections) → IsPassageOf row new.passage → AreRoutesOf planned (slice_set routes number new)
+  routes-kept are left passage = record {
+    each = length-set routes number new ∙ are.each;
+    left = at-set (λ m r route. IsTrue (is_set route.phase) → freed_sections route.phase < length r.sections) left (λ m r route other at. are.left m r route at);
+    passages = at-set (λ m r route. IsPassageOf r route.passage) passage (λ m r route other at. are.passages m r route at);
+  }
+
+  -- the locks stay where the route holds what it held
+  pub locks-kept : (locks : LockState) → AreLocksOf planned routes locks → HoldsAlike old.phase new.phase → AreLocksOf planned (slice_set routes number new) locks
+  locks-kept locks are alike = record {
+    plan = are.plan;
+    locked = at-set (λ m r route. (section : ℕ) → Has (locked_by locks (as_route m)) section ↔ HoldsSection r route.phase section)
+        (λ section.
+        let held = are.locked number row old is section in (
+          λ h. let x = held.0 h in (subst IsTrue (sym alike.set) x.0, subst (λ n. Contains (drop n row.sections) section) (sym alike.freed) x.1),
+          λ h. held.1 (subst IsTrue alike.set h.0, subst (λ n. Contains (drop n row.sections) section) alike.freed h.1),
+        ))
+        (λ m r route other at. are.locked m r route at);
+    no_other = are.no_other;
+  }
+
+  -- they follow where it locks what it holds now
+  pub locks-put : (locks : LockState) → AreLocksOf planned routes locks → number < length locks.locked → (sections : Places) → ((section : ℕ) → Has sections section ↔ HoldsSection row new.phase section)
+      → AreLocksOf planned (slice_set routes number new) (locking locks (as_route number) sections)
+  locks-put locks are within sections its = record {
+    plan = are.plan;
+    locked = at-set (λ m r route. (section : ℕ) → Has (locked_by (locking locks (as_route number) sections) (as_route m)) section ↔ HoldsSection r route.phase section)
+        (λ section. subst (λ (x : Places). Has x section ↔ HoldsSection row new.phase section) (sym (get_or-set_same locks.locked number sections empty within)) (its section))
+        (λ m r route other at section. subst (λ (x : Places). Has x section ↔ HoldsSection r route.phase section) (sym (get_or-set_other locks.locked number m sections empty other)) (are.locked m r route at section));
+    no_other = λ m section past h.
+        let lt = slice_get_within planned.table.rows number row is.0 in
+        are.no_other m section past (subst (λ (x : Places). Has x section) (get_or-set_other locks.locked number m sections empty (λ same. absurd (omega (arith, lt, past, same)))) h);
+  }
+
+  pub view-changed : (field : FieldState) (created : ℕ) (resumed : Bool) (now : StateView) → view_of planned field routes created resumed ≡ now → (change : RouteState → RouteState) → new ≡ change old
+      → view_of planned field (slice_set routes number new) created resumed ≡ route_changed change number now
+  view-changed field created resumed now same change changes =
+      ap (λ (rs : List RouteState). view_of planned field rs created resumed) (changed-is-set change routes number old new is.1 changes) ∙ ap (route_changed change number) same
+
+-- ---- a whole state of which one route is changed
+
+pub at-inside : (planned : PlannedTable) (field : FieldState) (routes : List RouteState) (created : ℕ) (resumed : Bool) (now : StateView) (number : ℕ) → view_of planned field routes created resumed ≡ now
+    → (F : Row → RouteState → Type 0) → AtRoute now number F → AtRoute (view_of planned field routes created resumed) number F
+at-inside planned field routes created resumed now number is F at = subst (λ (s : StateView). AtRoute s number F) (sym is) at
+
+pub kept-state : (planned : PlannedTable) (field : FieldState) (routes : List RouteState) (locks : LockState) (number : ℕ) (row : Row) (old new : RouteState) → IsKeptRoute planned.table routes number row old
+    → IsState planned field routes locks → HoldsAlike old.phase new.phase → IsPassageOf row new.passage → IsState planned field (slice_set routes number new) locks
+kept-state planned field routes locks number row old new at is alike passage = record {
+  field_is = is.field_is;
+  routes_are = routes-kept planned routes number row old new at is.routes_are
+      (λ set. subst (λ (n : ℕ). n < length row.sections) (sym alike.freed) (is.routes_are.left number row old at (subst IsTrue alike.set set))) passage;
+  locks_are = locks-kept planned routes number row old new at locks is.locks_are alike;
+}
+
+pub put-state : (planned : PlannedTable) (field : FieldState) (routes : List RouteState) (locks new_locks : LockState) (number : ℕ) (row : Row) (old new : RouteState) (sections : Places) → IsKeptRoute planned.table routes number row old
+    → IsState planned field routes locks → number < length locks.locked → new_locks ≡ locking locks (as_route number) sections → ((section : ℕ) → Has sections section ↔ HoldsSection row new.phase section)
+    → (IsTrue (is_set new.phase) → freed_sections new.phase < length row.sections) → new.passage ≡ old.passage → IsState planned field (slice_set routes number new) new_locks
+put-state planned field routes locks new_locks number row old new sections at is within same its left passage = record {
+  field_is = is.field_is;
+  routes_are = routes-kept planned routes number row old new at is.routes_are left (subst (λ p. IsPassageOf row p) (sym passage) (is.routes_are.passages number row old at));
+  locks_are = subst (λ (l : LockState). AreLocksOf planned (slice_set routes number new) l) (sym same) (locks-put planned routes number row old new at locks is.locks_are within sections its);
+}
+
+-- a route that is changed holds what it held where its phase does
+pub alike-by : (old new : RouteState) (change : RouteState → RouteState) → new ≡ change old → HoldsAlike old.phase (change old).phase → HoldsAlike old.phase new.phase
+alike-by old new change is alike = subst (λ (r : RouteState). HoldsAlike old.phase r.phase) (sym is) alike
+
+pub passage-by : (row : Row) (old new : RouteState) (change : RouteState → RouteState) → new ≡ change old → IsPassageOf row (change old).passage → IsPassageOf row new.passage
+passage-by row old new change is passage = subst (λ (r : RouteState). IsPassageOf row r.passage) (sym is) passage
+
+pub alike-from : (was before after : Phase) → was ≡ before → HoldsAlike before after → HoldsAlike was after
+alike-from was before after is alike = subst (λ (p : Phase). HoldsAlike p after) (sym is) alike

@@ -1,0 +1,40 @@
+-- What holds of every state of an interlocking.
+use Rattle.std.specs.Prelude.{◌≡◌, ℕ, ◌<◌, List, length}
+use Rattle.bit_row.specs.Places.{Has}
+use Rattle.release.specs.Passage.{PassageState}
+use Rattle.route_lock.specs.Locks.{LockState}
+use Rattle.ixl_rules.specs.State.{RouteState}
+use Rattle.ixl_rules.specs.Table.{Row}
+use Rattle.ixl_rules.specs.View.{freed_sections, is_set}
+use Rattle.ixl_rules.specs.declared.phase.Phase.{Phase}
+use Rattle.ixl_table.specs.Locks.{AreLocksOf, HaveSectionsLeft, IsKeptRoute}
+use Rattle.ixl_table.specs.Table.{PlannedTable}
+use Rattle.ixl_field.specs.Field.{FieldState}
+
+-- a passage leads over the sections of a row, and nothing was seen beyond them
+pub record IsPassageOf (row : Row) (passage : PassageState) : Type 0 where
+  pub sections : passage.sections ≡ length row.sections
+  pub within : (place : ℕ) → Has passage.seen place → place < length row.sections
+
+-- a route holds the same in two phases
+pub record HoldsAlike (old new : Phase) : Type 0 where
+  pub set : is_set new ≡ is_set old
+  pub freed : freed_sections new ≡ freed_sections old
+
+-- a controller for each signal, point and detector of a plan, and the sections are reported as its table says
+pub record IsFieldOf (planned : PlannedTable) (field : FieldState) : Type 0 where
+  pub reporters : field.reporters ≡ planned.table.reporters
+  pub lamps : length field.lamps ≡ length planned.plan.signals
+  pub switches : length field.switches ≡ length planned.plan.points
+  pub detectors : length field.detectors ≡ length planned.plan.detectors
+
+-- a route is kept for each row
+pub record AreRoutesOf (planned : PlannedTable) (routes : List RouteState) : Type 0 where
+  pub each : length routes ≡ length planned.table.rows
+  pub left : HaveSectionsLeft planned.table routes
+  pub passages : (number : ℕ) (row : Row) (route : RouteState) → IsKeptRoute planned.table routes number row route → IsPassageOf row route.passage
+
+pub record IsState (planned : PlannedTable) (field : FieldState) (routes : List RouteState) (locks : LockState) : Type 0 where
+  pub field_is : IsFieldOf planned field
+  pub routes_are : AreRoutesOf planned routes
+  pub locks_are : AreLocksOf planned routes locks

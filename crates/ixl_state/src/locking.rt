@@ -1,0 +1,79 @@
+//! What the set routes lock.
+
+ghost use Rattle.std.specs.Prelude.{◌≡◌, ◌↔◌, ℕ, ◌<◌, false, length};
+ghost use Rattle.bit_row.specs.Places.{Has};
+ghost use Rattle.ixl_rules.specs.Due.{HoldsSection};
+ghost use Rattle.ixl_rules.specs.View.{first_blocking, is_held_at, is_held_with_authority, is_set, was_authorised};
+ghost use Rattle.ixl_rules.specs.declared.phase.Phase.{Phase as PhaseAt};
+ghost use Rattle.ixl_state.specs.State.{AtRoute};
+
+use crate::state::State;
+use bit_row::BitRow;
+use ixl_rules::Phase;
+use ixl_table::{
+    points_are_held_by_phase_at_a_side, points_are_held_by_some_phase, set_routes_lock_sections,
+    the_first_blocking_route_is_told_by_phase,
+};
+use layout::{PointId, RouteId};
+use route_lock::LockFault;
+use sci_telegram::Side;
+
+/// Whether a route was given authority in its present setting.
+fn was_authorised(phase: Phase) -> bool
+    ensures { result ≡ was_authorised phase }
+{
+    match phase {
+        Phase::Free | Phase::Waiting => false,
+        _ => true,
+    }
+}
+
+impl State {
+    /// The sections that a route locks.
+    pub fn locked(&self, number: usize) -> BitRow
+        requires { number < length self.now.planned.table.rows }
+        ensures { AtRoute self.now number (λ row route. (section : ℕ) → Has result section ↔ HoldsSection row route.phase section) }
+    {
+        self.table.checked();
+        self.locks.locked(RouteId(number))
+    }
+
+    /// Whether some set route holds a point at this side.
+    pub fn is_held_at(&self, point: usize, side: Side) -> bool
+        ensures { result ≡ is_held_at self.now.planned.table self.now.ixl point side }
+    {
+        points_are_held_by_some_phase();
+        self.table.checked();
+        self.locks.is_held(PointId(point), side)
+    }
+
+    /// Whether a route that was given authority in its present setting holds a point.
+    pub fn is_held_with_authority(&self, point: usize) -> bool
+        ensures { result ≡ is_held_with_authority self.now.planned.table self.now.ixl point }
+    {
+        points_are_held_by_phase_at_a_side();
+        self.table.checked();
+        for (number, route) in self.routes.iter().enumerate() {
+            if was_authorised(route.phase()) && self.locks.holds(RouteId(number), PointId(point)) {
+                return true;
+            }
+        }
+        false
+    }
+
+    /// The first route of the table that blocks one that isn't set.
+    pub fn blocking(&self, number: usize) -> Option<usize>
+        requires there { number < length self.now.planned.table.rows }
+        requires free { AtRoute self.now number (λ row route. is_set route.phase ≡ false) }
+        ensures { AtRoute self.now number (λ row route. result ≡ first_blocking number row 0 self.now.planned.table.rows self.now.ixl.routes) }
+    {
+        set_routes_lock_sections();
+        the_first_blocking_route_is_told_by_phase();
+        self.table.checked();
+        match self.locks.fault(RouteId(number)) {
+            None => None,
+            Some(LockFault::Conflict(route)) => Some(route.0),
+            Some(LockFault::PointHeld(route, _)) => Some(route.0),
+        }
+    }
+}

@@ -1,0 +1,85 @@
+//! All that an interlocking keeps.
+
+ghost use Rattle.std.specs.Prelude.{◌≡◌, ℕ, ◌<◌, ◌≤◌, length, IsTrue};
+ghost use Rattle.bit_row.specs.Places.{Has};
+ghost use Rattle.ixl_rules.specs.View.{freed_sections, is_set};
+ghost use Rattle.ixl_state.specs.State.{AtRoute, HasRoute, field_of};
+
+use crate::route::Route;
+use ixl_field::Field;
+use ixl_table::Table;
+use rasta_core::Millis;
+use route_lock::Locks;
+use std::marker::Model;
+
+/// An interlocking's table, its controllers, what the set routes lock, how far each route is, the clock reading of its
+/// creation, and whether it was told to resume.
+#[derive(Debug, Drop)]
+pub struct State {
+    pub(crate) table: Table,
+    pub(crate) field: Field,
+    pub(crate) locks: Locks,
+    pub(crate) routes: Vec<Route>,
+    pub(crate) created: Millis,
+    pub(crate) resumed: bool,
+}
+
+impl Model for State {
+    ghost use Rattle.std.specs.Coded.{codes};
+    ghost use Rattle.bit_row.specs.Places.{places_code};
+    ghost use Rattle.ixl_field.specs.Field.{kept};
+    ghost use Rattle.ixl_state.specs.State.{StateView};
+    ghost use Rattle.ixl_state.specs.inside.Kept.{IsState};
+
+    ghost Value = { StateView };
+
+    ghost coded = { Prim.hlevel (codes, places_code) };
+
+    ghost view = { λ s. record { planned = s.table; ixl = kept s.field (record { routes = s.routes.items; created = s.created; resumed = s.resumed }) } };
+
+    ghost invariant = { λ s. IsState s.table s.field s.routes.items s.locks };
+}
+
+impl State {
+    /// The table. Beside it stands what holds of every state.
+    pub fn table(&self) -> &Table
+        ensures planned { result.now ≡ self.now.planned }
+        ensures each { length self.now.ixl.routes ≡ length self.now.planned.table.rows }
+        ensures few { length self.now.planned.table.rows ≤ 64 }
+        ensures there { (number : ℕ) → number < length self.now.planned.table.rows → HasRoute self.now number }
+        ensures lengths { (length self.now.ixl.lamps ≤ 32) × (length self.now.ixl.switches ≤ 32) × (length self.now.ixl.detectors ≤ 16) }
+        ensures within { (number : ℕ) → AtRoute self.now number (λ row route. (route.passage.sections ≡ length row.sections) × ((place : ℕ) → Has route.passage.seen place → place < length row.sections) × (IsTrue (is_set route.phase) → freed_sections route.phase < length row.sections)) }
+    {
+        self.table.checked();
+        &self.table
+    }
+
+    /// The controllers.
+    pub fn field(&self) -> &Field
+        ensures { result.now ≡ field_of self.now }
+    {
+        &self.field
+    }
+
+    /// A route.
+    pub fn route(&self, number: usize) -> Route
+        requires { number < length self.now.planned.table.rows }
+        ensures { AtRoute self.now number (λ row route. result ≡ route) }
+    {
+        self.routes[number]
+    }
+
+    /// The clock reading of its creation.
+    pub fn created(&self) -> Millis
+        ensures { result ≡ self.now.ixl.created }
+    {
+        self.created
+    }
+
+    /// Whether it was told to resume.
+    pub fn is_resumed(&self) -> bool
+        ensures { result ≡ self.now.ixl.resumed }
+    {
+        self.resumed
+    }
+}
