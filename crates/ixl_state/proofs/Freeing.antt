@@ -1,5 +1,5 @@
 -- What a route locks of which a section is freed, or that is set.
-use Rattle.std.proofs.Common.{◌≡◌, ◌≢◌, ◌∙◌, ◌&&◌, ◌==◌, not, ℕ, zero, suc, ◌+◌, ◌<◌, List, length, map, drop, get_or, Some, Ok, Err, Result, refl, sym, ap, subst, arith, add-one}
+use Rattle.std.proofs.Common.{◌≡◌, ◌≢◌, ◌∙◌, ◌&&◌, ◌==◌, Bool, true, false, not, ℕ, suc, ◌+◌, ◌<◌, List, length, map, drop, Some, Ok, Err, Result, refl, sym, ap, subst, arith, add-one}
 use Rattle.std.specs.Prelude.{slice_get, ◌↔◌, IsTrue, IfErr, OnOk}
 use Rattle.std.specs.Bool.{Decides}
 use Rattle.std.specs.List.{AllPairs, Contains}
@@ -15,16 +15,15 @@ use Rattle.std.proofs.lemmas.Option.{same_Some, slice_get-map}
 use Rattle.layout.specs.declared.ids.RouteId.{RouteId}
 use Rattle.layout.specs.declared.ids.SectionId.{SectionId}
 use Rattle.layout.specs.Entries.{Plan}
-use Rattle.layout.specs.Once.{Once}
 use Rattle.bit_row.specs.Places.{Has, Places}
 use Rattle.control_table.specs.Table.{AreSections, LeadsOver}
 use Rattle.route_lock.specs.declared.locks.LockFault.{LockFault}
 use Rattle.route_lock.specs.declared.locks.LockFault.TheVariants.{Conflict, PointHeld}
 use Rattle.route_lock.specs.Locks.{AreAllSections, Blocks, IsFault, IsSection, LockState, LocksAt, locked_by}
 use Rattle.ixl_rules.specs.Due.{HoldsSection}
+use Rattle.ixl_rules.specs.Rules.{come_to, freed, one_freed}
 use Rattle.ixl_rules.specs.State.{RouteState}
 use Rattle.ixl_rules.specs.Table.{Row}
-use Rattle.ixl_rules.specs.View.{freed_sections, is_set}
 use Rattle.ixl_rules.specs.declared.phase.Phase.{Phase}
 use Rattle.ixl_rules.specs.declared.phase.Phase.TheVariants as phase
 use Rattle.ixl_table.specs.Locks.{AreLocksOf, IsKeptRoute}
@@ -124,3 +123,17 @@ faulty locks b (PointHeld c p) is = (c, is.0.0)
 pub reserved : {T : Type 0} (A : Type 0) (locks : LockState) (b : RouteId) (result : Result T LockFault) → OnOk result A → IfErr result (IsFault locks b) → ((c : RouteId) → Blocks locks c b → ⊥) → A
 reserved A locks b (Ok x) done fault none = done
 reserved A locks b (Err f) done fault none = let c = faulty locks b f fault in absurd (none c.0 c.1)
+
+-- ---- what freeing one more makes of a route
+
+pub last-freed : (row : Row) (p : Phase) (clock done : ℕ) → p ≡ phase.Ended clock done → done + 1 ≡ length row.sections → (route : RouteState) → freed route ≡ one_freed row p route
+last-freed row p clock done is last route =
+    let same : (suc done == length row.sections) ≡ true = eq-eqb (suc done) (length row.sections) (sym (add-one done) ∙ last) in
+    subst (λ (q : Phase). freed route ≡ one_freed row q route) (sym is) (rw same refl)
+
+pub more-freed : (row : Row) (p : Phase) (clock done : ℕ) → p ≡ phase.Ended clock done → done + 1 ≢ length row.sections → (route : RouteState) → come_to (phase.Ended clock (done + 1)) route ≡ one_freed row p route
+more-freed row p clock done is apart route =
+    subst (λ (q : Phase). come_to (phase.Ended clock (done + 1)) route ≡ one_freed row q route) (sym is) (by (suc done == length row.sections) refl) where
+      by : (b : Bool) → (suc done == length row.sections) ≡ b → come_to (phase.Ended clock (done + 1)) route ≡ one_freed row (phase.Ended clock done) route
+      by true same = absurd (apart (add-one done ∙ eqb-true (suc done) (length row.sections) same))
+      by false other = rw other (ap (λ (n : ℕ). come_to (phase.Ended clock n) route) (add-one done))

@@ -1,30 +1,25 @@
 -- A route is changed: what holds of the routes and of the locks is kept.
-use Rattle.std.proofs.Common.{◌≡◌, ◌≢◌, ◌∙◌, ◌⊎◌, not, true, false, Bool, ℕ, zero, suc, ◌+◌, ◌<◌, ◌≤◌, List, length, map, drop, slice_set, get_or, Some, refl, sym, ap, subst, ⊎_elim, arith, add-one}
+use Rattle.std.proofs.Common.{◌≡◌, ◌≢◌, ◌∙◌, Bool, ℕ, ◌<◌, List, length, map, drop, slice_set, get_or, Some, refl, sym, ap, subst, ⊎_elim, arith}
 use Rattle.std.specs.Prelude.{slice_get, ◌↔◌, IsTrue}
-use Rattle.std.specs.List.{AllPairs, Contains}
-use Rattle.std.specs.FinSet.{contains, empty, remove, contains-empty, contains-remove}
-use Rattle.std.specs.Cmp.{nat_cmp_total, unsigned_tied}
-use Rattle.std.specs.Ordering.{nat_cmp}
-use Rattle.std.proofs.lemmas.Bool.{cases_eq, false≢true}
-use Rattle.std.proofs.lemmas.List.{get_or-set_other, get_or-set_same, length-set}
-use Rattle.std.proofs.lemmas.Option.{same_Some, slice_get_within}
-use Rattle.layout.specs.declared.ids.RouteId.{RouteId}
-use Rattle.layout.specs.declared.ids.SectionId.{SectionId}
+use Rattle.std.specs.List.{Contains}
+use Rattle.std.specs.FinSet.{empty}
+use Rattle.std.proofs.lemmas.List.{get_or-set_other, get_or-set_same, length-map, length-set}
+use Rattle.std.proofs.lemmas.Option.{same_Some, slice_get_read, slice_get_within}
 use Rattle.bit_row.specs.Places.{Has, Places}
-use Rattle.control_table.specs.Table.{AreSections, LeadsOver}
-use Rattle.route_lock.specs.Locks.{AreAllSections, IsSection, LockState, LocksAt, locked_by, locking}
+use Rattle.route_lock.specs.Locks.{LockState, locked_by, locking}
+use Rattle.layout.specs.Entries.{Plan}
+use Rattle.ixl_rules.specs.Commands.{unmoved_for}
 use Rattle.ixl_rules.specs.Due.{HoldsSection}
-use Rattle.ixl_rules.specs.State.{IxlState, RouteState, changed}
+use Rattle.ixl_rules.specs.State.{RouteState}
 use Rattle.ixl_rules.specs.Table.{Row}
 use Rattle.ixl_rules.specs.View.{freed_sections, is_set}
 use Rattle.ixl_rules.specs.declared.phase.Phase.{Phase}
-use Rattle.ixl_rules.specs.declared.phase.Phase.TheVariants as phase
-use Rattle.ixl_table.specs.Locks.{AreLocksOf, HaveSectionsLeft, IsKeptRoute}
-use Rattle.ixl_table.specs.Table.{IsRowOf, PlannedTable, as_route, as_section}
-use Rattle.ixl_field.specs.Field.{FieldState, Rest, kept}
+use Rattle.ixl_table.specs.Locks.{AreLocksOf, IsKeptRoute}
+use Rattle.ixl_table.specs.Table.{IsTableOf, PlannedTable, as_route}
+use Rattle.ixl_field.specs.Field.{FieldState, kept}
 use Rattle.ixl_state.specs.State.{AtRoute, StateView, route_changed}
-use Rattle.ixl_state.specs.inside.Kept.{AreRoutesOf, HoldsAlike, IsFieldOf, IsPassageOf, IsState}
-use Rattle.ixl_state.proofs.Lists.{after-rest, apart-after, changed-is-set, get-below, rest-after, set-cases}
+use Rattle.ixl_state.specs.inside.Kept.{AreRoutesOf, HoldsAlike, IsPassageOf, IsState}
+use Rattle.ixl_state.proofs.Lists.{changed-is-set, get-below, set-cases}
 
 abbrev pub view_of : PlannedTable → FieldState → List RouteState → ℕ → Bool → StateView
 view_of planned field routes created resumed = record { planned = planned; ixl = kept field (record { routes = routes; created = created; resumed = resumed }) }
@@ -128,3 +123,34 @@ passage-by row old new change is passage = subst (λ (r : RouteState). IsPassage
 
 pub alike-from : (was before after : Phase) → was ≡ before → HoldsAlike before after → HoldsAlike was after
 alike-from was before after is alike = subst (λ (p : Phase). HoldsAlike p after) (sym is) alike
+
+-- the row of a route that was read from the table
+pub row-read : (rows of_table : List Row) (number : ℕ) (row read : Row) → rows ≡ of_table → slice_get of_table number ≡ Some row → read ≡ get_or rows number read → read ≡ row
+row-read rows of_table number row read same at is =
+    let there : slice_get rows number ≡ Some row = ap (λ (rs : List Row). slice_get rs number) same ∙ at in
+    same_Some read row (sym (slice_get_read rows (length rows) number read refl (slice_get_within rows number row there) is) ∙ there)
+
+pub read-is : {A : Type 0} (xs : List A) (n : ℕ) (x read : A) → slice_get xs n ≡ Some x → read ≡ get_or xs n read → read ≡ x
+read-is xs n x read at is = same_Some read x (sym (slice_get_read xs (length xs) n read refl (slice_get_within xs n x at) is) ∙ at)
+
+-- each route of the table has its locks
+pub lock-within : (planned : PlannedTable) (routes : List RouteState) (locks : LockState) (number : ℕ) → AreLocksOf planned routes locks → IsTableOf planned.plan planned.table → length locks.locked ≡ length locks.table.routes
+    → number < length planned.table.rows → number < length locks.locked
+lock-within planned routes locks number are table each lt =
+    let same = ap (λ (l : Plan). length l.routes) are.plan in
+    let rows = table.rows.each in
+    omega (arith, same, rows, each, lt)
+
+-- a point counts as unmoved
+pub unmoved-state : (planned : PlannedTable) (field new : FieldState) (routes : List RouteState) (locks : LockState) (number : ℕ) → new ≡ record field { switches = map (unmoved_for number) field.switches } → IsState planned field routes locks
+    → IsState planned new routes locks
+unmoved-state planned field new routes locks number same is = subst (λ (f : FieldState). IsState planned f routes locks) (sym same) (record {
+  field_is = record {
+    reporters = is.field_is.reporters;
+    lamps = is.field_is.lamps;
+    switches = length-map field.switches (unmoved_for number) ∙ is.field_is.switches;
+    detectors = is.field_is.detectors;
+  };
+  routes_are = is.routes_are;
+  locks_are = is.locks_are;
+})

@@ -1,5 +1,5 @@
 -- The sections of a route are one list, in which none stands twice.
-use Rattle.std.proofs.Common.{◌≡◌, ◌≢◌, ◌∙◌, ℕ, List, [], ◌∷◌, map, refl, sym, ap, subst, arith}
+use Rattle.std.proofs.Common.{◌≡◌, ◌≢◌, ◌∙◌, List, [], ◌∷◌, map, refl, sym, ap, subst}
 use Rattle.std.specs.List.{AllPairs, dedup, filter_map}
 use Rattle.std.proofs.lemmas.Option.{same_Some}
 use Rattle.layout.specs.declared.ids.RouteId.{RouteId}
@@ -7,10 +7,9 @@ use Rattle.layout.specs.declared.ids.SectionId.{SectionId}
 use Rattle.layout.specs.declared.port.Element.{Element}
 use Rattle.layout.specs.declared.port.Port.{Port}
 use Rattle.layout.specs.Entries.{Plan, RouteEntry}
-use Rattle.control_table.specs.Path.{Passage, elements, same_section, sections}
+use Rattle.control_table.specs.Path.{Passage, elements, same_section}
 use Rattle.control_table.specs.Table.{AreSections}
 use Rattle.control_table.specs.Topology.{section_of}
-use Rattle.ixl_table.specs.Table.{as_section}
 
 -- the ports by which the elements are left tell them
 elements-by-ports : (path : List Passage) → elements path ≡ map (λ (p : Port). p.element) (map (λ (g : Passage). g.left) path)

@@ -1,11 +1,11 @@
 -- What the controllers' turns make of a state.
-use Rattle.std.proofs.Common.{◌≡◌, ◌∙◌, Bool, ℕ, ◌+◌, ◌*◌, ◌<◌, ◌≤◌, List, length, map, refl, sym, ap, subst, arith}
+use Rattle.std.proofs.Common.{◌≡◌, ◌∙◌, ℕ, ◌≤◌, List, length, refl, sym, ap, subst, arith}
 use Rattle.std.proofs.lemmas.List.{length-map}
 use Rattle.rasta_core.specs.Outbox.{OutboxState}
 use Rattle.layout.specs.Station.{IsStation}
 use Rattle.route_lock.specs.Locks.{LockState}
 use Rattle.ixl_rules.specs.Part.{Part}
-use Rattle.ixl_rules.specs.State.{IxlState, RouteState}
+use Rattle.ixl_rules.specs.State.{RouteState}
 use Rattle.ixl_rules.specs.Step.{all_clocked, clocked_detector, clocked_lamp, clocked_switch}
 use Rattle.ixl_table.specs.Table.{PlannedTable}
 use Rattle.ixl_field.specs.Field as field

@@ -1,5 +1,5 @@
 -- How an interlocking is made.
-use Rattle.std.specs.Prelude.{ℕ, false, List, [], ◌∷◌, length, map, Option, None, slice_index_or, unwrap_or}
+use Rattle.std.specs.Prelude.{ℕ, false, List, [], ◌∷◌, length, map, None, slice_index_or, unwrap_or}
 use Rattle.std.specs.FinSet.{empty}
 use Rattle.md4.specs.declared.message.TheConstants.{STANDARD}
 use Rattle.sci_telegram.specs.declared.message.Protocol.{Protocol}

@@ -1,5 +1,5 @@
 -- The state of an interlocking, beside the control table that it was made from.
-use Rattle.std.specs.Prelude.{◌≡◌, ℕ, ◌+◌, ◌≤◌, List, length}
+use Rattle.std.specs.Prelude.{◌≡◌, ℕ, ◌+◌, ◌≤◌, length}
 use Rattle.rasta_core.specs.Outbox.{OutboxState}
 use Rattle.ixl_rules.specs.Part.{Leads, Part}
 use Rattle.ixl_rules.specs.State.{IxlState, RouteState, changed}

@@ -1,12 +1,13 @@
 //! What the set routes lock.
 
-ghost use Rattle.std.specs.Prelude.{◌≡◌, ◌↔◌, ℕ, ◌<◌, false, length};
+ghost use Rattle.std.specs.Prelude.{◌≡◌, ◌↔◌, ℕ, ◌<◌, ◌≤◌, false, length, IsTrue};
 ghost use Rattle.bit_row.specs.Places.{Has};
 ghost use Rattle.ixl_rules.specs.Due.{HoldsSection};
 ghost use Rattle.ixl_rules.specs.View.{first_blocking, is_held_at, is_held_with_authority, is_set, was_authorised};
-ghost use Rattle.ixl_rules.specs.declared.phase.Phase.{Phase as PhaseAt};
 ghost use Rattle.ixl_state.specs.State.{AtRoute};
+ghost use Rattle.ixl_state.specs.inside.Kept.{HoldsWithAuthority, SomeHoldsWithAuthority};
 
+use crate::route::Route;
 use crate::state::State;
 use bit_row::BitRow;
 use ixl_rules::Phase;
@@ -15,7 +16,7 @@ use ixl_table::{
     the_first_blocking_route_is_told_by_phase,
 };
 use layout::{PointId, RouteId};
-use route_lock::LockFault;
+use route_lock::{LockFault, Locks};
 use sci_telegram::Side;
 
 /// Whether a route was given authority in its present setting.
@@ -26,6 +27,27 @@ fn was_authorised(phase: Phase) -> bool
         Phase::Free | Phase::Waiting => false,
         _ => true,
     }
+}
+
+/// Whether this route was given authority in its present setting, and holds a point.
+fn holds_with_authority(locks: &Locks, number: usize, route: Route, point: usize) -> bool
+    requires { number < length locks.now.table.routes }
+    ensures { IsTrue result ↔ HoldsWithAuthority locks.now number route point }
+{
+    was_authorised(route.phase()) && locks.holds(RouteId(number), PointId(point))
+}
+
+/// Whether one of the routes does.
+fn some_holds_with_authority(locks: &Locks, routes: &[Route], point: usize) -> bool
+    requires { length routes.now ≤ length locks.now.table.routes }
+    ensures { IsTrue result ↔ SomeHoldsWithAuthority locks.now routes.now point }
+{
+    for (number, route) in routes.iter().enumerate() {
+        if holds_with_authority(locks, number, *route, point) {
+            return true;
+        }
+    }
+    false
 }
 
 impl State {
@@ -53,12 +75,7 @@ impl State {
     {
         points_are_held_by_phase_at_a_side();
         self.table.checked();
-        for (number, route) in self.routes.iter().enumerate() {
-            if was_authorised(route.phase()) && self.locks.holds(RouteId(number), PointId(point)) {
-                return true;
-            }
-        }
-        false
+        some_holds_with_authority(&self.locks, &self.routes, point)
     }
 
     /// The first route of the table that blocks one that isn't set.

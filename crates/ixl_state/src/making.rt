@@ -1,6 +1,6 @@
 //! How the state of an interlocking is made.
 
-ghost use Rattle.std.specs.Prelude.{◌≡◌, ◌∷◌, [], length, map, IfOk, slice_index_or};
+ghost use Rattle.std.specs.Prelude.{◌≡◌, ◌<◌, ◌≤◌, ◌∷◌, [], length, map, IfOk, slice_index_or};
 ghost use Rattle.std.specs.List.{All};
 ghost use Rattle.layout.specs.declared.ids.SectionId.{SectionId as Section};
 ghost use Rattle.sci_telegram.specs.declared.message.Protocol.TheVariants as protocols;

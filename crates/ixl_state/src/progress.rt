@@ -6,7 +6,7 @@ ghost use Rattle.ixl_rules.specs.Commands.{route_set};
 ghost use Rattle.ixl_rules.specs.Rules.{come_to, freed, one_freed};
 ghost use Rattle.ixl_rules.specs.State.{RouteState};
 ghost use Rattle.ixl_rules.specs.Step.{route_looks};
-ghost use Rattle.ixl_rules.specs.View.{first_blocking, is_set};
+ghost use Rattle.ixl_rules.specs.View.{first_blocking, is_set, place_in};
 ghost use Rattle.ixl_rules.specs.declared.phase.Phase.TheVariants as phase;
 ghost use Rattle.ixl_state.specs.State.{AtRoute, route_changed};
 ghost use Rattle.ixl_state.specs.inside.Kept.{HoldsAlike, IsPassageOf};
@@ -18,6 +18,13 @@ use ixl_rules::Phase;
 use ixl_table::{set_routes_lock_sections, the_first_blocking_route_is_told_by_phase};
 use layout::RouteId;
 use rasta_core::Millis;
+
+/// The place of a section in the path of a route.
+fn place_in(section: usize, sections: &[usize]) -> Option<usize>
+    ensures { result ≡ place_in section sections.now }
+{
+    sections.iter().position(|other| *other == section)
+}
 
 impl State {
     /// A route has changed. It holds what it held.
@@ -63,7 +70,10 @@ impl State {
         let Phase::Ended { clock, freed } = self.route(number).phase() else {
             return;
         };
-        if freed + 1 == self.table.rows()[number].sections().len() {
+        let table = self.table();
+        table.checked();
+        let sections = table.rows()[number].sections().len();
+        if freed + 1 == sections {
             self.free(number);
         } else {
             self.free_section(number, clock, freed);
@@ -77,8 +87,8 @@ impl State {
         requires more { AtRoute self.old number (λ row route. done + 1 < length row.sections) }
         ensures { self.new ≡ route_changed (come_to (phase.Ended clock (done + 1))) number self.old }
     {
-        a_route_leads_over_its_sections_alone();
         self.table.checked();
+        self.locks.table();
         self.locks.free_section(RouteId(number), done);
         let ended = Phase::Ended {
             clock,
@@ -93,6 +103,7 @@ impl State {
         ensures { self.new ≡ route_changed freed number self.old }
     {
         self.table.checked();
+        self.locks.table();
         self.locks.free(RouteId(number));
         self.routes[number] = self.routes[number].freed();
     }
@@ -113,10 +124,7 @@ impl State {
         requires there { number < length self.old.planned.table.rows }
         ensures { AtRoute self.old number (λ row route. self.new ≡ route_changed (route_looks section occupied row) number self.old) }
     {
-        let place = self.table().rows()[number]
-            .sections()
-            .iter()
-            .position(|other| *other == section);
+        let place = place_in(section, self.table().rows()[number].sections());
         let route = self.route(number).looks(place, occupied);
         self.keep(number, route);
     }
@@ -137,9 +145,11 @@ impl State {
         requires unblocked { AtRoute self.old number (λ row route. first_blocking number row 0 self.old.planned.table.rows self.old.ixl.routes ≡ None) }
         ensures { self.new ≡ record self.old { ixl = route_set number self.old.ixl } }
     {
+        a_route_leads_over_its_sections_alone();
         set_routes_lock_sections();
         the_first_blocking_route_is_told_by_phase();
         self.table.checked();
+        self.locks.table();
         let _reserved = self.locks.reserve(RouteId(number));
         self.field.unmove(number);
         self.routes[number] = self.routes[number].set_anew();

@@ -1,14 +1,15 @@
 -- What holds of every state of an interlocking.
-use Rattle.std.specs.Prelude.{◌≡◌, ℕ, ◌<◌, List, length}
+use Rattle.std.specs.Prelude.{◌≡◌, ℕ, ◌<◌, List, length, Some, slice_get, IsTrue}
 use Rattle.bit_row.specs.Places.{Has}
 use Rattle.release.specs.Passage.{PassageState}
-use Rattle.route_lock.specs.Locks.{LockState}
+use Rattle.sci_telegram.specs.declared.message.Side.{Side}
+use Rattle.route_lock.specs.Locks.{Holds, LockState}
 use Rattle.ixl_rules.specs.State.{RouteState}
 use Rattle.ixl_rules.specs.Table.{Row}
-use Rattle.ixl_rules.specs.View.{freed_sections, is_set}
+use Rattle.ixl_rules.specs.View.{freed_sections, is_set, was_authorised}
 use Rattle.ixl_rules.specs.declared.phase.Phase.{Phase}
 use Rattle.ixl_table.specs.Locks.{AreLocksOf, HaveSectionsLeft, IsKeptRoute}
-use Rattle.ixl_table.specs.Table.{PlannedTable}
+use Rattle.ixl_table.specs.Table.{PlannedTable, as_point, as_route}
 use Rattle.ixl_field.specs.Field.{FieldState}
 
 -- a passage leads over the sections of a row, and nothing was seen beyond them
@@ -38,3 +39,10 @@ pub record IsState (planned : PlannedTable) (field : FieldState) (routes : List 
   pub field_is : IsFieldOf planned field
   pub routes_are : AreRoutesOf planned routes
   pub locks_are : AreLocksOf planned routes locks
+
+-- a route was given authority in its present setting, and holds a point
+abbrev pub HoldsWithAuthority : LockState → ℕ → RouteState → ℕ → Type 0
+HoldsWithAuthority locks number route point = IsTrue (was_authorised route.phase) × ((side : Side) × Holds locks (as_route number) (as_point point) side)
+
+abbrev pub SomeHoldsWithAuthority : LockState → List RouteState → ℕ → Type 0
+SomeHoldsWithAuthority locks routes point = (number : ℕ) × (route : RouteState) × (slice_get routes number ≡ Some route) × HoldsWithAuthority locks number route point

@@ -1,6 +1,4 @@
-use Rattle.std.proofs.Common.{◌≡◌, ℕ}
-use Rattle.ixl_rules.specs.State.{RouteState}
-use Rattle.ixl_rules.specs.Table.{Row}
+use Rattle.std.proofs.Common.{◌≡◌}
 use Rattle.ixl_state.specs.inside.Kept.{HoldsAlike, IsPassageOf}
 use Rattle.ixl_state.proofs.Putting.{at-inside, kept-at, kept-state, place-below, view-changed}
 use Rattle.ixl_state.proofs.state.State.keep.Goals as goal

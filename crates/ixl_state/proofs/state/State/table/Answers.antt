@@ -1,4 +1,4 @@
-use Rattle.std.proofs.Common.{ℕ, ◌<◌, length, subst}
+use Rattle.std.proofs.Common.{◌<◌, length, subst}
 use Rattle.ixl_state.specs.State.{HasRoute, StateView}
 use Rattle.ixl_state.proofs.Putting.{kept-at}
 use Rattle.ixl_state.proofs.state.State.table.Goals as goal

@@ -1,9 +1,6 @@
-use Rattle.std.proofs.Common.{◌≡◌, ◌∙◌, ◌||◌, not, true, ap, refl}
-use Rattle.ixl_rules.specs.Rules.{come_to}
+use Rattle.std.proofs.Common.{◌∙◌, ◌||◌, not, ap, refl}
 use Rattle.ixl_rules.specs.State.{RouteState}
-use Rattle.ixl_rules.specs.Table.{Row}
-use Rattle.ixl_rules.specs.declared.phase.Phase.TheVariants as phase
-use Rattle.ixl_state.proofs.Putting.{alike-by, alike-from, passage-by}
+use Rattle.ixl_state.proofs.Putting.{alike-by, passage-by}
 use Rattle.ixl_state.proofs.state.State.watch.Goals as goal
 
 pub keep-requires-clause-alike : goal.keep-requires-clause-alike

@@ -1,0 +1,6 @@
+use Rattle.std.proofs.Common.{◌≡◌, map, take}
+use Rattle.ixl_state.specs.First.{new_route_of}
+use Rattle.ixl_state.proofs.making.routes_of.Given as goal
+
+abbrev pub invariant-loop-row : goal.invariant-loop-row
+invariant-loop-row l = l.routes.items ≡ map new_route_of (take l.row-index l.rows)
