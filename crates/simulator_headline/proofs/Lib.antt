@@ -1,3 +1,4 @@
 mod Lists
 mod Rows
 mod Safe
+mod Held

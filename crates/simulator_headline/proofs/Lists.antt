@@ -33,6 +33,11 @@ get_inside [] i x e = absurd (none_some x e)
 get_inside (w ∷ xs) zero x e = omega arith
 get_inside (w ∷ xs) (suc i) x e = let lt = get_inside xs i x e in omega (arith, lt)
 
+pub get_contains : {A : Type 0} (xs : List A) (i : ℕ) (x : A) → slice_get xs i ≡ Some x → Contains xs x
+get_contains [] i x e = absurd (none_some x e)
+get_contains {A} (w ∷ xs) zero x e = let H : A → Type 0 = λ v. Contains (w ∷ xs) v in subst H (some_injective w x e) (contains_here w xs)
+get_contains (w ∷ xs) (suc i) x e = contains_there w x xs (get_contains xs i x e)
+
 module _ {A B : Type 0} (f : A → B) where
   pub map_length : (xs : List A) → length (map f xs) ≡ length xs
   map_length [] = refl

@@ -1,5 +1,5 @@
 -- What the machine sees of a world, as far as its promise speaks of it.
-use Rattle.std.specs.Prelude.{◌≡◌, ◌≢◌, ◌↔◌, ℕ, true, List, length, Some, slice_get}
+use Rattle.std.specs.Prelude.{◌≡◌, ◌≢◌, ◌↔◌, ℕ, Bool, true, List, length, Some, slice_get}
 use Rattle.std.specs.List.{Contains}
 use Rattle.sci_telegram.specs.declared.message.Aspect.TheVariants as aspects
 use Rattle.sci_telegram.specs.declared.message.Position.{Position}
@@ -9,9 +9,9 @@ use Rattle.ixl_rules.specs.Table.{Table}
 use Rattle.point_ctl.specs.Drive.{PointState}
 use Rattle.signal_ctl.specs.Signal.{SignalState}
 use Rattle.simulator_items.specs.Items.{aspect_seen, position_seen}
-use Rattle.simulator_machine.specs.Machine.{Machine}
-use Rattle.simulator_machine.specs.Promise.{IsHeldFor}
+use Rattle.simulator_machine.specs.Machine.{Machine, is_held}
 use Rattle.simulator_machine.specs.Signal.{shown}
+use Rattle.simulator_machine.specs.Table.{Table as MachineTable}
 use Rattle.simulator_rules_seen.specs.Rows.{machine_table}
 use Rattle.simulator_world_run.specs.Refusals.{driven_by}
 use Rattle.simulator_world_run.specs.Seen.{shown_by}
@@ -24,6 +24,11 @@ use Rattle.simulator_world_snapshot.specs.declared.snapshot.Held.{Held}
 abbrev pub pair_of : ℕ → ℕ → Held
 pair_of signal route = record { signal = record { 0 = signal }; route = record { 0 = route } }
 
+-- Pairs are the routes that pass a test, each with the signal at which it begins.
+abbrev pub AreHeldPairs : MachineTable → List Held → (ℕ → Bool) → Type 0
+AreHeldPairs table pairs test = (signal route : ℕ) → Contains pairs (pair_of signal route) ↔ ((table.entry route ≡ signal) × (test route ≡ true))
+
+-- The promise speaks of what signals show, of where points stand and what drives them, and of the routes that are held.
 pub record IsSeen (plan : Plan) (table : Table) (world : WorldState) (machine : Machine) : Type 0 where
   -- an aspect other than stop that a signal shows is the one that the machine's shows
   pub shows : (place : ℕ) (server : ServerState SignalState) → slice_get world.signals place ≡ Some server → shown_by server ≢ aspects.Stop
@@ -33,7 +38,7 @@ pub record IsSeen (plan : Plan) (table : Table) (world : WorldState) (machine : 
   pub driven : (place : ℕ) (server : ServerState PointState) (side : Side) → slice_get world.points place ≡ Some server → driven_by server ≡ Some side
       → (machine.points place).driven ≡ true
   -- the pairs that are held are the routes that the machine holds, each with its signal
-  pub held : (signal route : ℕ) → Contains (held_of table world.station world.frozen) (pair_of signal route) ↔ IsHeldFor (machine_table table) machine signal route
+  pub held : AreHeldPairs (machine_table table) (held_of table world.station world.frozen) (is_held machine)
   pub there : (pair : Held) → Contains (held_of table world.station world.frozen) pair → IsThere plan pair
   -- the world has the signals and points of the layout
   pub signals : length world.signals ≡ length plan.signals

@@ -1,18 +1,27 @@
 //! What the promise of the machine says of a station that it sees.
 
+ghost use Rattle.std.specs.Prelude.{◌≡◌, ◌<◌, ℕ, List, length, slice_get};
+ghost use Rattle.std.specs.List.{All};
 ghost use Rattle.layout.specs.Entries.{Plan};
 ghost use Rattle.layout.specs.Once.{Once};
 ghost use Rattle.layout.specs.Station.{IsStation};
-ghost use Rattle.ixl_rules.specs.Table.{Table};
+ghost use Rattle.rasta_core.specs.Ends.{reading_of};
+ghost use Rattle.ixl_rules.specs.Table.{Row, Table};
+ghost use Rattle.ixl_rules.specs.View.{is_holding};
 ghost use Rattle.ixl_table.specs.Table.{IsTableOf};
-ghost use Rattle.simulator_machine.specs.Machine.{Machine};
+ghost use Rattle.simulator_machine.specs.Invariant.{Invariant};
+ghost use Rattle.simulator_machine.specs.Machine.{Machine, is_held};
 ghost use Rattle.simulator_machine.specs.Promise.{Promise};
+ghost use Rattle.simulator_machine.specs.Table.{IsSound};
+ghost use Rattle.simulator_rules_seen.specs.Nodes.{route_seen};
 ghost use Rattle.simulator_rules_seen.specs.Rows.{machine_table};
 ghost use Rattle.simulator_world_run.specs.Seen.{IsSnapshotOf};
-ghost use Rattle.simulator_world_run.specs.State.{WorldState};
+ghost use Rattle.simulator_world_run.specs.State.{StationState, WorldState};
+ghost use Rattle.simulator_world_run.specs.Station.{held_of};
 ghost use Rattle.simulator_world_snapshot.specs.Safe.{Safe};
+ghost use Rattle.simulator_world_snapshot.specs.declared.snapshot.Held.{Held};
 ghost use Rattle.simulator_world_snapshot.specs.declared.snapshot.Snapshot.{Snapshot};
-ghost use Rattle.simulator_headline.specs.Seen.{IsSeen};
+ghost use Rattle.simulator_headline.specs.Seen.{AreHeldPairs, IsSeen};
 
 use control_table::{a_route_leads_over_its_sections_alone, required_points_are_there};
 use simulator_machine::equal_numbers_are_same;
@@ -27,3 +36,12 @@ pub fn seen_stations_are_safe()
     equal_numbers_are_same();
     required_points_are_there();
 }
+
+/// The pairs that a station holds are the routes that its machine holds, each with its signal: in the hold by the pairs that
+/// were frozen, and otherwise since no two routes with authority begin at one signal.
+pub fn held_pairs_are_held_routes()
+    ensures { (table : Table) (station : StationState) (frozen : List Held) (machine : Machine) → IsSound (machine_table table) → Invariant (machine_table table) machine
+        → machine.holding ≡ is_holding (reading_of station.clock) station.ixl → ((route : ℕ) → machine.routes route ≡ route_seen (slice_get station.ixl.routes route))
+        → length station.ixl.routes ≡ length table.rows → All (λ (row : Row). row.entry < length station.ixl.lamps) table.rows
+        → AreHeldPairs (machine_table table) frozen machine.frozen → AreHeldPairs (machine_table table) (held_of table station frozen) (is_held machine) }
+{}

@@ -3,4 +3,4 @@
 
 mod laws;
 
-pub use laws::seen_stations_are_safe;
+pub use laws::{held_pairs_are_held_routes, seen_stations_are_safe};
