@@ -10,7 +10,7 @@ use Rattle.rasta_core.specs.Events.{Calls, IsAmong, IsDelivered, MayCall, MayRun
 use Rattle.rasta_core.specs.Invariant.{Timely}
 use Rattle.rasta_core.specs.Names.{AreNames, Names}
 use Rattle.rasta_core.specs.Run.{Ends, called}
-use Rattle.rasta_core.specs.State.{LinkState}
+use Rattle.rasta_core.specs.State.{LinkState, is_open}
 use Rattle.rasta_core.specs.Steps.{calls_at, made_by}
 use Rattle.rasta_core.specs.identity.Role.{Role}
 use Rattle.rasta_core.specs.identity.Role.TheVariants as role
@@ -154,6 +154,10 @@ module _ (laws : EventLaws) (names : Names) (are : AreNames names) where
         ∙ ap (λ (l : LinkState). if has_begun now calls l then Before else server_of next) linked
         ∙ ap (λ (s : Server). if has_begun now calls (made_by now call ends.client.link).link then Before else s) (one_server call ends timely what)
         ∙ both_servers (begins now call ends.client.link) (has_begun now calls (made_by now call ends.client.link).link) (server_of ends);
+    inside = λ opened. elim (rest.inside opened) [
+      | inl was ↦ by_call what was
+      | inr later ↦ inr (later_begun (begins now call ends.client.link) (ap (has_begun now calls) (sym linked) ∙ later))
+    ];
   }
     where
       next : Ends
@@ -171,9 +175,25 @@ module _ (laws : EventLaws) (names : Names) (are : AreNames names) where
       linked : next.client.link ≡ (made_by now call ends.client.link).link
       linked = made_link call ends.moment ends.client
 
+      later_begun : (first : Bool) {later : Bool} → later ≡ true → (first || later) ≡ true
+      later_begun true is = refl
+      later_begun false is = is
+
+      first_begun : (first later : Bool) → first ≡ true → (first || later) ≡ true
+      first_begun true later is = refl
+      first_begun false later is = absurd (cc (is))
+
+      by_call : Begins ends call ⊎ EntersNothing ends call → is_open next.client.link.phase ≡ true →
+          (is_open ends.client.link.phase ≡ true) ⊎ ((begins now call ends.client.link || has_begun now calls (made_by now call ends.client.link).link) ≡ true)
+      by_call (inl begun) was = inr (first_begun (begins now call ends.client.link) (has_begun now calls (made_by now call ends.client.link).link) begun.0)
+      by_call (inr none) was = inl (by_phase (is_open ends.client.link.phase) refl) where
+        by_phase : (b : Bool) → is_open ends.client.link.phase ≡ b → b ≡ true
+        by_phase true is = refl
+        by_phase false is = absurd (cc (was, laws.stays call ends.moment ends.client is none.1))
+
   pub client_after : (calls : List Call) (ends : Ends) → Timely names ends → MayRun names (calls_at role.Client calls) ends → ClientIsAfter calls ends (run (calls_at role.Client calls) ends)
   unfolding has_begun given_after taken_after
-  client_after [] ends timely may = record { given = refl; taken = refl; server = refl }
+  client_after [] ends timely may = record { given = refl; taken = refl; server = refl; inside = λ opened. inl opened }
   client_after (call ∷ calls) ends timely may = call_then call calls ends (run (calls_at role.Client calls) (called role.Client call ends)) timely may.0
       (client_after calls (called role.Client call ends) (laws.time names (Calls role.Client call) ends are timely may.0) may.1)
 

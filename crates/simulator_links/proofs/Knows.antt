@@ -22,11 +22,13 @@ pub record IsSameServer (old new : Ends) : Type 0 where
   pub server : server_of new ≡ server_of old
   pub end : new.server ≡ old.server
   pub clock : new.client.clock ≡ old.client.clock
+  pub inside : is_open new.client.link.phase ≡ true → is_open old.client.link.phase ≡ true
 
 pub knows : (old new : Ends) (link : LinkState) (given taken : List (List ℕ)) → Known new → IsSameServer old new → new.client.link ≡ link → new.client.given ≡ given → new.client.taken ≡ taken → ClientKnows old link given taken
 knows old new link given taken known same linked gave took = record {
   up = λ up is. known.entered (known.up (ap (λ (l : LinkState). is_up l.phase) linked ∙ up)) (same.server ∙ is);
   quiet = λ down is. known.alone (ap client_in (ap (λ (n : ℕ). state_at (reading_of n) new.client.link) same.clock ∙ ap (state_at (reading_of old.client.clock)) linked ∙ down)) (same.server ∙ is);
+  inside = λ inside. same.inside (opened inside);
   alive = λ inside. sym (ap (λ (n : ℕ). nat_lt (reading_of n) (deadline new.client.link)) same.clock ∙ ap (λ (l : LinkState). nat_lt (reading_of old.client.clock) (deadline l)) linked)
       ∙ known.alive (opened inside);
   counted = λ inside. sym (ap (λ (l : LinkState). l.given) linked) ∙ known.counts.given (opened inside) ∙ ap length gave;

@@ -1,5 +1,5 @@
 -- What the step of a node is to each link of a world.
-use Rattle.std.proofs.Common.{◌≡◌, ◌≢◌, ℕ, ◌<◌, Bool, true, false, List, [], ◌∷◌, length, refl, sym, ap, subst, ◌∙◌, arith}
+use Rattle.std.proofs.Common.{inl, ◌≡◌, ◌≢◌, ℕ, ◌<◌, Bool, true, false, List, [], ◌∷◌, length, refl, sym, ap, subst, ◌∙◌, arith}
 use Rattle.std.specs.Prelude.{◌==◌, if◌then◌else◌, map}
 use Rattle.std.proofs.lemmas.Bool.Decides.{nat_tests}
 use Rattle.rasta_core.specs.EachLink.{AreTimely}
@@ -77,11 +77,11 @@ other_pictures sees who link other (call ∷ calls) links differ =
 
 -- datagrams of other links leave a client where it is
 passed_over : (calls : List Call) (count : ℕ) (ends last : Ends) → ClientIsAfter calls (happened (Elsewhere count) ends) last → ClientIsAfter calls ends last
-passed_over calls count ends last after = record { given = after.given; taken = after.taken; server = after.server }
+passed_over calls count ends last after = record { given = after.given; taken = after.taken; server = after.server; inside = after.inside }
 
 none_after : (ends : Ends) → ClientIsAfter [] ends ends
 unfolding has_begun given_after taken_after
-none_after ends = record { given = refl; taken = refl; server = refl }
+none_after ends = record { given = refl; taken = refl; server = refl; inside = λ opened. inl opened }
 
 abbrev pub KeepsTime : Type 0
 KeepsTime = (count : ℕ) (names : ℕ → Names) (event : LinksEvent) (links : Links) → AreLinks count names → AreTimely count names links

@@ -3,7 +3,7 @@ use Rattle.rasta_pdu.specs.declared.pdu.Pdu.{Pdu}
 use Rattle.rasta_core.specs.Sentences.{IsRequest}
 use Rattle.rasta_core.specs.Each.{Each}
 use Rattle.rasta_core.specs.Outbox.{spellings}
-use Rattle.std.specs.Prelude.{◌≡◌, ◌≢◌, ◌≤◌, ℕ, nat_lt, ◌||◌, Bool, true, false, List, [], ◌∷◌, ◌++◌, length, Some, is_ok, if◌then◌else◌, ◌+◌, ◌&&◌, not, is_some, Option}
+use Rattle.std.specs.Prelude.{◌≡◌, ◌≢◌, ◌⊎◌, ◌≤◌, ℕ, nat_lt, ◌||◌, Bool, true, false, List, [], ◌∷◌, ◌++◌, length, Some, is_ok, if◌then◌else◌, ◌+◌, ◌&&◌, not, is_some, Option}
 use Rattle.rasta_core.specs.Calls.{answer_to_send, opens, receiving}
 use Rattle.rasta_core.specs.Clock.{deadline, state_at}
 use Rattle.rasta_core.specs.Ends.{Call, EndState, Opens, Receives, Sends, reading_of, handed_out, kept, newer}
@@ -89,12 +89,13 @@ unfoldable pub taken_after : ℕ → List Call → LinkState → List (List ℕ)
 taken_after now [] link taken = taken
 taken_after now (first ∷ others) link taken = taken_after now others (made_by now first link).link (taken_by now first link taken)
 
--- A client after calls at its clock: what it gave and took; and its server, which is before the connection where they began
--- one, and as it was otherwise.
+-- A client after calls at its clock: what it gave and took; its server, which is before the connection where they began
+-- one, and as it was otherwise; and it is inside only where it was, or where they began one.
 pub record ClientIsAfter (calls : List Call) (old new : Ends) : Type 0 where
   pub given : new.client.given ≡ given_after (reading_of old.client.clock) calls old.client.link old.client.given
   pub taken : new.client.taken ≡ taken_after (reading_of old.client.clock) calls old.client.link old.client.taken
   pub server : server_of new ≡ (if has_begun (reading_of old.client.clock) calls old.client.link then Before else server_of old)
+  pub inside : is_open new.client.link.phase ≡ true → (is_open old.client.link.phase ≡ true) ⊎ (has_begun (reading_of old.client.clock) calls old.client.link ≡ true)
 
 -- What a client knows in a step, at its link after some calls and with what it gave and took by then; the server is as it
 -- was before them.
@@ -103,6 +104,8 @@ pub record ClientKnows (ends : Ends) (link : LinkState) (given taken : List (Lis
   pub up : is_up link.phase ≡ true → server_of ends ≢ Before
   -- when its quiet time is over no server is in the connection
   pub quiet : state_at (reading_of ends.client.clock) link ≡ state.Down → server_of ends ≢ In
+  -- inside, it was inside before them
+  pub inside : is_open link.phase ≡ true → is_open ends.client.link.phase ≡ true
   -- inside it is before its deadline
   pub alive : is_open link.phase ≡ true → nat_lt (reading_of ends.client.clock) (deadline link) ≡ true
   -- its link counts what it gave

@@ -1,4 +1,4 @@
-use Rattle.std.proofs.Common.{ap, ◌∙◌, Bool}
+use Rattle.std.proofs.Common.{inl, inr, ap, ◌∙◌, Bool}
 use Rattle.std.specs.Prelude.{if◌then◌else◌}
 use Rattle.rasta_core.specs.Events.{run}
 use Rattle.rasta_core.specs.Run.{Ends}
@@ -30,4 +30,5 @@ returns c = λ names calls ends are is each none.
       server = after.server ∙ ap (λ (b : Bool). if b then Before else server_of ends) none;
       end = c.calls_of_a_client_are_told.ensures.server calls ends;
       clock = end.clock;
+      inside = λ opened. elim (after.inside opened) [ inl was ↦ was | inr begun ↦ absurd (cc (begun, none)) ];
     }) end.link after.given after.taken
