@@ -24,11 +24,12 @@ use Rattle.simulator_items.specs.Items.{moves_in, reports_in, reports_of}
 use Rattle.simulator_links.specs.LinkMoves.{server_moves}
 use Rattle.simulator_links.specs.Picture.{server_of}
 use Rattle.simulator_controllers.specs.Ends.{AreFit, Steps, hosted_on}
-use Rattle.simulator_controllers.specs.Point.{IsMovedDriven, IsPointSeen, PointGoes}
+use Rattle.simulator_controllers.specs.Point.{AreSaid, IsMovedDriven, IsPointSeen, PointGoes}
 use Rattle.simulator_controllers.proofs.Moves.{one}
 use Rattle.simulator_controllers.proofs.Places.{in_where_open, server_opens_none}
 use Rattle.simulator_controllers.proofs.Starts.{starts_entering, starts_inside}
 use Rattle.simulator_controllers.proofs.Switches.{IsStep, inside_goes}
+use Rattle.simulator_controllers.proofs.Telling.{said_by_same}
 use Rattle.simulator_controllers.proofs.Turns.{gone_where_closed, linked_seen, reports_stay}
 
 -- an end that has left, or that has entered, hasn't the connection before it
@@ -79,6 +80,7 @@ module _
               peer = subst IsName (sym made.names.peer_name) seen.named.peer;
               version = subst (λ v. v < 256) (sym made.names.version) seen.named.version;
             })
+            (subst (AreSaid part.host.own_name part.host.peer_name) (sym (gives_none none closed)) (said_by_same host part.host ends.server.given made.names.own_name made.names.peer_name seen.said))
             made.reported (ap (λ (e : EndState). e.given) made.client_is) (takes_none none closed)
             (reports_stay ends new steps.fit steps.fit_after (ap (λ (e : EndState). e.connection) made.client_is)
             (made.connection_is ∙ ap (λ (e : Option ℕ). newer e ends.server.connection) none) (gives_none none closed)

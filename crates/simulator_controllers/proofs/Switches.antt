@@ -32,10 +32,10 @@ use Rattle.simulator_items.specs.Items.{all_said, moves_in, position_seen, repor
 use Rattle.simulator_links.specs.Flows.{of_server, reports_given}
 use Rattle.simulator_links.specs.Picture.{client_of, pictured, server_of}
 use Rattle.simulator_controllers.specs.Ends.{IsAtEnd, Steps, hosted_on}
-use Rattle.simulator_controllers.specs.Point.{IsMovedDriven, IsNamed, IsPointSeen, PointGoes}
+use Rattle.simulator_controllers.specs.Point.{AreSaid, IsMovedDriven, IsNamed, IsPointSeen, PointGoes}
 use Rattle.simulator_controllers.proofs.Moves.{IsTrueAt, Leads, Work, joined, made_more, one, work_leads, worked}
 use Rattle.simulator_controllers.proofs.Places.{in_where_open}
-use Rattle.simulator_controllers.proofs.Telling.{answers_tell_none, finals_tell_each, finals_true, initial_tells_one, initial_true, moves_same, positions_in, positions_join, said_items_tell, some_finals}
+use Rattle.simulator_controllers.proofs.Telling.{answers_tell_none, finals_tell_each, finals_true, initial_tells_one, initial_true, items_said, moves_same, nothing_said, positions_in, positions_join, said_by_same, said_items_tell, said_then, some_finals}
 use Rattle.simulator_controllers.proofs.Starts.{Starts}
 use Rattle.simulator_controllers.proofs.Turns.{gone_where_closed}
 
@@ -257,6 +257,23 @@ module _
           version = subst (λ v. v < 256) (sym made.names.version) seen.named.version;
         }
 
+        versions_now : All (IsVersionAnswer point_behaviour part.host.version) made.step.tells.says.answers
+        versions_now = subst (λ v. All (IsVersionAnswer point_behaviour v) made.step.tells.says.answers) (sym made.names.version) made.step.versions
+
+        said : AreSaid part.host.own_name part.host.peer_name new.server.given
+        said =
+            subst (AreSaid part.host.own_name part.host.peer_name)
+            (sym (made.given_is ∙ ap (λ (e : Option ℕ). kept e ends.server.given ++ map (item_of part.host) (own ++ reports)) enters_is))
+            (said_then part.host.own_name part.host.peer_name (kept enters ends.server.given) (map (item_of part.host) (own ++ reports))
+            (said_by_same host part.host (kept enters ends.server.given) made.names.own_name made.names.peer_name (was_said enters))
+            (subst (λ rs. AreSaid part.host.own_name part.host.peer_name (map (item_of part.host) (rs ++ reports))) (sym made.step.tells.says.own_is)
+            (items_said part.host made.step.tells.says.answers made.step.tells.says.begins reports host.object.sensed named.version versions_now made.step.initial
+            (some_finals moved.sensed reports made.step.finals))))
+          where
+            was_said : (e : Option ℕ) → AreSaid host.own_name host.peer_name (kept e ends.server.given)
+            was_said None = seen.said
+            was_said (Some one) = nothing_said host.own_name host.peer_name
+
         given_after : moves_given after ≡ length (moves_in new.client.given)
         unfolding after work
         given_after = same_total at.taken at.flight count few ∙ total_is
@@ -275,7 +292,7 @@ module _
             items_now =
                 ap (λ rs. reports_in (map (item_of part.host) (rs ++ reports))) made.step.tells.says.own_is
                 ∙ said_items_tell reports_join reports_written part.host named made.step.tells.says.answers made.step.tells.says.begins reports host.object.sensed
-                (subst (λ v. All (IsVersionAnswer point_behaviour v) made.step.tells.says.answers) (sym made.names.version) made.step.versions)
+                versions_now
                 made.step.initial (some_finals moved.sensed reports made.step.finals)
                 ∙ ap (λ xs. xs ++ positions_in reports) (sym status_is)
 
@@ -294,6 +311,7 @@ module _
             in goes_to point after leads (record {
               at_end = made.at_end;
               named = named;
+              said = said;
               reported = made.reported;
               link = starts.link ∙ ap (λ (e : EndState). record { client = client_of e; server = In }) (sym made.client_is)
                   ∙ ap (λ (s : Server). record { client = client_of new.client; server = s }) (sym inside);
@@ -315,6 +333,7 @@ module _
             in goes_to point last (joined point after last leads (one (PointLink Leaves) after tt)) (record {
               at_end = made.at_end;
               named = named;
+              said = said;
               reported = made.reported;
               link = ap (λ (l : Link). record l { server = Gone }) starts.link
                   ∙ ap (λ (e : EndState). record { client = client_of e; server = Gone }) (sym made.client_is)

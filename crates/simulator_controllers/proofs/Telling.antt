@@ -26,7 +26,7 @@ use Rattle.controller_theorems.specs.Point as theorem
 use Rattle.controller_theorems.specs.Point.{IsFinal, initial_reports}
 use Rattle.simulator_machine.specs.Point.{Position}
 use Rattle.simulator_items.specs.Items.{all_said, moves_in, moves_of, position_seen, reports_in, reports_of, said_by}
-use Rattle.simulator_controllers.specs.Point.{IsNamed}
+use Rattle.simulator_controllers.specs.Point.{AreSaid, IsNamed, IsOwn, item_by}
 use Rattle.simulator_controllers.proofs.Moves.{IsTrueAt}
 
 -- the positions that reports tell
@@ -39,11 +39,7 @@ positions_join [] others = refl
 positions_join (report ∷ more) others =
     ap (λ rest. reports_of report.message ++ rest) (positions_join more others) ∙ sym (append_assoc (reports_of report.message) (positions_in more) (positions_in others))
 
--- a report of the controller itself that can be read, and of a point that stands here
-pub record IsOwn (report : Report) : Type 0 where
-  pub section : report.section ≡ None
-  pub message : IsMessage report.message
-
+-- a report that can be read, of a point that stands here
 pub record Tells (stands : sensed.Position) (report : Report) : Type 0 where
   pub own : IsOwn report
   pub true_side : All (IsTrueAt (position_seen stands)) (reports_of report.message)
@@ -51,7 +47,7 @@ pub record Tells (stands : sensed.Position) (report : Report) : Type 0 where
 -- ---- the reports of a point
 
 answer_own : (version : ℕ) (report : Report) → version < 256 → IsVersionAnswer point_behaviour version report → IsOwn report
-answer_own version report small is = subst IsOwn (sym is.1) (record { section = refl; message = small })
+answer_own version report small is = subst IsOwn (sym is.1) (record { section = refl; message = small; of_point = tt })
 
 answers_own : (version : ℕ) (reports : List Report) → version < 256 → All (IsVersionAnswer point_behaviour version) reports → All IsOwn reports
 answers_own version [] small each = All-nil IsOwn
@@ -74,13 +70,13 @@ never stands side is = absurd (cc (is))
 
 position_tells : (stands : sensed.Position) → Tells stands (own_report (message.Point (PointPosition stands)))
 position_tells stands = record {
-  own = record { section = refl; message = tt };
+  own = record { section = refl; message = tt; of_point = tt };
   true_side = All-cons (IsTrueAt (position_seen stands)) (position_seen stands) [] (at_side stands) (All-nil (IsTrueAt (position_seen stands)));
 }
 
 timeout_tells : (stands : sensed.Position) → Tells stands (own_report (message.Point Timeout))
 timeout_tells stands = record {
-  own = record { section = refl; message = tt };
+  own = record { section = refl; message = tt; of_point = tt };
   true_side = All-cons (IsTrueAt (position_seen stands)) None [] (never stands) (All-nil (IsTrueAt (position_seen stands)));
 }
 
@@ -94,9 +90,9 @@ initial_tell stands =
     in let status = own_report (message.Point (PointPosition stands))
     in let completed = said point_behaviour InitialisationCompleted
     in let none : All (IsTrueAt (position_seen stands)) [] = All-nil (IsTrueAt (position_seen stands))
-    in All-cons (Tells stands) start (status ∷ completed ∷ []) (record { own = record { section = refl; message = tt }; true_side = none })
+    in All-cons (Tells stands) start (status ∷ completed ∷ []) (record { own = record { section = refl; message = tt; of_point = tt }; true_side = none })
     (All-cons (Tells stands) status (completed ∷ []) (position_tells stands)
-    (All-cons (Tells stands) completed [] (record { own = record { section = refl; message = tt }; true_side = none }) (All-nil (Tells stands))))
+    (All-cons (Tells stands) completed [] (record { own = record { section = refl; message = tt; of_point = tt }; true_side = none }) (All-nil (Tells stands))))
 
 some_of : {A : Type 0} (P : A → Type 0) (some all : List A) → AreSomeOf some all → All P all → All P some
 some_of P [] all are each = All-nil P
@@ -173,6 +169,50 @@ tells_own : {P : Report → Type 0} → ((report : Report) → P report → IsOw
 tells_own {P} own [] each = All-nil IsOwn
 tells_own {P} own (report ∷ others) each = All-cons IsOwn report others (own report (All-head P report others each)) (tells_own own others (All-tail P report others each))
 
+-- ---- what a controller says
+
+same_items : (host : HostState PointState) (reports : List Report) → map (item_of host) reports ≡ map (item_by host.own_name host.peer_name) reports
+same_items host [] = refl
+same_items host (report ∷ others) = ap (λ rest. item_of host report ∷ rest) (same_items host others)
+
+said_own : (version : ℕ) (answers begins finals : List Report) (stood : sensed.Position) → version < 256 →
+    All (IsVersionAnswer point_behaviour version) answers → AreSomeOf begins (initial_reports stood) → All IsSomeFinal finals → All IsOwn ((answers ++ begins) ++ finals)
+said_own version answers begins finals stood small are_answers are_some are_final =
+    All-append IsOwn (answers ++ begins) finals
+    (All-append IsOwn answers begins (answers_own version answers small are_answers)
+    (tells_own (λ report (tells : Tells stood report). tells.own) begins (some_of (Tells stood) begins (initial_reports stood) are_some (initial_tell stood))))
+    (tells_own (λ report (is : IsSomeFinal report). (final_tells is.0 report is.1).own) finals are_final)
+
+pub items_said : (host : HostState PointState) (answers begins finals : List Report) (stood : sensed.Position) → host.version < 256 →
+    All (IsVersionAnswer point_behaviour host.version) answers → AreSomeOf begins (initial_reports stood) → All IsSomeFinal finals →
+    AreSaid host.own_name host.peer_name (map (item_of host) ((answers ++ begins) ++ finals))
+items_said host answers begins finals stood small are_answers are_some are_final = record {
+  reports = (answers ++ begins) ++ finals;
+  are = same_items host ((answers ++ begins) ++ finals);
+  own = said_own host.version answers begins finals stood small are_answers are_some are_final;
+}
+
+map_joined : {A B : Type 0} (f : A → B) (first others : List A) → map f (first ++ others) ≡ map f first ++ map f others
+map_joined f [] others = refl
+map_joined f (one ∷ more) others = ap (λ rest. f one ∷ rest) (map_joined f more others)
+
+pub nothing_said : (own_name peer_name : List ℕ) → AreSaid own_name peer_name []
+nothing_said own_name peer_name = record { reports = []; are = refl; own = All-nil IsOwn }
+
+pub said_then : (own_name peer_name : List ℕ) (first others : List (List ℕ)) → AreSaid own_name peer_name first → AreSaid own_name peer_name others → AreSaid own_name peer_name (first ++ others)
+said_then own_name peer_name first others one more = record {
+  reports = one.reports ++ more.reports;
+  are = ap (λ xs. xs ++ others) one.are ∙ ap (λ xs. map (item_by own_name peer_name) one.reports ++ xs) more.are
+      ∙ sym (map_joined (item_by own_name peer_name) one.reports more.reports);
+  own = All-append IsOwn one.reports more.reports one.own more.own;
+}
+
+-- by a host of the same names
+pub said_by_same : (old new : HostState PointState) (items : List (List ℕ)) → new.own_name ≡ old.own_name → new.peer_name ≡ old.peer_name →
+    AreSaid old.own_name old.peer_name items → AreSaid new.own_name new.peer_name items
+said_by_same old new items own peer said =
+    subst (λ n. AreSaid n new.peer_name items) (sym own) (subst (λ n. AreSaid old.own_name n items) (sym peer) said)
+
 -- ---- what their items tell
 
 module _
@@ -198,11 +238,7 @@ module _
         All (IsVersionAnswer point_behaviour host.version) answers → AreSomeOf begins (initial_reports stood) → All IsSomeFinal finals →
         reports_in (map (item_of host) ((answers ++ begins) ++ finals)) ≡ positions_in begins ++ positions_in finals
     said_items_tell host named answers begins finals stood are_answers are_some are_final =
-        items_tell host named ((answers ++ begins) ++ finals)
-        (All-append IsOwn (answers ++ begins) finals
-        (All-append IsOwn answers begins (answers_own host.version answers named.version are_answers)
-        (tells_own (λ report (tells : Tells stood report). tells.own) begins (some_of (Tells stood) begins (initial_reports stood) are_some (initial_tell stood))))
-        (tells_own (λ report (is : IsSomeFinal report). (final_tells is.0 report is.1).own) finals are_final))
+        items_tell host named ((answers ++ begins) ++ finals) (said_own host.version answers begins finals stood named.version are_answers are_some are_final)
         ∙ positions_join (answers ++ begins) finals
         ∙ ap (λ xs. xs ++ positions_in finals) (positions_join answers begins ∙ ap (λ xs. xs ++ positions_in begins) (answers_tell_none host.version answers are_answers))
 

@@ -24,7 +24,7 @@ use Rattle.simulator_links.specs.Flows.{of_server, reports_given}
 use Rattle.simulator_links.specs.LinkMoves.{LinkGoes, moves_by}
 use Rattle.simulator_links.specs.Picture.{is_same_connection, pictured, server_in, server_of}
 use Rattle.simulator_controllers.specs.Ends.{AreFit, IsAtEnd, OpensNone, hosted_on}
-use Rattle.simulator_controllers.specs.Point.{IsNamed, IsPointSeen, PointGoes}
+use Rattle.simulator_controllers.specs.Point.{AreSaid, IsNamed, IsPointSeen, PointGoes}
 use Rattle.simulator_controllers.proofs.Places.{at_end_later, in_where_open, inside_is, leaves_opens_none, open_before, out_where_closed}
 
 -- the moves of a link leave all of a point but its drive
@@ -96,11 +96,11 @@ module _
     (linked_link : (moves : List LinkMove) (point : Point) → (point_chained (map PointLink moves) point).link ≡ link_chained moves point.link)
   where
     pub linked_seen : (moves : List LinkMove) (ends new : Ends) (host after : HostState PointState) (point : Point) → AreFit ends → AreFit new → OpensNone moves →
-        LinkGoes moves (pictured ends) (pictured new) → IsPointSeen ends host point → IsAtEnd new after → IsNamed after → IsReported (hosted_on new after) →
+        LinkGoes moves (pictured ends) (pictured new) → IsPointSeen ends host point → IsAtEnd new after → IsNamed after → AreSaid after.own_name after.peer_name new.server.given → IsReported (hosted_on new after) →
         new.client.given ≡ ends.client.given → new.server.taken ≡ ends.server.taken → reports_given new ≡ reports_given ends → after.object.sensed ≡ host.object.sensed →
         (is_open new.server.link.phase ≡ true → (is_open ends.server.link.phase ≡ true) × (is_moving after.object ≡ is_moving host.object)) → PointGoes point (IsPointSeen new after)
     unfolding pictured
-    linked_seen moves ends new host after point fit fit_after none goes seen at_end named reported given-same taken-same reports-same stands inside =
+    linked_seen moves ends new host after point fit fit_after none goes seen at_end named said reported given-same taken-same reports-same stands inside =
         let keeps = linked_keeps moves point none
         in let may = subst (LinkMayChain moves) (sym seen.link) goes.may
         in let leads : link_chained moves point.link ≡ pictured new = ap (link_chained moves) seen.link ∙ goes.leads
@@ -110,6 +110,7 @@ module _
           sees = record {
             at_end = at_end;
             named = named;
+            said = said;
             reported = reported;
             link = linked_link moves point ∙ leads;
             given = ap (λ n. n + (point_chained (map PointLink moves) point).flight) keeps.taken ∙ ap (λ n. point.taken + n) keeps.flight ∙ seen.given ∙ ap (λ xs. length (moves_in xs)) (sym given-same);
@@ -210,7 +211,7 @@ module _
     unfolding later end_later
     later_seen elapsed of_client of_server moves ends host point fit fit_after none goes seen reported =
         linked_seen linked_may linked_link moves ends (later elapsed of_client of_server ends) host host point fit fit_after none goes seen
-        (at_end_later elapsed of_client of_server ends host seen.at_end) seen.named reported refl refl
+        (at_end_later elapsed of_client of_server ends host seen.at_end) seen.named seen.said reported refl refl
         (reports_stay ends (later elapsed of_client of_server ends) fit fit_after refl refl refl (open_before (reading_of (ends.server.clock + of_server)) ends.server.link)) refl
         (λ opened. (open_before (reading_of (ends.server.clock + of_server)) ends.server.link opened, refl))
 
@@ -223,7 +224,7 @@ module _
     restarted_seen clock first object ends host point fit fit_after stands goes seen reported =
         linked_seen linked_may linked_link (moves_by false (is_open ends.server.link.phase) false) ends (restarted role.Server clock first ends) host
         (new_host point_behaviour ends.server.link.identity host.own_name host.peer_name first clock object host.version) point fit fit_after
-        (leaves_opens_none (is_open ends.server.link.phase)) goes seen fit_after.settled_at (record { own = seen.named.own; peer = seen.named.peer; version = seen.named.version }) reported refl refl
+        (leaves_opens_none (is_open ends.server.link.phase)) goes seen fit_after.settled_at (record { own = seen.named.own; peer = seen.named.peer; version = seen.named.version }) seen.said reported refl refl
         (reports_stay ends (restarted role.Server clock first ends) fit fit_after refl refl refl (λ opened. absurd (false≢true opened))) stands (λ opened. absurd (false≢true opened))
 
 reported_elsewhere : (ends new : Ends) (host : HostState PointState) → new.server ≡ ends.server → IsReported (hosted_on ends host) → IsReported (hosted_on new host)
@@ -244,6 +245,7 @@ pub elsewhere_seen : (ends new : Ends) (host : HostState PointState) (point othe
 elsewhere_seen ends new host point other server-same seen link given taken made position driven = record {
   at_end = subst (λ (e : EndState). settled (reading_of e.clock) host.link ≡ e.link) (sym server-same) seen.at_end;
   named = seen.named;
+  said = subst (λ (e : EndState). AreSaid host.own_name host.peer_name e.given) (sym server-same) seen.said;
   reported = reported_elsewhere ends new host server-same seen.reported;
   link = link;
   given = given;

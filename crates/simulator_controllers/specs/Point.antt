@@ -1,11 +1,16 @@
 -- What the machine sees of a point in its host.
-use Rattle.std.specs.Prelude.{◌≡◌, ◌⊎◌, ◌&&◌, ◌<◌, true, List, length, is_some}
+use Rattle.std.specs.Prelude.{◌≡◌, ◌⊎◌, ◌&&◌, ◌<◌, ℕ, true, List, length, map, None, is_some}
+use Rattle.std.specs.List.{All}
 use Rattle.sci_telegram.specs.Names.{IsName}
+use Rattle.sci_telegram.specs.Telegrams.{IsMessage, writing}
+use Rattle.sci_telegram.specs.declared.message.Message.{Message}
+use Rattle.sci_telegram.specs.declared.message.Message.TheVariants as message
 use Rattle.rasta_core.specs.State.{is_open}
 use Rattle.rasta_core.specs.Ends.{reading_of}
 use Rattle.rasta_core.specs.Run.{Ends}
-use Rattle.object_host.specs.Host.{HostState}
+use Rattle.object_host.specs.Host.{HostState, sender_of}
 use Rattle.object_host.specs.declared.input.Input.{Input}
+use Rattle.object_host.specs.declared.report.Report.{Report}
 use Rattle.point_ctl.specs.Drive.{PointState, drives}
 use Rattle.controller_theorems.specs.Point.{IsReported, is_moving, position_told}
 use Rattle.simulator_machine.specs.Point.{Point, PointMove, moves_given, reports_made}
@@ -21,6 +26,28 @@ pub record IsNamed {Object : Type 0} (host : HostState Object) : Type 0 where
   pub peer : IsName host.peer_name
   pub version : host.version < 256
 
+-- what a point's controller says: what every initialisation has, and of the point
+abbrev pub IsOfPoint : Message → Type 0
+IsOfPoint (message.Initialisation protocol what) = Unit {0}
+IsOfPoint (message.Point what) = Unit {0}
+IsOfPoint _ = ⊥
+
+-- a report that a controller of these names makes itself, as an item
+abbrev pub item_by : List ℕ → List ℕ → Report → List ℕ
+item_by own_name peer_name report = writing (record { sender = sender_of report.section own_name; receiver = peer_name; message = report.message })
+
+-- a report of the point's own that can be read
+pub record IsOwn (report : Report) : Type 0 where
+  pub section : report.section ≡ None
+  pub message : IsMessage report.message
+  pub of_point : IsOfPoint report.message
+
+-- items that a point's controller of these names has said
+pub record AreSaid (own_name peer_name : List ℕ) (items : List (List ℕ)) : Type 0 where
+  pub reports : List Report
+  pub are : items ≡ map (item_by own_name peer_name) reports
+  pub own : All IsOwn reports
+
 -- The machine's point is the point of this host, at these ends.
 pub record IsPointSeen (ends : Ends) (host : HostState PointState) (point : Point) : Type 0 where
   pub at_end : IsAtEnd ends host
@@ -33,6 +60,8 @@ pub record IsPointSeen (ends : Ends) (host : HostState PointState) (point : Poin
   pub taken : is_open ends.server.link.phase ≡ true → point.taken ≡ length (moves_in ends.server.taken)
   -- the reports made are those of the server's items
   pub made : reports_made point ≡ reports_in (reports_given ends)
+  -- and those items are what its controller says, also where it was made anew since
+  pub said : AreSaid host.own_name host.peer_name ends.server.given
   -- it stands where it was sensed last, and is driven in a connection, for the move in progress
   pub position : point.position ≡ position_seen host.object.sensed
   pub driven : point.driven ≡ (is_open ends.server.link.phase && is_moving host.object)
