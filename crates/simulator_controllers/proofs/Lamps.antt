@@ -15,6 +15,8 @@ use Rattle.sci_telegram.specs.declared.telegram.Telegram.{Telegram}
 use Rattle.rasta_core.specs.State.{is_open}
 use Rattle.rasta_core.specs.Clock.{alive_until, settled}
 use Rattle.rasta_core.specs.Ends.{EndState, end_later, end_restarted, kept, reading_of}
+use Rattle.rasta_core.specs.Events.{Start, started}
+use Rattle.rasta_core.specs.Names.{Names, identity_of}
 use Rattle.rasta_core.specs.Run.{Ends, later, restarted}
 use Rattle.rasta_core.specs.identity.Role.TheVariants as role
 use Rattle.rasta_core.specs.Calls.{created}
@@ -24,7 +26,7 @@ use Rattle.object_host.specs.Made.{command_of, commands_of, is_command}
 use Rattle.object_host.specs.Step.{host_step}
 use Rattle.object_host.specs.declared.input.Input.{Input}
 use Rattle.object_host_theorem.specs.Acted.{IsActedOn}
-use Rattle.object_host_theorem.specs.World.{Event, HostRestarts, Passes, Steps as WorldSteps, World, called_all, entering, happened, host_of, host_restarted, step_of, stepped, told_since}
+use Rattle.object_host_theorem.specs.World.{Event, begun, HostRestarts, Passes, Steps as WorldSteps, World, called_all, entering, happened, host_of, host_restarted, step_of, stepped, told_since}
 use Rattle.signal_ctl.specs.Signal.{SignalState, indicates, signal_behaviour}
 use Rattle.signal_ctl.specs.History.{or_else}
 use Rattle.signal_ctl.specs.Lamp.{aspect_shown, standing}
@@ -32,16 +34,18 @@ use Rattle.controller_theorems.specs.Signal.{IsTold, aspect_due, last_indicated}
 use Rattle.simulator_machine.specs.Link.{Server, In, Link, LinkMove, Opens, Enters, ComesUp, Closes, Leaves, QuietEnds}
 use Rattle.simulator_machine.specs.Signal as machine
 use Rattle.simulator_machine.specs.Lists.{last_of}
+use Rattle.simulator_machine.specs.Point.{Position}
+use Rattle.simulator_machine.specs.Run.{first, unlinked}
 use Rattle.simulator_machine.specs.Signal.{Aspect, shown, shown_by, Signal, SignalMove, SignalLink, Acts, SignalMay, signal_after, aspects_given}
 use Rattle.simulator_machine.specs.Chains.{LinkMayChain, SignalMayChain, link_chained, signal_chained}
 use Rattle.simulator_machine.specs.Invariant.{IsSignalSound}
 use Rattle.simulator_items.specs.Items.{all_said, aspect_seen, aspects_in, aspects_of, said_by}
 use Rattle.simulator_links.specs.LinkMoves.{LinkGoes, moves_by, server_moves}
 use Rattle.simulator_links.specs.Picture.{pictured, server_of}
-use Rattle.simulator_controllers.specs.Ends.{AreFit, IsAtEnd, OpensNone, Steps, hosted_on}
+use Rattle.simulator_controllers.specs.Ends.{AreFit, IsAtEnd, OpensNone, Steps, hosted_on, server_later}
 use Rattle.simulator_controllers.specs.Signal.{IsSignalSeen, SignalGoes}
 use Rattle.simulator_controllers.proofs.Lists.{cancelled, chain_joined, chain_may}
-use Rattle.simulator_controllers.proofs.Places.{at_end_later, in_where_open, leaves_opens_none, open_before, server_opens_none}
+use Rattle.simulator_controllers.proofs.Places.{alone_goes, at_end_later, fit_alone, in_where_open, leaves_opens_none, moved_opens_none, open_before, server_opens_none}
 
 -- the moves of a link leave the aspects of a signal
 pub linked_keeps : (moves : List LinkMove) (signal : Signal) → OpensNone moves →
@@ -301,6 +305,42 @@ elsewhere_seen ends new host signal other server-same seen link given done = rec
   link = link;
   given = given;
   done = λ opened. done opened ∙ seen.done (ap (λ (e : EndState). is_open e.link.phase) (sym server-same) ∙ opened) ∙ ap (λ (e : EndState). aspects_in e.taken) (sym server-same);
+}
+
+-- ---- time at the controller alone
+
+module _
+    (linked_may : (moves : List LinkMove) (signal : Signal) → LinkMayChain moves signal.link → SignalMayChain (map SignalLink moves) signal)
+    (linked_link : (moves : List LinkMove) (signal : Signal) → (signal_chained (map SignalLink moves) signal).link ≡ link_chained moves signal.link)
+  where
+    pub alone_seen : (elapsed of_client of_server : ℕ) (ends : Ends) (host : HostState SignalState) (signal : Signal) → AreFit ends → AreFit (later elapsed of_client of_server ends) →
+        IsSignalSeen ends host signal → IsTold (hosted_on (later elapsed of_client of_server ends) host) → SignalGoes signal (IsSignalSeen (server_later elapsed of_client of_server ends) host)
+    unfolding later end_later
+    alone_seen elapsed of_client of_server ends host signal fit fit_later seen told =
+        let new : Ends = server_later elapsed of_client of_server ends
+        in linked_seen linked_may linked_link (moves_by false (is_open ends.server.link.phase) (is_open new.server.link.phase)) ends new host host signal
+        (moved_opens_none (is_open ends.server.link.phase) (is_open new.server.link.phase))
+        (alone_goes elapsed of_client of_server ends fit (fit_alone elapsed of_client of_server ends fit fit_later)) seen
+        (at_end_later elapsed of_client of_server ends host seen.at_end) (told_elsewhere (later elapsed of_client of_server ends) new host refl told) refl
+        (λ opened. (open_before (reading_of (ends.server.clock + of_server)) ends.server.link opened, refl))
+
+-- ---- the beginning
+
+pub begun_seen : (names : Names) (start : Start) (own_name peer_name : List ℕ) (object : SignalState) (version place : ℕ) (positions : ℕ → Position) → AreFit (started names start) →
+    pictured (started names start) ≡ unlinked → IsTold (begun signal_behaviour names start own_name peer_name object version) →
+    IsSignalSeen (started names start) (new_host signal_behaviour (identity_of role.Server names) own_name peer_name start.server_first start.server_clock object version) ((first positions).signals place)
+unfolding new_host keeping created all_said
+begun_seen names start own_name peer_name object version place positions fit linked told = record {
+  at_end = fit.settled_at;
+  told = record {
+    steady = record { outside = told.steady.outside; idle = told.steady.idle };
+    until = told.until;
+    inside = λ opened. absurd (false≢true opened);
+    late = told.late;
+  };
+  link = sym linked;
+  given = refl;
+  done = λ opened. absurd (false≢true opened);
 }
 
 -- ---- what is shown

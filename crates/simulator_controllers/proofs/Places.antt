@@ -20,9 +20,10 @@ use Rattle.object_host.specs.declared.input.Input.{Input}
 use Rattle.object_host.specs.declared.input.Input.TheVariants as inputs
 use Rattle.object_host_theorem.specs.World.{as_call, called_all, entering}
 use Rattle.simulator_machine.specs.Link.{Server, Before, In, Gone}
-use Rattle.simulator_links.specs.LinkMoves.{moves_by, server_moves}
-use Rattle.simulator_links.specs.Picture.{is_inside, is_same_connection, server_in, server_of, state_of}
-use Rattle.simulator_controllers.specs.Ends.{AreFit, IsAtEnd, OpensNone}
+use Rattle.std.specs.Prelude.{Some, ◌==◌}
+use Rattle.simulator_links.specs.LinkMoves.{LinkGoes, moves_by, server_moves}
+use Rattle.simulator_links.specs.Picture.{client_of, is_inside, is_same_connection, pictured, server_in, server_of, state_of}
+use Rattle.simulator_controllers.specs.Ends.{AreFit, IsAtEnd, OpensNone, server_later}
 
 -- ---- where the server is
 
@@ -67,6 +68,22 @@ pub out_where_closed : (ends : Ends) → AreFit ends → is_open ends.server.lin
 out_where_closed ends fit closed is =
     not_in (is_same_connection ends.client.connection ends.server.connection)
     (ap (λ (inside : Bool). server_in inside (is_same_connection ends.client.connection ends.server.connection)) (sym (inside_is ends.server fit.settled_at ∙ closed)) ∙ is)
+
+same_number : (n : ℕ) → (n == n) ≡ true
+same_number n = grind (arith, nat_tests)
+
+pub in_one : (ends : Ends) → ((one : ℕ) × (ends.client.connection ≡ Some one) × (ends.server.connection ≡ Some one)) → is_same_connection ends.client.connection ends.server.connection ≡ true
+in_one ends here = ap (λ c. is_same_connection c ends.server.connection) here.1 ∙ ap (is_same_connection (Some here.0)) here.2 ∙ same_number here.0
+
+pub was_there : (ends : Ends) → AreFit ends → is_open ends.server.link.phase ≡ true → is_same_connection ends.client.connection ends.server.connection ≡ true
+was_there ends fit opened = in_one ends (fit.same opened)
+
+pub closed_is : (ends : Ends) → AreFit ends → is_open ends.server.link.phase ≡ false → server_of ends ≡ server_in false (is_same_connection ends.client.connection ends.server.connection)
+closed_is ends fit closed = ap (λ inside. server_in inside (is_same_connection ends.client.connection ends.server.connection)) (inside_is ends.server fit.settled_at ∙ closed)
+
+-- a server outside the last connection of both ends has left it
+pub gone_where_closed : (ends : Ends) → AreFit ends → is_open ends.server.link.phase ≡ false → ((one : ℕ) × (ends.client.connection ≡ Some one) × (ends.server.connection ≡ Some one)) → server_of ends ≡ Gone
+gone_where_closed ends fit closed here = closed_is ends fit closed ∙ ap (server_in false) (in_one ends here)
 
 -- ---- calls of the server
 
@@ -170,3 +187,45 @@ at_end_later elapsed of_client of_server ends host at_end =
 pub leaves_opens_none : (was : Bool) → OpensNone (moves_by false was false)
 leaves_opens_none true = tt
 leaves_opens_none false = tt
+
+-- ---- time goes on at the server's end alone
+
+pub fit_alone : (elapsed of_client of_server : ℕ) (ends : Ends) → AreFit ends → AreFit (later elapsed of_client of_server ends) → AreFit (server_later elapsed of_client of_server ends)
+unfolding later end_later
+fit_alone elapsed of_client of_server ends fit after = record {
+  settled_at = after.settled_at;
+  safe = λ connection client server.
+      let before = fit.safe connection client server
+      in let then_is = after.safe connection client server
+      in (
+        record { rest = before.0.rest; beginning = before.0.beginning; confirmed = before.0.confirmed },
+        record { rest = before.1.rest; beginning = before.1.beginning; confirmed = then_is.1.confirmed },
+      );
+  same = after.same;
+}
+
+-- a server that is in a connection leaves it, or stays
+pub alone_goes : (elapsed of_client of_server : ℕ) (ends : Ends) → AreFit ends → AreFit (server_later elapsed of_client of_server ends) →
+    LinkGoes (moves_by false (is_open ends.server.link.phase) (is_open (server_later elapsed of_client of_server ends).server.link.phase)) (pictured ends) (pictured (server_later elapsed of_client of_server ends))
+unfolding later end_later pictured
+alone_goes elapsed of_client of_server ends fit after = by (is_open ends.server.link.phase) (is_open new.server.link.phase) refl refl where
+  new : Ends
+  new = server_later elapsed of_client of_server ends
+
+  stays : server_of ends ≡ server_of new → LinkGoes [] (pictured ends) (pictured new)
+  stays same = record { may = tt; leads = ap (λ (s : Server). record { client = client_of ends.client; server = s }) same }
+
+  by : (was is : Bool) → is_open ends.server.link.phase ≡ was → is_open new.server.link.phase ≡ is → LinkGoes (moves_by false was is) (pictured ends) (pictured new)
+  by true true opened still = stays (in_where_open ends fit opened ∙ sym (in_where_open new after still))
+  by true false opened closed = record {
+    may = (tt, tt);
+    leads = ap (λ (s : Server). record { client = client_of ends.client; server = s }) (sym (gone_where_closed new after closed (fit.same opened)));
+  }
+  by false true closed still = absurd (true≢false (sym (open_before (reading_of (ends.server.clock + of_server)) ends.server.link still) ∙ closed))
+  by false false closed shut = stays (closed_is ends fit closed ∙ sym (closed_is new after shut))
+
+pub moved_opens_none : (was is : Bool) → OpensNone (moves_by false was is)
+moved_opens_none true true = tt
+moved_opens_none true false = tt
+moved_opens_none false true = tt
+moved_opens_none false false = tt

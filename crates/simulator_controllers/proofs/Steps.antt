@@ -26,11 +26,11 @@ use Rattle.simulator_links.specs.Picture.{server_of}
 use Rattle.simulator_controllers.specs.Ends.{AreFit, Steps, hosted_on}
 use Rattle.simulator_controllers.specs.Point.{AreSaid, IsMovedDriven, IsPointSeen, PointGoes}
 use Rattle.simulator_controllers.proofs.Moves.{one}
-use Rattle.simulator_controllers.proofs.Places.{in_where_open, server_opens_none}
+use Rattle.simulator_controllers.proofs.Places.{gone_where_closed, in_where_open, server_opens_none}
 use Rattle.simulator_controllers.proofs.Starts.{starts_entering, starts_inside}
 use Rattle.simulator_controllers.proofs.Switches.{IsStep, inside_goes}
 use Rattle.simulator_controllers.proofs.Telling.{said_by_same}
-use Rattle.simulator_controllers.proofs.Turns.{gone_where_closed, linked_seen, reports_stay}
+use Rattle.simulator_controllers.proofs.Turns.{linked_seen, reports_stay}
 
 -- an end that has left, or that has entered, hasn't the connection before it
 not_before : (ends : Ends) → AreFit ends → ((one : ℕ) × (ends.client.connection ≡ Some one) × (ends.server.connection ≡ Some one)) → server_of ends ≢ Before

@@ -34,10 +34,9 @@ use Rattle.simulator_links.specs.Picture.{client_of, pictured, server_of}
 use Rattle.simulator_controllers.specs.Ends.{IsAtEnd, Steps, hosted_on}
 use Rattle.simulator_controllers.specs.Point.{AreSaid, IsMovedDriven, IsNamed, IsPointSeen, PointGoes}
 use Rattle.simulator_controllers.proofs.Moves.{IsTrueAt, Leads, Work, joined, made_more, one, work_leads, worked}
-use Rattle.simulator_controllers.proofs.Places.{in_where_open}
+use Rattle.simulator_controllers.proofs.Places.{gone_where_closed, in_where_open}
 use Rattle.simulator_controllers.proofs.Telling.{answers_tell_none, finals_tell_each, finals_true, initial_tells_one, initial_true, items_said, moves_same, nothing_said, positions_in, positions_join, said_by_same, said_items_tell, said_then, some_finals}
 use Rattle.simulator_controllers.proofs.Starts.{Starts}
-use Rattle.simulator_controllers.proofs.Turns.{gone_where_closed}
 
 -- a list of moves that leads to what is seen
 goes_to : {Sees : Point → Type 0} (old new : Point) → Leads old new → Sees new → new.heard ≡ old.heard → PointGoes old Sees

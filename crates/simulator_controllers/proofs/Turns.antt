@@ -1,31 +1,35 @@
 -- What happens to the link of a point, and what happens elsewhere.
-use Rattle.std.proofs.Common.{◌≡◌, ◌+◌, ◌==◌, ℕ, Bool, true, false, ◌&&◌, arith, List, [], ◌∷◌, ◌++◌, length, map, refl, ap, sym, ◌∙◌, subst}
-use Rattle.std.specs.Prelude.{Some}
+use Rattle.std.proofs.Common.{◌≡◌, ◌+◌, ℕ, Bool, true, false, ◌&&◌, List, [], ◌∷◌, ◌++◌, length, map, refl, ap, sym, ◌∙◌, subst}
+use Rattle.std.specs.Prelude.{◌<◌, Some}
+use Rattle.std.proofs.lemmas.List.Elements.{All-nil}
+use Rattle.sci_telegram.specs.Names.{IsName}
 use Rattle.std.proofs.lemmas.Bool.{false≢true}
-use Rattle.std.proofs.lemmas.Bool.Decides.{nat_tests}
 use Rattle.sci_telegram.specs.declared.message.Side as told
 use Rattle.rasta_core.specs.State.{is_open}
 use Rattle.rasta_core.specs.Clock.{settled}
 use Rattle.rasta_core.specs.Calls.{created}
 use Rattle.rasta_core.specs.Ends.{EndState, end_later, end_restarted, reading_of}
+use Rattle.rasta_core.specs.Events.{Start, started}
+use Rattle.rasta_core.specs.Names.{Names, identity_of}
 use Rattle.rasta_core.specs.Run.{Ends, later, restarted}
 use Rattle.rasta_core.specs.identity.Role.TheVariants as role
 use Rattle.object_host.specs.Host.{HostState, keeping}
 use Rattle.object_host.specs.Hosted.{new_host}
-use Rattle.object_host_theorem.specs.World.{Event, HostRestarts, Passes, World, happened, host_restarted}
+use Rattle.object_host_theorem.specs.World.{Event, begun, HostRestarts, Passes, World, happened, host_restarted}
 use Rattle.point_ctl.specs.Controlled.{point_behaviour}
 use Rattle.point_ctl.specs.Drive.{PointState, drives}
 use Rattle.controller_theorems.specs.Point.{IsReported, is_moving}
-use Rattle.simulator_machine.specs.Link.{In, Gone, Link, LinkMove, Opens, Enters, ComesUp, Closes, Leaves, QuietEnds}
-use Rattle.simulator_machine.specs.Point.{Point, PointLink, moves_given, point_after, reports_made}
+use Rattle.simulator_machine.specs.Link.{Server, Before, In, Gone, Link, LinkMove, Opens, Enters, ComesUp, Closes, Leaves, QuietEnds}
+use Rattle.simulator_machine.specs.Run.{first, unlinked}
+use Rattle.simulator_machine.specs.Point.{Point, PointLink, Position, moves_given, point_after, reports_made}
 use Rattle.simulator_machine.specs.Chains.{LinkMayChain, PointMayChain, link_chained, point_chained}
-use Rattle.simulator_items.specs.Items.{moves_in, position_seen, reports_in}
+use Rattle.simulator_items.specs.Items.{all_said, moves_in, position_seen, reports_in}
 use Rattle.simulator_links.specs.Flows.{of_server, reports_given}
 use Rattle.simulator_links.specs.LinkMoves.{LinkGoes, moves_by}
 use Rattle.simulator_links.specs.Picture.{is_same_connection, pictured, server_in, server_of}
-use Rattle.simulator_controllers.specs.Ends.{AreFit, IsAtEnd, OpensNone, hosted_on}
+use Rattle.simulator_controllers.specs.Ends.{AreFit, IsAtEnd, OpensNone, hosted_on, server_later}
 use Rattle.simulator_controllers.specs.Point.{AreSaid, IsNamed, IsPointSeen, PointGoes}
-use Rattle.simulator_controllers.proofs.Places.{at_end_later, in_where_open, inside_is, leaves_opens_none, open_before, out_where_closed}
+use Rattle.simulator_controllers.proofs.Places.{alone_goes, at_end_later, closed_is, fit_alone, in_where_open, leaves_opens_none, moved_opens_none, open_before, out_where_closed, was_there}
 
 -- the moves of a link leave all of a point but its drive
 record Kept (old new : Point) : Type 0 where
@@ -136,22 +140,6 @@ module _
 
 -- ---- time, a restart, and what happens elsewhere
 
-same_number : (n : ℕ) → (n == n) ≡ true
-same_number n = grind (arith, nat_tests)
-
-in_one : (ends : Ends) → ((one : ℕ) × (ends.client.connection ≡ Some one) × (ends.server.connection ≡ Some one)) → is_same_connection ends.client.connection ends.server.connection ≡ true
-in_one ends here = ap (λ c. is_same_connection c ends.server.connection) here.1 ∙ ap (is_same_connection (Some here.0)) here.2 ∙ same_number here.0
-
-was_there : (ends : Ends) → AreFit ends → is_open ends.server.link.phase ≡ true → is_same_connection ends.client.connection ends.server.connection ≡ true
-was_there ends fit opened = in_one ends (fit.same opened)
-
-closed_is : (ends : Ends) → AreFit ends → is_open ends.server.link.phase ≡ false → server_of ends ≡ server_in false (is_same_connection ends.client.connection ends.server.connection)
-closed_is ends fit closed = ap (λ inside. server_in inside (is_same_connection ends.client.connection ends.server.connection)) (inside_is ends.server fit.settled_at ∙ closed)
-
--- a server outside the last connection of both ends has left it
-pub gone_where_closed : (ends : Ends) → AreFit ends → is_open ends.server.link.phase ≡ false → ((one : ℕ) × (ends.client.connection ≡ Some one) × (ends.server.connection ≡ Some one)) → server_of ends ≡ Gone
-gone_where_closed ends fit closed here = closed_is ends fit closed ∙ ap (server_in false) (in_one ends here)
-
 -- a server that leaves has given what it gave
 pub reports_stay : (ends new : Ends) → AreFit ends → AreFit new → new.client.connection ≡ ends.client.connection → new.server.connection ≡ ends.server.connection →
     new.server.given ≡ ends.server.given → (is_open new.server.link.phase ≡ true → is_open ends.server.link.phase ≡ true) → reports_given new ≡ reports_given ends
@@ -254,6 +242,54 @@ elsewhere_seen ends new host point other server-same seen link given taken made 
   position = position ∙ seen.position;
   driven = driven ∙ seen.driven ∙ ap (λ (e : EndState). is_open e.link.phase && is_moving host.object) (sym server-same);
 }
+
+-- ---- time at the controller alone
+
+module _
+    (linked_may : (moves : List LinkMove) (point : Point) → LinkMayChain moves point.link → PointMayChain (map PointLink moves) point)
+    (linked_link : (moves : List LinkMove) (point : Point) → (point_chained (map PointLink moves) point).link ≡ link_chained moves point.link)
+  where
+    pub alone_seen : (elapsed of_client of_server : ℕ) (ends : Ends) (host : HostState PointState) (point : Point) → AreFit ends → AreFit (later elapsed of_client of_server ends) →
+        IsPointSeen ends host point → IsReported (hosted_on (later elapsed of_client of_server ends) host) → PointGoes point (IsPointSeen (server_later elapsed of_client of_server ends) host)
+    unfolding later end_later
+    alone_seen elapsed of_client of_server ends host point fit fit_later seen reported =
+        let new : Ends = server_later elapsed of_client of_server ends
+        in let after : AreFit new = fit_alone elapsed of_client of_server ends fit fit_later
+        in linked_seen linked_may linked_link (moves_by false (is_open ends.server.link.phase) (is_open new.server.link.phase)) ends new host host point fit after
+        (moved_opens_none (is_open ends.server.link.phase) (is_open new.server.link.phase)) (alone_goes elapsed of_client of_server ends fit after) seen
+        (at_end_later elapsed of_client of_server ends host seen.at_end) seen.named seen.said (reported_elsewhere (later elapsed of_client of_server ends) new host refl reported) refl refl
+        (reports_stay ends new fit after refl refl refl (open_before (reading_of (ends.server.clock + of_server)) ends.server.link)) refl
+        (λ opened. (open_before (reading_of (ends.server.clock + of_server)) ends.server.link opened, refl))
+
+-- ---- the beginning
+
+pub begun_seen : (names : Names) (start : Start) (own_name peer_name : List ℕ) (object : PointState) (version place : ℕ) (positions : ℕ → Position) → AreFit (started names start) →
+    IsName own_name → IsName peer_name → version < 256 → positions place ≡ position_seen object.sensed → pictured (started names start) ≡ unlinked →
+    IsReported (begun point_behaviour names start own_name peer_name object version) →
+    IsPointSeen (started names start) (new_host point_behaviour (identity_of role.Server names) own_name peer_name start.server_first start.server_clock object version) ((first positions).points place)
+unfolding new_host keeping created all_said
+begun_seen names start own_name peer_name object version place positions fit own peer small position linked reported = record {
+  at_end = fit.settled_at;
+  named = record { own = own; peer = peer; version = small };
+  reported = record {
+    steady = record { outside = reported.steady.outside; idle = reported.steady.idle };
+    until = reported.until;
+    answered = reported.answered;
+    inside = λ opened. absurd (false≢true opened);
+    late = reported.late;
+  };
+  link = sym linked;
+  given = refl;
+  taken = λ opened. absurd (false≢true opened);
+  made = sym (ap reports_in (nothing_given (server_of (started names start))));
+  said = record { reports = []; are = refl; own = All-nil _ };
+  position = position;
+  driven = refl;
+} where
+  nothing_given : (server : Server) → of_server server [] ≡ []
+  nothing_given Before = refl
+  nothing_given In = refl
+  nothing_given Gone = refl
 
 -- ---- the drive
 

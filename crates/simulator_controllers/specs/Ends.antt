@@ -3,7 +3,7 @@ use Rattle.std.specs.Prelude.{◌≡◌, ℕ, true, List, [], ◌∷◌, Some}
 use Rattle.rasta_core.specs.State.{is_open}
 use Rattle.rasta_core.specs.Clock.{settled}
 use Rattle.rasta_core.specs.Ends.{reading_of}
-use Rattle.rasta_core.specs.Run.{Ends}
+use Rattle.rasta_core.specs.Run.{Ends, later}
 use Rattle.rasta_core.specs.Safe.{AreSafe}
 use Rattle.object_host.specs.Host.{HostState}
 use Rattle.object_host.specs.Made.{commands_of}
@@ -27,6 +27,10 @@ pub record Steps (input : Input) (connection : ℕ) (ends new : Ends) : Type 0 w
   pub fit_after : AreFit new
   pub enters : (entered : ℕ) → entering input connection ends ≡ Some entered → (server_of ends ≡ Before) × (ends.client.connection ≡ Some entered)
   pub goes : LinkGoes (server_moves (server_of ends) (server_of new)) (pictured ends) (pictured new)
+
+-- these ends when time has passed at the server's and not yet at the client's
+abbrev pub server_later : (elapsed of_client of_server : ℕ) → Ends → Ends
+server_later elapsed of_client of_server ends = record ends { server = (later elapsed of_client of_server ends).server }
 
 -- moves of a link in which the client begins no connection
 abbrev pub OpensNone : List LinkMove → Type 0

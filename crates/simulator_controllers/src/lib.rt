@@ -8,10 +8,10 @@ mod signals;
 
 pub use ends::lawful_ends_are_fit;
 pub use points::{
-    driven_points_are_seen_driven, points_pass_time_and_restart, points_stay_elsewhere,
-    steps_of_points_are_moves,
+    driven_points_are_seen_driven, points_begin_seen, points_pass_time_and_restart,
+    points_stay_elsewhere, steps_of_points_are_moves,
 };
 pub use signals::{
-    signal_shows_what_is_seen, signals_pass_time_and_restart, signals_stay_elsewhere,
-    steps_of_signals_are_moves,
+    signal_shows_what_is_seen, signals_begin_seen, signals_pass_time_and_restart,
+    signals_stay_elsewhere, steps_of_signals_are_moves,
 };

@@ -1,8 +1,11 @@
 //! A point in its host, as the machine sees it.
 
-ghost use Rattle.std.specs.Prelude.{◌≡◌, ℕ, true, false, List, Some, length};
+ghost use Rattle.std.specs.Prelude.{◌≡◌, ◌<◌, ℕ, true, false, List, Some, length};
+ghost use Rattle.sci_telegram.specs.Names.{IsName};
 ghost use Rattle.sci_telegram.specs.declared.message.Side.{Side};
 ghost use Rattle.rasta_core.specs.Ends.{reading_of};
+ghost use Rattle.rasta_core.specs.Events.{Start, started};
+ghost use Rattle.rasta_core.specs.Names.{Names, identity_of};
 ghost use Rattle.rasta_core.specs.Run.{Ends, later, restarted};
 ghost use Rattle.rasta_core.specs.State.{is_open};
 ghost use Rattle.rasta_core.specs.identity.Role.TheVariants.{Server};
@@ -15,12 +18,13 @@ ghost use Rattle.point_ctl.specs.Controlled.{point_behaviour};
 ghost use Rattle.point_ctl.specs.Drive.{PointState, drives};
 ghost use Rattle.simulator_machine.specs.Invariant.{IsPointSound};
 ghost use Rattle.simulator_machine.specs.Link.{LinkMove};
-ghost use Rattle.simulator_machine.specs.Point.{Point as MachinePoint, moves_given, reports_made};
-ghost use Rattle.simulator_items.specs.Items.{moves_in, reports_in};
+ghost use Rattle.simulator_machine.specs.Point.{Point as MachinePoint, Position, moves_given, reports_made};
+ghost use Rattle.simulator_machine.specs.Run.{first};
+ghost use Rattle.simulator_items.specs.Items.{moves_in, position_seen, reports_in};
 ghost use Rattle.simulator_links.specs.Flows.{reports_given};
 ghost use Rattle.simulator_links.specs.LinkMoves.{LinkGoes, moves_by};
 ghost use Rattle.simulator_links.specs.Picture.{pictured};
-ghost use Rattle.simulator_controllers.specs.Ends.{AreFit, OpensNone, Steps};
+ghost use Rattle.simulator_controllers.specs.Ends.{AreFit, OpensNone, Steps, server_later};
 ghost use Rattle.simulator_controllers.specs.Point.{IsMovedDriven, IsPointSeen, PointGoes};
 
 use controller_theorems::{
@@ -32,7 +36,19 @@ use object_host::{
 use object_host_theorem::{step_takes_and_gives, what_is_taken_is_acted_on};
 use point_ctl::Point;
 use simulator_items::{items_join, written_items_are_read};
+use simulator_links::links_are_pictured;
 use simulator_machine::moves_of_links_are_moves;
+
+/// At the beginning a point in its host is the machine's, where that stands as the point is sensed.
+pub fn points_begin_seen()
+    ensures { (names : Names) (start : Start) (own_name peer_name : List ℕ) (object : PointState) (version place : ℕ) (positions : ℕ → Position) → AreFit (started names start)
+        → IsName own_name → IsName peer_name → version < 256 → positions place ≡ position_seen object.sensed
+        → IsPointSeen (started names start) (new_host point_behaviour (identity_of Server names) own_name peer_name start.server_first start.server_clock object version)
+        ((first positions).points place) }
+{
+    links_are_pictured();
+    point_reports_its_moves();
+}
 
 /// A step of a point's host, whatever comes in it, is a list of moves of the machine's point, where contacts tell of another
 /// position only while the point is driven.
@@ -56,12 +72,14 @@ pub fn steps_of_points_are_moves()
     written_items_are_read();
 }
 
-/// Time that passes, and a restart of the controller with the position in which the point stands, are moves of the point's
-/// link, whatever the host does later.
+/// Time that passes, at both ends or at the controller's alone, and a restart of the controller with the position in which
+/// the point stands are moves of the point's link, whatever the host does later.
 pub fn points_pass_time_and_restart()
     ensures passes { (elapsed of_client of_server : ℕ) (moves : List LinkMove) (ends : Ends) (host : HostState PointState) (point : MachinePoint) → AreFit ends
         → AreFit (later elapsed of_client of_server ends) → IsPointSeen ends host point → OpensNone moves → LinkGoes moves (pictured ends) (pictured (later elapsed of_client of_server ends))
         → PointGoes point (IsPointSeen (later elapsed of_client of_server ends) host) }
+    ensures alone { (elapsed of_client of_server : ℕ) (ends : Ends) (host : HostState PointState) (point : MachinePoint) → AreFit ends → AreFit (later elapsed of_client of_server ends)
+        → IsPointSeen ends host point → PointGoes point (IsPointSeen (server_later elapsed of_client of_server ends) host) }
     ensures restarts { (clock first : ℕ) (object : PointState) (ends : Ends) (host : HostState PointState) (point : MachinePoint) → AreFit ends → AreFit (restarted Server clock first ends)
         → IsPointSeen ends host point → object.sensed ≡ host.object.sensed
         → LinkGoes (moves_by false (is_open ends.server.link.phase) false) (pictured ends) (pictured (restarted Server clock first ends))

@@ -3,6 +3,8 @@
 ghost use Rattle.std.specs.Prelude.{◌≡◌, ◌≢◌, ℕ, true, false, List};
 ghost use Rattle.sci_telegram.specs.declared.message.Aspect.TheVariants.{Stop};
 ghost use Rattle.rasta_core.specs.Ends.{reading_of};
+ghost use Rattle.rasta_core.specs.Events.{Start, started};
+ghost use Rattle.rasta_core.specs.Names.{Names, identity_of};
 ghost use Rattle.rasta_core.specs.Run.{Ends, later, restarted};
 ghost use Rattle.rasta_core.specs.State.{is_open};
 ghost use Rattle.rasta_core.specs.identity.Role.TheVariants.{Server};
@@ -15,11 +17,13 @@ ghost use Rattle.signal_ctl.specs.Lamp.{aspect_shown};
 ghost use Rattle.signal_ctl.specs.Signal.{SignalState, signal_behaviour};
 ghost use Rattle.simulator_machine.specs.Invariant.{IsSignalSound};
 ghost use Rattle.simulator_machine.specs.Link.{LinkMove};
+ghost use Rattle.simulator_machine.specs.Point.{Position};
+ghost use Rattle.simulator_machine.specs.Run.{first};
 ghost use Rattle.simulator_machine.specs.Signal.{Signal as MachineSignal, aspects_given, shown};
 ghost use Rattle.simulator_items.specs.Items.{aspect_seen, aspects_in};
 ghost use Rattle.simulator_links.specs.LinkMoves.{LinkGoes, moves_by};
 ghost use Rattle.simulator_links.specs.Picture.{pictured};
-ghost use Rattle.simulator_controllers.specs.Ends.{AreFit, OpensNone, Steps};
+ghost use Rattle.simulator_controllers.specs.Ends.{AreFit, OpensNone, Steps, server_later};
 ghost use Rattle.simulator_controllers.specs.Signal.{IsSignalSeen, SignalGoes};
 
 use controller_theorems::signal_shows_what_was_told;
@@ -27,7 +31,18 @@ use object_host::step_settles_first;
 use object_host_theorem::{step_takes_and_gives, what_is_taken_is_acted_on};
 use signal_ctl::Signal;
 use simulator_items::items_join;
+use simulator_links::links_are_pictured;
 use simulator_machine::moves_of_links_are_moves;
+
+/// At the beginning a signal in its host is the machine's.
+pub fn signals_begin_seen()
+    ensures { (names : Names) (start : Start) (own_name peer_name : List ℕ) (object : SignalState) (version place : ℕ) (positions : ℕ → Position) → AreFit (started names start)
+        → IsSignalSeen (started names start) (new_host signal_behaviour (identity_of Server names) own_name peer_name start.server_first start.server_clock object version)
+        ((first positions).signals place) }
+{
+    links_are_pictured();
+    signal_shows_what_was_told();
+}
 
 /// A step of a signal's host, whatever comes in it, is a list of moves of the machine's signal.
 pub fn steps_of_signals_are_moves()
@@ -52,11 +67,14 @@ pub fn signal_shows_what_is_seen()
     signal_shows_what_was_told();
 }
 
-/// Time that passes, and a restart of the controller, are moves of the signal's link, whatever the host does later.
+/// Time that passes, at both ends or at the controller's alone, and a restart of the controller are moves of the signal's
+/// link, whatever the host does later.
 pub fn signals_pass_time_and_restart()
     ensures passes { (elapsed of_client of_server : ℕ) (moves : List LinkMove) (ends : Ends) (host : HostState SignalState) (signal : MachineSignal) → AreFit ends → IsSignalSeen ends host signal
         → OpensNone moves → LinkGoes moves (pictured ends) (pictured (later elapsed of_client of_server ends))
         → SignalGoes signal (IsSignalSeen (later elapsed of_client of_server ends) host) }
+    ensures alone { (elapsed of_client of_server : ℕ) (ends : Ends) (host : HostState SignalState) (signal : MachineSignal) → AreFit ends → AreFit (later elapsed of_client of_server ends)
+        → IsSignalSeen ends host signal → SignalGoes signal (IsSignalSeen (server_later elapsed of_client of_server ends) host) }
     ensures restarts { (clock first : ℕ) (object : SignalState) (ends : Ends) (host : HostState SignalState) (signal : MachineSignal) → AreFit ends → AreFit (restarted Server clock first ends)
         → IsSignalSeen ends host signal → LinkGoes (moves_by false (is_open ends.server.link.phase) false) (pictured ends) (pictured (restarted Server clock first ends))
         → SignalGoes signal (IsSignalSeen (restarted Server clock first ends)

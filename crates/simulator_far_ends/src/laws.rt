@@ -1,0 +1,26 @@
+//! The far ends of a station in a step of its interlocking.
+
+ghost use Rattle.std.specs.Prelude.{ℕ};
+ghost use Rattle.ixl_rules.specs.State.{IxlState};
+ghost use Rattle.ixl_rules.specs.Step.{Input};
+ghost use Rattle.simulator_machine.specs.Machine.{Machine};
+ghost use Rattle.simulator_rules_seen.specs.Facts.{FarEnds};
+ghost use Rattle.simulator_rules_seen.specs.Sees.{Given, Sees};
+ghost use Rattle.simulator_far_ends.specs.At.{AreFarEnds};
+
+use sci_telegram::written_is_read;
+use simulator_items::items_join;
+use simulator_links::{clients_know_throughout, flows_are_in_order, pictures_tell_the_connection};
+
+/// Where the links are lawful, and the machine sees the interlocking and each controller, all that a step of the interlocking
+/// takes of the far ends is so.
+pub fn far_ends_are_known()
+    ensures { (now : ℕ) (input : Input) (ixl : IxlState) (given : Given) (machine : Machine) → Sees now ixl given machine → AreFarEnds now input ixl given machine
+        → FarEnds now input ixl given machine }
+{
+    clients_know_throughout();
+    flows_are_in_order();
+    items_join();
+    pictures_tell_the_connection();
+    written_is_read();
+}

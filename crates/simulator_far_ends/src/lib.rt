@@ -1,0 +1,7 @@
+//! What an interlocking's clients know of their controllers is what the links and the controllers are: of each signal and
+//! each point, and throughout a step. There is no code here but laws.
+#![tactic(auto)]
+
+mod laws;
+
+pub use laws::far_ends_are_known;
