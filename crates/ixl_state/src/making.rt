@@ -29,7 +29,7 @@ struct Makes {
 }
 
 /// The key of the network: that of the layout, and otherwise the standard start of MD4.
-fn key_of(layout: &Layout) -> Key
+pub fn key_of(layout: &Layout) -> Key
     ensures { result ≡ key_of layout.now }
 {
     Key(layout.station().key.unwrap_or(md4::STANDARD))

@@ -47,6 +47,7 @@ impl State {
         ensures each { length self.now.ixl.routes ≡ length self.now.planned.table.rows }
         ensures few { length self.now.planned.table.rows ≤ 64 }
         ensures there { (number : ℕ) → number < length self.now.planned.table.rows → HasRoute self.now number }
+        ensures detectors { length self.now.ixl.detectors ≡ length self.now.planned.table.detectors }
         ensures lengths { (length self.now.ixl.lamps ≤ 32) × (length self.now.ixl.switches ≤ 32) × (length self.now.ixl.detectors ≤ 16) }
         ensures within { (number : ℕ) → AtRoute self.now number (λ row route. (route.passage.sections ≡ length row.sections) × ((place : ℕ) → Has route.passage.seen place → place < length row.sections) × (IsTrue (is_set route.phase) → freed_sections route.phase < length row.sections)) }
     {
