@@ -1,0 +1,11 @@
+pub mod Lists
+pub mod Settled
+pub mod Places
+pub mod Laws
+pub mod Partners
+pub mod Lost
+pub mod Later
+pub mod Anew
+pub mod Answering
+pub mod HostSteps
+pub mod Spelled
