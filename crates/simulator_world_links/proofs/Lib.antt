@@ -9,3 +9,9 @@ pub mod Anew
 pub mod Answering
 pub mod HostSteps
 pub mod Spelled
+pub mod HostItems
+pub mod Tellings
+pub mod Controllers
+pub mod ByKind
+pub mod Restarting
+pub mod Steps
