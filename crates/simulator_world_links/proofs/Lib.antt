@@ -15,3 +15,4 @@ pub mod Controllers
 pub mod ByKind
 pub mod Restarting
 pub mod Steps
+pub mod ClientItems
