@@ -99,7 +99,7 @@ links_may : (count : ℕ) (names : ℕ → Names) (link : ℕ) (who : Role) (lis
 links_may count names link who [] before below each = tt
 links_may count names link who (first ∷ others) before below each = ((below, each.0), links_may count names link who others (happened_to (CallsOn link who first) before) below (each_later (names link) link who first others before each.1))
 
-end_may : LinkLaws → (count : ℕ) (names : ℕ → Names) (link : ℕ) (who : Role) (call : Call) (before : Links) → AreLinks count names → AreTimely count names before → link < count → MayCallOn (names link) call before
+pub end_may : LinkLaws → (count : ℕ) (names : ℕ → Names) (link : ℕ) (who : Role) (call : Call) (before : Links) → AreLinks count names → AreTimely count names before → link < count → MayCallOn (names link) call before
     → MayCall (names link) who call (seen link before)
 end_may laws count names link who call before are timely below may =
     (subst (λ (b : Bool). MayRun (names link) (if b then Calls who call ∷ [] else Elsewhere (length (sent_by who call (seen link before))) ∷ []) (seen link before)) (itself link)

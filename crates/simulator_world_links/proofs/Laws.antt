@@ -1,21 +1,22 @@
 -- The laws of links that this stands on.
-use Rattle.std.specs.Prelude.{◌≡◌, ◌≢◌, ℕ, ◌<◌, Bool, true, false, List, [], ◌∷◌, map, Option, Some, None, if◌then◌else◌}
+use Rattle.std.specs.Prelude.{◌≡◌, ◌≢◌, ◌⊎◌, ℕ, ◌<◌, Bool, true, false, List, [], ◌∷◌, map, Option, Some, None, if◌then◌else◌}
 use Rattle.rasta_core.specs.Calls.{opens}
 use Rattle.rasta_core.specs.Clock.{settled}
 use Rattle.rasta_core.specs.Each.{Each}
 use Rattle.rasta_core.specs.EachLink.{AreTimely}
 use Rattle.rasta_core.specs.Ends.{Call, EndState, Sent, outcome, reading_of, is_taken, Receives}
-use Rattle.rasta_core.specs.Events.{Event, IsDelivered, MayCall, MayRun, happened, run}
+use Rattle.rasta_core.specs.Events.{AreForeign, Event, IsDelivered, MayCall, MayRun, happened, run}
 use Rattle.rasta_core.specs.Invariant.{Timely}
 use Rattle.rasta_core.specs.Links.{AreLinks, Links, LinksEvent, CallsOn, MayHappenTo, MayRunLinks, events_on, happened_to, run_links, seen}
 use Rattle.rasta_core.specs.Names.{AreNames, Names}
 use Rattle.rasta_core.specs.Run.{Ends, called, end_of, restarted}
-use Rattle.rasta_core.specs.Safe.{DoesNothing}
+use Rattle.rasta_core.specs.Safe.{DoesNothing, IsIdle}
 use Rattle.rasta_core.specs.Sentences.{IsOpening, IsOut, receipt_at}
 use Rattle.rasta_core.specs.State.{LinkState, is_open}
 use Rattle.rasta_core.specs.Steps.{EnterNone, IsAfter, calls_at, made_by}
 use Rattle.rasta_core.specs.identity.Role.{Role}
 use Rattle.rasta_core.specs.identity.Role.TheVariants as role
+use Rattle.rasta_pdu.specs.SafetyCode.{IsIntact}
 use Rattle.simulator_links.specs.Flows.{AsksNone, AsksOnce, ServerIsAfter, begins}
 
 pub record LinkLaws : Type 0 where
@@ -58,3 +59,4 @@ pub record ClientLaws : Type 0 where
   pub none : (now : ℕ) (call : Call) (link : LinkState) → begins now call link ≡ false → AsksNone (made_by now call link).pdus
   pub opening : (names : Names) (ends : Ends) (who : Role) (bytes : List ℕ) (connection : ℕ) (datagram : Sent) → AreNames names → Timely names ends
       → IsDelivered ends bytes connection datagram → IsOut who ends → is_taken (receipt_at who bytes ends).verdict ≡ true → IsOpening names who ends datagram
+  pub nothing : (names : Names) (ends : Ends) (who : Role) (bytes : List ℕ) → Timely names ends → (IsIntact names.key bytes → ⊥) ⊎ AreForeign names who bytes → IsIdle (receipt_at who bytes ends)

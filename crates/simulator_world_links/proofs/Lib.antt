@@ -16,3 +16,6 @@ pub mod ByKind
 pub mod Restarting
 pub mod Steps
 pub mod ClientItems
+pub mod Asking
+pub mod PartCalls
+pub mod Reached
