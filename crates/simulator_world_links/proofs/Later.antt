@@ -25,7 +25,7 @@ use Rattle.simulator_world_links.specs.Follows.{Follows}
 
 -- ---- steps that keep time
 
-not_refused : (fails : Bool) (why : Refused) (otherwise : Option Refused) → refused_where fails why otherwise ≡ None → (fails ≡ false) × (otherwise ≡ None)
+pub not_refused : (fails : Bool) (why : Refused) (otherwise : Option Refused) → refused_where fails why otherwise ≡ None → (fails ≡ false) × (otherwise ≡ None)
 not_refused true why otherwise e = absurd (cc (e))
 not_refused false why otherwise e = (refl, e)
 

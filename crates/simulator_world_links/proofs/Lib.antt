@@ -19,3 +19,7 @@ pub mod ClientItems
 pub mod Asking
 pub mod PartCalls
 pub mod Reached
+pub mod Parts
+pub mod Station
+pub mod Delivered
+pub mod Everything

@@ -1,0 +1,124 @@
+-- Every event of a world, as events of its links.
+use Rattle.std.proofs.Common.{◌≡◌, ◌≢◌, ℕ, ◌+◌, ◌<◌, List, [], ◌∷◌, length, Option, Some, None, slice_get, slice_set, refl, sym, ap, subst, ◌∙◌}
+use Rattle.layout.specs.Entries.{Plan}
+use Rattle.sci_telegram.specs.declared.message.Occupancy.{Occupancy}
+use Rattle.sci_telegram.specs.declared.message.Position.{Position}
+use Rattle.object_host.specs.declared.input.Input.TheVariants as inputs
+use Rattle.object_host.specs.declared.sense.Sense.TheVariants as sense
+use Rattle.signal_ctl.specs.Signal.{signal_behaviour}
+use Rattle.point_ctl.specs.Controlled.{point_behaviour}
+use Rattle.tds_ctl.specs.Controlled.{detection_behaviour}
+use Rattle.rasta_core.specs.EachLink.{AreTimely}
+use Rattle.rasta_core.specs.Links.{AreLinks, Links}
+use Rattle.ixl_rules.specs.declared.command.Command.{Command}
+use Rattle.ixl_rules.specs.Step as ixl
+use Rattle.ixl_rules.specs.Table.{Table}
+use Rattle.simulator_event.specs.declared.event.Event.{Event}
+use Rattle.simulator_event.specs.declared.event.Event.TheVariants as event
+use Rattle.simulator_world_run.specs.Happens.{coming, delivered_to, happens, point_stepped, sensed_by, station_stepped, ticked_at}
+use Rattle.simulator_world_run.specs.Links.{AreLinksOf, names_at}
+use Rattle.simulator_world_run.specs.Network.{connection_of, copy_of}
+use Rattle.simulator_world_run.specs.Nodes.{Node, Station, Signal, Point, Detector, detector_link, links, node_at, point_link}
+use Rattle.simulator_world_run.specs.Refusals.{refusal}
+use Rattle.simulator_world_run.specs.State.{WorldState}
+use Rattle.simulator_world_links.proofs.Anew.{NodeRestarts}
+use Rattle.simulator_world_links.proofs.ByKind.{stays_follows}
+use Rattle.simulator_world_links.proofs.Delivered.{CopiesAreDelivered, IntactIsTested, IsDeliverable, deliverable, delivery_may}
+use Rattle.simulator_world_links.proofs.HostItems.{TelegramsAreItems}
+use Rattle.simulator_world_links.proofs.Later.{time_follows, time_kept}
+use Rattle.simulator_world_links.proofs.Laws.{CallLaws, ClientLaws, LinkLaws, ServerLaws}
+use Rattle.simulator_world_links.proofs.Lost.{lost_follows}
+use Rattle.simulator_world_links.proofs.Parts.{StepLaws}
+use Rattle.simulator_world_links.proofs.Partners.{partners_count}
+use Rattle.simulator_world_links.proofs.Places.{client_same, server_same}
+use Rattle.simulator_world_links.proofs.Restarting.{restarts_follow}
+use Rattle.simulator_world_links.proofs.Station.{NodeLaws, station_follows}
+use Rattle.simulator_world_links.proofs.Steps.{HostLaws, detector_follows, point_follows, signal_follows}
+use Rattle.simulator_world_links.specs.Follows.{Follows}
+use Rattle.simulator_world_links.specs.Whole.{IsWhole}
+
+-- all laws that this stands on
+pub record AllLaws : Type 0 where
+  pub link : LinkLaws
+  pub calling : CallLaws
+  pub serving : ServerLaws
+  pub asking : ClientLaws
+  pub node : NodeLaws
+  pub restarts : NodeRestarts
+  pub steps : StepLaws
+  pub signal : HostLaws signal_behaviour
+  pub point : HostLaws point_behaviour
+  pub detector : HostLaws detection_behaviour
+  pub delivered : CopiesAreDelivered
+  pub tested : IntactIsTested
+
+-- what lies in the field is nothing to the links
+abbrev moved : WorldState → List Position → List Occupancy → WorldState
+moved world positions occupancies = record world { positions = positions; occupancies = occupancies }
+
+moved_whole : (plan : Plan) (world : WorldState) (positions : List Position) (occupancies : List Occupancy) → IsWhole plan world → IsWhole plan (moved world positions occupancies)
+moved_whole plan world positions occupancies whole = record {
+  clients = whole.clients;
+  connections = whole.connections;
+  signals = whole.signals;
+  points = whole.points;
+  detectors = whole.detectors;
+  signals_named = whole.signals_named;
+  points_named = whole.points_named;
+  detectors_named = whole.detectors_named;
+  sections_named = whole.sections_named;
+}
+
+moved_links : (plan : Plan) (world : WorldState) (positions : List Position) (occupancies : List Occupancy) (before : Links) → AreLinksOf plan world before → AreLinksOf plan (moved world positions occupancies) before
+moved_links plan world positions occupancies before are = record {
+  time_is = are.time_is;
+  sent_is = are.sent_is;
+  clients = λ link id at. client_same world (moved world positions occupancies) link (before.ends link).client (before.ends link).client refl refl (are.clients link id at);
+  servers = λ link id at. server_same world (moved world positions occupancies) link (before.ends link).server (before.ends link).server refl refl (are.servers link id at);
+}
+
+module _ (laws : AllLaws) (plan : Plan) (are_links : AreLinks (links plan) (names_at plan)) (table : Table) (before : Links) (timely : AreTimely (links plan) (names_at plan) before) where
+  module _ (world : WorldState) (whole : IsWhole plan world) (are : AreLinksOf plan world before) where
+    pub tick_follows : (at : Option Node) → Follows plan (ticked_at plan table at world) before
+    tick_follows None = stays_follows plan world before are
+    tick_follows (Some Station) = station_follows laws.link laws.asking laws.node laws.steps plan are_links table 0 world before whole timely are ixl.Tick tt
+    tick_follows (Some (Signal place)) = signal_follows laws.link laws.calling laws.serving laws.steps.written plan are_links world before whole timely are laws.signal inputs.Tick 0 place (λ below. tt)
+    tick_follows (Some (Point place)) = point_follows laws.link laws.calling laws.serving laws.steps.written plan are_links world before whole timely are laws.point inputs.Tick 0 place (λ below. tt)
+    tick_follows (Some (Detector place)) = detector_follows laws.link laws.calling laws.serving laws.steps.written plan are_links world before whole timely are laws.detector inputs.Tick 0 place (λ below. tt)
+
+    pub delivery_follows : (bytes : List ℕ) → IsDeliverable plan bytes world → (at : Option Node) → Follows plan (delivered_to plan table bytes (connection_of (copy_of bytes world)) at world) before
+    delivery_follows bytes is None = stays_follows plan world before are
+    delivery_follows bytes is (Some Station) = station_follows laws.link laws.asking laws.node laws.steps plan are_links table (connection_of (copy_of bytes world)) world before whole timely are (ixl.Datagram bytes)
+        (λ link below. delivery_may laws.delivered laws.tested plan world before bytes link are is)
+    delivery_follows bytes is (Some (Signal place)) = signal_follows laws.link laws.calling laws.serving laws.steps.written plan are_links world before whole timely are laws.signal (coming bytes) (connection_of (copy_of bytes world)) place
+        (λ below. delivery_may laws.delivered laws.tested plan world before bytes place are is)
+    delivery_follows bytes is (Some (Point place)) = point_follows laws.link laws.calling laws.serving laws.steps.written plan are_links world before whole timely are laws.point (coming bytes) (connection_of (copy_of bytes world)) place
+        (λ below. delivery_may laws.delivered laws.tested plan world before bytes (point_link plan place) are is)
+    delivery_follows bytes is (Some (Detector place)) = detector_follows laws.link laws.calling laws.serving laws.steps.written plan are_links world before whole timely are laws.detector (coming bytes) (connection_of (copy_of bytes world)) place
+        (λ below. delivery_may laws.delivered laws.tested plan world before bytes (detector_link plan place) are is)
+
+    contact_follows : (occupancy : Occupancy) (reporter : Option (ℕ × ℕ)) → Follows plan (sensed_by plan occupancy reporter world) before
+    contact_follows occupancy None = stays_follows plan world before are
+    contact_follows occupancy (Some reporter) = detector_follows laws.link laws.calling laws.serving laws.steps.written plan are_links world before whole timely are laws.detector (inputs.Sense (sense.Section reporter.1 occupancy)) 0 reporter.0 (λ below. tt)
+
+    pub reach_follows : (place : ℕ) (position : Position) → Follows plan (point_stepped plan (inputs.Sense (sense.Position position)) 0 place world) before
+    reach_follows place position = point_follows laws.link laws.calling laws.serving laws.steps.written plan are_links world before whole timely are laws.point (inputs.Sense (sense.Position position)) 0 place (λ below. tt)
+
+    pub command_follows : (command : Command) → Follows plan (station_stepped plan table (ixl.Commands command) world) before
+    command_follows command = station_follows laws.link laws.asking laws.node laws.steps plan are_links table 0 world before whole timely are (ixl.Commands command) tt
+
+  pub event_follows : (happening : Event) (world : WorldState) → IsWhole plan world → AreLinksOf plan world before → refusal plan happening world ≡ None → Follows plan (happens plan table happening world) before
+  unfolding happens refusal
+  event_follows (event.Request command) world whole are none = command_follows world whole are command
+  event_follows (event.Occupy section occupancy) world whole are none =
+      contact_follows (moved world world.positions (slice_set world.occupancies section.0 occupancy)) (moved_whole plan world world.positions (slice_set world.occupancies section.0 occupancy) whole)
+      (moved_links plan world world.positions (slice_set world.occupancies section.0 occupancy) before are) occupancy (slice_get table.reporters section.0)
+  event_follows (event.Tick node) world whole are none = tick_follows world whole are (node_at plan node.0)
+  event_follows (event.Time elapsed clocks) world whole are none = time_follows plan elapsed clocks world before (time_kept plan elapsed clocks world none) are (partners_count plan)
+  event_follows (event.Deliver node bytes) world whole are none = delivery_follows world whole are bytes (deliverable plan node.0 bytes world none) (node_at plan node.0)
+  event_follows (event.Lose bytes) world whole are none = lost_follows plan world before bytes are
+  event_follows (event.Reach point position) world whole are none =
+      reach_follows (moved world (slice_set world.positions point.0 position) world.occupancies) (moved_whole plan world (slice_set world.positions point.0 position) world.occupancies whole)
+      (moved_links plan world (slice_set world.positions point.0 position) world.occupancies before are) point.0 position
+  event_follows (event.Restart node clock first) world whole are none =
+      restarts_follow laws.link laws.restarts plan table (record { clock = clock; first = first }) world before whole timely are (node_at plan node.0)

@@ -1,0 +1,416 @@
+-- Each part of a step of the interlocking goes on from where its links are.
+use Rattle.std.proofs.Common.{◌≡◌, ℕ, zero, suc, ◌+◌, ◌<◌, ◌≤◌, Bool, true, false, not, List, [], ◌∷◌, ◌++◌, length, map, Option, Some, None, option_map, slice_get, slice_set, Result, Ok, Err, refl, sym, ap, subst, ◌∙◌, arith, if◌then◌else◌}
+use Rattle.std.specs.Prelude.{◌&&◌, ◌||◌, ◌==◌}
+use Rattle.layout.specs.Entries.{Plan}
+use Rattle.sci_telegram.specs.declared.message.Aspect.{Aspect}
+use Rattle.sci_telegram.specs.declared.message.Aspect.TheVariants as aspects
+use Rattle.sci_telegram.specs.declared.message.Side.{Side}
+use Rattle.bit_row.specs.Places.{Places}
+use Rattle.ixl_client.specs.Client.{ClientState, PeerState, is_outside}
+use Rattle.ixl_client.specs.Made.{AreOwn, Makes, MakesAfterReceipt, MakesOwn}
+use Rattle.ixl_client.specs.Part as client
+use Rattle.ixl_client.specs.Part.{LinkCall, Receives, begun}
+use Rattle.ixl_client.specs.Step.{commanding, hearing, ticking}
+use Rattle.ixl_client.specs.declared.command.Command.{Command as ClientCommand}
+use Rattle.ixl_client.specs.declared.command.Command.TheVariants as commands
+use Rattle.ixl_rules.specs.Commands.{commanded_by, obeyed, refusal, route_set, unmoved_for}
+use Rattle.ixl_rules.specs.Part.{Node, Signal, Point, Detector, Part, along, at_route, detector_after, giving_aspect, giving_move, lamp_after, noted, over, switch_after, with_detector, with_lamp, with_one, with_route, with_switch}
+use Rattle.ixl_rules.specs.Rules.{authorised, come_to, count, ended, ending_authority, freed, freed_by_cancel, freed_by_passage, freeing_by_cancel, freeing_by_passage, freeing_next, frees_cancelled, frees_next, is_move_due, is_proceed_due, is_proceeding, is_stop_due, is_withdrawn, moved, moving, moving_one, one_freed, proceeding, repeated, ruled, stopped, withdrawing, withdrawn}
+use Rattle.ixl_rules.specs.State.{DetectorState, IxlState, LampState, RouteState, SwitchState, changed}
+use Rattle.ixl_rules.specs.Step.{Input, Tick, Datagram, Commands, addressed, all_clocked, stepped, detector_hearing, detector_ticking, given, lamp_hearing, lamp_ticking, looking, looking_by, looks, node_hearing, occupied_heard, switch_hearing, switch_ticking, ticked, watching}
+use Rattle.ixl_rules.specs.Table.{Need, Row, Table}
+use Rattle.ixl_rules.specs.View.{is_approach_clear, is_at_known_stop, is_signal_ready, was_authorised}
+use Rattle.ixl_rules.specs.declared.command.Command.{Command}
+use Rattle.ixl_rules.specs.declared.command.Command.TheVariants as requests
+use Rattle.ixl_rules.specs.declared.command.Refusal.{Refusal}
+use Rattle.ixl_rules.specs.declared.phase.Phase.TheVariants as phase
+use Rattle.rasta_core.specs.Links.{AreLinks, Links}
+use Rattle.rasta_pdu.specs.Reading.{reading}
+use Rattle.rasta_pdu.specs.declared.key.Key.{Key}
+use Rattle.simulator_world_run.specs.Links.{names_at}
+use Rattle.simulator_world_run.specs.Nodes.{detector_link, links, point_link}
+use Rattle.simulator_world_run.specs.Station.{Sending}
+use Rattle.simulator_world_links.proofs.ClientItems.{AreSendable, SaysItems, commanding_says, hearing_says, ticking_says}
+use Rattle.simulator_world_links.proofs.HostItems.{TelegramsAreItems}
+use Rattle.simulator_world_links.proofs.Laws.{ClientLaws, LinkLaws}
+use Rattle.simulator_world_links.proofs.Lists.{by_test, changed_to, get_left, get_map, get_right, length_map, length_set, map_set, some_is, within_some}
+use Rattle.simulator_world_links.proofs.PartCalls.{AllMayMake, MayMake, own_sendable}
+use Rattle.simulator_world_links.proofs.Places.{first_set, second_set, third_set}
+use Rattle.simulator_world_links.proofs.Reached.{ClientIs, Does, IsManned, Reached, reached_next}
+use Rattle.simulator_world_links.specs.Whole.{IsPeer, client_states}
+
+-- ---- what each keeps is kept by all
+
+over_kept : (Keeps : Part → Type 0) (does : ℕ → Part → Part) → ((number : ℕ) (part : Part) → Keeps part → Keeps (does number part)) → (count : ℕ) (part : Part) → Keeps part → Keeps (over does count part)
+over_kept Keeps does each zero part is = is
+over_kept Keeps does each (suc number) part is = each number (over does number part) (over_kept Keeps does each number part is)
+
+along_kept : {A : Type 0} (Keeps : Part → Type 0) (does : A → Part → Part) → ((one : A) (part : Part) → Keeps part → Keeps (does one part)) → (list : List A) (part : Part) → Keeps part → Keeps (along does list part)
+along_kept Keeps does each [] part is = is
+along_kept Keeps does each (first ∷ others) part is = along_kept Keeps does each others (does first part) (each first part is)
+
+one_kept : {A : Type 0} (Keeps : Part → Type 0) (found : Option A) (does : A → Part → Part) (part : Part) → ((one : A) → found ≡ Some one → Keeps (does one part)) → Keeps part → Keeps (with_one found does part)
+one_kept Keeps None does part each is = is
+one_kept Keeps (Some one) does part each is = each one refl
+
+at_kept : (Keeps : Part → Type 0) (table : Table) (number : ℕ) (does : Row → RouteState → Part → Part) (part : Part) → ((row : Row) (route : RouteState) → Keeps (does row route part)) → Keeps part → Keeps (at_route table number does part)
+unfolding at_route
+at_kept Keeps table number does part each is = one_kept Keeps (slice_get table.rows number) _ part (λ row has. one_kept Keeps (slice_get part.ixl.routes number) (does row) part (λ route at. each row route) is) is
+
+repeated_kept : (Keeps : Part → Type 0) (does : Part → Part) → ((part : Part) → Keeps part → Keeps (does part)) → (count : ℕ) (part : Part) → Keeps part → Keeps (repeated count does part)
+repeated_kept Keeps does each zero part is = is
+repeated_kept Keeps does each (suc more) part is = repeated_kept Keeps does each more (does part) (each part is)
+
+-- ---- the clients of each kind
+
+abbrev lamp_clients : IxlState → List ClientState
+lamp_clients ixl = map (λ (lamp : LampState). lamp.client) ixl.lamps
+
+abbrev switch_clients : IxlState → List ClientState
+switch_clients ixl = map (λ (switch : SwitchState). switch.client) ixl.switches
+
+abbrev detector_clients : IxlState → List ClientState
+detector_clients ixl = map (λ (detector : DetectorState). detector.client) ixl.detectors
+
+pub lamp_client : (aspect : Option Aspect) (number : ℕ) (one : ClientState) → (lamp_after aspect number one).client ≡ one
+unfolding lamp_after
+lamp_client aspect number one = by_test (λ (l : LampState). l.client ≡ one) (is_outside one.stage) (record { client = one; aspect = None; number = 0 }) (record { client = one; aspect = aspect; number = number }) (λ e. refl) (λ e. refl)
+
+pub switch_client : (side : Option Side) (gone : Places) (one : ClientState) → (switch_after side gone one).client ≡ one
+unfolding switch_after
+switch_client side gone one = by_test (λ (s : SwitchState). s.client ≡ one) (is_outside one.stage) _ (record { client = one; side = side; moved = gone }) (λ e. refl) (λ e. refl)
+
+pub detector_client : (occupied : Places) (one : ClientState) → (detector_after occupied one).client ≡ one
+unfolding detector_after
+detector_client occupied one = by_test (λ (d : DetectorState). d.client ≡ one) (is_outside one.stage) _ (record { client = one; occupied = occupied }) (λ e. refl) (λ e. refl)
+
+length_changed : {A : Type 0} (one : A) (place : ℕ) (list : List A) → length (changed (λ old. one) place list) ≡ length list
+length_changed one place list = ap length (changed_to one place list) ∙ length_set list place one
+
+-- the laws of a client
+pub record StepLaws : Type 0 where
+  pub receipt : (now : ℕ) (bytes : List ℕ) (part : client.Part) → MakesAfterReceipt now bytes part (hearing now bytes part)
+  pub command : (now : ℕ) (command : ClientCommand) (part : client.Part) → MakesOwn now part (commanding now command part)
+  pub tick : (now : ℕ) (part : client.Part) → MakesOwn now part (ticking now part)
+  pub written : TelegramsAreItems
+
+module _ (laws : LinkLaws) (client_laws : ClientLaws) (plan : Plan) (are : AreLinks (links plan) (names_at plan)) (time connection now : ℕ) (before : Links) (start : Sending)
+    (steps : StepLaws) (table : Table) where
+  abbrev pub On : Part → Type 0
+  On part = Reached laws client_laws plan are time connection now before start part
+
+  -- the calls are those of a node's client, and its place is set
+  abbrev DoesAt : Node → ClientState → Part → client.Part → IxlState → Type 0
+  DoesAt node old part done ixl = Does laws client_laws plan are time connection now before start node old part done ixl
+
+  next : (node : Node) (old : ClientState) (part : Part) (done : client.Part) (ixl : IxlState) → On part → DoesAt node old part done ixl → On (record (noted node done part) { ixl = ixl })
+  next node old part done ixl on does = reached_next laws client_laws plan are time connection now before start node old part done ixl on does
+
+  -- an interlocking with the same clients
+  ixl_kept : (part : Part) (ixl : IxlState) → client_states ixl ≡ client_states part.ixl → IsManned plan ixl → On part → On (record part { ixl = ixl })
+  ixl_kept part ixl same manned on = record {
+    may = on.may;
+    tells = on.tells;
+    manned = manned;
+    clients = λ link below. let is = on.clients link below in record { client = is.client; there = ap (λ l. slice_get l link) same ∙ is.there; link_is = is.link_is; peer = is.peer };
+    reads = on.reads;
+  }
+
+  route_kept : (number : ℕ) (change : RouteState → RouteState) (part : Part) → On part → On (with_route number change part)
+  route_kept number change part on = ixl_kept part _ refl (record { lamps = on.manned.lamps; switches = on.manned.switches; detectors = on.manned.detectors }) on
+
+  -- what a client does by itself, and what it does with a datagram
+  record IsDone (link : ℕ) (old : ClientState) (outbox : _) (done : client.Part) : Type 0 where
+    list : List LinkCall
+    makes : Makes now list (begun old outbox) done
+    may : AllMayMake (names_at plan link) connection list before
+    same_peer : done.client.peer ≡ old.peer
+
+  own_done : (link : ℕ) (old : ClientState) (outbox : _) (done : client.Part) → (is_peer : IsPeer old.peer) → MakesOwn now (begun old outbox) done → SaysItems steps.written old.peer is_peer done → IsDone link old outbox done
+  own_done link old outbox done is_peer own says = record {
+    list = own.0;
+    makes = own.1;
+    may = own_sendable (names_at plan link) connection own.0 before own.2 (subst AreSendable own.1.calls_are says.items);
+    same_peer = says.same;
+  }
+
+  begins : (old : ClientState) (outbox : _) (is_peer : IsPeer old.peer) → SaysItems steps.written old.peer is_peer (begun old outbox)
+  begins old outbox is_peer = record { items = tt; same = refl }
+
+  commanded_done : (link : ℕ) (old : ClientState) (outbox : _) (command : ClientCommand) → IsPeer old.peer → IsDone link old outbox (commanding now command (begun old outbox))
+  commanded_done link old outbox command is_peer = own_done link old outbox _ is_peer (steps.command now command (begun old outbox)) (commanding_says steps.written old.peer is_peer now command (begun old outbox) (begins old outbox is_peer))
+
+  ticked_done : (link : ℕ) (old : ClientState) (outbox : _) → IsPeer old.peer → IsDone link old outbox (ticking now (begun old outbox))
+  ticked_done link old outbox is_peer = own_done link old outbox _ is_peer (steps.tick now (begun old outbox)) (ticking_says steps.written old.peer is_peer now (begun old outbox) (begins old outbox is_peer))
+
+  abbrev MayHear : List ℕ → Type 0
+  MayHear bytes = (link : ℕ) → link < links plan → MayMake (names_at plan link) connection (Receives bytes) before
+
+  heard_done : (link : ℕ) (old : ClientState) (outbox : _) (bytes : List ℕ) → link < links plan → MayHear bytes → IsPeer old.peer → IsDone link old outbox (hearing now bytes (begun old outbox))
+  heard_done link old outbox bytes below may is_peer =
+      let made = steps.receipt now bytes (begun old outbox)
+      in let says = hearing_says steps.written old.peer is_peer now bytes (begun old outbox) (begins old outbox is_peer)
+      in record {
+        list = Receives bytes ∷ made.0;
+        makes = made.1;
+        may = (may link below, own_sendable (names_at plan link) connection made.0 before made.2 (subst AreSendable made.1.calls_are says.items));
+        same_peer = says.same;
+      }
+
+  -- ---- signals
+
+  signal_link : (part : Part) → On part → (place : ℕ) (lamp : LampState) → slice_get part.ixl.lamps place ≡ Some lamp → place < links plan
+  signal_link part on place lamp is = sums (length plan.signals) (length plan.points) (length plan.detectors) (subst (λ n. place < n) on.manned.lamps (within_some part.ixl.lamps place lamp is)) where
+    sums : (a b c : ℕ) → place < a → place < a + b + c
+    sums a b c below = omega arith
+
+  lamp_at : (part : Part) (place : ℕ) (lamp : LampState) → slice_get part.ixl.lamps place ≡ Some lamp → slice_get (client_states part.ixl) place ≡ Some lamp.client
+  lamp_at part place lamp is =
+      let found = get_map (λ (l : LampState). l.client) part.ixl.lamps place ∙ ap (option_map (λ (l : LampState). l.client)) is
+      in get_left (lamp_clients part.ixl) (switch_clients part.ixl ++ detector_clients part.ixl) place (within_some (lamp_clients part.ixl) place lamp.client found) ∙ found
+
+  lamp_peer : (part : Part) → On part → (place : ℕ) (lamp : LampState) → slice_get part.ixl.lamps place ≡ Some lamp → IsPeer lamp.client.peer
+  lamp_peer part on place lamp is = let found = on.clients place (signal_link part on place lamp is) in subst (λ (c : ClientState). IsPeer c.peer) (some_is found.client lamp.client (sym found.there ∙ lamp_at part place lamp is)) found.peer
+
+  lamp_kept : (part : Part) → On part → (place : ℕ) (lamp : LampState) → slice_get part.ixl.lamps place ≡ Some lamp → (done : client.Part) (aspect : Option Aspect) (number : ℕ) → IsDone place lamp.client part.outbox done
+      → On (with_lamp place (lamp_after aspect number done.client) (noted (Signal place) done part))
+  lamp_kept part on place lamp is done aspect number made = next (Signal place) lamp.client part done (record part.ixl { lamps = changed (λ old. lamp_after aspect number done.client) place part.ixl.lamps }) on (record {
+    below = signal_link part on place lamp is;
+    at = lamp_at part place lamp is;
+    list = made.list;
+    makes = made.makes;
+    may = made.may;
+    same_peer = made.same_peer;
+    set = ap (λ l. map (λ (lamp : LampState). lamp.client) l ++ (switch_clients part.ixl ++ detector_clients part.ixl)) (changed_to (lamp_after aspect number done.client) place part.ixl.lamps)
+        ∙ ap (λ l. l ++ (switch_clients part.ixl ++ detector_clients part.ixl)) (map_set (λ (lamp : LampState). lamp.client) part.ixl.lamps place (lamp_after aspect number done.client))
+        ∙ ap (λ c. slice_set (lamp_clients part.ixl) place c ++ (switch_clients part.ixl ++ detector_clients part.ixl)) (lamp_client aspect number done.client)
+        ∙ first_set (lamp_clients part.ixl) (switch_clients part.ixl) (detector_clients part.ixl) place done.client
+        (subst (λ n. place < n) (sym (length_map (λ (lamp : LampState). lamp.client) part.ixl.lamps)) (within_some part.ixl.lamps place lamp is));
+    manned = record { lamps = length_changed (lamp_after aspect number done.client) place part.ixl.lamps ∙ on.manned.lamps; switches = on.manned.switches; detectors = on.manned.detectors };
+  })
+
+  aspect_given : (place : ℕ) (aspect : Aspect) (part : Part) → On part → On (giving_aspect now place aspect part)
+  unfolding giving_aspect
+  aspect_given place aspect part on = one_kept On (slice_get part.ixl.lamps place) _ part (λ lamp is. lamp_kept part on place lamp is (commanding now (commands.Indicate aspect) (begun lamp.client part.outbox)) _ _
+      (commanded_done place lamp.client part.outbox (commands.Indicate aspect) (lamp_peer part on place lamp is))) on
+
+  lamp_ticks : (place : ℕ) (part : Part) → On part → On (lamp_ticking now place part)
+  unfolding lamp_ticking
+  lamp_ticks place part on = one_kept On (slice_get part.ixl.lamps place) _ part (λ lamp is. lamp_kept part on place lamp is (ticking now (begun lamp.client part.outbox)) _ _
+      (ticked_done place lamp.client part.outbox (lamp_peer part on place lamp is))) on
+
+  lamp_hears : (bytes : List ℕ) → MayHear bytes → (place : ℕ) (part : Part) → On part → On (lamp_hearing now bytes place part)
+  unfolding lamp_hearing
+  lamp_hears bytes may place part on = one_kept On (slice_get part.ixl.lamps place) _ part (λ lamp is. lamp_kept part on place lamp is (hearing now bytes (begun lamp.client part.outbox)) _ _
+      (heard_done place lamp.client part.outbox bytes (signal_link part on place lamp is) may (lamp_peer part on place lamp is))) on
+
+  -- ---- points
+
+  switch_link : (part : Part) → On part → (place : ℕ) (switch : SwitchState) → slice_get part.ixl.switches place ≡ Some switch → point_link plan place < links plan
+  switch_link part on place switch is = sums (length plan.signals) (length plan.points) (length plan.detectors) (subst (λ n. place < n) on.manned.switches (within_some part.ixl.switches place switch is)) where
+    sums : (a b c : ℕ) → place < b → a + place < a + b + c
+    sums a b c below = omega arith
+
+  switch_at : (part : Part) → On part → (place : ℕ) (switch : SwitchState) → slice_get part.ixl.switches place ≡ Some switch → slice_get (client_states part.ixl) (point_link plan place) ≡ Some switch.client
+  switch_at part on place switch is =
+      let found = get_map (λ (s : SwitchState). s.client) part.ixl.switches place ∙ ap (option_map (λ (s : SwitchState). s.client)) is
+      in get_right (lamp_clients part.ixl) (switch_clients part.ixl ++ detector_clients part.ixl) place (point_link plan place) (ap (λ n. n + place) (sym (length_map (λ (l : LampState). l.client) part.ixl.lamps ∙ on.manned.lamps)))
+      ∙ get_left (switch_clients part.ixl) (detector_clients part.ixl) place (within_some (switch_clients part.ixl) place switch.client found) ∙ found
+
+  switch_peer : (part : Part) → On part → (place : ℕ) (switch : SwitchState) → slice_get part.ixl.switches place ≡ Some switch → IsPeer switch.client.peer
+  switch_peer part on place switch is = let found = on.clients (point_link plan place) (switch_link part on place switch is) in subst (λ (c : ClientState). IsPeer c.peer) (some_is found.client switch.client (sym found.there ∙ switch_at part on place switch is)) found.peer
+
+  switch_kept : (part : Part) → On part → (place : ℕ) (switch : SwitchState) → slice_get part.ixl.switches place ≡ Some switch → (done : client.Part) (side : Option Side) (gone : Places) → IsDone (point_link plan place) switch.client part.outbox done
+      → On (with_switch place (switch_after side gone done.client) (noted (Point place) done part))
+  switch_kept part on place switch is done side gone made = next (Point place) switch.client part done (record part.ixl { switches = changed (λ old. switch_after side gone done.client) place part.ixl.switches }) on (record {
+    below = switch_link part on place switch is;
+    at = switch_at part on place switch is;
+    list = made.list;
+    makes = made.makes;
+    may = made.may;
+    same_peer = made.same_peer;
+    set = ap (λ l. lamp_clients part.ixl ++ (map (λ (switch : SwitchState). switch.client) l ++ detector_clients part.ixl)) (changed_to (switch_after side gone done.client) place part.ixl.switches)
+        ∙ ap (λ l. lamp_clients part.ixl ++ (l ++ detector_clients part.ixl)) (map_set (λ (switch : SwitchState). switch.client) part.ixl.switches place (switch_after side gone done.client))
+        ∙ ap (λ c. lamp_clients part.ixl ++ (slice_set (switch_clients part.ixl) place c ++ detector_clients part.ixl)) (switch_client side gone done.client)
+        ∙ second_set (lamp_clients part.ixl) (switch_clients part.ixl) (detector_clients part.ixl) place (point_link plan place) done.client
+        (subst (λ n. place < n) (sym (length_map (λ (switch : SwitchState). switch.client) part.ixl.switches)) (within_some part.ixl.switches place switch is))
+        (ap (λ n. n + place) (sym (length_map (λ (l : LampState). l.client) part.ixl.lamps ∙ on.manned.lamps)));
+    manned = record { lamps = on.manned.lamps; switches = length_changed (switch_after side gone done.client) place part.ixl.switches ∙ on.manned.switches; detectors = on.manned.detectors };
+  })
+
+  move_given : (place : ℕ) (side : Side) (part : Part) → On part → On (giving_move now place side part)
+  unfolding giving_move
+  move_given place side part on = one_kept On (slice_get part.ixl.switches place) _ part (λ switch is. switch_kept part on place switch is (commanding now (commands.Move side) (begun switch.client part.outbox)) _ _
+      (commanded_done (point_link plan place) switch.client part.outbox (commands.Move side) (switch_peer part on place switch is))) on
+
+  switch_ticks : (place : ℕ) (part : Part) → On part → On (switch_ticking now place part)
+  unfolding switch_ticking
+  switch_ticks place part on = one_kept On (slice_get part.ixl.switches place) _ part (λ switch is. switch_kept part on place switch is (ticking now (begun switch.client part.outbox)) _ _
+      (ticked_done (point_link plan place) switch.client part.outbox (switch_peer part on place switch is))) on
+
+  switch_hears : (bytes : List ℕ) → MayHear bytes → (place : ℕ) (part : Part) → On part → On (switch_hearing now bytes place part)
+  unfolding switch_hearing
+  switch_hears bytes may place part on = one_kept On (slice_get part.ixl.switches place) _ part (λ switch is. switch_kept part on place switch is (hearing now bytes (begun switch.client part.outbox)) _ _
+      (heard_done (point_link plan place) switch.client part.outbox bytes (switch_link part on place switch is) may (switch_peer part on place switch is))) on
+
+  -- ---- detectors
+
+  detector_below : (part : Part) → On part → (place : ℕ) (detector : DetectorState) → slice_get part.ixl.detectors place ≡ Some detector → detector_link plan place < links plan
+  detector_below part on place detector is = sums (length plan.signals) (length plan.points) (length plan.detectors) (subst (λ n. place < n) on.manned.detectors (within_some part.ixl.detectors place detector is)) where
+    sums : (a b c : ℕ) → place < c → a + b + place < a + b + c
+    sums a b c below = omega arith
+
+  lamps_long : (part : Part) → On part → length (lamp_clients part.ixl) ≡ length plan.signals
+  lamps_long part on = length_map (λ (l : LampState). l.client) part.ixl.lamps ∙ on.manned.lamps
+
+  switches_long : (part : Part) → On part → length (switch_clients part.ixl) ≡ length plan.points
+  switches_long part on = length_map (λ (s : SwitchState). s.client) part.ixl.switches ∙ on.manned.switches
+
+  detector_at : (part : Part) → On part → (place : ℕ) (detector : DetectorState) → slice_get part.ixl.detectors place ≡ Some detector → slice_get (client_states part.ixl) (detector_link plan place) ≡ Some detector.client
+  detector_at part on place detector is =
+      let found = get_map (λ (d : DetectorState). d.client) part.ixl.detectors place ∙ ap (option_map (λ (d : DetectorState). d.client)) is
+      in get_right (lamp_clients part.ixl) (switch_clients part.ixl ++ detector_clients part.ixl) (length (switch_clients part.ixl) + place) (detector_link plan place)
+      (sums (length plan.signals) (length plan.points) (length (lamp_clients part.ixl)) (length (switch_clients part.ixl)) place (lamps_long part on) (switches_long part on))
+      ∙ get_right (switch_clients part.ixl) (detector_clients part.ixl) place (length (switch_clients part.ixl) + place) refl ∙ found
+    where
+      sums : (a b c d n : ℕ) → c ≡ a → d ≡ b → a + b + n ≡ c + (d + n)
+      sums a b c d n p q = omega arith
+
+  detector_peer : (part : Part) → On part → (place : ℕ) (detector : DetectorState) → slice_get part.ixl.detectors place ≡ Some detector → IsPeer detector.client.peer
+  detector_peer part on place detector is = let found = on.clients (detector_link plan place) (detector_below part on place detector is) in subst (λ (c : ClientState). IsPeer c.peer) (some_is found.client detector.client (sym found.there ∙ detector_at part on place detector is)) found.peer
+
+  detector_kept : (part : Part) → On part → (place : ℕ) (detector : DetectorState) → slice_get part.ixl.detectors place ≡ Some detector → (done : client.Part) (occupied : Places) → IsDone (detector_link plan place) detector.client part.outbox done
+      → On (with_detector place (detector_after occupied done.client) (noted (Detector place) done part))
+  detector_kept part on place detector is done occupied made = next (Detector place) detector.client part done (record part.ixl { detectors = changed (λ old. detector_after occupied done.client) place part.ixl.detectors }) on (record {
+    below = detector_below part on place detector is;
+    at = detector_at part on place detector is;
+    list = made.list;
+    makes = made.makes;
+    may = made.may;
+    same_peer = made.same_peer;
+    set = ap (λ l. lamp_clients part.ixl ++ (switch_clients part.ixl ++ map (λ (detector : DetectorState). detector.client) l)) (changed_to (detector_after occupied done.client) place part.ixl.detectors)
+        ∙ ap (λ l. lamp_clients part.ixl ++ (switch_clients part.ixl ++ l)) (map_set (λ (detector : DetectorState). detector.client) part.ixl.detectors place (detector_after occupied done.client))
+        ∙ ap (λ c. lamp_clients part.ixl ++ (switch_clients part.ixl ++ slice_set (detector_clients part.ixl) place c)) (detector_client occupied done.client)
+        ∙ third_set (lamp_clients part.ixl) (switch_clients part.ixl) (detector_clients part.ixl) place (detector_link plan place) done.client
+        (ap (λ n. n + length plan.points + place) (sym (lamps_long part on)) ∙ ap (λ n. length (lamp_clients part.ixl) + n + place) (sym (switches_long part on)));
+    manned = record { lamps = on.manned.lamps; switches = on.manned.switches; detectors = length_changed (detector_after occupied done.client) place part.ixl.detectors ∙ on.manned.detectors };
+  })
+
+  looks_on : (section : ℕ) (occupied : Bool) (number : ℕ) (part : Part) → On part → On (looking_by section occupied table number part)
+  unfolding looking_by
+  looks_on section occupied number part on = at_kept On table number _ part (λ row route. by_test On (was_authorised route.phase) _ part (λ e. route_kept number _ part on) (λ e. on)) on
+
+  detector_ticks : (place : ℕ) (part : Part) → On part → On (detector_ticking now place part)
+  unfolding detector_ticking
+  detector_ticks place part on = one_kept On (slice_get part.ixl.detectors place) _ part (λ detector is. detector_kept part on place detector is (ticking now (begun detector.client part.outbox)) _
+      (ticked_done (detector_link plan place) detector.client part.outbox (detector_peer part on place detector is))) on
+
+  detector_hears : (bytes : List ℕ) → MayHear bytes → (place : ℕ) (part : Part) → On part → On (detector_hearing now table bytes place part)
+  unfolding detector_hearing
+  detector_hears bytes may place part on = one_kept On (slice_get table.detectors place) _ part (λ sections has. one_kept On (slice_get part.ixl.detectors place) _ part (λ detector is.
+      along_kept On (looking table) (λ look some. over_kept On (looking_by look.0 look.1 table) (λ number other. looks_on look.0 look.1 number other) (count table) some)
+      (looks sections detector (hearing now bytes (begun detector.client part.outbox)).heard (hearing now bytes (begun detector.client part.outbox)).client) _
+      (detector_kept part on place detector is (hearing now bytes (begun detector.client part.outbox)) (occupied_heard (hearing now bytes (begun detector.client part.outbox)).heard detector.occupied)
+      (heard_done (detector_link plan place) detector.client part.outbox bytes (detector_below part on place detector is) may (detector_peer part on place detector is)))) on) on
+
+  -- ---- the rules
+
+  stops : (row : Row) (part : Part) → On part → On (stopped now row part)
+  stops row part on = by_test On (is_signal_ready part.ixl row.entry) (giving_aspect now row.entry aspects.Stop part) part (λ e. aspect_given row.entry aspects.Stop part on) (λ e. on)
+
+  withdraws : (number : ℕ) (part : Part) → On part → On (withdrawing now table number part)
+  unfolding withdrawing
+  withdraws number part on = at_kept On table number _ part (λ row route. by_test On (is_stop_due table part.ixl row route) _ part (λ e. stops row _ (route_kept number (come_to phase.Withdrawn) part on)) (λ e. on)) on
+
+  ends_one : (number : ℕ) (part : Part) → On part → On (ending_authority now table number part)
+  unfolding ending_authority
+  ends_one number part on = at_kept On table number _ part (λ row route. by_test On (is_withdrawn route.phase && is_at_known_stop now part.ixl row.entry) _ part (λ e. route_kept number (come_to (phase.Ended now 0)) part on) (λ e. on)) on
+
+  frees_one : (number : ℕ) (part : Part) → On part → On (freeing_next table number part)
+  unfolding freeing_next
+  frees_one number part on = at_kept On table number _ part (λ row route. by_test On (frees_next table part.ixl row route route.phase) _ part (λ e. route_kept number (one_freed row route.phase) part on) (λ e. on)) on
+
+  frees_all : (number : ℕ) (part : Part) → On part → On (freeing_by_passage table number part)
+  unfolding freeing_by_passage
+  frees_all number part on = at_kept On table number _ part (λ row route. repeated_kept On (freeing_next table number) (frees_one number) (length row.sections) part on) on
+
+  cancels : (number : ℕ) (part : Part) → On part → On (freeing_by_cancel now table number part)
+  unfolding freeing_by_cancel
+  cancels number part on = at_kept On table number _ part (λ row route. by_test On (route.cancelled && frees_cancelled now table part.ixl row route route.phase) _ part (λ e. route_kept number freed part on) (λ e. on)) on
+
+  moves_one : (number : ℕ) (need : Need) (part : Part) → On part → On (moving_one now table number need part)
+  unfolding moving_one
+  moves_one number need part on = at_kept On table number _ part (λ row route. by_test On (is_move_due table part.ixl number route need) _ part (λ e. move_given need.point need.side part on) (λ e. on)) on
+
+  moves_all : (number : ℕ) (part : Part) → On part → On (moving now table number part)
+  unfolding moving
+  moves_all number part on = at_kept On table number _ part (λ row route. along_kept On (moving_one now table number) (moves_one number) row.needs part on) on
+
+  proceeds : (number : ℕ) (part : Part) → On part → On (proceeding now table number part)
+  unfolding proceeding
+  proceeds number part on = at_kept On table number _ part (λ row route. by_test On (is_proceed_due now table part.ixl row route) _ part
+      (λ e. aspect_given row.entry row.aspect (with_route number (authorised table part.ixl row) part) (route_kept number (authorised table part.ixl row) part on)) (λ e. on)) on
+
+  pub rules_kept : (part : Part) → On part → On (ruled now table part)
+  rules_kept part on =
+      over_kept On (proceeding now table) proceeds (count table) (moved now table part)
+      (over_kept On (moving now table) moves_all (count table) (freed_by_cancel now table part)
+      (over_kept On (freeing_by_cancel now table) cancels (count table) (freed_by_passage now table part)
+      (over_kept On (freeing_by_passage table) frees_all (count table) (ended now table part)
+      (over_kept On (ending_authority now table) ends_one (count table) (withdrawn now table part)
+      (over_kept On (withdrawing now table) withdraws (count table) part on)))))
+
+  watches : (number : ℕ) (part : Part) → On part → On (watching table number part)
+  unfolding watching
+  watches number part on = at_kept On table number _ part (λ row route. by_test On (is_proceeding route.phase || is_withdrawn route.phase) _ part (λ e. route_kept number _ part on) (λ e. on)) on
+
+  -- ---- the input
+
+  -- the clients are the same where each switch forgets a route
+  unmoved_clients : (number : ℕ) (switches : List SwitchState) → map (λ (s : SwitchState). s.client) (map (unmoved_for number) switches) ≡ map (λ (s : SwitchState). s.client) switches
+  unmoved_clients number [] = refl
+  unmoved_clients number (first ∷ others) = ap (λ l. first.client ∷ l) (unmoved_clients number others)
+
+  obeys : (command : Command) (part : Part) → On part → On (record part { ixl = obeyed command part.ixl })
+  unfolding obeyed
+  obeys (requests.Request route) part on = ixl_kept part (route_set route.0 part.ixl)
+      (ap (λ l. lamp_clients part.ixl ++ (l ++ detector_clients part.ixl)) (unmoved_clients route.0 part.ixl.switches))
+      (record { lamps = on.manned.lamps; switches = length_map (unmoved_for route.0) part.ixl.switches ∙ on.manned.switches; detectors = on.manned.detectors }) on
+  obeys (requests.Cancel route) part on = ixl_kept part _ refl (record { lamps = on.manned.lamps; switches = on.manned.switches; detectors = on.manned.detectors }) on
+  obeys requests.Resume part on = ixl_kept part _ refl (record { lamps = on.manned.lamps; switches = on.manned.switches; detectors = on.manned.detectors }) on
+
+  commands_kept : (why : Option Refusal) (command : Command) (part : Part) → On part → On (record part { ixl = commanded_by why command part.ixl })
+  commands_kept None command part on = obeys command part on
+  commands_kept (Some refusal) command part on = on
+
+  hears : (bytes : List ℕ) → MayHear bytes → (node : Node) (part : Part) → On part → On (node_hearing now table bytes node part)
+  unfolding node_hearing
+  hears bytes may (Signal place) part on = lamp_hears bytes may place part on
+  hears bytes may (Point place) part on = switch_hears bytes may place part on
+  hears bytes may (Detector place) part on = detector_hears bytes may place part on
+
+  -- what may come with an input
+  abbrev pub MayComeIn : Input → Type 0
+  MayComeIn Tick = Unit {0}
+  MayComeIn (Datagram bytes) = MayHear bytes
+  MayComeIn (Commands command) = Unit {0}
+
+  given_kept : (key : Key) (input : Input) → MayComeIn input → (part : Part) → On part → On (given now table key input part)
+  unfolding given
+  given_kept key Tick may part on = on
+  given_kept key (Datagram bytes) may part on = one_kept On (addressed (reading key bytes) part.ixl) (node_hearing now table bytes) part (λ node found. hears bytes may node part on) on
+  given_kept key (Commands command) may part on = commands_kept (refusal now table command part.ixl) command part on
+
+  ticked_kept : (input : Input) (part : Part) → On part → On (ticked now input part)
+  unfolding ticked
+  ticked_kept Tick part on =
+      over_kept On (detector_ticking now) detector_ticks (length part.ixl.detectors) _
+      (over_kept On (switch_ticking now) switch_ticks (length part.ixl.switches) _
+      (over_kept On (lamp_ticking now) lamp_ticks (length part.ixl.lamps) part on))
+  ticked_kept (Datagram bytes) part on = on
+  ticked_kept (Commands command) part on = on
+
+  -- a step from where the clock rules were applied
+  pub step_kept : (key : Key) (input : Input) (part : Part) → MayComeIn input → On (record part { ixl = all_clocked now part.ixl }) → On (stepped now table key input part)
+  unfolding stepped
+  step_kept key input part may on = ticked_kept input _ (rules_kept _ (over_kept On (watching table) watches (count table) _ (given_kept key input may (record part { ixl = all_clocked now part.ixl }) on)))
