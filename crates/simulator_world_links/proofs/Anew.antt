@@ -1,16 +1,14 @@
 -- A node is made anew.
-use Rattle.std.proofs.Common.{◌≡◌, ◌≢◌, ◌⊎◌, inl, inr, ℕ, zero, suc, ◌+◌, ◌*◌, ◌/◌, ◌<◌, Bool, true, false, List, [], ◌∷◌, ◌++◌, length, map, Option, Some, None, option_map, slice_get, slice_set, refl, sym, ap, subst, ◌∙◌, arith, if◌then◌else◌}
+use Rattle.std.proofs.Common.{◌≡◌, ◌≢◌, ℕ, zero, suc, ◌*◌, ◌<◌, Bool, true, false, List, [], ◌∷◌, ◌++◌, length, map, Some, option_map, slice_get, slice_set, refl, sym, ap, subst, ◌∙◌, arith, if◌then◌else◌}
 use Rattle.std.specs.Prelude.{◌==◌}
 use Rattle.layout.specs.Entries.{DetectorEntry, Plan}
 use Rattle.layout.specs.declared.entries.Point.{Point}
 use Rattle.layout.specs.declared.entries.Signal.{Signal}
-use Rattle.object_host.specs.Host.{HostState}
 use Rattle.rasta_core.specs.Calls.{created}
 use Rattle.rasta_core.specs.Clock.{settled}
 use Rattle.rasta_core.specs.EachLink.{AreTimely}
 use Rattle.rasta_core.specs.Ends.{EndState, end_restarted, reading_of}
-use Rattle.rasta_core.specs.Events.{Restarts, Event, run}
-use Rattle.rasta_core.specs.Invariant.{Timely}
+use Rattle.rasta_core.specs.Events.{Restarts, run}
 use Rattle.rasta_core.specs.Links.{Links, MayRunLinks, RestartsOn, happened_to, run_links, seen}
 use Rattle.rasta_core.specs.Nodes.{is_among, restarts_of}
 use Rattle.rasta_core.specs.Names.{Names, identity_of}
@@ -23,16 +21,15 @@ use Rattle.ixl_client.specs.Client.{new_client}
 use Rattle.ixl_rules.specs.State.{DetectorState, LampState, SwitchState}
 use Rattle.ixl_rules.specs.Table.{Table}
 use Rattle.simulator_world_run.specs.First.{Beginning, new_ixl}
-use Rattle.simulator_world_run.specs.Links.{AreLinksOf, IsClientAt, IsServerAt, ServerEnd, client_links, end_of_server, names_at, server_ends}
+use Rattle.simulator_world_run.specs.Links.{AreLinksOf, IsClientAt, IsServerAt, ServerEnd, client_links, names_at, server_ends}
 use Rattle.simulator_world_run.specs.Station.{frozen_by_restart, station_anew}
 use Rattle.std.proofs.lemmas.List.{map-append}
 use Rattle.simulator_world_run.specs.Nodes.{links, names_of, partners}
-use Rattle.simulator_world_run.specs.Servers.{server_anew}
-use Rattle.simulator_world_run.specs.State.{ServerState, WorldState}
+use Rattle.simulator_world_run.specs.State.{WorldState}
 use Rattle.simulator_world_links.proofs.Laws.{LinkLaws}
 use Rattle.simulator_world_links.proofs.Lists.{get_map, itself, other_number, unequal, within_some}
 use Rattle.simulator_world_links.proofs.Partners.{below_links, named_at}
-use Rattle.simulator_world_links.proofs.Places.{IsKept, OneServer, kept_at, one_server, server_same}
+use Rattle.simulator_world_links.proofs.Places.{IsKept, kept_at, one_server, server_same}
 use Rattle.simulator_world_links.proofs.Settled.{settled_new}
 use Rattle.simulator_world_links.specs.Follows.{Follows}
 

@@ -1,20 +1,18 @@
 -- A server outside answers what it takes, and says nothing where it takes nothing.
-use Rattle.std.proofs.Common.{◌≡◌, ℕ, ◌+◌, Bool, true, false, ◌&&◌, not, nat_le, nat_lt, List, [], ◌∷◌, ◌++◌, map, Option, Some, None, Result, Ok, Err, refl, sym, ap, subst, ◌∙◌, if◌then◌else◌}
-use Rattle.std.specs.Prelude.{◌==◌, nat_eq, is_ok}
+use Rattle.std.proofs.Common.{◌≡◌, ℕ, ◌+◌, Bool, true, false, ◌&&◌, not, nat_le, nat_lt, List, [], ◌∷◌, ◌++◌, Some, None, Result, Ok, Err, refl, sym, ap, ◌∙◌, if◌then◌else◌}
+use Rattle.std.specs.Prelude.{◌==◌, nat_eq}
 use Rattle.std.specs.Cmp.Lexicographic.{pointwise}
 use Rattle.std.proofs.lemmas.Bool.{true≢false, false≢true}
-use Rattle.rasta_core.specs.Calls.{answer_to_send, hearing_bytes, opens, receiving}
+use Rattle.rasta_core.specs.Calls.{hearing_bytes, receiving}
 use Rattle.rasta_core.specs.Clock.{deadline, open_state, settled, state_at}
-use Rattle.rasta_core.specs.Ends.{Call, EndState, Outcome, Ticks, Opens, Closes, Sends, Receives, is_taken, outcome, reading_of}
+use Rattle.rasta_core.specs.Ends.{Call, EndState, Ticks, Opens, Closes, Sends, Receives, is_taken, outcome, reading_of}
 use Rattle.rasta_core.specs.Opening.{beginning, granting, judging, meeting, own_opening}
 use Rattle.rasta_core.specs.Parameters.{connection_limit, own_version, quiet_time, window_size}
 use Rattle.rasta_core.specs.Receiving.{Receipt, accepting, by_state, hearing, refusing, resting}
 use Rattle.rasta_core.specs.Sending.{Step, entered, limited, sending, silent, telling}
 use Rattle.rasta_core.specs.State.{LinkState, is_client, is_open}
 use Rattle.rasta_core.specs.Steps.{EnterNone, all_made, enters_by, made_by}
-use Rattle.rasta_core.specs.phase.State.{State}
 use Rattle.rasta_core.specs.phase.State.TheVariants as state
-use Rattle.rasta_core.specs.reason.Reason.{Reason}
 use Rattle.rasta_core.specs.reason.Reason.TheVariants as reason
 use Rattle.rasta_core.specs.verdict.Verdict.TheVariants as verdict
 use Rattle.rasta_pdu.specs.Reading.{reading}

@@ -1,24 +1,23 @@
 -- A call of the interlocking at one of its ends, and the connections and datagrams that a world notes of it.
-use Rattle.std.proofs.Common.{◌≡◌, ◌≢◌, ◌⊎◌, inl, inr, ℕ, ◌+◌, ◌<◌, Bool, true, false, ◌&&◌, not, List, [], ◌∷◌, ◌++◌, length, map, Ok, Option, Some, None, slice_get, slice_set, refl, sym, ap, subst, ◌∙◌, if◌then◌else◌}
+use Rattle.std.proofs.Common.{◌≡◌, ◌≢◌, ◌⊎◌, inl, inr, ℕ, ◌<◌, Bool, true, false, ◌&&◌, not, List, [], ◌∷◌, ◌++◌, length, Ok, Option, Some, None, slice_get, slice_set, refl, sym, ap, subst, ◌∙◌, if◌then◌else◌}
 use Rattle.std.specs.Prelude.{slice_index_or}
-use Rattle.std.proofs.lemmas.Bool.{true≢false, false≢true}
-use Rattle.std.proofs.lemmas.List.{append-nil, append_assoc, map-append}
+use Rattle.std.proofs.lemmas.Bool.{true≢false}
+use Rattle.std.proofs.lemmas.List.{append-nil, append_assoc}
 use Rattle.std.proofs.lemmas.Option.{get_or_from_slice_get}
 use Rattle.layout.specs.Entries.{Plan}
 use Rattle.rasta_core.specs.Calls.{opens}
 use Rattle.rasta_core.specs.Each.{Each}
 use Rattle.rasta_core.specs.EachLink.{AreTimely}
-use Rattle.rasta_core.specs.Ends.{Call, EndState, Outcome, Sent, Ticks, Opens, Closes, Sends, Receives, end_after, handed_out, is_taken, newer, outcome, reading_of}
-use Rattle.rasta_core.specs.Events.{Calls, Elsewhere, MayCall, MayRun, run}
+use Rattle.rasta_core.specs.Ends.{Call, Outcome, Sent, Ticks, Opens, Closes, Sends, Receives, end_after, handed_out, is_taken, newer, outcome, reading_of}
+use Rattle.rasta_core.specs.Events.{Calls, Elsewhere, MayCall, run}
 use Rattle.rasta_core.specs.Invariant.{Timely}
 use Rattle.rasta_core.specs.Links.{AreLinks, CallsOn, Links, MayCallOn, OnLink, TwoEnds, happened_to, seen, sent_by, sent_on}
 use Rattle.rasta_core.specs.Names.{AreNames, Names, name_of, partner_of}
 use Rattle.rasta_core.specs.Outbox.{spellings}
-use Rattle.rasta_core.specs.Run.{Ends, called, end_of}
-use Rattle.rasta_core.specs.Sentences.{IsRequest, receipt_at}
-use Rattle.rasta_core.specs.State.{LinkState, is_open}
+use Rattle.rasta_core.specs.Run.{Ends, called}
+use Rattle.rasta_core.specs.Sentences.{receipt_at}
+use Rattle.rasta_core.specs.State.{is_open}
 use Rattle.rasta_core.specs.Steps.{made_by}
-use Rattle.rasta_core.specs.identity.Identity.{Identity}
 use Rattle.rasta_core.specs.identity.Role.{Role}
 use Rattle.rasta_core.specs.identity.Role.TheVariants as role
 use Rattle.rasta_pdu.specs.Reading.{reading, u32_at}
@@ -27,8 +26,8 @@ use Rattle.rasta_pdu.specs.declared.key.Key.{Key}
 use Rattle.rasta_pdu.specs.declared.pdu.Pdu.{Pdu}
 use Rattle.simulator_links.specs.Flows.{AsksNone, AsksOnce, begins}
 use Rattle.simulator_world_run.specs.Links.{names_at}
-use Rattle.simulator_world_run.specs.Nodes.{links, partners}
-use Rattle.simulator_world_run.specs.Station.{Sending, begun_by, is_request, link_of, sending_all, sending_one}
+use Rattle.simulator_world_run.specs.Nodes.{links}
+use Rattle.simulator_world_run.specs.Station.{Sending, is_request, link_of, sending_all, sending_one}
 use Rattle.simulator_world_links.proofs.Answering.{is_made}
 use Rattle.simulator_world_links.proofs.Controllers.{end_may}
 use Rattle.simulator_world_links.proofs.Laws.{ClientLaws, LinkLaws}

@@ -1,7 +1,7 @@
 -- The controllers of each kind, at the places of their links.
-use Rattle.std.proofs.Common.{◌≡◌, ℕ, ◌+◌, ◌<◌, List, [], ◌++◌, length, map, Option, Some, option_map, slice_get, slice_set, refl, sym, ap, subst, ◌∙◌, arith}
-use Rattle.layout.specs.Entries.{DetectorEntry, Plan}
-use Rattle.rasta_core.specs.Links.{Links, OnLink}
+use Rattle.std.proofs.Common.{◌≡◌, ℕ, ◌+◌, ◌<◌, List, [], ◌++◌, length, map, Some, option_map, slice_get, slice_set, refl, sym, ap, subst, ◌∙◌, arith}
+use Rattle.layout.specs.Entries.{Plan}
+use Rattle.rasta_core.specs.Links.{Links}
 use Rattle.signal_ctl.specs.Signal.{SignalState}
 use Rattle.point_ctl.specs.Drive.{PointState}
 use Rattle.tds_ctl.specs.declared.section.Section.{Section}
@@ -9,7 +9,7 @@ use Rattle.simulator_world_run.specs.Links.{AreLinksOf, ServerEnd, end_of_server
 use Rattle.simulator_world_run.specs.Nodes.{detector_link, point_link}
 use Rattle.simulator_world_run.specs.State.{ServerState, WorldState}
 use Rattle.simulator_world_links.proofs.Lists.{get_left, get_map, get_right, length_map, map_set, within_some}
-use Rattle.simulator_world_links.proofs.Places.{client_same, first_set, second_set, server_same, third_set}
+use Rattle.simulator_world_links.proofs.Places.{first_set, second_set, third_set}
 use Rattle.simulator_world_links.specs.Follows.{Follows}
 use Rattle.simulator_world_links.specs.Whole.{IsWhole}
 

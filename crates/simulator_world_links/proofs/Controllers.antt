@@ -1,5 +1,5 @@
 -- A step of a controller, as events of the links of a world.
-use Rattle.std.proofs.Common.{◌≡◌, ◌≢◌, ◌⊎◌, inl, inr, ℕ, ◌+◌, ◌<◌, Bool, true, false, List, [], ◌∷◌, ◌++◌, length, map, Option, Some, None, option_map, slice_get, slice_set, refl, sym, ap, subst, ◌∙◌, if◌then◌else◌}
+use Rattle.std.proofs.Common.{◌≡◌, inl, inr, ℕ, ◌<◌, Bool, List, [], ◌∷◌, ◌++◌, length, map, Some, slice_get, slice_set, refl, sym, ap, subst, ◌∙◌, if◌then◌else◌}
 use Rattle.std.proofs.lemmas.List.{append-nil, append_assoc, append_cancel_left, map-append}
 use Rattle.layout.specs.Entries.{Plan}
 use Rattle.object_host.specs.Behaviour.{Behaviour}
@@ -14,16 +14,16 @@ use Rattle.rasta_core.specs.Each.{Each}
 use Rattle.rasta_core.specs.EachLink.{AreTimely}
 use Rattle.rasta_core.specs.Ends as calls
 use Rattle.rasta_core.specs.Ends.{Call, Sent, handed_out}
-use Rattle.rasta_core.specs.Events.{Calls, Elsewhere, Event, MayCall, MayRun, run}
+use Rattle.rasta_core.specs.Events.{Calls, Elsewhere, MayCall, MayRun, run}
 use Rattle.rasta_core.specs.Invariant.{Timely}
-use Rattle.rasta_core.specs.Links.{AreLinks, CallsOn, IsAmongAll, Links, LinksEvent, MayCallOn, MayRunLinks, OnLink, WasSent, happened_to, run_links, seen, sent_by, sent_on}
+use Rattle.rasta_core.specs.Links.{AreLinks, CallsOn, IsAmongAll, Links, LinksEvent, MayCallOn, MayRunLinks, OnLink, happened_to, run_links, seen, sent_by, sent_on}
 use Rattle.rasta_core.specs.Names.{Names}
 use Rattle.rasta_core.specs.Outbox.{spellings}
-use Rattle.rasta_core.specs.Run.{Ends, called, end_of}
+use Rattle.rasta_core.specs.Run.{Ends, called}
 use Rattle.rasta_core.specs.Steps.{calls_at}
 use Rattle.rasta_core.specs.identity.Role.{Role}
 use Rattle.rasta_core.specs.identity.Role.TheVariants as role
-use Rattle.simulator_world_run.specs.Links.{AreLinksOf, ServerEnd, end_of_server, names_at, server_ends}
+use Rattle.simulator_world_run.specs.Links.{AreLinksOf, end_of_server, names_at, server_ends}
 use Rattle.simulator_world_run.specs.Nodes.{links, partners}
 use Rattle.simulator_world_run.specs.Servers.{sent_by_server, server_after, step_of}
 use Rattle.simulator_world_run.specs.State.{ServerState, WorldState}
@@ -31,7 +31,7 @@ use Rattle.simulator_world_links.proofs.HostSteps.{IsStepped, host_stepped}
 use Rattle.simulator_world_links.proofs.Laws.{CallLaws, LinkLaws, ServerLaws}
 use Rattle.simulator_world_links.proofs.Lists.{itself, within_some}
 use Rattle.simulator_world_links.proofs.Partners.{below_links}
-use Rattle.simulator_world_links.proofs.Places.{IsKept, OneServer, kept_at, one_server}
+use Rattle.simulator_world_links.proofs.Places.{IsKept, kept_at, one_server}
 use Rattle.simulator_world_links.specs.Follows.{Follows}
 
 -- ---- what calls send
@@ -83,12 +83,15 @@ may_later names link who other calls.Ticks before may = tt
 may_later names link who other calls.Opens before may = tt
 may_later names link who other (calls.Closes why) before may = tt
 may_later names link who other (calls.Sends item) before may = may
-may_later names link who other (calls.Receives bytes connection) before (inl (one, sent)) = inl (one, record {
-  among = among_later one before.sent _ sent.among;
-  bytes_same = sent.bytes_same;
-  connection_same = sent.connection_same;
-  in_time = sent.in_time;
-})
+may_later names link who other (calls.Receives bytes connection) before (inl (one, sent)) = inl (
+  one,
+  record {
+    among = among_later one before.sent _ sent.among;
+    bytes_same = sent.bytes_same;
+    connection_same = sent.connection_same;
+    in_time = sent.in_time;
+  },
+)
 may_later names link who other (calls.Receives bytes connection) before (inr damaged) = inr damaged
 
 each_later : (names : Names) (link : ℕ) (who : Role) (other : Call) (list : List Call) (before : Links) → Each (λ call. MayCallOn names call before) list → Each (λ call. MayCallOn names call (happened_to (CallsOn link who other) before)) list

@@ -1,7 +1,7 @@
 -- What is delivered in a world may come at its links.
-use Rattle.std.proofs.Common.{◌≡◌, ◌⊎◌, inl, inr, ℕ, ◌+◌, ◌≤◌, Bool, true, false, List, [], ◌∷◌, map, Option, Some, None, IsTrue, refl, sym, ap, subst, ◌∙◌, if◌then◌else◌}
+use Rattle.std.proofs.Common.{◌≡◌, inl, inr, ℕ, ◌+◌, ◌≤◌, Bool, true, false, List, [], ◌∷◌, Option, Some, None, IsTrue, refl, sym, ap, subst, ◌∙◌}
 use Rattle.std.specs.Prelude.{◌&&◌, ◌↔◌, is_none}
-use Rattle.std.proofs.lemmas.Bool.{true≢false, false≢true}
+use Rattle.std.proofs.lemmas.Bool.{true≢false}
 use Rattle.layout.specs.Entries.{Plan}
 use Rattle.rasta_core.specs.Bag.{newest_copy}
 use Rattle.rasta_core.specs.Ends.{Receives, Sent}
@@ -10,7 +10,6 @@ use Rattle.rasta_core.specs.Links.{IsAmongAll, Links, MayCallOn, OnLink, WasSent
 use Rattle.rasta_core.specs.Run.{Ends}
 use Rattle.rasta_pdu.specs.SafetyCode.{IsIntact, intact}
 use Rattle.rasta_pdu.specs.declared.key.Key.{Key}
-use Rattle.simulator_event.specs.declared.refused.Refused.{Refused}
 use Rattle.simulator_event.specs.declared.refused.Refused.TheVariants as refused
 use Rattle.simulator_world_run.specs.Links.{AreLinksOf, names_at}
 use Rattle.simulator_world_run.specs.Network.{connection_of, copy_of, datagrams_of}
@@ -38,12 +37,15 @@ copy_was_sent delivered plan world before bytes datagram are found =
     let all : Ends = record (seen 0 before) { time = world.time; sent = datagrams_of world.sent }
     in let is : IsDelivered all bytes datagram.connection datagram = delivered all bytes datagram found
     in let one = on_a_link datagram world.sent is.was_sent
-    in (one.0, record {
-      among = subst (λ (s : List OnLink). IsAmongAll one.0 s) (sym are.sent_is) one.1;
-      bytes_same = ap (λ (s : Sent). s.bytes) one.2 ∙ is.bytes_same;
-      connection_same = ap (λ (s : Sent). s.connection) one.2;
-      in_time = subst (λ (t : ℕ). t ≤ one.0.datagram.at + 2000000) (sym are.time_is) (subst (λ (s : Sent). world.time ≤ s.at + 2000000) (sym one.2) is.in_time);
-    })
+    in (
+      one.0,
+      record {
+        among = subst (λ (s : List OnLink). IsAmongAll one.0 s) (sym are.sent_is) one.1;
+        bytes_same = ap (λ (s : Sent). s.bytes) one.2 ∙ is.bytes_same;
+        connection_same = ap (λ (s : Sent). s.connection) one.2;
+        in_time = subst (λ (t : ℕ). t ≤ one.0.datagram.at + 2000000) (sym are.time_is) (subst (λ (s : Sent). world.time ≤ s.at + 2000000) (sym one.2) is.in_time);
+      },
+    )
 
 -- the tests of a delivery that isn't refused: there is a copy, or the bytes aren't intact
 pub record IsDeliverable (plan : Plan) (bytes : List ℕ) (world : WorldState) : Type 0 where

@@ -1,5 +1,5 @@
 -- Every event of a world, as events of its links.
-use Rattle.std.proofs.Common.{◌≡◌, ◌≢◌, ℕ, ◌+◌, ◌<◌, List, [], ◌∷◌, length, Option, Some, None, slice_get, slice_set, refl, sym, ap, subst, ◌∙◌}
+use Rattle.std.proofs.Common.{◌≡◌, ℕ, List, Option, Some, None, slice_get, slice_set, refl}
 use Rattle.layout.specs.Entries.{Plan}
 use Rattle.sci_telegram.specs.declared.message.Occupancy.{Occupancy}
 use Rattle.sci_telegram.specs.declared.message.Position.{Position}
@@ -24,7 +24,6 @@ use Rattle.simulator_world_run.specs.State.{WorldState}
 use Rattle.simulator_world_links.proofs.Anew.{NodeRestarts}
 use Rattle.simulator_world_links.proofs.ByKind.{stays_follows}
 use Rattle.simulator_world_links.proofs.Delivered.{CopiesAreDelivered, IntactIsTested, IsDeliverable, deliverable, delivery_may}
-use Rattle.simulator_world_links.proofs.HostItems.{TelegramsAreItems}
 use Rattle.simulator_world_links.proofs.Later.{time_follows, time_kept}
 use Rattle.simulator_world_links.proofs.Laws.{CallLaws, ClientLaws, LinkLaws, ServerLaws}
 use Rattle.simulator_world_links.proofs.Lost.{lost_follows}

@@ -1,20 +1,19 @@
 -- What a controller sends are telegrams, and so items.
-use Rattle.std.proofs.Common.{◌≡◌, ℕ, zero, suc, ◌+◌, ◌<◌, Bool, true, false, not, ◌&&◌, List, [], ◌∷◌, ◌++◌, Option, Some, None, Result, Ok, Err, refl, if◌then◌else◌}
+use Rattle.std.proofs.Common.{ℕ, zero, suc, ◌+◌, not, ◌&&◌, List, [], ◌∷◌, ◌++◌, Option, Some, None, Result, Ok, Err}
 use Rattle.std.specs.Prelude.{◌==◌, is_ok}
 use Rattle.sci_telegram.specs.Names.{IsName}
 use Rattle.sci_telegram.specs.Reading.{reading}
 use Rattle.sci_telegram.specs.Telegrams.{IsMessage, IsTelegram, writing}
 use Rattle.sci_telegram.specs.declared.fault.SciFault.{SciFault}
 use Rattle.sci_telegram.specs.declared.message.Agreement.TheVariants.{NoMatch, Match}
-use Rattle.sci_telegram.specs.declared.message.Initialisation.{Initialisation}
 use Rattle.sci_telegram.specs.declared.message.Initialisation.TheVariants.{InitialisationRequest, StartInitialisation, InitialisationCompleted, VersionCheck, VersionAnswer}
 use Rattle.sci_telegram.specs.declared.message.Message.{Message}
 use Rattle.sci_telegram.specs.declared.message.Message.TheVariants as message
 use Rattle.sci_telegram.specs.declared.telegram.Telegram.{Telegram}
 use Rattle.rasta_pdu.specs.Items.{IsItem}
 use Rattle.rasta_core.specs.Calls.{answer_to_send, receiving}
-use Rattle.rasta_core.specs.Clock.{alive_until, settled}
-use Rattle.rasta_core.specs.State.{LinkState, is_open}
+use Rattle.rasta_core.specs.Clock.{settled}
+use Rattle.rasta_core.specs.State.{is_open}
 use Rattle.object_host.specs.Behaviour.{Behaviour}
 use Rattle.object_host.specs.Course as courses
 use Rattle.object_host.specs.Course.{course}

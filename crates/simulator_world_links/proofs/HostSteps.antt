@@ -1,10 +1,10 @@
 -- A step of a controller, as calls at its end of the link.
 use Rattle.std.proofs.Common.{◌≡◌, ℕ, ◌+◌, Bool, true, false, ◌&&◌, ◌||◌, not, List, [], ◌∷◌, ◌++◌, length, map, Option, Some, None, refl, sym, ap, subst, ◌∙◌, if◌then◌else◌}
 use Rattle.std.specs.Prelude.{is_some}
-use Rattle.std.proofs.lemmas.Bool.{true≢false, false≢true}
+use Rattle.std.proofs.lemmas.Bool.{true≢false}
 use Rattle.object_host.specs.Behaviour.{Behaviour}
 use Rattle.object_host.specs.Host.{HostState, LinkCall, Part, Ticks, Closes, Sends, Receives}
-use Rattle.object_host.specs.Made.{AreCallsFor, AreOwn, IsMadeOf, call_made, calls_made}
+use Rattle.object_host.specs.Made.{AreCallsFor, AreOwn, IsMadeOf, calls_made}
 use Rattle.object_host.specs.Step.{host_step}
 use Rattle.object_host.specs.declared.input.Input.{Input}
 use Rattle.object_host.specs.declared.input.Input.TheVariants as inputs
@@ -28,7 +28,7 @@ use Rattle.simulator_links.specs.Flows.{ServerIsAfter}
 use Rattle.simulator_world_run.specs.Links.{ServerEnd, end_of_server}
 use Rattle.simulator_world_run.specs.Servers.{has_entered, is_inside_at, is_some_sent, server_after, step_of}
 use Rattle.simulator_world_run.specs.State.{ServerState}
-use Rattle.simulator_world_links.proofs.Answering.{is_made, enters_none, silent_outside, some_first, taken_is_answered}
+use Rattle.simulator_world_links.proofs.Answering.{is_made, silent_outside, some_first, taken_is_answered}
 use Rattle.simulator_world_links.proofs.Laws.{CallLaws, LinkLaws, ServerLaws}
 use Rattle.simulator_world_links.proofs.Places.{IsKept}
 use Rattle.simulator_world_links.proofs.Settled.{settled_identity}

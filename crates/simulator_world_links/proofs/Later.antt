@@ -1,15 +1,15 @@
 -- Time passes.
-use Rattle.std.proofs.Common.{◌≡◌, ℕ, zero, suc, ◌+◌, ◌*◌, ◌/◌, ◌<◌, ◌≤◌, Bool, true, false, not, nat_le, List, [], ◌∷◌, ◌++◌, length, map, drop, get_or, Option, Some, None, option_map, slice_get, refl, sym, ap, subst, ◌∙◌, arith, if◌then◌else◌}
-use Rattle.std.specs.Prelude.{◌==◌, ◌&&◌, ◌||◌, is_some, slice_index_or}
+use Rattle.std.proofs.Common.{◌≡◌, ℕ, zero, suc, ◌+◌, ◌*◌, ◌<◌, ◌≤◌, Bool, true, false, not, nat_le, List, [], ◌∷◌, ◌++◌, length, map, drop, Option, Some, None, option_map, slice_get, refl, sym, ap, subst, ◌∙◌, arith, if◌then◌else◌}
+use Rattle.std.specs.Prelude.{◌==◌, ◌&&◌, ◌||◌, slice_index_or}
 use Rattle.std.specs.List.{list_all}
-use Rattle.std.proofs.lemmas.Bool.{true≢false, false≢true}
+use Rattle.std.proofs.lemmas.Bool.{true≢false}
 use Rattle.std.proofs.lemmas.Bool.Decides.{nat_tests}
 use Rattle.layout.specs.Entries.{Plan}
 use Rattle.rasta_core.specs.Clock.{settled}
 use Rattle.rasta_core.specs.Ends.{EndState, end_later, leaves, reading_of}
 use Rattle.rasta_core.specs.Events.{IsWithinDrift}
 use Rattle.rasta_core.specs.Links.{Links, PassesFor, happened_to}
-use Rattle.rasta_core.specs.State.{LinkState, is_open}
+use Rattle.rasta_core.specs.State.{is_open}
 use Rattle.simulator_event.specs.declared.refused.Refused.{Refused}
 use Rattle.simulator_event.specs.declared.refused.Refused.TheVariants as refused
 use Rattle.simulator_world_run.specs.Happens.{all_later, passed}
@@ -18,7 +18,7 @@ use Rattle.simulator_world_run.specs.Nodes.{links, nodes, partners}
 use Rattle.simulator_world_run.specs.Refusals.{keeps_time, refusal_of_time, refused_where}
 use Rattle.simulator_world_run.specs.Servers.{is_inside_at, server_later}
 use Rattle.simulator_world_run.specs.State.{ServerState, WorldState}
-use Rattle.simulator_world_links.proofs.Lists.{both_true, get_map, get_right, length_joined, length_map, within_some}
+use Rattle.simulator_world_links.proofs.Lists.{both_true, length_map, within_some}
 use Rattle.simulator_world_links.proofs.Places.{IsKept, at_kept, kept_at}
 use Rattle.simulator_world_links.proofs.Settled.{settled_twice}
 use Rattle.simulator_world_links.specs.Follows.{Follows}

@@ -1,15 +1,14 @@
 -- The laws of links that this stands on.
-use Rattle.std.specs.Prelude.{◌≡◌, ◌≢◌, ◌⊎◌, ℕ, ◌<◌, Bool, true, false, List, [], ◌∷◌, map, Option, Some, None, if◌then◌else◌}
-use Rattle.rasta_core.specs.Calls.{opens}
+use Rattle.std.specs.Prelude.{◌≡◌, ◌≢◌, ◌⊎◌, ℕ, ◌<◌, true, false, List, ◌∷◌, map, None}
 use Rattle.rasta_core.specs.Clock.{settled}
 use Rattle.rasta_core.specs.Each.{Each}
 use Rattle.rasta_core.specs.EachLink.{AreTimely}
-use Rattle.rasta_core.specs.Ends.{Call, EndState, Sent, outcome, reading_of, is_taken, Receives}
-use Rattle.rasta_core.specs.Events.{AreForeign, Event, IsDelivered, MayCall, MayRun, happened, run}
+use Rattle.rasta_core.specs.Ends.{Call, EndState, Sent, outcome, reading_of, is_taken}
+use Rattle.rasta_core.specs.Events.{AreForeign, IsDelivered, MayCall, MayRun, run}
 use Rattle.rasta_core.specs.Invariant.{Timely}
 use Rattle.rasta_core.specs.Links.{AreLinks, Links, LinksEvent, CallsOn, MayHappenTo, MayRunLinks, events_on, happened_to, run_links, seen}
 use Rattle.rasta_core.specs.Names.{AreNames, Names}
-use Rattle.rasta_core.specs.Run.{Ends, called, end_of, restarted}
+use Rattle.rasta_core.specs.Run.{Ends, called, end_of}
 use Rattle.rasta_core.specs.Safe.{DoesNothing, IsIdle}
 use Rattle.rasta_core.specs.Sentences.{IsOpening, IsOut, receipt_at}
 use Rattle.rasta_core.specs.State.{LinkState, is_open}

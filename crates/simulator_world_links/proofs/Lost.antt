@@ -1,7 +1,7 @@
 -- The network loses a datagram.
-use Rattle.std.proofs.Common.{ℕ, List, [], ◌∷◌, refl, ap, ◌∙◌}
+use Rattle.std.proofs.Common.{ℕ, List, [], ◌∷◌, refl, ap}
 use Rattle.layout.specs.Entries.{Plan}
-use Rattle.rasta_core.specs.Links.{Links, LosesAny, OnLink, happened_to, without_oldest_of_all}
+use Rattle.rasta_core.specs.Links.{Links, LosesAny, without_oldest_of_all}
 use Rattle.simulator_world_run.specs.Links.{AreLinksOf}
 use Rattle.simulator_world_run.specs.State.{WorldState}
 use Rattle.simulator_world_links.proofs.Places.{client_same, server_same}

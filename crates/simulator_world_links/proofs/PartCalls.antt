@@ -1,22 +1,17 @@
 -- The calls that a client makes in a part of a step, as events of its link.
-use Rattle.std.proofs.Common.{◌≡◌, ◌≢◌, ℕ, ◌<◌, Bool, true, false, List, [], ◌∷◌, ◌++◌, length, map, Option, Some, None, slice_get, refl, sym, ap, subst, ◌∙◌}
-use Rattle.std.proofs.lemmas.List.{map-append}
+use Rattle.std.proofs.Common.{◌≡◌, ◌≢◌, ℕ, ◌<◌, List, [], ◌∷◌, map, refl, sym, ap, subst, ◌∙◌}
 use Rattle.layout.specs.Entries.{Plan}
 use Rattle.ixl_client.specs.Made.{AreOwn, link_after, outbox_after}
 use Rattle.ixl_client.specs.Part.{LinkCall, Opens, Ticks, Closes, Sends, Receives, call_made}
 use Rattle.rasta_core.specs.Each.{Each}
-use Rattle.rasta_core.specs.EachLink.{AreTimely}
-use Rattle.rasta_core.specs.Ends as calls
 use Rattle.rasta_core.specs.Ends.{Call, reading_of}
 use Rattle.rasta_core.specs.Links.{AreLinks, CallsOn, Links, LinksEvent, MayCallOn, MayRunLinks, happened_to, run_links}
 use Rattle.rasta_core.specs.Names.{Names}
-use Rattle.rasta_core.specs.Nodes.{NodeCall, calls_of}
+use Rattle.rasta_core.specs.Nodes.{calls_of}
 use Rattle.rasta_core.specs.Outbox.{OutboxState, posted, spellings}
 use Rattle.rasta_core.specs.State.{LinkState}
 use Rattle.rasta_core.specs.Steps.{made_by}
-use Rattle.rasta_core.specs.identity.Identity.{Identity}
 use Rattle.rasta_core.specs.identity.Role.TheVariants as role
-use Rattle.rasta_pdu.specs.declared.key.Key.{Key}
 use Rattle.rasta_pdu.specs.declared.pdu.Pdu.{Pdu}
 use Rattle.simulator_world_run.specs.Links.{names_at}
 use Rattle.simulator_world_run.specs.Nodes.{links}
@@ -25,7 +20,7 @@ use Rattle.simulator_world_links.proofs.Asking.{Tells, call_tells, clock_next, l
 use Rattle.simulator_world_links.proofs.ClientItems.{AreSendable}
 use Rattle.simulator_world_links.proofs.Controllers.{may_later}
 use Rattle.simulator_world_links.proofs.Laws.{ClientLaws, LinkLaws}
-use Rattle.simulator_world_links.specs.Calls.{as_call, node_call}
+use Rattle.simulator_world_links.specs.Calls.{as_call}
 
 -- ---- one call
 

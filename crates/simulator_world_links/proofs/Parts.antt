@@ -1,13 +1,13 @@
 -- Each part of a step of the interlocking goes on from where its links are.
-use Rattle.std.proofs.Common.{◌≡◌, ℕ, zero, suc, ◌+◌, ◌<◌, ◌≤◌, Bool, true, false, not, List, [], ◌∷◌, ◌++◌, length, map, Option, Some, None, option_map, slice_get, slice_set, Result, Ok, Err, refl, sym, ap, subst, ◌∙◌, arith, if◌then◌else◌}
-use Rattle.std.specs.Prelude.{◌&&◌, ◌||◌, ◌==◌}
+use Rattle.std.proofs.Common.{◌≡◌, ℕ, zero, suc, ◌+◌, ◌<◌, Bool, List, [], ◌∷◌, ◌++◌, length, map, Option, Some, None, option_map, slice_get, slice_set, refl, sym, ap, subst, ◌∙◌, arith}
+use Rattle.std.specs.Prelude.{◌&&◌, ◌||◌}
 use Rattle.layout.specs.Entries.{Plan}
 use Rattle.sci_telegram.specs.declared.message.Aspect.{Aspect}
 use Rattle.sci_telegram.specs.declared.message.Aspect.TheVariants as aspects
 use Rattle.sci_telegram.specs.declared.message.Side.{Side}
 use Rattle.bit_row.specs.Places.{Places}
-use Rattle.ixl_client.specs.Client.{ClientState, PeerState, is_outside}
-use Rattle.ixl_client.specs.Made.{AreOwn, Makes, MakesAfterReceipt, MakesOwn}
+use Rattle.ixl_client.specs.Client.{ClientState, is_outside}
+use Rattle.ixl_client.specs.Made.{Makes, MakesAfterReceipt, MakesOwn}
 use Rattle.ixl_client.specs.Part as client
 use Rattle.ixl_client.specs.Part.{LinkCall, Receives, begun}
 use Rattle.ixl_client.specs.Step.{commanding, hearing, ticking}
@@ -19,7 +19,7 @@ use Rattle.ixl_rules.specs.Rules.{authorised, come_to, count, ended, ending_auth
 use Rattle.ixl_rules.specs.State.{DetectorState, IxlState, LampState, RouteState, SwitchState, changed}
 use Rattle.ixl_rules.specs.Step.{Input, Tick, Datagram, Commands, addressed, all_clocked, stepped, detector_hearing, detector_ticking, given, lamp_hearing, lamp_ticking, looking, looking_by, looks, node_hearing, occupied_heard, switch_hearing, switch_ticking, ticked, watching}
 use Rattle.ixl_rules.specs.Table.{Need, Row, Table}
-use Rattle.ixl_rules.specs.View.{is_approach_clear, is_at_known_stop, is_signal_ready, was_authorised}
+use Rattle.ixl_rules.specs.View.{is_at_known_stop, is_signal_ready, was_authorised}
 use Rattle.ixl_rules.specs.declared.command.Command.{Command}
 use Rattle.ixl_rules.specs.declared.command.Command.TheVariants as requests
 use Rattle.ixl_rules.specs.declared.command.Refusal.{Refusal}
@@ -36,7 +36,7 @@ use Rattle.simulator_world_links.proofs.Laws.{ClientLaws, LinkLaws}
 use Rattle.simulator_world_links.proofs.Lists.{by_test, changed_to, get_left, get_map, get_right, length_map, length_set, map_set, some_is, within_some}
 use Rattle.simulator_world_links.proofs.PartCalls.{AllMayMake, MayMake, own_sendable}
 use Rattle.simulator_world_links.proofs.Places.{first_set, second_set, third_set}
-use Rattle.simulator_world_links.proofs.Reached.{ClientIs, Does, IsManned, Reached, reached_next}
+use Rattle.simulator_world_links.proofs.Reached.{Does, IsManned, Reached, reached_next}
 use Rattle.simulator_world_links.specs.Whole.{IsPeer, client_states}
 
 -- ---- what each keeps is kept by all

@@ -1,17 +1,16 @@
 -- What stands at the places of a world's links, and one link of them with new ends.
-use Rattle.std.proofs.Common.{◌≡◌, ◌≢◌, ◌⊎◌, ℕ, ◌+◌, ◌<◌, List, ◌++◌, length, map, Option, Some, slice_get, slice_set, refl, sym, ap, subst, ◌∙◌, arith, inl, inr}
+use Rattle.std.proofs.Common.{◌≡◌, ◌≢◌, ◌⊎◌, ℕ, ◌+◌, ◌<◌, List, ◌++◌, length, Some, slice_get, slice_set, refl, sym, ap, subst, ◌∙◌, arith, inl, inr}
 use Rattle.layout.specs.Entries.{Plan}
 use Rattle.rasta_core.specs.Clock.{settled}
 use Rattle.rasta_core.specs.Ends.{EndState, reading_of}
-use Rattle.rasta_core.specs.Links.{Links, TwoEnds, seen}
-use Rattle.rasta_core.specs.Run.{Ends, end_of}
-use Rattle.rasta_core.specs.State.{LinkState}
+use Rattle.rasta_core.specs.Links.{Links, seen}
+use Rattle.rasta_core.specs.Run.{end_of}
 use Rattle.rasta_core.specs.identity.Role.{Role}
 use Rattle.rasta_core.specs.identity.Role.TheVariants as role
-use Rattle.simulator_world_run.specs.Links.{AreLinksOf, IsClientAt, IsServerAt, ServerEnd, client_links, end_of_server, names_at, server_ends}
-use Rattle.simulator_world_run.specs.Nodes.{links, partners}
-use Rattle.simulator_world_run.specs.State.{ServerState, StationState, WorldState}
-use Rattle.simulator_world_links.proofs.Lists.{get_map, get_set, get_set_other, length_joined, length_map, map_set, same_or_other, set_left, set_right, some_is, some_within, within_some}
+use Rattle.simulator_world_run.specs.Links.{AreLinksOf, IsClientAt, IsServerAt, ServerEnd, client_links, server_ends}
+use Rattle.simulator_world_run.specs.Nodes.{partners}
+use Rattle.simulator_world_run.specs.State.{StationState, WorldState}
+use Rattle.simulator_world_links.proofs.Lists.{get_set, get_set_other, length_joined, same_or_other, set_left, set_right, some_is}
 
 -- an end is the one that a world keeps of a server
 pub record IsKept (kept : ServerEnd) (end : EndState) : Type 0 where

@@ -1,29 +1,25 @@
 -- A step of the interlocking so far: its links are what its calls made of them, and what it notes of the datagrams that it
 -- handed out is what the links tell.
-use Rattle.std.proofs.Common.{◌≡◌, ◌≢◌, ◌⊎◌, inl, inr, ℕ, zero, suc, ◌+◌, ◌<◌, Bool, true, false, List, [], ◌∷◌, ◌++◌, length, map, Option, Some, None, option_map, slice_get, slice_set, refl, sym, ap, subst, ◌∙◌, arith, if◌then◌else◌}
-use Rattle.std.proofs.lemmas.List.{append-nil, append_assoc, map-append}
+use Rattle.std.proofs.Common.{◌≡◌, ◌≢◌, ◌⊎◌, inl, inr, ℕ, ◌<◌, List, [], ◌∷◌, ◌++◌, length, map, Some, slice_get, slice_set, refl, sym, ap, subst, ◌∙◌}
 use Rattle.layout.specs.Entries.{Plan}
-use Rattle.ixl_client.specs.Client.{ClientState, PeerState}
-use Rattle.ixl_client.specs.Made.{AreOwn, Makes, link_after, outbox_after}
+use Rattle.ixl_client.specs.Client.{ClientState}
+use Rattle.ixl_client.specs.Made.{Makes, link_after, outbox_after}
 use Rattle.ixl_client.specs.Part as client
 use Rattle.ixl_client.specs.Part.{LinkCall, Opens, Ticks, Closes, Sends, Receives, begun}
-use Rattle.ixl_rules.specs.Part.{Node, Signal, Point, Detector, Part, detector_after, lamp_after, noted, switch_after, with_detector, with_lamp, with_switch}
-use Rattle.ixl_rules.specs.State.{DetectorState, IxlState, LampState, SwitchState}
-use Rattle.rasta_core.specs.EachLink.{AreTimely}
+use Rattle.ixl_rules.specs.Part.{Node, Part, noted}
+use Rattle.ixl_rules.specs.State.{IxlState}
 use Rattle.rasta_core.specs.Ends.{reading_of}
 use Rattle.rasta_core.specs.Links.{AreLinks, CallsOn, Links, LinksEvent, MayRunLinks, happened_to, run_links}
 use Rattle.rasta_core.specs.Names.{Names}
-use Rattle.rasta_core.specs.Nodes.{NodeCall, calls_of}
-use Rattle.rasta_core.specs.State.{LinkState}
+use Rattle.rasta_core.specs.Nodes.{calls_of}
 use Rattle.rasta_core.specs.identity.Role.TheVariants as role
 use Rattle.simulator_world_run.specs.Links.{names_at}
-use Rattle.simulator_world_run.specs.Nodes.{detector_link, links, point_link}
+use Rattle.simulator_world_run.specs.Nodes.{links}
 use Rattle.simulator_world_run.specs.Station.{Sending, sending_all}
 use Rattle.simulator_world_links.proofs.Asking.{Tells}
 use Rattle.simulator_world_links.proofs.Laws.{ClientLaws, LinkLaws}
-use Rattle.simulator_world_links.proofs.Lists.{get_left, get_map, get_right, get_set, get_set_other, length_joined, length_map, length_set, map_set, same_or_other, set_left, set_right, some_is, within_some}
+use Rattle.simulator_world_links.proofs.Lists.{get_set, get_set_other, same_or_other, some_is, within_some}
 use Rattle.simulator_world_links.proofs.PartCalls.{AllMayMake, Leads, all_later, calls_lead, events_at}
-use Rattle.simulator_world_links.proofs.Places.{first_set, second_set, third_set}
 use Rattle.simulator_world_links.specs.Calls.{as_call, link_at, node_call}
 use Rattle.simulator_world_links.specs.Whole.{IsPeer, client_states}
 

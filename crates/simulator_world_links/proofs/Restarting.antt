@@ -1,12 +1,11 @@
 -- Each node made anew, by its number.
-use Rattle.std.proofs.Common.{◌≡◌, ℕ, zero, suc, ◌+◌, ◌-◌, ◌<◌, ◌≤◌, nat_lt, Bool, true, false, List, [], ◌∷◌, ◌++◌, length, map, Option, Some, None, option_map, slice_get, slice_set, slice_index_or, refl, sym, ap, subst, ◌∙◌, arith, if◌then◌else◌}
+use Rattle.std.proofs.Common.{◌≡◌, ℕ, ◌<◌, List, ◌++◌, length, map, Option, Some, None, slice_get, slice_index_or, refl, sym, ap, subst, ◌∙◌}
 use Rattle.layout.specs.Entries.{DetectorEntry, Plan}
 use Rattle.layout.specs.declared.entries.Point.{Point as PointEntry}
 use Rattle.layout.specs.declared.entries.Signal.{Signal as SignalEntry}
-use Rattle.sci_telegram.specs.declared.message.Position.{Position}
 use Rattle.sci_telegram.specs.declared.message.Position.TheVariants as positions
 use Rattle.object_host.specs.Behaviour.{Behaviour}
-use Rattle.object_host.specs.Host.{HostState, keeping}
+use Rattle.object_host.specs.Host.{keeping}
 use Rattle.signal_ctl.specs.Signal.{SignalState, signal_behaviour}
 use Rattle.point_ctl.specs.Controlled.{point_behaviour}
 use Rattle.point_ctl.specs.Drive.{PointState}
@@ -14,15 +13,14 @@ use Rattle.tds_ctl.specs.Controlled.{detection_behaviour}
 use Rattle.tds_ctl.specs.declared.section.Section.{Section}
 use Rattle.object_host.specs.Hosted.{new_host}
 use Rattle.rasta_core.specs.EachLink.{AreTimely}
-use Rattle.rasta_core.specs.Links.{Links, LinksEvent}
+use Rattle.rasta_core.specs.Links.{Links}
 use Rattle.rasta_core.specs.Names.{identity_of}
 use Rattle.rasta_core.specs.identity.Role.TheVariants as role
-use Rattle.ixl_rules.specs.State.{changed}
 use Rattle.ixl_rules.specs.Table.{Table}
 use Rattle.simulator_world_run.specs.First.{Beginning, host_of, new_detector, new_point, new_signal}
 use Rattle.simulator_world_run.specs.Happens.{detector_anew, made_anew, point_anew, signal_anew}
-use Rattle.simulator_world_run.specs.Links.{AreLinksOf, ServerEnd, end_of_server, names_at, server_ends}
-use Rattle.simulator_world_run.specs.Nodes.{Node, Station, Signal, Point, Detector, detector_link, links, names_of, partners, point_link}
+use Rattle.simulator_world_run.specs.Links.{AreLinksOf, end_of_server, names_at}
+use Rattle.simulator_world_run.specs.Nodes.{Node, Station, Signal, Point, Detector, detector_link, links, names_of, point_link}
 use Rattle.simulator_world_run.specs.Servers.{server_anew}
 use Rattle.simulator_world_run.specs.State.{ServerState, WorldState}
 use Rattle.simulator_world_links.proofs.Anew.{IsMadeAnew, NodeRestarts, restart_follows, station_follows_anew}

@@ -1,10 +1,10 @@
 -- What the bytes of a PDU tell of it: whether it is a connection request, and the link to its receiver.
-use Rattle.std.proofs.Common.{◌≡◌, ◌≢◌, ℕ, zero, suc, ◌+◌, ◌-◌, ◌<◌, ◌≤◌, Bool, true, false, cond, not, nat_lt, List, [], ◌∷◌, ◌++◌, length, get_or, take, drop, Option, Some, None, Result, Ok, Err, position, slice_get, refl, sym, ap, subst, ◌∙◌, arith, if◌then◌else◌}
-use Rattle.std.specs.Prelude.{◌==◌, slice_index, slice_index_or, unwrap_or}
+use Rattle.std.proofs.Common.{◌≡◌, ℕ, zero, suc, ◌+◌, ◌-◌, ◌<◌, ◌≤◌, Bool, true, false, cond, not, nat_lt, List, [], ◌∷◌, length, get_or, take, drop, Option, Some, None, Result, Ok, Err, position, slice_get, refl, sym, ap, subst, ◌∙◌, arith, if◌then◌else◌}
+use Rattle.std.specs.Prelude.{◌==◌, unwrap_or}
 use Rattle.std.specs.Int.{w32, from_le_bytes}
 use Rattle.std.specs.List.{position_or_len, prefix_len}
 use Rattle.std.specs.Str.{bytes_eq}
-use Rattle.std.proofs.lemmas.Bool.{true≢false, false≢true}
+use Rattle.std.proofs.lemmas.Bool.{true≢false}
 use Rattle.std.proofs.lemmas.Bool.Decides.{nat_tests}
 use Rattle.std.proofs.lemmas.List.{get_or-drop, get_or-take}
 use Rattle.layout.specs.Entries.{Plan}
@@ -22,13 +22,19 @@ use Rattle.rasta_pdu.specs.declared.pdu.Pdu.{Pdu}
 use Rattle.simulator_world_run.specs.Links.{names_at}
 use Rattle.simulator_world_run.specs.Nodes.{links, partners}
 use Rattle.simulator_world_run.specs.Station.{is_request, link_of}
-use Rattle.simulator_world_links.proofs.Lists.{by_test, itself, some_within, unequal}
-use Rattle.simulator_world_links.proofs.Partners.{named_at, partner_at, partners_count}
+use Rattle.simulator_world_links.proofs.Lists.{itself, unequal}
+use Rattle.simulator_world_links.proofs.Partners.{named_at, partners_count}
 
 -- ---- the type
 
 is_typed : (key : Key) (receiver sender number confirmed stamp confirmed_stamp : ℕ) (body : Body) → IsRequest body → is_request (writing key (record {
-  receiver = receiver; sender = sender; sequence_number = number; confirmed_sequence_number = confirmed; time_stamp = stamp; confirmed_time_stamp = confirmed_stamp; body = body;
+  receiver = receiver;
+  sender = sender;
+  sequence_number = number;
+  confirmed_sequence_number = confirmed;
+  time_stamp = stamp;
+  confirmed_time_stamp = confirmed_stamp;
+  body = body;
 })) ≡ true
 unfolding writing text fields
 is_typed key receiver sender number confirmed stamp confirmed_stamp (ConnectionRequest opening) is = refl
@@ -44,7 +50,13 @@ pub request_is_seen : (key : Key) (pdu : Pdu) → IsRequest pdu.body → is_requ
 request_is_seen key pdu is = is_typed key pdu.receiver pdu.sender pdu.sequence_number pdu.confirmed_sequence_number pdu.time_stamp pdu.confirmed_time_stamp pdu.body is
 
 is_other : (key : Key) (receiver sender number confirmed stamp confirmed_stamp : ℕ) (body : Body) → (IsRequest body → ⊥) → is_request (writing key (record {
-  receiver = receiver; sender = sender; sequence_number = number; confirmed_sequence_number = confirmed; time_stamp = stamp; confirmed_time_stamp = confirmed_stamp; body = body;
+  receiver = receiver;
+  sender = sender;
+  sequence_number = number;
+  confirmed_sequence_number = confirmed;
+  time_stamp = stamp;
+  confirmed_time_stamp = confirmed_stamp;
+  body = body;
 })) ≡ false
 unfolding writing text fields
 is_other key receiver sender number confirmed stamp confirmed_stamp (ConnectionRequest opening) is = absurd (is tt)
@@ -67,8 +79,13 @@ record IsReadOf (bytes : List ℕ) (pdu : Pdu) : Type 0 where
   pub receiver : pdu.receiver ≡ u32_at 4 (before_code bytes)
 
 text_read : (body : Result Body PduFault) (bytes : List ℕ) (pdu : Pdu) → (body >>= λ body. Ok (record {
-  receiver = u32_at 4 bytes; sender = u32_at 8 bytes; sequence_number = u32_at 12 bytes; confirmed_sequence_number = u32_at 16 bytes;
-  time_stamp = u32_at 20 bytes; confirmed_time_stamp = u32_at 24 bytes; body = body;
+  receiver = u32_at 4 bytes;
+  sender = u32_at 8 bytes;
+  sequence_number = u32_at 12 bytes;
+  confirmed_sequence_number = u32_at 16 bytes;
+  time_stamp = u32_at 20 bytes;
+  confirmed_time_stamp = u32_at 24 bytes;
+  body = body;
 })) ≡ Ok pdu → pdu.receiver ≡ u32_at 4 bytes
 text_read (Err fault) bytes pdu read = absurd (cc (read))
 text_read (Ok body) bytes pdu read = sym (ap receiver_of read) where

@@ -1,10 +1,9 @@
 -- A step of the interlocking, as events of the links of a world.
-use Rattle.std.proofs.Common.{◌≡◌, ℕ, zero, suc, ◌+◌, ◌<◌, List, [], ◌∷◌, ◌++◌, length, map, Option, Some, None, option_map, slice_get, refl, sym, ap, subst, ◌∙◌, arith}
-use Rattle.std.proofs.lemmas.List.{append-nil}
+use Rattle.std.proofs.Common.{◌≡◌, ℕ, ◌+◌, ◌<◌, List, [], ◌∷◌, ◌++◌, length, map, Some, option_map, slice_get, refl, sym, ap, subst, ◌∙◌, arith}
 use Rattle.layout.specs.Entries.{Plan}
 use Rattle.ixl_client.specs.Client.{ClientState}
 use Rattle.ixl_client.specs.Step.{clocked, fallen}
-use Rattle.ixl_rules.specs.Part.{Part, begun_with, detector_after, lamp_after, switch_after}
+use Rattle.ixl_rules.specs.Part.{Part, begun_with}
 use Rattle.ixl_rules.specs.State.{DetectorState, IxlState, LampState, SwitchState}
 use Rattle.ixl_rules.specs.Step as ixl
 use Rattle.ixl_rules.specs.Step.{all_clocked, clocked_detector, clocked_lamp, clocked_switch}
@@ -12,28 +11,27 @@ use Rattle.ixl_rules.specs.Table.{Table}
 use Rattle.rasta_core.specs.Clock.{settled}
 use Rattle.rasta_core.specs.EachLink.{AreTimely}
 use Rattle.rasta_core.specs.Ends.{EndState, reading_of}
-use Rattle.rasta_core.specs.Links.{AreLinks, Links, LinksEvent, run_links, seen}
+use Rattle.rasta_core.specs.Links.{AreLinks, Links, run_links, seen}
 use Rattle.rasta_core.specs.Nodes.{NodeCall, calls_of}
-use Rattle.rasta_core.specs.Run.{Ends, end_of}
+use Rattle.rasta_core.specs.Run.{end_of}
 use Rattle.rasta_core.specs.State.{LinkState}
-use Rattle.rasta_core.specs.Steps.{IsAfter}
 use Rattle.rasta_core.specs.identity.Role.{Role}
 use Rattle.rasta_core.specs.identity.Role.TheVariants as role
 use Rattle.simulator_world_run.specs.Happens.{station_stepped}
 use Rattle.simulator_world_run.specs.Links.{AreLinksOf, IsClientAt, IsServerAt, client_links, names_at, server_ends}
 use Rattle.simulator_world_run.specs.Nodes.{key_of, links, partners}
 use Rattle.simulator_world_run.specs.Station.{Sending, empty_outbox, sending_all, station_step}
-use Rattle.simulator_world_run.specs.State.{StationState, WorldState}
+use Rattle.simulator_world_run.specs.State.{WorldState}
 use Rattle.simulator_world_links.proofs.Asking.{Tells}
 use Rattle.simulator_world_links.proofs.Laws.{ClientLaws, LinkLaws}
-use Rattle.simulator_world_links.proofs.Lists.{by_test, get_left, get_map, get_right, length_joined, length_map, some_is, some_within, within_some}
+use Rattle.simulator_world_links.proofs.Lists.{by_test, get_map, length_joined, length_map, some_is, some_within}
 use Rattle.simulator_world_links.proofs.Partners.{below_links, partner_at}
 use Rattle.simulator_world_links.proofs.Parts.{MayComeIn, StepLaws, lamp_client, switch_client, detector_client, step_kept}
 use Rattle.simulator_world_links.proofs.Places.{server_same}
-use Rattle.simulator_world_links.proofs.Reached.{ClientIs, IsManned, Reached, after, events_for}
+use Rattle.simulator_world_links.proofs.Reached.{ClientIs, Reached, events_for}
 use Rattle.simulator_world_links.specs.Calls.{node_call}
 use Rattle.simulator_world_links.specs.Follows.{Follows}
-use Rattle.simulator_world_links.specs.Whole.{HasClients, IsPeer, IsWhole, client_states}
+use Rattle.simulator_world_links.specs.Whole.{IsPeer, IsWhole, client_states}
 
 -- ---- the clients, and their links
 

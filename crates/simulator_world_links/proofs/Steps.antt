@@ -1,37 +1,37 @@
 -- Each controller makes a step.
-use Rattle.std.proofs.Common.{◌≡◌, ℕ, zero, suc, ◌+◌, ◌<◌, List, [], ◌∷◌, ◌++◌, length, map, Option, Some, None, slice_get, slice_set, refl, sym, ap, subst, ◌∙◌}
+use Rattle.std.proofs.Common.{◌≡◌, ℕ, suc, ◌<◌, List, [], ◌∷◌, ◌++◌, length, Option, Some, None, slice_get, slice_set, refl, sym, subst}
 use Rattle.layout.specs.Entries.{DetectorEntry, Plan}
 use Rattle.layout.specs.declared.entries.Point.{Point as PointEntry}
 use Rattle.layout.specs.declared.entries.Signal.{Signal as SignalEntry}
 use Rattle.object_host.specs.Behaviour.{Behaviour}
-use Rattle.object_host.specs.Host.{HostState, Part}
-use Rattle.object_host.specs.Made.{AreCallsFor, AreItems, IsMadeOf}
+use Rattle.object_host.specs.Host.{HostState}
+use Rattle.object_host.specs.Made.{AreCallsFor, IsMadeOf}
 use Rattle.object_host.specs.Step.{host_step}
 use Rattle.object_host.specs.declared.input.Input.{Input}
 use Rattle.rasta_core.specs.Clock.{settled}
 use Rattle.rasta_core.specs.EachLink.{AreTimely}
 use Rattle.rasta_core.specs.Ends.{reading_of}
-use Rattle.rasta_core.specs.Links.{AreLinks, Links, OnLink}
+use Rattle.rasta_core.specs.Links.{AreLinks, Links}
 use Rattle.sci_telegram.specs.Names.{IsName}
 use Rattle.signal_ctl.specs.Signal.{SignalState, signal_behaviour}
 use Rattle.point_ctl.specs.Controlled.{point_behaviour}
 use Rattle.point_ctl.specs.Drive.{PointState}
 use Rattle.tds_ctl.specs.Controlled.{detection_behaviour}
 use Rattle.tds_ctl.specs.declared.section.Section.{Section}
-use Rattle.simulator_world_run.specs.Happens.{Stepped, detector_stepped, point_stepped, signal_stepped, stepped_at}
-use Rattle.simulator_world_run.specs.Links.{AreLinksOf, ServerEnd, end_of_server, names_at, server_ends}
-use Rattle.simulator_world_run.specs.Nodes.{detector_link, links, names_of, partners, point_link}
+use Rattle.simulator_world_run.specs.Happens.{detector_stepped, point_stepped, signal_stepped, stepped_at}
+use Rattle.simulator_world_run.specs.Links.{AreLinksOf, names_at}
+use Rattle.simulator_world_run.specs.Nodes.{detector_link, links, point_link}
 use Rattle.simulator_world_run.specs.Servers.{sent_by_server, server_after, step_of}
 use Rattle.simulator_world_run.specs.State.{ServerState, WorldState}
 use Rattle.simulator_world_links.proofs.ByKind.{detector_there, detectors_set, point_there, points_set, signal_there, signals_set, stays_follows}
 use Rattle.simulator_world_links.proofs.Controllers.{MayCome, controller_follows}
-use Rattle.simulator_world_links.proofs.HostItems.{IsSound, StepIsSound, TelegramsAreItems, Tells, step_is_sound}
+use Rattle.simulator_world_links.proofs.HostItems.{TelegramsAreItems, step_is_sound}
 use Rattle.simulator_world_links.proofs.Laws.{CallLaws, LinkLaws, ServerLaws}
 use Rattle.simulator_world_links.proofs.Lists.{some_within, within_some}
 use Rattle.simulator_world_links.proofs.Partners.{detector_partner, point_partner, signal_partner}
 use Rattle.simulator_world_links.proofs.Tellings.{AnyPoint, AnySignal, AreSectionsNamed, detectors_tell, points_tell, signals_tell}
 use Rattle.simulator_world_links.specs.Follows.{Follows}
-use Rattle.simulator_world_links.specs.Whole.{HasSections, IsNamed, IsWhole}
+use Rattle.simulator_world_links.specs.Whole.{IsWhole}
 
 -- the laws of a host
 pub record HostLaws {Object : Type 0} (does : Behaviour Object) : Type 0 where

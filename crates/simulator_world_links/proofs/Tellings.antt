@@ -1,9 +1,8 @@
 -- What signals, points and detectors tell of themselves can be told.
-use Rattle.std.proofs.Common.{◌≡◌, ℕ, zero, suc, Bool, true, false, cond, not, List, [], ◌∷◌, map, find, Option, Some, None, option_map, slice_get, refl, if◌then◌else◌}
+use Rattle.std.proofs.Common.{ℕ, zero, suc, Bool, true, false, cond, List, [], ◌∷◌, find, Some, None, option_map}
 use Rattle.std.specs.Prelude.{◌==◌}
 use Rattle.sci_telegram.specs.Names.{IsName}
 use Rattle.sci_telegram.specs.declared.message.Occupancy.{Occupancy}
-use Rattle.object_host.specs.declared.report.Report.{Report}
 use Rattle.object_host.specs.declared.sense.Sense.{Sense}
 use Rattle.object_host.specs.declared.sense.Sense.TheVariants as sense
 use Rattle.point_ctl.specs.Controlled.{point_behaviour}

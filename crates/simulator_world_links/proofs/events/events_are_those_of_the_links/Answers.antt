@@ -1,5 +1,5 @@
 use Rattle.rasta_core.specs.identity.Role.TheVariants as role
-use Rattle.simulator_world_links.proofs.Everything.{AllLaws, event_follows}
+use Rattle.simulator_world_links.proofs.Everything.{event_follows}
 use Rattle.simulator_world_links.proofs.events.events_are_those_of_the_links.Goals as goal
 
 pub returns : goal.returns
