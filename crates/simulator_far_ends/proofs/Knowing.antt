@@ -3,7 +3,7 @@ use Rattle.std.proofs.Common.{◌≡◌, ◌≤◌, ◌⊎◌, ◌+◌, ◌-◌,
 use Rattle.std.specs.Prelude.{◌≢◌, Result, Ok, Err}
 use Rattle.std.proofs.lemmas.Bool.{false≢true}
 use Rattle.std.proofs.lemmas.Bool.Decides.{nat_tests}
-use Rattle.std.proofs.lemmas.List.{length-append, length-map}
+use Rattle.std.proofs.lemmas.List.{append-nil, length-append, length-map}
 use Rattle.std.proofs.lemmas.List.Elements.{All-nil}
 use Rattle.sci_telegram.specs.Reading.{reading}
 use Rattle.sci_telegram.specs.Telegrams.{IsTelegram, writing}
@@ -194,6 +194,15 @@ said_given ends host point seen = by (server_of ends) where
   by Before = record { reports = []; are = refl; own = All-nil _ }
   by In = seen.said
   by Gone = seen.said
+
+-- all reports made are those that a client hears in what the server gave
+pub made_is_heard : ((telegram : Telegram) → IsTelegram telegram → reading (writing telegram) ≡ Ok telegram) →
+    (peer : PeerState) (ends : Ends) (host : HostState PointState) (point : Point) → IsPointSeen ends host point → peer.objects ≡ host.own_name ∷ [] →
+    reports_made point ≡ positions_told peer (reports_given ends)
+made_is_heard read peer ends host point seen objects =
+    seen.made
+    ∙ sym (heard_of_said read peer host.own_name host.peer_name objects seen.named.own seen.named.peer (reports_given ends) [] (reports_given ends)
+    (sym (append-nil (reports_given ends))) (said_given ends host point seen))
 
 pub reports_heard : ((telegram : Telegram) → IsTelegram telegram → reading (writing telegram) ≡ Ok telegram) →
     ((first others : List (List ℕ)) → reports_in (first ++ others) ≡ reports_in first ++ reports_in others) →

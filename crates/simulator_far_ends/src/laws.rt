@@ -1,11 +1,19 @@
 //! The far ends of a station in a step of its interlocking.
 
-ghost use Rattle.std.specs.Prelude.{ℕ};
+ghost use Rattle.std.specs.Prelude.{◌≡◌, ℕ, [], ◌∷◌};
+ghost use Rattle.rasta_core.specs.Run.{Ends};
+ghost use Rattle.object_host.specs.Host.{HostState};
+ghost use Rattle.point_ctl.specs.Drive.{PointState};
+ghost use Rattle.ixl_client.specs.Client.{PeerState};
 ghost use Rattle.ixl_rules.specs.State.{IxlState};
 ghost use Rattle.ixl_rules.specs.Step.{Input};
 ghost use Rattle.simulator_machine.specs.Machine.{Machine};
+ghost use Rattle.simulator_machine.specs.Point.{Point, reports_made};
+ghost use Rattle.simulator_links.specs.Flows.{reports_given};
+ghost use Rattle.simulator_controllers.specs.Point.{IsPointSeen};
 ghost use Rattle.simulator_rules_seen.specs.Facts.{FarEnds};
 ghost use Rattle.simulator_rules_seen.specs.Sees.{Given, Sees};
+ghost use Rattle.simulator_rules_seen.specs.Telegrams.{positions_told};
 ghost use Rattle.simulator_far_ends.specs.At.{AreFarEnds};
 
 use sci_telegram::written_is_read;
@@ -22,5 +30,14 @@ pub fn far_ends_are_known()
     flows_are_in_order();
     items_join();
     pictures_tell_the_connection();
+    written_is_read();
+}
+
+/// Where a controller tells of one point alone, under its own name, the reports made are those that a client hears in what
+/// the server gave.
+pub fn reports_made_are_heard()
+    ensures { (peer : PeerState) (ends : Ends) (host : HostState PointState) (point : Point) → IsPointSeen ends host point → peer.objects ≡ host.own_name ∷ []
+        → reports_made point ≡ positions_told peer (reports_given ends) }
+{
     written_is_read();
 }

@@ -4,4 +4,4 @@
 
 mod laws;
 
-pub use laws::far_ends_are_known;
+pub use laws::{far_ends_are_known, reports_made_are_heard};
