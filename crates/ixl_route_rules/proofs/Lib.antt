@@ -1,0 +1,3 @@
+pub mod Going
+pub mod RowLaws
+pub mod Rules

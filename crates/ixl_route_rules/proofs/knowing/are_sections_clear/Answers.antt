@@ -1,0 +1,13 @@
+use Rattle.std.proofs.Common.{ap, ◌∙◌}
+use Rattle.std.specs.FinSet.{contains}
+use Rattle.ixl_rules.specs.Table.{Row}
+use Rattle.ixl_rules.specs.View.{all_clear, is_clear}
+use Rattle.ixl_route_rules.proofs.RowLaws.{clear_of, same_row, set_passes}
+use Rattle.ixl_route_rules.proofs.knowing.are_sections_clear.Goals as goal
+
+pub returns : goal.returns
+returns c row route kept =
+    set_passes (is_clear c.args.state.now.planned.table c.args.state.now.ixl) c.row_of-row.result.now.sections c.section_row.result c.clear.result c.is_subset.result c.section_row.ensures
+    (λ section. clear_of c.args.state.now c.field.result.now (contains c.clear.result section) (λ table ixl. is_clear table ixl section) c.field.ensures (λ table rest same. c.clear.ensures table rest same section))
+    c.is_subset.ensures
+    ∙ ap (λ (r : Row). all_clear c.args.state.now.planned.table c.args.state.now.ixl r.sections) (same_row c.args.state.now.planned.table.rows c.args.number c.row_of-row.result.now row c.row_of-row.ensures kept.0)
