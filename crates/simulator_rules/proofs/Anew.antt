@@ -18,7 +18,7 @@ use Rattle.simulator_rules_seen.specs.Nodes.{phase_seen, route_seen}
 use Rattle.simulator_rules.specs.Onward.{IsMadeAnew, has_authority_there, held_routes}
 use Rattle.simulator_rules_seen.specs.Sees.{Given, Sees, SeesSignal}
 use Rattle.simulator_rules_seen.proofs.Made.{made_sees}
-use Rattle.simulator_rules_routes.proofs.RulesKept.{one_move}
+use Rattle.simulator_rules.proofs.RulesKept.{one_move}
 
 pub holds_at_first : (now : ℕ) (ixl : IxlState) → ixl.created ≡ now → now < greatest → is_holding now ixl ≡ true
 holds_at_first now ixl created clock = lt-ltb now (min (ixl.created + 6000) greatest) (omega (arith, created, clock))

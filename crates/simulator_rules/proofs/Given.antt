@@ -33,10 +33,10 @@ use Rattle.simulator_rules_seen.specs.Facts.{FarEnds}
 use Rattle.simulator_rules_seen.specs.Nodes.{phase_seen, route_seen}
 use Rattle.simulator_rules_seen.specs.Rows.{AreHeldAtFirst, machine_table}
 use Rattle.simulator_rules_seen.specs.Sees.{Given}
-use Rattle.simulator_rules_routes.proofs.Blocks.{unblocked}
+use Rattle.simulator_rules.proofs.Blocks.{unblocked}
 use Rattle.simulator_rules_nodes.proofs.Nodes.{lamp_hears}
 use Rattle.simulator_rules_nodes.proofs.Routes.{route_on, route_same}
-use Rattle.simulator_rules_routes.proofs.RulesKept.{one_move}
+use Rattle.simulator_rules.proofs.RulesKept.{one_move}
 use Rattle.simulator_rules_nodes.proofs.SwitchNodes.{switch_hears}
 use Rattle.simulator_rules_nodes.proofs.Watching.{detector_hears}
 

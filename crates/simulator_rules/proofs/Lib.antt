@@ -1,3 +1,6 @@
+mod Guards
+mod Blocks
+mod RulesKept
 mod Start
 mod Given
 mod Steps

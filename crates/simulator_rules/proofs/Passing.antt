@@ -23,7 +23,7 @@ use Rattle.simulator_rules.specs.Onward.{AreAloneAfterQuiet, IsPassed}
 use Rattle.simulator_rules_seen.specs.Sees.{Given, IsClosedSince, PointFits, Sees, SeesPoint, SeesSignal, SignalFits}
 use Rattle.simulator_rules_seen.proofs.Tests.{both_true, true_both}
 use Rattle.simulator_rules_seen.proofs.Places.{by_place, inside_start, inside_up}
-use Rattle.simulator_rules_routes.proofs.RulesKept.{one_move}
+use Rattle.simulator_rules.proofs.RulesKept.{one_move}
 use Rattle.simulator_rules_nodes.proofs.Signals.{PointGoes, SignalGoes}
 
 -- a link closed since a creation is down when the hold after it is over

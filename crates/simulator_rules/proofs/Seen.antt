@@ -11,7 +11,7 @@ use Rattle.simulator_machine.specs.Machine.{Machine}
 use Rattle.simulator_machine.specs.Point.{Point as MachinePoint, Position}
 use Rattle.simulator_machine.specs.Signal.{Signal as MachineSignal}
 use Rattle.simulator_machine.specs.Table.{Table}
-use Rattle.simulator_rules_ticks.specs.Behind.{Behind, LampIsBehind, SwitchIsBehind, given_behind, lamp_items, switch_items}
+use Rattle.simulator_rules_nodes.specs.Behind.{Behind, LampIsBehind, SwitchIsBehind, given_behind, lamp_items, switch_items}
 use Rattle.simulator_rules_seen.specs.Calls.{Items, calls_at}
 use Rattle.simulator_rules.specs.Onward.{LooksAlike, PointLooksAlike, SignalLooksAlike}
 use Rattle.simulator_rules_seen.specs.Sees.{Given, IsClosedSince, Sees, SeesPoint, SeesSignal}

@@ -27,11 +27,11 @@ use Rattle.simulator_rules_seen.specs.Sees.{Given, IsClosedSince, Sees, SeesPoin
 use Rattle.simulator_rules_seen.specs.Telegrams.{AreHeard, given_by, position_seen, positions_told}
 use Rattle.simulator_rules_seen.proofs.Tests.{by_test}
 use Rattle.simulator_rules_nodes.proofs.During.{stays_closed}
-use Rattle.simulator_rules_client.proofs.Fitting.{fallen_link, not_ready}
-use Rattle.simulator_rules_client.proofs.Hearing.{is_outside_at}
+use Rattle.simulator_rules_seen.proofs.Fitting.{fallen_link, not_ready}
+use Rattle.simulator_rules_seen.proofs.Hearing.{is_outside_at}
 use Rattle.simulator_rules_nodes.proofs.Nodes.{stays_so}
-use Rattle.simulator_rules_client.proofs.Receipts.{settled_goes}
-use Rattle.simulator_rules_client.proofs.Settled.{confirmed_settled, inside_settled, phase_settled, place_settled, up_settled}
+use Rattle.simulator_rules_seen.proofs.Receipts.{settled_goes}
+use Rattle.simulator_rules_seen.proofs.Settled.{confirmed_settled, inside_settled, phase_settled, place_settled, up_settled}
 use Rattle.simulator_rules_nodes.proofs.Switching.{none_heard}
 
 pub clocked_link : (now : ℕ) (client : ClientState) → (clocked now client).link ≡ settled now client.link

@@ -25,7 +25,7 @@ use Rattle.ixl_rules.specs.Step.{all_clocked, watching}
 use Rattle.simulator_rules_nodes.specs.During.{until_ticked}
 use Rattle.simulator_rules_seen.specs.Sees.{Sees}
 use Rattle.simulator_rules.proofs.Given.{inputs_kept}
-use Rattle.simulator_rules_routes.proofs.RulesKept.{rules_kept}
+use Rattle.simulator_rules.proofs.RulesKept.{rules_kept}
 use Rattle.simulator_rules.proofs.Start.{begins_so}
 use Rattle.simulator_rules_nodes.proofs.Watching.{all_watch}
 

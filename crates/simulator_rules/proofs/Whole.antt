@@ -14,7 +14,7 @@ use Rattle.simulator_machine.specs.Chains.{MovesTo, PointMayChain, SignalMayChai
 use Rattle.simulator_machine.specs.Machine.{Machine, with_point, with_signal}
 use Rattle.simulator_machine.specs.Point.{PointMove}
 use Rattle.simulator_machine.specs.Signal.{SignalMove}
-use Rattle.simulator_rules_ticks.specs.Behind.{LeadsBehind}
+use Rattle.simulator_rules_nodes.specs.Behind.{LeadsBehind}
 use Rattle.simulator_rules_nodes.specs.During.{Leads, until_ticked}
 use Rattle.simulator_rules_seen.specs.Facts.{FarEnds}
 use Rattle.simulator_rules.specs.Onward.{IsStepped}
@@ -22,7 +22,7 @@ use Rattle.simulator_rules_seen.specs.Rows.{AreHeldAtFirst, machine_table}
 use Rattle.simulator_rules_seen.specs.Sees.{Given, Sees}
 use Rattle.simulator_rules.proofs.Seen.{sees_behind}
 use Rattle.simulator_rules.proofs.Steps.{steps_so}
-use Rattle.simulator_rules_ticks.proofs.Ticks.{during_is_behind, ticks_lead}
+use Rattle.simulator_rules_nodes.proofs.Ticks.{during_is_behind, ticks_lead}
 
 module _ (now : ℕ) (rows : Rows) (ixl : IxlState) (given : Given) (machine : Machine)
     (chain_signal : (machine : Machine) (place : ℕ) (moves : List SignalMove) → SignalMayChain moves (machine.signals place)

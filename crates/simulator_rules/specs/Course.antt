@@ -9,7 +9,7 @@ use Rattle.ixl_rules.specs.Step.{Input, stepped}
 use Rattle.ixl_rules.specs.Table.{Table}
 use Rattle.simulator_machine.specs.Chains.{MovesTo}
 use Rattle.simulator_machine.specs.Machine.{Machine}
-use Rattle.simulator_rules_ticks.specs.Behind.{given_behind}
+use Rattle.simulator_rules_nodes.specs.Behind.{given_behind}
 use Rattle.simulator_rules_seen.specs.Facts.{FarEnds}
 use Rattle.simulator_rules_seen.specs.Made.{IsJustMade}
 use Rattle.simulator_rules.specs.Onward.{AreAloneAfterQuiet, IsMadeAnew, IsPassed, IsStepped, LooksAlike, held_routes}

@@ -6,8 +6,8 @@ pub use Rattle.simulator_rules_seen.specs.Nodes
 pub use Rattle.simulator_rules_seen.specs.Sees
 pub use Rattle.simulator_rules_seen.specs.Facts
 pub use Rattle.simulator_rules_seen.specs.Step
-pub use Rattle.simulator_rules_nodes.specs.During
-pub use Rattle.simulator_rules_ticks.specs.Behind
 pub use Rattle.simulator_rules_seen.specs.Made
+pub use Rattle.simulator_rules_nodes.specs.During
+pub use Rattle.simulator_rules_nodes.specs.Behind
 pub mod Onward
 pub mod Course

@@ -11,7 +11,7 @@ use Rattle.simulator_machine.specs.Machine.{Machine}
 use Rattle.simulator_machine.specs.Point.{Point as MachinePoint, moves_given}
 use Rattle.simulator_machine.specs.Signal.{Signal as MachineSignal, aspects_given}
 use Rattle.simulator_machine.specs.Table.{Table}
-use Rattle.simulator_rules_ticks.specs.Behind.{Behind, given_behind}
+use Rattle.simulator_rules_nodes.specs.Behind.{Behind, given_behind}
 use Rattle.simulator_rules_seen.specs.Link.{client_at}
 use Rattle.simulator_rules_seen.specs.Sees.{Given, Sees}
 use Rattle.simulator_rules_seen.specs.Step.{PointStays, SignalStays}

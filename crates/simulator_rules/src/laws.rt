@@ -15,7 +15,7 @@ ghost use Rattle.simulator_machine.specs.Chains.{MovesTo};
 ghost use Rattle.rasta_core.specs.Parameters.{greatest};
 ghost use Rattle.simulator_rules.specs.Course.{Happening, MayAllHappen, Moment, SeesAt, moments_after};
 ghost use Rattle.simulator_rules.specs.Onward.{AreAloneAfterQuiet, IsMadeAnew, IsPassed, IsStepped, LooksAlike, held_routes};
-ghost use Rattle.simulator_rules_ticks.specs.Behind.{LeadsBehind};
+ghost use Rattle.simulator_rules_nodes.specs.Behind.{LeadsBehind};
 ghost use Rattle.simulator_rules_nodes.specs.During.{Leads};
 ghost use Rattle.simulator_rules_seen.specs.Facts.{FarEnds};
 ghost use Rattle.simulator_rules_seen.specs.Rows.{AreHeldAtFirst, machine_table};

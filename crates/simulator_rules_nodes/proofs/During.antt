@@ -28,10 +28,10 @@ use Rattle.simulator_rules_seen.specs.Sees.{Given, IsClosedSince}
 use Rattle.simulator_rules_seen.specs.Step.{SignalStays}
 use Rattle.simulator_rules_seen.specs.Telegrams.{aspects_of}
 use Rattle.simulator_rules_seen.proofs.Tests.{by_test}
-use Rattle.simulator_rules_client.proofs.Phases.{Goes, shut_is_closed, stays_open, stays_up}
+use Rattle.simulator_rules_seen.proofs.Phases.{Goes, shut_is_closed, stays_open, stays_up}
 use Rattle.simulator_rules_seen.proofs.Places.{inside_open, inside_start, open_inside}
-use Rattle.simulator_rules_client.proofs.Clients.{Standing, calls_go, calls_then, items_then, link_then}
-use Rattle.simulator_rules_client.proofs.Fitting.{fits_behind, not_ready}
+use Rattle.simulator_rules_seen.proofs.Clients.{Standing, calls_go, calls_then, items_then, link_then}
+use Rattle.simulator_rules_seen.proofs.Fitting.{fits_behind, not_ready}
 use Rattle.simulator_rules_nodes.proofs.Signals.{SignalGoes, arrives}
 use Rattle.simulator_rules_seen.proofs.Changes.{at_here, at_other, changed_elsewhere, changed_here, noted_elsewhere, noted_here, same_is, same_self}
 use Rattle.simulator_rules_nodes.specs.During.{During, LampDuring, LampSoFar, Leads, SwitchSoFar}

@@ -5,3 +5,5 @@ pub mod Nodes
 pub mod SwitchNodes
 pub mod Routes
 pub mod Watching
+pub mod NodeTicks
+pub mod Ticks

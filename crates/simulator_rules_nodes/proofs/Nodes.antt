@@ -28,9 +28,9 @@ use Rattle.simulator_rules_seen.specs.Link.{is_inside}
 use Rattle.simulator_rules_seen.specs.Sees.{Given}
 use Rattle.simulator_rules_seen.specs.Telegrams.{aspect_of, aspect_seen, aspects_of, given_by, item_of}
 use Rattle.simulator_rules_seen.proofs.Places.{inside_open, open_inside}
-use Rattle.simulator_rules_client.proofs.Clients.{Standing}
-use Rattle.simulator_rules_client.proofs.Hearing.{hears}
-use Rattle.simulator_rules_client.proofs.Fitting.{Commanded, begins, commands_on}
+use Rattle.simulator_rules_seen.proofs.Clients.{Standing}
+use Rattle.simulator_rules_seen.proofs.Hearing.{hears}
+use Rattle.simulator_rules_seen.proofs.Fitting.{Commanded, begins, commands_on}
 use Rattle.simulator_rules_nodes.specs.During.{During, LampDuring, Leads}
 use Rattle.simulator_rules_nodes.proofs.During.{NextLamp, lamp_facts, lamp_next}
 use Rattle.simulator_rules_seen.proofs.Changes.{at_here, at_other}

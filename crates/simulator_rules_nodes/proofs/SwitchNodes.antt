@@ -27,11 +27,11 @@ use Rattle.simulator_rules_seen.specs.Sees.{Given}
 use Rattle.simulator_rules_seen.specs.Telegrams.{AreHeard, position_seen, position_told, positions_told}
 use Rattle.simulator_rules_seen.proofs.Tests.{by_test}
 use Rattle.simulator_rules_seen.proofs.Places.{inside_open, open_inside}
-use Rattle.simulator_rules_client.proofs.Clients.{Standing, calls_go, calls_then, items_then, link_then}
-use Rattle.simulator_rules_client.proofs.Phases.{Goes, stays_open, up_is_open}
+use Rattle.simulator_rules_seen.proofs.Clients.{Standing, calls_go, calls_then, items_then, link_then}
+use Rattle.simulator_rules_seen.proofs.Phases.{Goes, stays_open, up_is_open}
 use Rattle.ixl_client.specs.Made.{link_after}
-use Rattle.simulator_rules_client.proofs.Hearing.{hears}
-use Rattle.simulator_rules_client.proofs.Fitting.{Commanded, begins, commands_on}
+use Rattle.simulator_rules_seen.proofs.Hearing.{hears}
+use Rattle.simulator_rules_seen.proofs.Fitting.{Commanded, begins, commands_on}
 use Rattle.simulator_rules_nodes.specs.During.{During, Leads, SwitchDuring}
 use Rattle.simulator_rules_nodes.proofs.Switching.{NextSwitch, first_switch, switch_facts, switch_next, switch_next_from}
 use Rattle.simulator_rules_nodes.proofs.Signals.{all_hear, heard_all, may_hear}

@@ -32,10 +32,10 @@ use Rattle.simulator_rules_seen.specs.Sees.{Given, IsClosedSince}
 use Rattle.simulator_rules_seen.specs.Step.{PointStays}
 use Rattle.simulator_rules_seen.specs.Telegrams.{AreHeard, position_seen, positions_told}
 use Rattle.simulator_rules_seen.proofs.Tests.{by_test}
-use Rattle.simulator_rules_client.proofs.Phases.{Goes, stays_open, stays_up}
+use Rattle.simulator_rules_seen.proofs.Phases.{Goes, stays_open, stays_up}
 use Rattle.simulator_rules_seen.proofs.Places.{inside_open, inside_start, open_inside}
-use Rattle.simulator_rules_client.proofs.Clients.{Standing, calls_go, calls_then, items_then, link_then}
-use Rattle.simulator_rules_client.proofs.Fitting.{fits_behind}
+use Rattle.simulator_rules_seen.proofs.Clients.{Standing, calls_go, calls_then, items_then, link_then}
+use Rattle.simulator_rules_seen.proofs.Fitting.{fits_behind}
 use Rattle.simulator_rules_nodes.proofs.Signals.{PointGoes, point_arrives}
 use Rattle.simulator_rules_seen.proofs.Changes.{at_here, at_other, changed_elsewhere, changed_here, noted_elsewhere, noted_here, same_is, same_self}
 use Rattle.simulator_rules_nodes.specs.During.{During, Leads, LampSoFar, SwitchDuring, SwitchSoFar}

@@ -1,1 +1,2 @@
 pub mod During
+pub mod Behind

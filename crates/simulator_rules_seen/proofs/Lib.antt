@@ -3,3 +3,14 @@ pub mod Places
 pub mod Changes
 pub mod Tables
 pub mod Made
+pub mod Phases
+pub mod Receipts
+pub mod Calls
+pub mod Courses
+pub mod Clients
+pub mod Hearing
+pub mod Fitting
+pub mod Settled
+pub mod Entered
+pub mod Ticking
+pub mod FitBehind

@@ -7,3 +7,4 @@ pub mod Sees
 pub mod Facts
 pub mod Step
 pub mod Made
+pub mod Fits

@@ -1,0 +1,356 @@
+-- A tick at one signal, and at one point.
+use Rattle.std.proofs.Common.{inr, ◌≡◌, ℕ, Bool, true, false, List, [], ◌∷◌, ◌++◌, append_assoc, length, refl, sym, ap, subst, ◌∙◌}
+use Rattle.std.specs.Prelude.{if◌then◌else◌, Option, Some, None, slice_get}
+use Rattle.std.specs.FinSet.{empty}
+use Rattle.bit_row.specs.Places.{Places}
+use Rattle.sci_telegram.specs.declared.message.Aspect.{Aspect as TelegramAspect}
+use Rattle.sci_telegram.specs.declared.message.Side.{Side as TelegramSide}
+use Rattle.rasta_core.specs.Calls.{opens, ticking as link_ticking}
+use Rattle.rasta_core.specs.Clock.{settled}
+use Rattle.rasta_core.specs.State.{LinkState, is_client, is_open, is_up}
+use Rattle.ixl_client.specs.Client.{ClientState, PeerState}
+use Rattle.ixl_client.specs.Made.{link_after, told_by_all}
+use Rattle.ixl_client.specs.Part.{LinkCall, Opens, Ticks, call_made}
+use Rattle.ixl_client.specs.Step.{fallen}
+use Rattle.ixl_client.specs.declared.stage.Stage.TheVariants as stage
+use Rattle.ixl_rules.specs.Part.{lamp_after, switch_after}
+use Rattle.ixl_rules.specs.State.{IxlState, LampState, SwitchState}
+use Rattle.ixl_rules.specs.Step.{Tick}
+use Rattle.ixl_rules.specs.View.{is_holding}
+use Rattle.simulator_machine.specs.Chains.{MovesTo, PointMayChain, SignalMayChain, point_chained, signal_chained}
+use Rattle.simulator_machine.specs.Link.{Opens as LinkOpens, QuietEnds}
+use Rattle.simulator_machine.specs.Machine.{Machine, with_point, with_signal}
+use Rattle.simulator_machine.specs.Point.{Point as MachinePoint, PointLink, PointMove}
+use Rattle.simulator_machine.specs.Signal.{Signal as MachineSignal, SignalLink, SignalMove}
+use Rattle.simulator_machine.specs.Table.{Table}
+use Rattle.simulator_rules_nodes.specs.Behind.{LampBehind, SwitchBehind}
+use Rattle.simulator_rules_seen.specs.Calls.{Items, has_begun, items_after, no_items}
+use Rattle.simulator_rules_nodes.specs.During.{LampDuring, SwitchDuring}
+use Rattle.simulator_rules_seen.specs.Facts.{AreCallsIn, FarEnds, PointFacts, SignalFacts}
+use Rattle.simulator_rules_seen.specs.Link.{is_inside}
+use Rattle.simulator_rules_seen.specs.Nodes.{IsOfPoint, LampFits, SwitchFits}
+use Rattle.simulator_rules_seen.specs.Sees.{Given, IsClosedSince}
+use Rattle.simulator_rules_seen.specs.Step.{PointIsLeft, SignalIsLeft}
+use Rattle.simulator_rules_seen.specs.Telegrams.{AreHeard, positions_told}
+use Rattle.simulator_rules_seen.proofs.Places.{inside_start, open_inside}
+use Rattle.simulator_rules_seen.proofs.Calls.{ticking_goes}
+use Rattle.simulator_rules_seen.proofs.Clients.{calls_then, items_one, items_then, link_one, link_then}
+use Rattle.simulator_rules_nodes.proofs.Signals.{PointGoes, SignalGoes}
+use Rattle.simulator_rules_nodes.proofs.During.{lamp_arrives, lamp_client, lamp_facts, signal_facts_stay, stays_closed}
+use Rattle.simulator_rules_nodes.proofs.Switching.{point_facts_stay, switch_arrives, switch_client, switch_facts}
+use Rattle.simulator_rules_seen.proofs.Made.{link_quiet}
+use Rattle.simulator_rules_seen.proofs.Entered.{TickedAnew, TickedOn, down_at, opens_down, point_facts_entered, signal_facts_entered, ticked_link, ticks_anew, ticks_on}
+use Rattle.simulator_rules_seen.proofs.Fitting.{fallen_link}
+use Rattle.simulator_rules_seen.proofs.Ticking.{anew_fits, anew_outside, begins_where_opened, fallen_peer, still_down, ticks_take, two_calls, two_take, went_fits, went_inside, went_link, went_stage}
+
+-- moves of one signal, or of one point, that come to this
+pub record SignalComes (Is : MachineSignal → Type 0) (old : MachineSignal) : Type 0 where
+  pub moves : List SignalMove
+  pub may : SignalMayChain moves old
+  pub is : Is (signal_chained moves old)
+
+pub record PointComes (Is : MachinePoint → Type 0) (old : MachinePoint) : Type 0 where
+  pub moves : List PointMove
+  pub may : PointMayChain moves old
+  pub is : Is (point_chained moves old)
+
+lamp_anew : (aspect : Option TelegramAspect) (number : ℕ) (client : ClientState) (link : LinkState) → is_up link.phase ≡ false →
+    lamp_after aspect number (fallen (record client { link = link })) ≡ record { client = record client { link = link; stage = stage.Outside }; aspect = None; number = 0 }
+unfolding lamp_after
+lamp_anew aspect number client link down = ap (lamp_after aspect number) (anew_outside client link down)
+
+switch_anew : (side : Option TelegramSide) (moved : Places) (client : ClientState) (link : LinkState) → is_up link.phase ≡ false →
+    switch_after side moved (fallen (record client { link = link })) ≡ record { client = record client { link = link; stage = stage.Outside }; side = None; moved = empty }
+unfolding switch_after
+switch_anew side moved client link down = ap (switch_after side moved) (anew_outside client link down)
+
+none_told : (peer : PeerState) → [] ≡ positions_told peer []
+unfolding told_by_all
+none_told peer = refl
+
+module _ (now : ℕ) (table : Table) (ixl : IxlState) (given : Given) (machine : Machine) (far : FarEnds now Tick ixl given machine) where
+  -- ---- a signal
+
+  module _ (chain : (machine : Machine) (place : ℕ) (moves : List SignalMove) → SignalMayChain moves (machine.signals place)
+      → MovesTo table machine (with_signal place (signal_chained moves (machine.signals place)) machine))
+      (onward : (old between new : Machine) → MovesTo table old between → MovesTo table between new → MovesTo table old new) where
+    pub lamp_ticks : (place : ℕ) (first lamp : LampState) (calls : List LinkCall) (new : MachineSignal) → slice_get ixl.lamps place ≡ Some first →
+        LampDuring now Tick table ixl given machine first (given.signals place) calls lamp (machine.signals place) new →
+        SignalComes (LampBehind now Tick table ixl given machine first (given.signals place) (calls ++ Ticks ∷ Opens ∷ [])
+        (lamp_after lamp.aspect lamp.number (fallen (record lamp.client { link = ticked_link now lamp.client.link }))) (machine.signals place)) new
+    lamp_ticks place first lamp calls new is_first was = cases (opens now between) refl where
+      start : LinkState
+      start = settled now first.client.link
+
+      items : Items
+      items = items_after now calls start (given.signals place)
+
+      ticked : List LinkCall
+      ticked = calls ++ Ticks ∷ []
+
+      behind : List LinkCall
+      behind = calls ++ Ticks ∷ Opens ∷ []
+
+      between : LinkState
+      between = (link_ticking now lamp.client.link).link
+
+      link : LinkState
+      link = ticked_link now lamp.client.link
+
+      client : ClientState
+      client = fallen (record lamp.client { link = link })
+
+      lamp_now : LampState
+      lamp_now = lamp_after lamp.aspect lamp.number client
+
+      client_now : lamp_now.client ≡ client
+      client_now = lamp_client now Tick table ixl given machine far chain onward lamp.aspect lamp.number client
+
+      link_now : lamp_now.client.link ≡ link
+      link_now = ap (λ (c : ClientState). c.link) client_now ∙ fallen_link (record lamp.client { link = link })
+
+      are : AreCallsIn Tick first.client.peer ticked
+      are = calls_then Tick first.client.peer calls (Ticks ∷ []) was.are (tt, tt)
+
+      made_between : between ≡ link_after now ticked start
+      made_between = ap (λ l. (call_made now Ticks l).link) was.made ∙ sym (link_one now Ticks (link_after now calls start)) ∙ sym (link_then now calls (Ticks ∷ []) start)
+
+      items_between : items_after now ticked start (given.signals place) ≡ items
+      items_between = items_then now calls (Ticks ∷ []) start (given.signals place) ∙ items_one now Ticks (link_after now calls start) items ∙ ticks_take now (link_after now calls start) items
+
+      facts : SignalFacts now between items new
+      facts = subst (λ l. SignalFacts now l items new) (sym made_between) (subst (λ i. SignalFacts now (link_after now ticked start) i new) items_between
+          (signal_facts_stay now (link_after now ticked start) (items_after now ticked start (given.signals place)) (machine.signals place) new was.stays (far.signals place first is_first ticked are)))
+
+      alive : is_open lamp.client.link.phase ≡ true → is_inside now lamp.client.link ≡ true
+      alive = open_inside now lamp.client.link (lamp_facts now Tick table ixl given machine far chain onward place first lamp calls new is_first was.are was.made was.stays).ends.alive
+
+      made : link ≡ link_after now behind start
+      made = ap (ticked_link now) was.made ∙ sym (two_calls now (link_after now calls start)) ∙ sym (link_then now calls (Ticks ∷ Opens ∷ []) start)
+
+      items_are : items_after now behind start (given.signals place) ≡ (if opens now between then no_items else items)
+      items_are = items_then now calls (Ticks ∷ Opens ∷ []) start (given.signals place) ∙ two_take now (link_after now calls start) items
+          ∙ ap (λ l. if opens now (link_ticking now l).link then no_items else items) (sym was.made)
+
+      begins : has_begun now behind start ≡ opens now between
+      begins = begins_where_opened now Tick first.client.peer calls start lamp.client.link was.are was.made
+
+      comes : (b : Bool) → opens now between ≡ b → (arrived : MachineSignal) → LampFits now lamp_now (if b then no_items else items) arrived → (is_holding now ixl ≡ true → IsClosedSince ixl.created link) →
+          SignalIsLeft b (machine.signals place) arrived → LampBehind now Tick table ixl given machine first (given.signals place) behind lamp_now (machine.signals place) arrived
+      comes b is arrived fits held left = record {
+        fits = subst (λ i. LampFits now lamp_now i arrived) (sym (items_are ∙ ap (λ b. if b then no_items else items) is)) fits;
+        held = λ holds. subst (IsClosedSince ixl.created) (sym link_now) (held holds);
+        are = inr (ticked, are, sym (append_assoc calls (Ticks ∷ []) (Opens ∷ [])), refl);
+        made = link_now ∙ made;
+        same = ap (λ (c : ClientState). c.peer) client_now ∙ fallen_peer (record lamp.client { link = link }) ∙ was.same;
+        left = subst (λ b. SignalIsLeft b (machine.signals place) arrived) (sym (begins ∙ is)) left;
+      }
+
+      Goal : Type 0
+      Goal = SignalComes (LampBehind now Tick table ixl given machine first (given.signals place) behind lamp_now (machine.signals place)) new
+
+      on : opens now between ≡ false → Goal
+      on none = record {
+        moves = goes.moves;
+        may = goes.may;
+        is = comes false none (signal_chained goes.moves new) goes.fits
+            (λ holds. stays_closed ixl.created lamp.client.link link it.goes (was.held holds))
+            (record { server = goes.stays.server ∙ was.stays.server; done = goes.stays.done ∙ was.stays.done });
+      }
+        where
+          it : TickedOn now lamp.client.link
+          it = ticks_on now lamp.client.link none
+
+          link_went : client.link ≡ link
+          link_went = went_link now lamp.client link it.goes it.up alive
+
+          facts_now : SignalFacts now client.link items new
+          facts_now = subst (λ l. SignalFacts now l items new) (sym link_went) (subst (λ l. SignalFacts now l items new) (sym it.is) (signal_facts_entered now between items new facts))
+
+          inside : is_inside now client.link ≡ true → is_inside now link ≡ true
+          inside is = ap (is_inside now) (sym link_went) ∙ is
+
+          was_in : is_inside now client.link ≡ true → is_inside now lamp.client.link ≡ true
+          was_in is = went_inside now lamp.client link it.goes it.up alive (inside is)
+
+          goes : SignalGoes (LampFits now lamp_now items) new
+          goes = lamp_arrives now Tick table ixl given machine far chain onward lamp.aspect lamp.number client items was.fits.commands new (went_fits now lamp.client link it.goes it.up alive items was.fits.commands was.fits.client)
+              facts_now (λ is. was.fits.aspects (was_in is)) (λ is out. was.fits.last (was_in is))
+              (λ is down. was.fits.place ∙ inside_start now lamp.client.link (was_in is)
+              (still_down now lamp.client link it.goes it.up alive (inside is) (ap (λ (l : LinkState). is_up l.phase) (sym link_went) ∙ down)))
+
+      anew : opens now between ≡ true → Goal
+      anew some = record {
+        moves = SignalLink QuietEnds ∷ SignalLink LinkOpens ∷ [];
+        may = (facts.ends.quiet (down_at now between (opens_down now between some)), (refl, tt));
+        is = comes true some _ fits
+            (λ holds. absurd (cc (link_quiet now ixl holds between (stays_closed ixl.created lamp.client.link between (ticking_goes now lamp.client.link) (was.held holds)), opens_down now between some)))
+            (record { server = refl; done = refl });
+      }
+        where
+          it : TickedAnew now lamp.client.link
+          it = ticks_anew now lamp.client.link some
+
+          down : is_up link.phase ≡ false
+          down = ap is_up it.phase
+
+          fits : LampFits now lamp_now no_items (signal_chained (SignalLink QuietEnds ∷ SignalLink LinkOpens ∷ []) new)
+          fits = subst (λ l. LampFits now l no_items (signal_chained (SignalLink QuietEnds ∷ SignalLink LinkOpens ∷ []) new)) (sym (lamp_anew lamp.aspect lamp.number lamp.client link down)) (record {
+            commands = [];
+            client = anew_fits now lamp.client link down (ap (λ i. is_client i.role) it.identity ∙ was.fits.client.steady.opens);
+            place = sym it.place;
+            aspects = λ inside. refl;
+            last = λ inside. refl;
+            confirmed = λ e. absurd (cc (e));
+          })
+
+      cases : (b : Bool) → opens now between ≡ b → Goal
+      cases true some = anew some
+      cases false none = on none
+
+  -- ---- a point
+
+  module _ (chain : (machine : Machine) (place : ℕ) (moves : List PointMove) → PointMayChain moves (machine.points place)
+      → MovesTo table machine (with_point place (point_chained moves (machine.points place)) machine))
+      (onward : (old between new : Machine) → MovesTo table old between → MovesTo table between new → MovesTo table old new) where
+    pub switch_ticks : (place : ℕ) (first switch : SwitchState) (calls : List LinkCall) (new : MachinePoint) → slice_get ixl.switches place ≡ Some first →
+        SwitchDuring now Tick table ixl given machine first (given.points place) calls switch (machine.points place) new →
+        PointComes (SwitchBehind now Tick table ixl given machine first (given.points place) (calls ++ Ticks ∷ Opens ∷ [])
+        (switch_after switch.side switch.moved (fallen (record switch.client { link = ticked_link now switch.client.link }))) (machine.points place)) new
+    switch_ticks place first switch calls new is_first was = cases (opens now between) refl where
+      start : LinkState
+      start = settled now first.client.link
+
+      items : Items
+      items = items_after now calls start (given.points place)
+
+      ticked : List LinkCall
+      ticked = calls ++ Ticks ∷ []
+
+      behind : List LinkCall
+      behind = calls ++ Ticks ∷ Opens ∷ []
+
+      between : LinkState
+      between = (link_ticking now switch.client.link).link
+
+      link : LinkState
+      link = ticked_link now switch.client.link
+
+      client : ClientState
+      client = fallen (record switch.client { link = link })
+
+      switch_now : SwitchState
+      switch_now = switch_after switch.side switch.moved client
+
+      client_now : switch_now.client ≡ client
+      client_now = switch_client now Tick table ixl given machine far chain onward switch.side switch.moved client
+
+      link_now : switch_now.client.link ≡ link
+      link_now = ap (λ (c : ClientState). c.link) client_now ∙ fallen_link (record switch.client { link = link })
+
+      peer_now : client.peer ≡ switch.client.peer
+      peer_now = fallen_peer (record switch.client { link = link })
+
+      are : AreCallsIn Tick first.client.peer ticked
+      are = calls_then Tick first.client.peer calls (Ticks ∷ []) was.are (tt, tt)
+
+      made_between : between ≡ link_after now ticked start
+      made_between = ap (λ l. (call_made now Ticks l).link) was.made ∙ sym (link_one now Ticks (link_after now calls start)) ∙ sym (link_then now calls (Ticks ∷ []) start)
+
+      items_between : items_after now ticked start (given.points place) ≡ items
+      items_between = items_then now calls (Ticks ∷ []) start (given.points place) ∙ items_one now Ticks (link_after now calls start) items ∙ ticks_take now (link_after now calls start) items
+
+      facts : PointFacts now first.client.peer between items new
+      facts = subst (λ l. PointFacts now first.client.peer l items new) (sym made_between) (subst (λ i. PointFacts now first.client.peer (link_after now ticked start) i new) items_between
+          (point_facts_stay now first.client.peer (link_after now ticked start) (items_after now ticked start (given.points place)) (machine.points place) new was.stays (far.points place first is_first ticked are)))
+
+      alive : is_open switch.client.link.phase ≡ true → is_inside now switch.client.link ≡ true
+      alive = open_inside now switch.client.link (switch_facts now Tick table ixl given machine far chain onward place first switch calls new is_first was.are was.made was.stays).ends.alive
+
+      made : link ≡ link_after now behind start
+      made = ap (ticked_link now) was.made ∙ sym (two_calls now (link_after now calls start)) ∙ sym (link_then now calls (Ticks ∷ Opens ∷ []) start)
+
+      items_are : items_after now behind start (given.points place) ≡ (if opens now between then no_items else items)
+      items_are = items_then now calls (Ticks ∷ Opens ∷ []) start (given.points place) ∙ two_take now (link_after now calls start) items
+          ∙ ap (λ l. if opens now (link_ticking now l).link then no_items else items) (sym was.made)
+
+      begins : has_begun now behind start ≡ opens now between
+      begins = begins_where_opened now Tick first.client.peer calls start switch.client.link was.are was.made
+
+      comes : (b : Bool) → opens now between ≡ b → (arrived : MachinePoint) → SwitchFits now switch_now (if b then no_items else items) arrived → (is_holding now ixl ≡ true → IsClosedSince ixl.created link) →
+          PointIsLeft b (machine.points place) arrived → SwitchBehind now Tick table ixl given machine first (given.points place) behind switch_now (machine.points place) arrived
+      comes b is arrived fits held left = record {
+        fits = subst (λ i. SwitchFits now switch_now i arrived) (sym (items_are ∙ ap (λ b. if b then no_items else items) is)) fits;
+        held = λ holds. subst (IsClosedSince ixl.created) (sym link_now) (held holds);
+        are = inr (ticked, are, sym (append_assoc calls (Ticks ∷ []) (Opens ∷ [])), refl);
+        made = link_now ∙ made;
+        same = ap (λ (c : ClientState). c.peer) client_now ∙ peer_now ∙ was.same;
+        left = subst (λ b. PointIsLeft b (machine.points place) arrived) (sym (begins ∙ is)) left;
+      }
+
+      Goal : Type 0
+      Goal = PointComes (SwitchBehind now Tick table ixl given machine first (given.points place) behind switch_now (machine.points place)) new
+
+      on : opens now between ≡ false → Goal
+      on none = record {
+        moves = goes.moves;
+        may = goes.may;
+        is = comes false none (point_chained goes.moves new) goes.fits
+            (λ holds. stays_closed ixl.created switch.client.link link it.goes (was.held holds))
+            (record { server = goes.stays.server ∙ was.stays.server; taken = goes.stays.taken ∙ was.stays.taken; reports = goes.stays.reports ∙ was.stays.reports; driven = goes.stays.driven ∙ was.stays.driven; position = goes.stays.position ∙ was.stays.position });
+      }
+        where
+          it : TickedOn now switch.client.link
+          it = ticks_on now switch.client.link none
+
+          link_went : client.link ≡ link
+          link_went = went_link now switch.client link it.goes it.up alive
+
+          facts_now : PointFacts now first.client.peer client.link items new
+          facts_now = subst (λ l. PointFacts now first.client.peer l items new) (sym link_went) (subst (λ l. PointFacts now first.client.peer l items new) (sym it.is) (point_facts_entered now first.client.peer between items new facts))
+
+          inside : is_inside now client.link ≡ true → is_inside now link ≡ true
+          inside is = ap (is_inside now) (sym link_went) ∙ is
+
+          was_in : is_inside now client.link ≡ true → is_inside now switch.client.link ≡ true
+          was_in is = went_inside now switch.client link it.goes it.up alive (inside is)
+
+          goes : PointGoes (SwitchFits now switch_now items) new
+          goes = switch_arrives now Tick table ixl given machine far chain onward switch.side switch.moved client items was.fits.commands new (went_fits now switch.client link it.goes it.up alive items was.fits.commands was.fits.client)
+              (subst IsOfPoint (sym peer_now) was.fits.peer) facts_now.ends (λ is. was.fits.moves (was_in is))
+              (λ is. was.fits.told (was_in is) ∙ ap (λ p. positions_told p items.taken) (sym peer_now))
+              (λ is. subst (λ s. AreHeard s (length new.heard) (length was.fits.commands)) (sym (went_stage now switch.client link it.goes it.up alive was.fits.client.steady (inside is))) (was.fits.heard (was_in is)))
+              (λ is out. was.fits.last (was_in is))
+              (λ is down. was.fits.place ∙ inside_start now switch.client.link (was_in is)
+              (still_down now switch.client link it.goes it.up alive (inside is) (ap (λ (l : LinkState). is_up l.phase) (sym link_went) ∙ down)))
+
+      anew : opens now between ≡ true → Goal
+      anew some = record {
+        moves = PointLink QuietEnds ∷ PointLink LinkOpens ∷ [];
+        may = (facts.ends.quiet (down_at now between (opens_down now between some)), (refl, tt));
+        is = comes true some _ fits
+            (λ holds. absurd (cc (link_quiet now ixl holds between (stays_closed ixl.created switch.client.link between (ticking_goes now switch.client.link) (was.held holds)), opens_down now between some)))
+            (record { server = refl; taken = refl; reports = refl; driven = was.stays.driven; position = was.stays.position });
+      }
+        where
+          it : TickedAnew now switch.client.link
+          it = ticks_anew now switch.client.link some
+
+          down : is_up link.phase ≡ false
+          down = ap is_up it.phase
+
+          fits : SwitchFits now switch_now no_items (point_chained (PointLink QuietEnds ∷ PointLink LinkOpens ∷ []) new)
+          fits = subst (λ l. SwitchFits now l no_items (point_chained (PointLink QuietEnds ∷ PointLink LinkOpens ∷ []) new)) (sym (switch_anew switch.side switch.moved switch.client link down)) (record {
+            commands = [];
+            client = anew_fits now switch.client link down (ap (λ i. is_client i.role) it.identity ∙ was.fits.client.steady.opens);
+            peer = was.fits.peer;
+            place = sym it.place;
+            moves = λ inside. refl;
+            told = λ inside. none_told switch.client.peer;
+            heard = λ inside. refl;
+            last = λ inside. refl;
+          })
+
+      cases : (b : Bool) → opens now between ≡ b → Goal
+      cases true some = anew some
+      cases false none = on none

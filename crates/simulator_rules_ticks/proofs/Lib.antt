@@ -1,2 +1,0 @@
-pub mod NodeTicks
-pub mod Ticks
