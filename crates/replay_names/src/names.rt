@@ -1,6 +1,7 @@
 //! Sections, points and routes by their names.
 
-ghost use Rattle.std.specs.Prelude.{◌≡◌, ◌<◌, length, IfSome};
+ghost use Rattle.std.specs.Prelude.{◌≡◌, ◌<◌, length, true, IfSome};
+ghost use Rattle.event_words.specs.Words.{is_without};
 ghost use Rattle.std.specs.List.{position};
 ghost use Rattle.std.specs.Str.{bytes_eq};
 ghost use Rattle.replay_names.specs.Names.{point_named, point_word, route_named, route_word, section_named, section_word};
@@ -39,10 +40,11 @@ pub fn route_named(layout: &Layout, word: &str) -> RouteId
 
 /// The word that stands for a route: its name, or `_` where the table lacks it.
 pub fn route_word(layout: &Layout, route: RouteId) -> &str
-    ensures { result.now ≡ route_word layout.now route }
+    ensures value { result.now ≡ route_word layout.now route }
+    ensures no_space { is_without 32 (route_word layout.now route) ≡ true }
 {
     match layout.routes().get(route.0) {
-        Some(route) => route.name().as_str(),
+        Some(route) => name_word(route.name()),
         None => "_",
     }
 }
@@ -65,6 +67,18 @@ pub fn point_word(layout: &Layout, point: PointId) -> &str
         Some(point) => point.name.as_str(),
         None => "_",
     }
+}
+
+/// A name as a word, which has no space and no equals sign.
+#[tactic(auto, using(crate::proofs::Apart::name_without_space, crate::proofs::Apart::name_without_equals))]
+pub fn name_word(name: &Name) -> &str
+    ensures value { result.now ≡ name.now }
+    ensures no_space { is_without 32 name.now ≡ true }
+    ensures no_equals { is_without 61 name.now ≡ true }
+{
+    // Every name has the bytes of a name alone.
+    name.bytes();
+    name.as_str()
 }
 
 /// Whether a word is this name.
