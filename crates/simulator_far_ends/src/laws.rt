@@ -1,15 +1,23 @@
 //! The far ends of a station in a step of its interlocking.
 
-ghost use Rattle.std.specs.Prelude.{◌≡◌, ℕ, [], ◌∷◌};
+ghost use Rattle.std.specs.Prelude.{◌≡◌, ◌≢◌, ℕ, [], ◌∷◌};
+ghost use Rattle.rasta_core.specs.Clock.{settled};
+ghost use Rattle.rasta_core.specs.Ends.{reading_of};
+ghost use Rattle.rasta_core.specs.Names.{Names};
 ghost use Rattle.rasta_core.specs.Run.{Ends};
+ghost use Rattle.rasta_core.specs.State.{LinkState};
 ghost use Rattle.object_host.specs.Host.{HostState};
 ghost use Rattle.point_ctl.specs.Drive.{PointState};
 ghost use Rattle.ixl_client.specs.Client.{PeerState};
 ghost use Rattle.ixl_rules.specs.State.{IxlState};
 ghost use Rattle.ixl_rules.specs.Step.{Input};
+ghost use Rattle.simulator_machine.specs.Link.{Down, In};
 ghost use Rattle.simulator_machine.specs.Machine.{Machine};
 ghost use Rattle.simulator_machine.specs.Point.{Point, reports_made};
 ghost use Rattle.simulator_links.specs.Flows.{reports_given};
+ghost use Rattle.simulator_links.specs.Lawful.{IsLawful};
+ghost use Rattle.simulator_links.specs.Picture.{server_of};
+ghost use Rattle.simulator_rules_seen.specs.Link.{client_at};
 ghost use Rattle.simulator_controllers.specs.Point.{IsPointSeen};
 ghost use Rattle.simulator_rules_seen.specs.Facts.{FarEnds};
 ghost use Rattle.simulator_rules_seen.specs.Sees.{Given, Sees};
@@ -40,4 +48,12 @@ pub fn reports_made_are_heard()
         → reports_made point ≡ positions_told peer (reports_given ends) }
 {
     written_is_read();
+}
+
+/// When a client's quiet time is over by the clock, no server is in its connection.
+pub fn clients_are_alone_after_quiet()
+    ensures { (now : ℕ) (names : Names) (link : LinkState) (ends : Ends) → IsLawful names ends → reading_of ends.client.clock ≡ now → ends.client.link ≡ settled now link
+        → client_at now link ≡ Down → server_of ends ≢ In }
+{
+    pictures_tell_the_connection();
 }

@@ -4,4 +4,4 @@
 
 mod laws;
 
-pub use laws::{far_ends_are_known, reports_made_are_heard};
+pub use laws::{clients_are_alone_after_quiet, far_ends_are_known, reports_made_are_heard};
