@@ -1,5 +1,5 @@
 -- All of a world but its interlocking.
-use Rattle.std.specs.Prelude.{◌≡◌, ℕ, ◌+◌, nat_le, ◌&&◌, Bool, true, List, [], length, drop}
+use Rattle.std.specs.Prelude.{◌≡◌, ℕ, ◌+◌, ◌≤◌, true, List, [], length, drop}
 use Rattle.layout.specs.Entries.{Plan}
 use Rattle.ixl_rules.specs.Table.{Table}
 use Rattle.simulator_world_snapshot.specs.declared.snapshot.Held.{Held}
@@ -33,3 +33,11 @@ pub record AreOf (plan : Plan) (controllers : Controllers) : Type 0 where
 -- They are those of the first world of a plan.
 abbrev pub AreFirst : Plan → Controllers → Type 0
 AreFirst plan controllers = (table : Table) → world_of (first_world plan table).station [] controllers ≡ first_world plan table
+
+-- True time and the clocks of all controllers may go on by these steps: there is one for each, and none passes the limit.
+pub record MayPass (elapsed : ℕ) (steps : List ℕ) (controllers : Controllers) : Type 0 where
+  pub count : length controllers.signals.items + length controllers.points.items + length controllers.detectors.items ≡ length steps
+  pub time : controllers.network.time + elapsed ≤ clock_limit
+  pub signals : are_within controllers.signals.items steps (λ rest. true) ≡ true
+  pub points : are_within controllers.points.items (drop (length controllers.signals.items) steps) (λ rest. true) ≡ true
+  pub detectors : are_within controllers.detectors.items (drop (length controllers.points.items) (drop (length controllers.signals.items) steps)) (λ rest. true) ≡ true

@@ -4,6 +4,7 @@
 
 mod controllers;
 mod making;
+mod passing;
 mod restarting;
 mod stepping;
 
