@@ -52,10 +52,10 @@ pub record AllLaws : Type 0 where
   pub tested : IntactIsTested
 
 -- what lies in the field is nothing to the links
-abbrev moved : WorldState → List Position → List Occupancy → WorldState
+abbrev pub moved : WorldState → List Position → List Occupancy → WorldState
 moved world positions occupancies = record world { positions = positions; occupancies = occupancies }
 
-moved_whole : (plan : Plan) (world : WorldState) (positions : List Position) (occupancies : List Occupancy) → IsWhole plan world → IsWhole plan (moved world positions occupancies)
+pub moved_whole : (plan : Plan) (world : WorldState) (positions : List Position) (occupancies : List Occupancy) → IsWhole plan world → IsWhole plan (moved world positions occupancies)
 moved_whole plan world positions occupancies whole = record {
   clients = whole.clients;
   connections = whole.connections;
@@ -68,7 +68,7 @@ moved_whole plan world positions occupancies whole = record {
   sections_named = whole.sections_named;
 }
 
-moved_links : (plan : Plan) (world : WorldState) (positions : List Position) (occupancies : List Occupancy) (before : Links) → AreLinksOf plan world before → AreLinksOf plan (moved world positions occupancies) before
+pub moved_links : (plan : Plan) (world : WorldState) (positions : List Position) (occupancies : List Occupancy) (before : Links) → AreLinksOf plan world before → AreLinksOf plan (moved world positions occupancies) before
 moved_links plan world positions occupancies before are = record {
   time_is = are.time_is;
   sent_is = are.sent_is;

@@ -23,3 +23,8 @@ pub mod Parts
 pub mod Station
 pub mod Delivered
 pub mod Everything
+pub mod Named
+pub mod Runs
+pub mod KeptWhole
+pub mod StationWhole
+pub mod AllKept

@@ -25,11 +25,11 @@ use Rattle.simulator_world_links.specs.Whole.{IsPeer, client_states}
 
 -- ---- lists of events
 
-run_joined : (one other : List LinksEvent) (before : Links) → run_links (one ++ other) before ≡ run_links other (run_links one before)
+pub run_joined : (one other : List LinksEvent) (before : Links) → run_links (one ++ other) before ≡ run_links other (run_links one before)
 run_joined [] other before = refl
 run_joined (event ∷ events) other before = run_joined events other (happened_to event before)
 
-may_joined : (count : ℕ) (names : ℕ → Names) (one other : List LinksEvent) (before : Links) → MayRunLinks count names one before → MayRunLinks count names other (run_links one before) → MayRunLinks count names (one ++ other) before
+pub may_joined : (count : ℕ) (names : ℕ → Names) (one other : List LinksEvent) (before : Links) → MayRunLinks count names one before → MayRunLinks count names other (run_links one before) → MayRunLinks count names (one ++ other) before
 may_joined count names [] other before may more = more
 may_joined count names (event ∷ events) other before may more = (may.0, may_joined count names events other (happened_to event before) may.1 more)
 

@@ -170,7 +170,7 @@ module _ (laws : LinkLaws) (client_laws : ClientLaws) (node_laws : NodeLaws) (st
   abbrev done : ixl.Input → Part
   done input = station_step plan table input world.station
 
-  reached : (input : ixl.Input) → MayComeIn laws client_laws plan are_links world.time connection now before start steps table input → Reached laws client_laws plan are_links world.time connection now before start (done input)
+  pub reached : (input : ixl.Input) → MayComeIn laws client_laws plan are_links world.time connection now before start steps table input → Reached laws client_laws plan are_links world.time connection now before start (done input)
   reached input may = step_kept laws client_laws plan are_links world.time connection now before start steps table (key_of plan) input (begun_with world.station.ixl empty_outbox) may begun_reached
 
   abbrev last : ixl.Input → Links

@@ -1,3 +1,4 @@
 pub mod Follows
 pub mod Whole
 pub mod Calls
+pub mod HasLinks

@@ -1,6 +1,8 @@
 -- What is always true of the nodes of a world: every node of the layout is there, and what it says are telegrams.
 use Rattle.std.specs.Prelude.{◌≡◌, ℕ, ◌<◌, List, ◌++◌, length, map, Some, slice_get}
-use Rattle.layout.specs.Entries.{Plan}
+use Rattle.layout.specs.Entries.{DetectorEntry, Plan}
+use Rattle.layout.specs.declared.entries.Point.{Point}
+use Rattle.layout.specs.declared.entries.Signal.{Signal}
 use Rattle.sci_telegram.specs.Names.{IsName}
 use Rattle.ixl_client.specs.Client.{ClientState, PeerState}
 use Rattle.ixl_rules.specs.State.{IxlState}
@@ -33,6 +35,14 @@ pub record HasClients (plan : Plan) (ixl : IxlState) : Type 0 where
   pub switches : length ixl.switches ≡ length plan.points
   pub detectors : length ixl.detectors ≡ length plan.detectors
   pub peers : (link : ℕ) (client : ClientState) → slice_get (client_states ixl) link ≡ Some client → IsPeer client.peer
+
+-- the names of a layout are names of telegrams
+pub record HasNames (plan : Plan) : Type 0 where
+  pub station : IsName plan.station.name
+  pub signals : (place : ℕ) (entry : Signal) → slice_get plan.signals place ≡ Some entry → IsName entry.name
+  pub points : (place : ℕ) (entry : Point) → slice_get plan.points place ≡ Some entry → IsName entry.name
+  pub detectors : (place : ℕ) (entry : DetectorEntry) → slice_get plan.detectors place ≡ Some entry → IsName entry.name
+  pub sections : (place : ℕ) (name : List ℕ) → slice_get plan.sections place ≡ Some name → IsName name
 
 -- the controllers of a list have names
 abbrev pub AreNamed : {Object : Type 0} → List (ServerState Object) → Type 0

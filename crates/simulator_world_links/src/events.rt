@@ -2,6 +2,7 @@
 
 ghost use Rattle.std.specs.Prelude.{◌≡◌, None};
 ghost use Rattle.layout.specs.Entries.{Plan};
+ghost use Rattle.layout.specs.Station.{IsStation};
 ghost use Rattle.rasta_core.specs.EachLink.{AreTimely};
 ghost use Rattle.rasta_core.specs.Links.{AreLinks, Links};
 ghost use Rattle.simulator_event.specs.declared.event.Event.{Event};
@@ -12,7 +13,7 @@ ghost use Rattle.simulator_world_run.specs.Nodes.{links};
 ghost use Rattle.simulator_world_run.specs.Refusals.{refusal};
 ghost use Rattle.simulator_world_run.specs.State.{WorldState};
 ghost use Rattle.simulator_world_links.specs.Follows.{Follows};
-ghost use Rattle.simulator_world_links.specs.Whole.{IsWhole};
+ghost use Rattle.simulator_world_links.specs.Whole.{HasNames, IsWhole};
 
 use object_host::step_is_calls;
 use point_ctl::Point;
@@ -31,10 +32,14 @@ use simulator_links::{
 use tds_ctl::Detection;
 
 /// An event that can happen to a station is a list of events that may happen to its links: calls at the ends of the node
-/// that makes a step, or time, a loss or a restart. After it they are the links of the station as it is then.
+/// that makes a step, or time, a loss or a restart. After it they are the links of the station as it is then (*follow*). It
+/// leaves every node there (*whole*).
 pub fn events_are_those_of_the_links()
-    ensures { (plan : Plan) (table : Table) (event : Event) (world : WorldState) (before : Links) → AreLinks (links plan) (names_at plan) → IsWhole plan world
+    ensures follow { (plan : Plan) (table : Table) (event : Event) (world : WorldState) (before : Links) → AreLinks (links plan) (names_at plan) → IsWhole plan world
         → AreTimely (links plan) (names_at plan) before → AreLinksOf plan world before → refusal plan event world ≡ None → Follows plan (happens plan table event world) before }
+    ensures whole { (plan : Plan) (table : Table) (event : Event) (world : WorldState) (before : Links) → AreLinks (links plan) (names_at plan) → IsStation plan → HasNames plan
+        → IsWhole plan world → AreTimely (links plan) (names_at plan) before → AreLinksOf plan world before → refusal plan event world ≡ None
+        → IsWhole plan (happens plan table event world) }
 {
     a_node_makes_a_step();
     a_node_of_one_link_makes_a_step();

@@ -4,4 +4,6 @@
 
 mod laws;
 
-pub use laws::{a_restarted_station_holds, an_event_at_no_node_is_refused};
+pub use laws::{
+    a_restarted_station_holds, an_event_at_no_node_is_refused, the_first_world_begins_its_links,
+};
