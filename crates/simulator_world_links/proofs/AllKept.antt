@@ -65,7 +65,7 @@ module _ (laws : AllLaws) (plan : Plan) (are_links : AreLinks (links plan) (name
             switches = on.manned.switches;
             detectors = on.manned.detectors;
             peers = λ link client at.
-                let is = on.clients link (subst (λ n. link < n) (states_count plan _ on.manned) (within_some (client_states _) link client at))
+                let is = on.clients link (subst (λ n. link < n) (states_count plan (station_stepped plan table input world).station.ixl on.manned) (within_some (client_states (station_stepped plan table input world).station.ixl) link client at))
                 in subst (λ (c : ClientState). IsPeer c.peer) (some_is is.client client (sym is.there ∙ at)) is.peer;
           };
           connections = on.tells.count;

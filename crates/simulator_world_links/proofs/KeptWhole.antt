@@ -70,7 +70,7 @@ after_host : {Object : Type 0} (done : Part Object) (connection moment : ℕ) (s
 unfolding server_after
 after_host done connection moment server = refl
 
-sections_at : (sections : List Section) → AreSectionsNamed sections → AllAt (λ (s : Section). IsName s.name) sections
+pub sections_at : (sections : List Section) → AreSectionsNamed sections → AllAt (λ (s : Section). IsName s.name) sections
 sections_at [] named place one at = absurd (none_is at) where
   none_is : None ≡ Some one → ⊥
   none_is e = cc (e)

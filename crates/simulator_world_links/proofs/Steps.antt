@@ -38,7 +38,7 @@ pub record HostLaws {Object : Type 0} (does : Behaviour Object) : Type 0 where
   pub calls_for : (now : ℕ) (input : Input) (host : HostState Object) → AreCallsFor input (host_step does now input host).calls
   pub made_of : (now : ℕ) (input : Input) (host : HostState Object) → IsMadeOf now (settled now host.link) (host_step does now input host)
 
-each_named : (sections : List Section) → ((place : ℕ) (section : Section) → slice_get sections place ≡ Some section → IsName section.name) → AreSectionsNamed sections
+pub each_named : (sections : List Section) → ((place : ℕ) (section : Section) → slice_get sections place ≡ Some section → IsName section.name) → AreSectionsNamed sections
 each_named [] named = tt
 each_named (first ∷ others) named = (named 0 first refl, each_named others (λ place section at. named (suc place) section at))
 

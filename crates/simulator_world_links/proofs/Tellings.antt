@@ -53,7 +53,7 @@ paying_named : (sections : List Section) → AreSectionsNamed sections → AreSe
 paying_named [] good = tt
 paying_named (first ∷ others) good = by_test AreSectionsNamed first.owes (settled first ∷ others) (first ∷ paying others) (λ e. (good.0, good.1)) (λ e. (good.0, paying_named others good.1))
 
-losing_named : (sections : List Section) → AreSectionsNamed sections → AreSectionsNamed (losing sections)
+pub losing_named : (sections : List Section) → AreSectionsNamed sections → AreSectionsNamed (losing sections)
 losing_named [] good = tt
 losing_named (first ∷ others) good = (good.0, losing_named others good.1)
 
