@@ -1,5 +1,5 @@
 -- Every event keeps the nodes of a world whole.
-use Rattle.std.proofs.Common.{◌≡◌, ℕ, ◌+◌, ◌<◌, List, [], ◌∷◌, ◌++◌, length, map, Option, Some, None, slice_get, slice_set, refl, sym, ap, subst, ◌∙◌, arith}
+use Rattle.std.proofs.Common.{◌≡◌, ℕ, ◌+◌, ◌<◌, List, ◌++◌, length, map, Option, Some, None, slice_get, slice_set, sym, ap, subst, ◌∙◌, arith}
 use Rattle.layout.specs.Entries.{Plan}
 use Rattle.layout.specs.Station.{IsStation}
 use Rattle.sci_telegram.specs.declared.message.Occupancy.{Occupancy}
@@ -12,7 +12,6 @@ use Rattle.ixl_client.specs.Client.{ClientState}
 use Rattle.ixl_rules.specs.State.{DetectorState, IxlState, LampState, SwitchState}
 use Rattle.ixl_rules.specs.Step as ixl
 use Rattle.ixl_rules.specs.Table.{Table}
-use Rattle.ixl_rules.specs.declared.command.Command.{Command}
 use Rattle.simulator_event.specs.declared.event.Event.{Event}
 use Rattle.simulator_event.specs.declared.event.Event.TheVariants as event
 use Rattle.simulator_world_run.specs.Happens.{coming, delivered_to, happens, sensed_by, station_stepped, ticked_at}
@@ -26,7 +25,7 @@ use Rattle.simulator_world_links.proofs.Everything.{AllLaws, moved, moved_links,
 use Rattle.simulator_world_links.proofs.KeptWhole.{detector_keeps, point_keeps, signal_keeps, time_keeps}
 use Rattle.simulator_world_links.proofs.Lists.{length_joined, length_map, some_is, within_some}
 use Rattle.simulator_world_links.proofs.Parts.{MayComeIn}
-use Rattle.simulator_world_links.proofs.Reached.{IsManned, Reached}
+use Rattle.simulator_world_links.proofs.Reached.{IsManned}
 use Rattle.simulator_world_links.proofs.Station.{reached}
 use Rattle.simulator_world_links.proofs.StationWhole.{restart_keeps}
 use Rattle.simulator_world_links.specs.Whole.{HasNames, IsPeer, IsWhole, client_states}

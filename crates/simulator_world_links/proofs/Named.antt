@@ -1,18 +1,15 @@
 -- The identities of a layout's controllers: each stands at a place of its own among all identities.
-use Rattle.std.proofs.Common.{◌≡◌, ◌≢◌, ◌⊎◌, inl, inr, ℕ, zero, suc, ◌+◌, ◌-◌, ◌^◌, ◌<◌, ◌≤◌, nat_lt, Bool, true, false, List, [], ◌∷◌, ◌++◌, length, map, get_or, Option, Some, None, option_map, slice_get, refl, sym, ap, subst, ◌∙◌, arith}
-use Rattle.std.specs.List.{All, AllPairs}
+use Rattle.std.proofs.Common.{◌≡◌, ◌≢◌, ◌⊎◌, inl, inr, ℕ, suc, ◌+◌, ◌-◌, ◌^◌, ◌<◌, nat_lt, Bool, true, false, List, ◌++◌, length, get_or, Some, slice_get, refl, sym, ap, subst, ◌∙◌, arith}
 use Rattle.std.proofs.lemmas.Bool.Decides.{nat_tests}
 use Rattle.std.proofs.lemmas.Option.{get_or_from_slice_get}
-use Rattle.layout.specs.Entries.{DetectorEntry, Plan}
+use Rattle.layout.specs.Entries.{Plan}
 use Rattle.layout.specs.Once.{Distinct, Once, all_ids}
-use Rattle.layout.specs.Station.{IsNodeId, IsStation}
-use Rattle.layout.specs.declared.entries.Point.{Point}
-use Rattle.layout.specs.declared.entries.Signal.{Signal}
+use Rattle.layout.specs.Station.{IsStation}
 use Rattle.rasta_core.specs.Links.{AreLinks}
 use Rattle.rasta_core.specs.Names.{AreNames, Names}
 use Rattle.simulator_world_run.specs.Links.{names_at}
 use Rattle.simulator_world_run.specs.Nodes.{links, partners}
-use Rattle.simulator_world_links.proofs.Lists.{get_left, get_right, length_joined, length_map, some_within, within_some}
+use Rattle.simulator_world_links.proofs.Lists.{get_left, get_right, within_some}
 use Rattle.simulator_world_links.proofs.Partners.{detector_ids, named_at, partner_at, point_ids, signal_ids}
 
 -- where the identity of a link stands among all: the station's first, then points, signals and detectors

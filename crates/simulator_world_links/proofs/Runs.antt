@@ -1,8 +1,8 @@
 -- The links of a world after more events, and a station after a list of events.
-use Rattle.std.proofs.Common.{◌≡◌, ℕ, List, [], ◌∷◌, ◌++◌, None, refl, sym, ap, subst}
+use Rattle.std.proofs.Common.{◌≡◌, List, [], ◌∷◌, ◌++◌, None, sym, subst}
 use Rattle.layout.specs.Entries.{Plan}
 use Rattle.ixl_rules.specs.Table.{Table}
-use Rattle.rasta_core.specs.Links.{Links, LinksEvent, MayRunLinks, begun, run_links}
+use Rattle.rasta_core.specs.Links.{begun, run_links}
 use Rattle.simulator_event.specs.declared.event.Event.{Event}
 use Rattle.simulator_world_run.specs.Happens.{happens}
 use Rattle.simulator_world_run.specs.Links.{AreLinksOf, names_at, starts_at_zero}

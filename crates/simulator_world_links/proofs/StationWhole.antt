@@ -1,6 +1,6 @@
 -- A step of the interlocking, and a node that is made anew, keep the nodes of a world whole.
-use Rattle.std.proofs.Common.{◌≡◌, ℕ, zero, suc, ◌+◌, ◌<◌, Bool, true, false, List, [], ◌∷◌, ◌++◌, length, map, get_or, Option, Some, None, option_map, slice_get, slice_index_or, refl, sym, ap, subst, ◌∙◌, arith, if◌then◌else◌}
-use Rattle.std.specs.List.{All, list_any}
+use Rattle.std.proofs.Common.{◌≡◌, ℕ, zero, suc, ◌<◌, List, [], ◌∷◌, ◌++◌, length, map, Option, Some, None, slice_get, slice_index_or, refl, sym, ap, subst, ◌∙◌, arith}
+use Rattle.std.specs.List.{All}
 use Rattle.std.proofs.lemmas.Option.{get_or_from_slice_get}
 use Rattle.layout.specs.Entries.{DetectorEntry, Plan}
 use Rattle.layout.specs.Station.{HasSection, IsStation}
@@ -19,20 +19,19 @@ use Rattle.signal_ctl.specs.Signal.{signal_behaviour}
 use Rattle.point_ctl.specs.Controlled.{point_behaviour}
 use Rattle.tds_ctl.specs.Controlled.{detection_behaviour}
 use Rattle.tds_ctl.specs.Sections.{losing, made}
-use Rattle.tds_ctl.specs.declared.section.Section.{Section}
 use Rattle.ixl_client.specs.Client.{ClientState, new_client}
-use Rattle.ixl_rules.specs.State.{DetectorState, IxlState, LampState, SwitchState, changed}
+use Rattle.ixl_rules.specs.State.{DetectorState, LampState, SwitchState, changed}
 use Rattle.ixl_rules.specs.Table.{Table}
-use Rattle.simulator_world_run.specs.First.{Beginning, at_zero, client_of, first_server, first_world, host_of, named_section, new_detector, new_detector_of, new_ixl, new_lamp_of, new_point, new_signal, new_switch_of, no_connection}
+use Rattle.simulator_world_run.specs.First.{Beginning, at_zero, client_of, first_world, host_of, named_section, new_detector, new_detector_of, new_ixl, new_lamp_of, new_point, new_signal, new_switch_of, no_connection}
 use Rattle.simulator_world_run.specs.Happens.{detector_anew, made_anew, point_anew, signal_anew}
-use Rattle.simulator_world_run.specs.Nodes.{Node, Station, Signal, Point, Detector, links, partners}
+use Rattle.simulator_world_run.specs.Nodes.{Node, Station, Signal, Point, Detector, partners}
 use Rattle.simulator_world_run.specs.Servers.{server_anew}
 use Rattle.simulator_world_run.specs.State.{ServerState, WorldState}
 use Rattle.simulator_world_links.proofs.KeptWhole.{AllAt, sections_at}
-use Rattle.simulator_world_links.proofs.Lists.{by_test, length_joined, length_map, some_is, some_within, within_some}
+use Rattle.simulator_world_links.proofs.Lists.{by_test, length_map, some_is, some_within, within_some}
 use Rattle.simulator_world_links.proofs.Partners.{partners_count}
 use Rattle.simulator_world_links.proofs.Tellings.{AreSectionsNamed, losing_named}
-use Rattle.simulator_world_links.specs.Whole.{HasClients, HasNames, HasSections, IsNamed, IsPeer, IsWhole, client_states}
+use Rattle.simulator_world_links.specs.Whole.{HasClients, HasNames, HasSections, IsNamed, IsPeer, IsWhole}
 
 -- ---- lists
 

@@ -10,6 +10,4 @@ mod stations;
 pub use events::events_are_those_of_the_links;
 pub use passing::{a_loss_is_one_of_the_links, time_passes_for_the_links};
 pub use restarts::restarts_are_those_of_the_links;
-pub use stations::{
-    each_link_of_a_station_is_safe, layouts_name_their_links, stations_have_links,
-};
+pub use stations::{each_link_of_a_station_is_safe, layouts_name_their_links, stations_have_links};

@@ -26,16 +26,16 @@ returns c =
       whole = first_is_whole plan names station table;
     }
     in let kept : (plan : Plan) (table : Table) (event : Event) (world : WorldState) → IsStation plan → Once plan → HasNames plan → IsStanding plan world
-        → refusal plan event world ≡ None → IsStanding plan (happens plan table event world)
+    → refusal plan event world ≡ None → IsStanding plan (happens plan table event world)
     = λ plan table event world station once names stands none.
-        let are : AreLinks (links plan) (names_at plan) = c.layouts_name_their_links.ensures plan station once
-        in let timely : AreTimely (links plan) (names_at plan) (links_in stands.linked)
-        = c.links_keep_time.ensures.run (links plan) (names_at plan) stands.linked.events (begun (names_at plan) starts_at_zero) are (c.links_keep_time.ensures.starts (links plan) (names_at plan) starts_at_zero are) stands.linked.may
-        in record {
-          linked = links_go_on plan world (happens plan table event world) stands.linked
-              (c.events_are_those_of_the_links.ensures.follow plan table event world (links_in stands.linked) are stands.whole timely stands.linked.are none);
-          whole = c.events_are_those_of_the_links.ensures.whole plan table event world (links_in stands.linked) are station names stands.whole timely stands.linked.are none;
-        }
+    let are : AreLinks (links plan) (names_at plan) = c.layouts_name_their_links.ensures plan station once
+    in let timely : AreTimely (links plan) (names_at plan) (links_in stands.linked)
+    = c.links_keep_time.ensures.run (links plan) (names_at plan) stands.linked.events (begun (names_at plan) starts_at_zero) are (c.links_keep_time.ensures.starts (links plan) (names_at plan) starts_at_zero are) stands.linked.may
+    in record {
+      linked = links_go_on plan world (happens plan table event world) stands.linked
+          (c.events_are_those_of_the_links.ensures.follow plan table event world (links_in stands.linked) are stands.whole timely stands.linked.are none);
+      whole = c.events_are_those_of_the_links.ensures.whole plan table event world (links_in stands.linked) are station names stands.whole timely stands.linked.are none;
+    }
     in record {
       first = first;
       kept = kept;
