@@ -1,0 +1,10 @@
+pub mod Answering
+pub mod Giver
+pub mod Causes
+pub mod Chaining
+pub mod Giving
+pub mod Heard
+pub mod Looks
+pub mod Obeying
+pub mod Views
+pub mod Whole

@@ -1,0 +1,21 @@
+use Rattle.std.proofs.Common.{ℕ, ◌<◌, ◌∙◌, length, ap, sym, subst, arith}
+use Rattle.ixl_rules.specs.Part.{over}
+use Rattle.ixl_rules.specs.Step.{looking_by}
+use Rattle.ixl_table.specs.Table.{PlannedTable}
+use Rattle.ixl.specs.inside.Parts.{Passes}
+use Rattle.ixl.proofs.Chaining.{one_over, passed_clock, passed_plan}
+use Rattle.ixl.proofs.hearing.look.Goals as goal
+
+pub look_by-requires-clause-there : goal.look_by-requires-clause-there
+look_by-requires-clause-there c = subst (λ (p : PlannedTable). c.loop-number.number < length p.table.rows) (sym (passed_plan c.args.now (over (looking_by c.args.section c.args.occupied c.args.state.now.planned.table) c.loop-number.number) c.args.state.now c.loop-number.state c.loop-number.invariant))
+    (omega (arith, c.loop-number-test.true, ap length (c.rows-number-end.ensures ∙ ap (λ (p : PlannedTable). p.table.rows) c.table.ensures.planned)))
+
+pub look_by-requires-clause-clock : goal.look_by-requires-clause-clock
+look_by-requires-clause-clock c = passed_clock c.args.now (over (looking_by c.args.section c.args.occupied c.args.state.now.planned.table) c.loop-number.number) c.args.state.now c.loop-number.state c.loop-number.invariant
+
+pub loop-number-preserved : goal.loop-number-preserved
+loop-number-preserved c = one_over c.args.now (looking_by c.args.section c.args.occupied) c.loop-number.number c.args.state.now c.loop-number.state c.look_by.new.state c.loop-number.invariant c.look_by.ensures
+
+pub returns : goal.returns
+returns c = subst (λ (n : ℕ). Passes c.args.now (over (looking_by c.args.section c.args.occupied c.args.state.now.planned.table) n) c.args.state.now c.loop-number.state)
+    (omega (arith, c.loop-number-test.false, c.loop-number.auto.number-end, ap length (c.rows-number-end.ensures ∙ ap (λ (p : PlannedTable). p.table.rows) c.table.ensures.planned))) c.loop-number.invariant

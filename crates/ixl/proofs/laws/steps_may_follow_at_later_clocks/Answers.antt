@@ -1,0 +1,5 @@
+use Rattle.ixl.proofs.Answering.{may_follow}
+use Rattle.ixl.proofs.laws.steps_may_follow_at_later_clocks.Goals as goal
+
+pub returns : goal.returns
+returns c now later state at within = may_follow now later state at within

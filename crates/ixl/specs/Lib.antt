@@ -1,0 +1,2 @@
+pub mod Interlocking
+pub mod inside

@@ -1,0 +1,37 @@
+//! Which route has authority from a signal.
+
+ghost use Rattle.std.specs.Prelude.{◌≡◌, ◌==◌, ◌&&◌, ◌<◌, length};
+ghost use Rattle.ixl_rules.specs.View.{has_authority};
+ghost use Rattle.ixl.specs.Interlocking.{authority_from};
+ghost use Rattle.ixl_state.specs.State.{AtRoute};
+
+use crate::watching::has_authority;
+use ixl_state::State;
+
+/// Whether a route begins at a signal.
+fn begins_at(state: &State, number: usize, signal: usize) -> bool
+    requires { number < length state.now.planned.table.rows }
+    ensures { AtRoute state.now number (λ row route. result ≡ (row.entry == signal)) }
+{
+    state.table().rows()[number].entry() == signal
+}
+
+/// Whether a route has authority from a signal.
+fn has_authority_from(state: &State, number: usize, signal: usize) -> bool
+    requires { number < length state.now.planned.table.rows }
+    ensures { AtRoute state.now number (λ row route. result ≡ (row.entry == signal && has_authority route.phase)) }
+{
+    begins_at(state, number, signal) && has_authority(state.route(number).phase())
+}
+
+/// The route that has authority from a signal: the first of the table.
+pub(crate) fn authority(state: &State, signal: usize) -> Option<usize>
+    ensures { result ≡ authority_from signal 0 state.now.planned.table.rows state.now.ixl.routes }
+{
+    for number in 0..state.table().rows().len() {
+        if has_authority_from(state, number, signal) {
+            return Some(number);
+        }
+    }
+    None
+}

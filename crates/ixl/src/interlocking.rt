@@ -1,0 +1,157 @@
+//! The interlocking of a station.
+
+ghost use Rattle.std.specs.Prelude.{◌≡◌, ◌<◌, ◌≤◌, ◌↔◌, ℕ, [], drop, length, slice_get, IsTrue, IfOk};
+ghost use Rattle.std.specs.Option.{option_map};
+ghost use Rattle.bit_row.specs.Places.{Has};
+ghost use Rattle.layout.specs.declared.ids.RouteId.{RouteId};
+ghost use Rattle.ixl_rules.specs.Due.{HoldsSection};
+ghost use Rattle.ixl_rules.specs.View.{is_holding, is_set};
+ghost use Rattle.ixl_state.specs.State.{AtRoute, MayStepAll};
+ghost use Rattle.ixl.specs.Interlocking.{HasStepped, authority_from, empty_outbox, meant, told};
+ghost use Rattle.ixl_state.specs.First.{new_ixl};
+
+use crate::authority::authority;
+use crate::input::{Input, Reply};
+use crate::refusing::{is_holding, is_set};
+use crate::stepping::step;
+use bit_row::BitRow;
+use control_table::Checked;
+use ixl_state::{State, key_of};
+use ixl_table::Table;
+use layout::{RouteId, SignalId};
+use rasta_core::{Millis, Outbox};
+use rasta_pdu::{Datagram, Key};
+use std::alloc::{AllocError, Global};
+use std::marker::Model;
+
+/// For how many links the outbox has room: a step hands out fewer datagrams than so many links may.
+const ALL_LINKS: usize = 80;
+
+/// The interlocking of a station: the client of one link to each controller. It sets and frees routes, moves points and
+/// clears signals by its rules, and rests on nothing but what the controllers told in their present connections.
+#[derive(Debug, Drop)]
+pub struct Interlocking {
+    state: State,
+    key: Key,
+    outbox: Outbox,
+}
+
+impl Model for Interlocking {
+    ghost use Rattle.std.specs.Prelude.{◌≡◌};
+    ghost use Rattle.std.specs.Coded.{codes};
+    ghost use Rattle.bit_row.specs.Places.{places_code};
+    ghost use Rattle.ixl_state.specs.First.{key_of};
+    ghost use Rattle.ixl.specs.Interlocking.{InterlockingState};
+
+    ghost Value = { InterlockingState };
+
+    ghost coded = { Prim.hlevel (codes, places_code) };
+
+    ghost view = { λ i. record { state = i.state; outbox = i.outbox } };
+
+    ghost invariant = { λ i. (i.key ≡ key_of i.state.planned.plan) × (i.outbox.capacity ≡ 5120) };
+}
+
+/// Takes out all datagrams.
+fn empty(outbox: &mut Outbox)
+    ensures { outbox.new ≡ record outbox.old { datagrams = [] } }
+{
+    while let Some(_datagram) = outbox.take_first() {}
+}
+
+impl Interlocking {
+    /// The interlocking of a table that was checked. No route is set, and every link is in no connection: it numbers its
+    /// PDUs from `first_sn` on, and `now` is its clock.
+    pub fn new(
+        alloc: Global,
+        checked: Checked,
+        first_sn: u32,
+        now: Millis,
+    ) -> Result<Interlocking, AllocError>
+        ensures plan { IfOk result (λ i. i.state.planned.plan ≡ checked) }
+        ensures ixl { IfOk result (λ i. i.state.ixl ≡ new_ixl i.state.planned.plan i.state.planned.table (record { clock = now; first = first_sn })) }
+        ensures outbox { IfOk result (λ i. i.outbox ≡ empty_outbox) }
+    {
+        let key = key_of(checked.layout());
+        let state = State::new(alloc, checked, first_sn, now)?;
+        let outbox = Outbox::for_links(alloc, ALL_LINKS)?;
+        Ok(Interlocking { state, key, outbox })
+    }
+
+    /// Whether a step at this clock reading may be made: the clock of no link has fallen.
+    pub fn may_step(&self, now: Millis) -> bool
+        ensures { IsTrue result ↔ MayStepAll now self.now.state }
+    {
+        self.state.may_step(now)
+    }
+
+    /// A step at a clock reading: the clock on every link, the input, what is seen of routes with authority, the six rules
+    /// each for all routes in table order, and on a tick the heartbeats and openings of the links. The outbox then has the
+    /// datagrams of this step alone.
+    ///
+    /// What the rules come to at each route of the table, in the state that the step has reached there, `ixl_laws` says:
+    /// `stop_is_given_where_due`, `authority_ends_at_known_stop`, `section_is_freed_where_passage_lets_it_go`,
+    /// `passage_frees_all_that_it_may`, `route_is_freed_where_cancel_lets_it_go`, `move_is_given_where_due` and
+    /// `proceed_is_given_where_due`. Of requests `requests_are_accepted_where_admissible` says it here.
+    pub fn step(&mut self, now: Millis, input: Input<'_>) -> Reply
+        requires { MayStepAll now self.old.state }
+        ensures { HasStepped now (meant input.entry) self.old self.new (told result) }
+    {
+        empty(&mut self.outbox);
+        step(&mut self.state, now, &self.key, &input, &mut self.outbox)
+    }
+
+    /// The datagrams that the last step handed out and that weren't taken out since.
+    pub fn outbox(&self) -> &Outbox
+        ensures { result.now ≡ self.now.outbox }
+    {
+        &self.outbox
+    }
+
+    /// Takes the oldest of them out.
+    pub fn take_first(&mut self) -> Option<Datagram>
+        ensures value { option_map (λ d. d.items) result ≡ slice_get self.old.outbox.datagrams 0 }
+        ensures state { self.new.state ≡ self.old.state }
+        ensures rest { self.new.outbox ≡ record self.old.outbox { datagrams = drop 1 self.old.outbox.datagrams } }
+    {
+        self.outbox.take_first()
+    }
+
+    /// The control table, as the rules read it. A route is kept of each of its rows.
+    pub fn table(&self) -> &Table
+        ensures planned { result.now ≡ self.now.state.planned }
+        ensures each { length self.now.state.ixl.routes ≡ length self.now.state.planned.table.rows }
+    {
+        self.state.table()
+    }
+
+    /// Whether the hold after the creation isn't over: nothing is set then.
+    pub fn holding(&self, now: Millis) -> bool
+        ensures { result ≡ is_holding now self.now.state.ixl }
+    {
+        is_holding(&self.state, now)
+    }
+
+    /// Whether a route is set.
+    pub fn is_set(&self, route: RouteId) -> bool
+        requires { route.0 < length self.now.state.planned.table.rows }
+        ensures { AtRoute self.now.state route.0 (λ row kept. result ≡ is_set kept.phase) }
+    {
+        is_set(self.state.route(route.0).phase())
+    }
+
+    /// The sections that a route locks.
+    pub fn locked(&self, route: RouteId) -> BitRow
+        requires { route.0 < length self.now.state.planned.table.rows }
+        ensures { AtRoute self.now.state route.0 (λ row kept. (section : ℕ) → Has result section ↔ HoldsSection row kept.phase section) }
+    {
+        self.state.locked(route.0)
+    }
+
+    /// The route that has authority from a signal: its aspect was given, and its authority isn't ended.
+    pub fn authority(&self, signal: SignalId) -> Option<RouteId>
+        ensures { option_map (λ (r : RouteId). r.0) result ≡ authority_from signal.0 0 self.now.state.planned.table.rows self.now.state.ixl.routes }
+    {
+        authority(&self.state, signal.0).map(RouteId)
+    }
+}

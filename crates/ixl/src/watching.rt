@@ -1,0 +1,44 @@
+//! Routes with authority watch their approaches.
+
+ghost use Rattle.std.specs.Prelude.{◌≡◌, ◌<◌, length};
+ghost use Rattle.ixl_rules.specs.Part.{over};
+ghost use Rattle.ixl_rules.specs.Rules.{count};
+ghost use Rattle.ixl_rules.specs.Step.{watching};
+ghost use Rattle.ixl_rules.specs.View.{has_authority};
+ghost use Rattle.ixl_state.specs.State.{AllAt};
+ghost use Rattle.ixl.specs.inside.Parts.{Passes};
+
+use ixl_route_rules::is_approach_clear;
+use ixl_rules::Phase;
+use ixl_state::State;
+use rasta_core::Millis;
+
+/// Whether a route in this phase has authority: it was given, and isn't ended.
+pub(crate) fn has_authority(phase: Phase) -> bool
+    ensures { result ≡ has_authority phase }
+{
+    matches!(phase, Phase::Proceeding | Phase::Withdrawn)
+}
+
+/// A route that has authority watches its approach.
+fn watch_by(state: &mut State, now: Millis, number: usize)
+    requires there { number < length state.old.planned.table.rows }
+    requires clock { AllAt now state.old }
+    ensures { Passes now (watching state.old.planned.table number) state.old state.new }
+{
+    state.table();
+    if has_authority(state.route(number).phase()) {
+        let is_clear = is_approach_clear(state, number);
+        state.watch(number, is_clear);
+    }
+}
+
+/// All routes that have authority watch their approaches.
+pub(crate) fn watch(state: &mut State, now: Millis)
+    requires { AllAt now state.old }
+    ensures { Passes now (over (watching state.old.planned.table) (count state.old.planned.table)) state.old state.new }
+{
+    for number in 0..state.table().rows().len() {
+        watch_by(state, now, number);
+    }
+}
