@@ -60,6 +60,8 @@ module _ (now later : ℕ) (table : Table) (old anew : IxlState) (given anew_giv
       moves = one_move table machine Restarts tt;
       signals = λ place. record { server = refl; done = refl };
       points = λ place. record { server = refl; taken = refl; reports = refl; driven = refl; position = refl };
+      aspects = λ place. refl;
+      given = λ place. refl;
     };
     frozen = held_seen now old given machine sees;
     sees = made_sees later anew (holds_at_first later anew created clock) anew_given (made_anew machine) made

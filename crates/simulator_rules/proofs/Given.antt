@@ -103,6 +103,7 @@ module _ (now : ℕ) (input : Input) (rows : Rows) (ixl : IxlState) (given : Giv
           made = is.made;
           same = is.same;
           stays = is.stays;
+          totals = is.totals;
         }
 
   -- a route that isn't refused is set

@@ -78,6 +78,7 @@ module _ (now later : ℕ) (ixl : IxlState) (order : now ≤ later) where
           held = λ holds. sees.held (held_before holds);
         };
         stays = record { server = refl; done = refl };
+        given = refl;
       }
 
       quiet : client_at later lamp.client.link ≡ Quiet → SignalGoes (SignalFits later ixl lamp items) signal
@@ -96,6 +97,7 @@ module _ (now later : ℕ) (ixl : IxlState) (order : now ≤ later) where
           held = λ holds. sees.held (held_before holds);
         };
         stays = record { server = refl; done = refl };
+        given = refl;
       }
 
       down : client_at later lamp.client.link ≡ Down → SignalGoes (SignalFits later ixl lamp items) signal
@@ -114,6 +116,7 @@ module _ (now later : ℕ) (ixl : IxlState) (order : now ≤ later) where
           held = λ holds. sees.held (held_before holds);
         };
         stays = record { server = refl; done = refl };
+        given = refl;
       }
 
   record SignalPasses (lamp : Option LampState) (items : Items) (signal : Signal) : Type 0 where
@@ -122,7 +125,7 @@ module _ (now later : ℕ) (ixl : IxlState) (order : now ≤ later) where
 
   signal_passes : (lamp : Option LampState) (items : Items) (signal : Signal) → SeesSignal now ixl lamp items signal →
       ((one : LampState) → lamp ≡ Some one → client_at later one.client.link ≡ Down → signal.link.server ≢ In) → SignalPasses lamp items signal
-  signal_passes None items signal sees alone = record { goes = record { moves = []; may = tt; fits = sees; stays = record { server = refl; done = refl } }; still = λ none. refl }
+  signal_passes None items signal sees alone = record { goes = record { moves = []; may = tt; fits = sees; stays = record { server = refl; done = refl }; given = refl }; still = λ none. refl }
   signal_passes (Some lamp) items signal sees alone = record { goes = lamp_passes lamp items signal sees (alone lamp refl); still = λ none. absurd (cc (none)) }
 
   -- ---- a point
@@ -156,6 +159,7 @@ module _ (now later : ℕ) (ixl : IxlState) (order : now ≤ later) where
           held = λ holds. sees.held (held_before holds);
         };
         stays = record { server = refl; taken = refl; reports = refl; driven = refl; position = refl };
+        given = refl;
       }
 
       quiet : client_at later switch.client.link ≡ Quiet → PointGoes (PointFits later ixl switch items) point
@@ -176,6 +180,7 @@ module _ (now later : ℕ) (ixl : IxlState) (order : now ≤ later) where
           held = λ holds. sees.held (held_before holds);
         };
         stays = record { server = refl; taken = refl; reports = refl; driven = refl; position = refl };
+        given = refl;
       }
 
       down : client_at later switch.client.link ≡ Down → PointGoes (PointFits later ixl switch items) point
@@ -196,6 +201,7 @@ module _ (now later : ℕ) (ixl : IxlState) (order : now ≤ later) where
           held = λ holds. sees.held (held_before holds);
         };
         stays = record { server = refl; taken = refl; reports = refl; driven = refl; position = refl };
+        given = refl;
       }
 
   record PointPasses (switch : Option SwitchState) (items : Items) (point : Point) : Type 0 where
@@ -204,7 +210,7 @@ module _ (now later : ℕ) (ixl : IxlState) (order : now ≤ later) where
 
   point_passes : (switch : Option SwitchState) (items : Items) (point : Point) → SeesPoint now ixl switch items point →
       ((one : SwitchState) → switch ≡ Some one → client_at later one.client.link ≡ Down → point.link.server ≢ In) → PointPasses switch items point
-  point_passes None items point sees alone = record { goes = record { moves = []; may = tt; fits = sees; stays = record { server = refl; taken = refl; reports = refl; driven = refl; position = refl } }; still = λ none. refl }
+  point_passes None items point sees alone = record { goes = record { moves = []; may = tt; fits = sees; stays = record { server = refl; taken = refl; reports = refl; driven = refl; position = refl }; given = refl }; still = λ none. refl }
   point_passes (Some switch) items point sees alone = record { goes = switch_passes switch items point sees (alone switch refl); still = λ none. absurd (cc (none)) }
 
   -- ---- all of them
@@ -258,7 +264,7 @@ module _ (now later : ℕ) (ixl : IxlState) (order : now ≤ later) where
       same holding = (
         of_points,
         record {
-          keeps = record { moves = moves_there; signals = λ place. (at_signal place).goes.stays; points = λ place. (at_point place).goes.stays };
+          keeps = record { moves = moves_there; signals = λ place. (at_signal place).goes.stays; points = λ place. (at_point place).goes.stays; aspects = λ place. (at_signal place).goes.given; given = λ place. (at_point place).goes.given };
           frozen = refl;
           sees = record { signals = λ place. (at_signal place).goes.fits; points = λ place. (at_point place).goes.fits; routes = sees.routes; holding = sees.holding ∙ holding };
         },
@@ -272,6 +278,8 @@ module _ (now later : ℕ) (ixl : IxlState) (order : now ≤ later) where
             moves = onward machine of_points (record of_points { holding = false }) moves_there (one_move table of_points HoldEnds (none_in holds over));
             signals = λ place. (at_signal place).goes.stays;
             points = λ place. (at_point place).goes.stays;
+            aspects = λ place. (at_signal place).goes.given;
+            given = λ place. (at_point place).goes.given;
           };
           frozen = refl;
           sees = record { signals = λ place. (at_signal place).goes.fits; points = λ place. (at_point place).goes.fits; routes = sees.routes; holding = sym over };

@@ -150,6 +150,7 @@ module _ (now : ℕ) (input : Input) (table : Table) (ixl : IxlState) (given : G
     made = link_is;
     same = ap (λ (c : ClientState). c.peer) (lamp_after_client now first) ∙ clocked_peer now first.client;
     stays = record { server = refl; done = refl };
+    totals = λ readable as_given. as_given;
   } where
     link_is : (clocked_lamp now first).client.link ≡ settled now first.client.link
     link_is = ap (λ (c : ClientState). c.link) (lamp_after_client now first) ∙ clocked_link now first.client
@@ -165,6 +166,7 @@ module _ (now : ℕ) (input : Input) (table : Table) (ixl : IxlState) (given : G
     made = link_is;
     same = ap (λ (c : ClientState). c.peer) (switch_after_client now first) ∙ clocked_peer now first.client;
     stays = record { server = refl; taken = refl; reports = refl; driven = refl; position = refl };
+    totals = λ readable as_given. as_given;
   } where
     link_is : (clocked_switch now first).client.link ≡ settled now first.client.link
     link_is = ap (λ (c : ClientState). c.link) (switch_after_client now first) ∙ clocked_link now first.client

@@ -37,6 +37,9 @@ pub record Keeps (table : Table) (old new : Machine) : Type 0 where
   pub moves : MovesTo table old new
   pub signals : (place : ℕ) → SignalStays (old.signals place) (new.signals place)
   pub points : (place : ℕ) → PointStays (old.points place) (new.points place)
+  -- and nothing is given
+  pub aspects : (place : ℕ) → aspects_given (new.signals place) ≡ aspects_given (old.signals place)
+  pub given : (place : ℕ) → moves_given (new.points place) ≡ moves_given (old.points place)
 
 -- The interlocking makes no call until a later reading of its clock. Links close by the clock, quiet times end, and so does
 -- the hold.

@@ -27,6 +27,8 @@ use Rattle.simulator_rules_seen.specs.Nodes.{IsLastGiven, LampFits, openings}
 use Rattle.simulator_rules_seen.specs.Sees.{Given, IsClosedSince}
 use Rattle.simulator_rules_seen.specs.Step.{SignalStays}
 use Rattle.simulator_rules_seen.specs.Telegrams.{aspects_of}
+use Rattle.simulator_items.specs.Items.{aspects_in}
+use Rattle.simulator_rules_seen.specs.Totals.{IsReadable, KeepsAspects}
 use Rattle.simulator_rules_seen.proofs.Tests.{by_test}
 use Rattle.simulator_rules_seen.proofs.Phases.{Goes, shut_is_closed, stays_open, stays_up}
 use Rattle.simulator_rules_seen.proofs.Places.{inside_open, inside_start, open_inside}
@@ -91,6 +93,9 @@ module _ (now : ℕ) (input : Input) (table : Table) (ixl : IxlState) (given : G
       pub aspects : is_inside now lamp.client.link ≡ true → is_inside now done.client.link ≡ true → aspects_given (between.signals place) ≡ aspects_of commands
       pub last : is_inside now lamp.client.link ≡ true → is_inside now done.client.link ≡ true → done.client.link.given ≡ length (items_after now done.calls lamp.client.link items).given
           → is_outside done.client.stage ≡ false → IsLastGiven aspect number commands
+      -- where an open link is inside, as it is in a step
+      pub totals : (is_open done.client.link.phase ≡ true → is_inside now done.client.link ≡ true) →
+          KeepsAspects lamp.client.peer items (items_after now done.calls lamp.client.link items) (old.signals place) (between.signals place)
 
     -- the lamp that the signal had at the beginning
     pub first_lamp : (first current : Option LampState) (lamp : LampState) (before : Items) (calls : List LinkCall) (old new : MachineSignal) → current ≡ Some lamp →
@@ -222,6 +227,9 @@ module _ (now : ℕ) (input : Input) (table : Table) (ixl : IxlState) (given : G
             made = link_now ∙ made;
             same = ap (λ (c : ClientState). c.peer) (lamp_client aspect number done.client) ∙ it.stands.runs.same ∙ was.same;
             stays = record { server = goes.stays.server ∙ same_signal.server; done = goes.stays.done ∙ same_signal.done };
+            totals = λ readable as_given. goes.given
+                ∙ it.totals (open_inside now done.client.link facts.ends.alive) (subst IsReadable (sym was.same) readable) (was.totals readable as_given)
+                ∙ ap (λ (i : Items). aspects_in i.given) items_are;
           }
 
           Goal : ℕ → Type 0

@@ -30,7 +30,9 @@ use Rattle.simulator_rules_seen.specs.Facts.{AreCallsIn, FarEnds, PointFacts, Si
 use Rattle.simulator_rules_seen.specs.Link.{is_inside}
 use Rattle.simulator_rules_seen.specs.Nodes.{IsOfPoint, LampFits, SwitchFits}
 use Rattle.simulator_rules_seen.specs.Sees.{Given, IsClosedSince}
+use Rattle.simulator_items.specs.Items.{all_said, aspects_in, moves_in}
 use Rattle.simulator_rules_seen.specs.Step.{PointIsLeft, SignalIsLeft}
+use Rattle.simulator_rules_seen.specs.Totals.{KeepsAspects, KeepsMoves}
 use Rattle.simulator_rules_seen.specs.Telegrams.{AreHeard, positions_told}
 use Rattle.simulator_rules_seen.proofs.Places.{inside_start, open_inside}
 use Rattle.simulator_rules_seen.proofs.Calls.{ticking_goes}
@@ -67,6 +69,15 @@ switch_anew side moved client link down = ap (switch_after side moved) (anew_out
 none_told : (peer : PeerState) → [] ≡ positions_told peer []
 unfolding told_by_all
 none_told peer = refl
+
+-- a connection that was just begun has none
+none_aspects : [] ≡ aspects_in []
+unfolding all_said
+none_aspects = refl
+
+none_moves : 0 ≡ length (moves_in [])
+unfolding all_said
+none_moves = refl
 
 module _ (now : ℕ) (table : Table) (ixl : IxlState) (given : Given) (machine : Machine) (far : FarEnds now Tick ixl given machine) where
   -- ---- a signal
@@ -136,14 +147,15 @@ module _ (now : ℕ) (table : Table) (ixl : IxlState) (given : Given) (machine :
       begins = begins_where_opened now Tick first.client.peer calls start lamp.client.link was.are was.made
 
       comes : (b : Bool) → opens now between ≡ b → (arrived : MachineSignal) → LampFits now lamp_now (if b then no_items else items) arrived → (is_holding now ixl ≡ true → IsClosedSince ixl.created link) →
-          SignalIsLeft b (machine.signals place) arrived → LampBehind now Tick table ixl given machine first (given.signals place) behind lamp_now (machine.signals place) arrived
-      comes b is arrived fits held left = record {
+          SignalIsLeft b (machine.signals place) arrived → KeepsAspects first.client.peer (given.signals place) (if b then no_items else items) (machine.signals place) arrived → LampBehind now Tick table ixl given machine first (given.signals place) behind lamp_now (machine.signals place) arrived
+      comes b is arrived fits held left told = record {
         fits = subst (λ i. LampFits now lamp_now i arrived) (sym (items_are ∙ ap (λ b. if b then no_items else items) is)) fits;
         held = λ holds. subst (IsClosedSince ixl.created) (sym link_now) (held holds);
         are = inr (ticked, are, sym (append_assoc calls (Ticks ∷ []) (Opens ∷ [])), refl);
         made = link_now ∙ made;
         same = ap (λ (c : ClientState). c.peer) client_now ∙ fallen_peer (record lamp.client { link = link }) ∙ was.same;
         left = subst (λ b. SignalIsLeft b (machine.signals place) arrived) (sym (begins ∙ is)) left;
+        totals = λ readable as_given. told readable as_given ∙ ap (λ (i : Items). aspects_in i.given) (sym (items_are ∙ ap (λ b. if b then no_items else items) is));
       }
 
       Goal : Type 0
@@ -155,7 +167,8 @@ module _ (now : ℕ) (table : Table) (ixl : IxlState) (given : Given) (machine :
         may = goes.may;
         is = comes false none (signal_chained goes.moves new) goes.fits
             (λ holds. stays_closed ixl.created lamp.client.link link it.goes (was.held holds))
-            (record { server = goes.stays.server ∙ was.stays.server; done = goes.stays.done ∙ was.stays.done });
+            (record { server = goes.stays.server ∙ was.stays.server; done = goes.stays.done ∙ was.stays.done })
+            (λ readable as_given. goes.given ∙ was.totals readable as_given);
       }
         where
           it : TickedOn now lamp.client.link
@@ -185,7 +198,8 @@ module _ (now : ℕ) (table : Table) (ixl : IxlState) (given : Given) (machine :
         may = (facts.ends.quiet (down_at now between (opens_down now between some)), (refl, tt));
         is = comes true some _ fits
             (λ holds. absurd (cc (link_quiet now ixl holds between (stays_closed ixl.created lamp.client.link between (ticking_goes now lamp.client.link) (was.held holds)), opens_down now between some)))
-            (record { server = refl; done = refl });
+            (record { server = refl; done = refl })
+            (λ readable as_given. none_aspects);
       }
         where
           it : TickedAnew now lamp.client.link
@@ -278,14 +292,15 @@ module _ (now : ℕ) (table : Table) (ixl : IxlState) (given : Given) (machine :
       begins = begins_where_opened now Tick first.client.peer calls start switch.client.link was.are was.made
 
       comes : (b : Bool) → opens now between ≡ b → (arrived : MachinePoint) → SwitchFits now switch_now (if b then no_items else items) arrived → (is_holding now ixl ≡ true → IsClosedSince ixl.created link) →
-          PointIsLeft b (machine.points place) arrived → SwitchBehind now Tick table ixl given machine first (given.points place) behind switch_now (machine.points place) arrived
-      comes b is arrived fits held left = record {
+          PointIsLeft b (machine.points place) arrived → KeepsMoves first.client.peer (given.points place) (if b then no_items else items) (machine.points place) arrived → SwitchBehind now Tick table ixl given machine first (given.points place) behind switch_now (machine.points place) arrived
+      comes b is arrived fits held left told = record {
         fits = subst (λ i. SwitchFits now switch_now i arrived) (sym (items_are ∙ ap (λ b. if b then no_items else items) is)) fits;
         held = λ holds. subst (IsClosedSince ixl.created) (sym link_now) (held holds);
         are = inr (ticked, are, sym (append_assoc calls (Ticks ∷ []) (Opens ∷ [])), refl);
         made = link_now ∙ made;
         same = ap (λ (c : ClientState). c.peer) client_now ∙ peer_now ∙ was.same;
         left = subst (λ b. PointIsLeft b (machine.points place) arrived) (sym (begins ∙ is)) left;
+        totals = λ readable as_given. told readable as_given ∙ ap (λ (i : Items). length (moves_in i.given)) (sym (items_are ∙ ap (λ b. if b then no_items else items) is));
       }
 
       Goal : Type 0
@@ -297,7 +312,8 @@ module _ (now : ℕ) (table : Table) (ixl : IxlState) (given : Given) (machine :
         may = goes.may;
         is = comes false none (point_chained goes.moves new) goes.fits
             (λ holds. stays_closed ixl.created switch.client.link link it.goes (was.held holds))
-            (record { server = goes.stays.server ∙ was.stays.server; taken = goes.stays.taken ∙ was.stays.taken; reports = goes.stays.reports ∙ was.stays.reports; driven = goes.stays.driven ∙ was.stays.driven; position = goes.stays.position ∙ was.stays.position });
+            (record { server = goes.stays.server ∙ was.stays.server; taken = goes.stays.taken ∙ was.stays.taken; reports = goes.stays.reports ∙ was.stays.reports; driven = goes.stays.driven ∙ was.stays.driven; position = goes.stays.position ∙ was.stays.position })
+            (λ readable as_given. goes.given ∙ was.totals readable as_given);
       }
         where
           it : TickedOn now switch.client.link
@@ -330,7 +346,8 @@ module _ (now : ℕ) (table : Table) (ixl : IxlState) (given : Given) (machine :
         may = (facts.ends.quiet (down_at now between (opens_down now between some)), (refl, tt));
         is = comes true some _ fits
             (λ holds. absurd (cc (link_quiet now ixl holds between (stays_closed ixl.created switch.client.link between (ticking_goes now switch.client.link) (was.held holds)), opens_down now between some)))
-            (record { server = refl; taken = refl; reports = refl; driven = was.stays.driven; position = was.stays.position });
+            (record { server = refl; taken = refl; reports = refl; driven = was.stays.driven; position = was.stays.position })
+            (λ readable as_given. none_moves);
       }
         where
           it : TickedAnew now switch.client.link

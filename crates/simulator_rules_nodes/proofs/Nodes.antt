@@ -5,7 +5,7 @@ use Rattle.std.proofs.lemmas.Bool.{true≢false, false≢true}
 use Rattle.std.proofs.lemmas.List.{map-append}
 use Rattle.sci_telegram.specs.declared.message.Aspect.{Aspect as TelegramAspect}
 use Rattle.rasta_core.specs.Clock.{settled}
-use Rattle.rasta_core.specs.State.{is_up}
+use Rattle.rasta_core.specs.State.{is_open, is_up}
 use Rattle.ixl_client.specs.Client.{PeerState, is_outside, is_ready}
 use Rattle.ixl_client.specs.Part as client
 use Rattle.ixl_client.specs.Part.{LinkCall, begun}
@@ -27,6 +27,10 @@ use Rattle.simulator_rules_seen.specs.Facts.{FarEnds}
 use Rattle.simulator_rules_seen.specs.Link.{is_inside}
 use Rattle.simulator_rules_seen.specs.Sees.{Given}
 use Rattle.simulator_rules_seen.specs.Telegrams.{aspect_of, aspect_seen, aspects_of, given_by, item_of}
+use Rattle.simulator_items.specs.Items.{aspects_in, said_by}
+use Rattle.simulator_items.specs.Items.{aspects_of as said_aspects}
+use Rattle.simulator_rules_seen.specs.Totals.{IsReadable}
+use Rattle.simulator_rules_seen.proofs.Totals.{calls_say, datagram_calls, no_aspects, said_one, same_aspect}
 use Rattle.simulator_rules_seen.proofs.Places.{inside_open, open_inside}
 use Rattle.simulator_rules_seen.proofs.Clients.{Standing}
 use Rattle.simulator_rules_seen.proofs.Hearing.{hears}
@@ -72,6 +76,11 @@ ready_inside stage.AwaitsStart ready = refl
 ready_inside (stage.AwaitsStatus left) ready = refl
 ready_inside stage.Completed ready = refl
 ready_inside stage.AwaitsReport ready = refl
+
+-- where what is open is inside, what isn't inside is shut
+pub shut_not_open : {inside : Bool} {opened : Bool} (b : Bool) → opened ≡ b → (opened ≡ true → inside ≡ true) → inside ≡ false → opened ≡ false
+shut_not_open true e alive shut = absurd (true≢false (sym (alive e) ∙ shut))
+shut_not_open false e alive shut = e
 
 module _ (now : ℕ) (input : Input) (table : Table) (ixl : IxlState) (given : Given) (machine : Machine) (far : FarEnds now input ixl given machine)
     (chain : (machine : Machine) (place : ℕ) (moves : List SignalMove) → SignalMayChain moves (machine.signals place)
@@ -126,6 +135,8 @@ module _ (now : ℕ) (input : Input) (table : Table) (ixl : IxlState) (given : G
         client = refl;
         aspects = λ inside still. was.fits.aspects inside;
         last = λ inside still counted risen. was.fits.last inside;
+        totals = λ alive readable as_given. as_given ∙ sym (calls_say said_aspects lamp.client.peer (no_aspects lamp.client.peer readable) now done.calls lamp.client.link
+            (items_after now (calls_at (Signal place) part.calls) (settled now first.client.link) (given.signals place)) (datagram_calls now bytes lamp.client part.outbox));
       } where
         heard : Standing now input lamp.client.link (items_after now (calls_at (Signal place) part.calls) (settled now first.client.link) (given.signals place)) lamp.client.peer was.fits.commands false 0 done
             × (is_outside done.client.stage ≡ not (is_up done.client.link.phase))
@@ -175,9 +186,9 @@ module _ (now : ℕ) (input : Input) (table : Table) (ixl : IxlState) (given : G
     here : between.signals place ≡ aspect_given (aspect_seen aspect) (new.signals place)
     here = at_here place (aspect_given (aspect_seen aspect) (new.signals place)) new.signals
 
-    accepted : (first : LampState) → slice_get ixl.lamps place ≡ Some first → Was first →
+    accepted : is_inside now done.client.link ≡ true → (first : LampState) → slice_get ixl.lamps place ≡ Some first → Was first →
         NextLamp now input table ixl given machine far chain onward place lamp (items first) part new between done (Some aspect) done.client.link.given
-    accepted first is_first was = record {
+    accepted arrives first is_first was = record {
       commands = was.fits.commands ++ commands.Indicate aspect ∷ [];
       stands = (sent first is_first was).stands;
       outside = (sent first is_first was).outside;
@@ -196,7 +207,17 @@ module _ (now : ℕ) (input : Input) (table : Table) (ixl : IxlState) (given : G
         counted ∙ ap length ((sent first is_first was).stands.given (inside_open now done.client.link still))
             ∙ given_length lamp.client.peer done.client.stage (was.fits.commands ++ commands.Indicate aspect ∷ []) (still_ready first is_first was still risen),
       );
+      totals = λ alive readable as_given. ap aspects_given here ∙ sym (append_assoc (new.signals place).done (new.signals place).flight (aspect_seen aspect ∷ []))
+          ∙ ap (λ list. list ++ aspect_seen aspect ∷ []) as_given ∙ sym (one_more first is_first was readable);
     } where
+      one_more : (first : LampState) (is_first : slice_get ixl.lamps place ≡ Some first) (was : Was first) → IsReadable lamp.client.peer →
+          aspects_in (items_after now done.calls lamp.client.link (items first)).given ≡ aspects_in (items first).given ++ aspect_seen aspect ∷ []
+      one_more first is_first was readable =
+          ap aspects_in ((sent first is_first was).more (inside_open now done.client.link arrives))
+          ∙ said_one said_aspects (items first).given (item_of lamp.client.peer (message_of (commands.Indicate aspect)))
+          ∙ ap (λ read. aspects_in (items first).given ++ said_by said_aspects read) (readable.commands (commands.Indicate aspect))
+          ∙ ap (λ one. aspects_in (items first).given ++ one ∷ []) (same_aspect aspect)
+
       still_ready : (first : LampState) (is_first : slice_get ixl.lamps place ≡ Some first) (was : Was first) → is_inside now done.client.link ≡ true → is_outside done.client.stage ≡ false → is_ready done.client.stage ≡ true
       still_ready first is_first was still risen = cases (is_ready done.client.stage) refl where
         cases : (b : Bool) → is_ready done.client.stage ≡ b → is_ready done.client.stage ≡ true
@@ -219,8 +240,9 @@ module _ (now : ℕ) (input : Input) (table : Table) (ixl : IxlState) (given : G
       client = refl;
       aspects = λ inside still. absurd (true≢false (sym still ∙ shut));
       last = λ inside still counted risen. absurd (true≢false (sym still ∙ shut));
+      totals = λ alive readable as_given. as_given ∙ ap aspects_in (sym ((sent first is_first was).refused (shut_not_open (is_open done.client.link.phase) refl alive shut)));
     }
 
     cases : (b : Bool) → is_inside now done.client.link ≡ b → On (with_lamp place (lamp_after (Some aspect) done.client.link.given done.client) (noted (Signal place) done part))
-    cases true e = lamp_next now input table ixl given machine far chain onward place lamp part new between done (Some aspect) done.client.link.given during is accepted
+    cases true e = lamp_next now input table ixl given machine far chain onward place lamp part new between done (Some aspect) done.client.link.given during is (accepted e)
     cases false e = lamp_next now input table ixl given machine far chain onward place lamp part new new done (Some aspect) done.client.link.given during is (refused e)

@@ -25,6 +25,7 @@ pub record SignalGoes (Fits : Signal → Type 0) (old : Signal) : Type 0 where
   pub may : SignalMayChain moves old
   pub fits : Fits (signal_chained moves old)
   pub stays : SignalStays old (signal_chained moves old)
+  pub given : aspects_given (signal_chained moves old) ≡ aspects_given old
 
 start_isnt_up : (c : Client) → c ≡ Start → c ≡ Up → ⊥
 start_isnt_up c one other = cc (one, other)
@@ -43,6 +44,7 @@ arrives now lamp items commands signal client facts aspects last start =
       may = (facts.ends.up is, (facts.confirmed is, tt));
       fits = record { commands = commands; client = client; place = sym at; aspects = aspects; last = last; confirmed = λ e. refl };
       stays = record { server = refl; done = refl };
+      given = refl;
     }
 
     asks : is_inside now lamp.client.link ≡ true → is_up lamp.client.link.phase ≡ false → client_at now lamp.client.link ≡ Start → SignalGoes (LampFits now lamp items) signal
@@ -51,6 +53,7 @@ arrives now lamp items commands signal client facts aspects last start =
       may = tt;
       fits = record { commands = commands; client = client; place = start inside is ∙ sym at; aspects = aspects; last = last; confirmed = λ e. absurd (start_isnt_up signal.link.client (start inside is) e) };
       stays = record { server = refl; done = refl };
+      given = refl;
     }
 
     quiet : is_inside now lamp.client.link ≡ false → client_at now lamp.client.link ≡ Quiet → SignalGoes (LampFits now lamp items) signal
@@ -59,6 +62,7 @@ arrives now lamp items commands signal client facts aspects last start =
       may = (tt, tt);
       fits = record { commands = commands; client = client; place = sym at; aspects = aspects; last = last; confirmed = λ e. absurd (cc (e)) };
       stays = record { server = refl; done = refl };
+      given = refl;
     }
 
     down : is_inside now lamp.client.link ≡ false → state_at now lamp.client.link ≡ state.Down → client_at now lamp.client.link ≡ Down → SignalGoes (LampFits now lamp items) signal
@@ -67,6 +71,7 @@ arrives now lamp items commands signal client facts aspects last start =
       may = (facts.ends.quiet is, tt);
       fits = record { commands = commands; client = client; place = sym at; aspects = aspects; last = last; confirmed = λ e. absurd (cc (e)) };
       stays = record { server = refl; done = refl };
+      given = refl;
     }
 
 -- ---- points
@@ -76,6 +81,7 @@ pub record PointGoes (Fits : Point → Type 0) (old : Point) : Type 0 where
   pub may : PointMayChain moves old
   pub fits : Fits (point_chained moves old)
   pub stays : PointStays old (point_chained moves old)
+  pub given : moves_given (point_chained moves old) ≡ moves_given old
 
 pub point_arrives : (now : ℕ) (switch : SwitchState) (items : Items) (commands : List Command) (point : Point) → ClientFits now switch.client items commands → IsOfPoint switch.client.peer →
     LinkFacts now switch.client.link items point.link → (is_inside now switch.client.link ≡ true → moves_given point ≡ length commands) →
@@ -92,6 +98,7 @@ point_arrives now switch items commands point client peer facts moves told heard
       may = (facts.up is, tt);
       fits = record { commands = commands; client = client; peer = peer; place = sym at; moves = moves; told = told; heard = heard; last = last };
       stays = record { server = refl; taken = refl; reports = refl; driven = refl; position = refl };
+      given = refl;
     }
 
     asks : is_inside now switch.client.link ≡ true → is_up switch.client.link.phase ≡ false → client_at now switch.client.link ≡ Start → PointGoes (SwitchFits now switch items) point
@@ -100,6 +107,7 @@ point_arrives now switch items commands point client peer facts moves told heard
       may = tt;
       fits = record { commands = commands; client = client; peer = peer; place = start inside is ∙ sym at; moves = moves; told = told; heard = heard; last = last };
       stays = record { server = refl; taken = refl; reports = refl; driven = refl; position = refl };
+      given = refl;
     }
 
     quiet : is_inside now switch.client.link ≡ false → client_at now switch.client.link ≡ Quiet → PointGoes (SwitchFits now switch items) point
@@ -108,6 +116,7 @@ point_arrives now switch items commands point client peer facts moves told heard
       may = (tt, tt);
       fits = record { commands = commands; client = client; peer = peer; place = sym at; moves = moves; told = told; heard = heard; last = last };
       stays = record { server = refl; taken = refl; reports = refl; driven = refl; position = refl };
+      given = refl;
     }
 
     down : is_inside now switch.client.link ≡ false → state_at now switch.client.link ≡ state.Down → client_at now switch.client.link ≡ Down → PointGoes (SwitchFits now switch items) point
@@ -116,6 +125,7 @@ point_arrives now switch items commands point client peer facts moves told heard
       may = (facts.quiet is, tt);
       fits = record { commands = commands; client = client; peer = peer; place = sym at; moves = moves; told = told; heard = heard; last = last };
       stays = record { server = refl; taken = refl; reports = refl; driven = refl; position = refl };
+      given = refl;
     }
 
 -- the next reports are heard

@@ -9,7 +9,7 @@ use Rattle.rasta_core.specs.State.{LinkState, is_open, is_up}
 use Rattle.ixl_client.specs.Client.{PeerState, is_outside, is_ready}
 use Rattle.ixl_client.specs.Part as client
 use Rattle.ixl_client.specs.Part.{LinkCall, Opens, Ticks, Closes, Sends, Receives, begun, call_made}
-use Rattle.ixl_client.specs.Step.{commanding, hearing, stage_after_command}
+use Rattle.ixl_client.specs.Step.{commanding, hearing, message_of, stage_after_command}
 use Rattle.ixl_client.specs.declared.command.Command.TheVariants as commands
 use Rattle.ixl_client.specs.declared.stage.Stage.TheVariants as stage
 use Rattle.ixl_rules.specs.Part.{Point, Part, all_below, giving_move, noted, switch_after, with_switch}
@@ -24,7 +24,10 @@ use Rattle.simulator_rules_seen.specs.Calls.{Items, calls_at, items_after, items
 use Rattle.simulator_rules_seen.specs.Facts.{AreCallsIn, FarEnds}
 use Rattle.simulator_rules_seen.specs.Link.{is_inside}
 use Rattle.simulator_rules_seen.specs.Sees.{Given}
-use Rattle.simulator_rules_seen.specs.Telegrams.{AreHeard, position_seen, position_told, positions_told}
+use Rattle.simulator_rules_seen.specs.Telegrams.{AreHeard, item_of, position_seen, position_told, positions_told}
+use Rattle.simulator_items.specs.Items.{moves_in, moves_of, said_by, side_seen}
+use Rattle.simulator_rules_seen.specs.Totals.{IsReadable}
+use Rattle.simulator_rules_seen.proofs.Totals.{calls_say, datagram_calls, no_moves, said_one}
 use Rattle.simulator_rules_seen.proofs.Tests.{by_test}
 use Rattle.simulator_rules_seen.proofs.Places.{inside_open, open_inside}
 use Rattle.simulator_rules_seen.proofs.Clients.{Standing, calls_go, calls_then, items_then, link_then}
@@ -35,7 +38,7 @@ use Rattle.simulator_rules_seen.proofs.Fitting.{Commanded, begins, commands_on}
 use Rattle.simulator_rules_nodes.specs.During.{During, Leads, SwitchDuring}
 use Rattle.simulator_rules_nodes.proofs.Switching.{NextSwitch, first_switch, switch_facts, switch_next, switch_next_from}
 use Rattle.simulator_rules_nodes.proofs.Signals.{all_hear, heard_all, may_hear}
-use Rattle.simulator_rules_nodes.proofs.Nodes.{last_one, length_one, length_same, stays_so}
+use Rattle.simulator_rules_nodes.proofs.Nodes.{last_one, length_one, length_same, shut_not_open, stays_so}
 use Rattle.simulator_rules_seen.proofs.Changes.{at_here, at_other}
 use Rattle.ixl_client.specs.Made.{ActsOn, AreOwn, MakesAfterReceipt, told_by, told_by_all}
 use Rattle.sci_telegram.specs.Reading.{reading}
@@ -153,6 +156,11 @@ module _ (now : ℕ) (input : Input) (table : Table) (ixl : IxlState) (given : G
       items_are : items_after now behind begins_at (given.points place) ≡ items_after now done.calls switch.client.link items
       items_are = items_then now (calls_at (Point place) part.calls) done.calls begins_at (given.points place) ∙ ap (λ l. items_after now done.calls l items) (sym was.made)
 
+      -- a datagram gives no move
+      says_nothing : IsReadable switch.client.peer → length (moves_in (items_after now done.calls switch.client.link items).given) ≡ length (moves_in items.given)
+      says_nothing readable = ap length (calls_say moves_of switch.client.peer (no_moves switch.client.peer readable) now done.calls switch.client.link items
+          (datagram_calls now bytes switch.client part.outbox))
+
       abbrev told_now : List Position
       told_now = positions_told switch.client.peer received
 
@@ -215,6 +223,7 @@ module _ (now : ℕ) (input : Input) (table : Table) (ixl : IxlState) (given : G
           heard = λ is still. subst (λ n. AreHeard done.client.stage n (length was.fits.commands)) (sym length_is) (heard.0.heard refl opened);
           last = λ is still risen. ap (λ (p : MachinePoint). last_of None p.heard) here ∙ ap (λ list. last_of None (point_now.heard ++ list)) (told_is opened)
               ∙ side_last done.heard switch.side point_now.heard (was.fits.last inside);
+          totals = λ alive readable as_given. ap moves_given here ∙ as_given ∙ sym (says_nothing readable);
         } where
           length_is : length (between.points place).heard ≡ length point_now.heard + length done.heard
           length_is = ap (λ (p : MachinePoint). length p.heard) here ∙ length_both point_now.heard told_now ∙ ap (λ n. length point_now.heard + n) (ap length (told_is opened) ∙ length_same position_told done.heard)
@@ -237,6 +246,7 @@ module _ (now : ℕ) (input : Input) (table : Table) (ixl : IxlState) (given : G
         told = λ is still. absurd (true≢false (sym still ∙ shut));
         heard = λ is still. absurd (true≢false (sym still ∙ shut));
         last = λ is still risen. absurd (true≢false (sym still ∙ shut));
+        totals = λ alive readable as_given. as_given ∙ sym (says_nothing readable);
       }
 
   -- ---- a move is given
@@ -292,8 +302,16 @@ module _ (now : ℕ) (input : Input) (table : Table) (ixl : IxlState) (given : G
       none_told : moved.heard ≡ []
       none_told = sent.silent
 
-      goes_on : NextSwitch now input table ixl given machine far chain onward place switch (items_so_far part place first) part new now_given moved switch.side
-      goes_on = record {
+      one_told : is_inside now moved.client.link ≡ true → IsReadable switch.client.peer →
+          length (moves_in (items_after now moved.calls switch.client.link (items_so_far part place first)).given) ≡ length (moves_in (items_so_far part place first).given) + 1
+      one_told still readable =
+          ap (λ list. length (moves_in list)) (sent.more (inside_open now moved.client.link still))
+          ∙ ap length (said_one moves_of (items_so_far part place first).given (item_of switch.client.peer (message_of (commands.Move side)))
+          ∙ ap (λ read. moves_in (items_so_far part place first).given ++ said_by moves_of read) (readable.commands (commands.Move side)))
+          ∙ length_one (moves_in (items_so_far part place first).given) (side_seen side)
+
+      goes_on : is_inside now moved.client.link ≡ true → NextSwitch now input table ixl given machine far chain onward place switch (items_so_far part place first) part new now_given moved switch.side
+      goes_on arrives = record {
         commands = was.fits.commands ++ commands.Move side ∷ [];
         counted = length (new.points place).heard;
         stands = sent.stands;
@@ -318,6 +336,7 @@ module _ (now : ℕ) (input : Input) (table : Table) (ixl : IxlState) (given : G
             (ap (λ (list : List Indication). length (new.points place).heard + length list) none_told ∙ plus_none (length (new.points place).heard) ∙ sym (ap (λ (p : MachinePoint). length p.heard) given_here))
             (sent.stands.heard refl (inside_open now moved.client.link still));
         last = λ is still risen. ap (λ (p : MachinePoint). last_of None p.heard) given_here ∙ was.fits.last inside;
+        totals = λ alive readable as_given. ap moves_given given_here ∙ given_more (new.points place).taken (new.points place).flight ∙ ap (λ n. n + 1) as_given ∙ sym (one_told arrives readable);
       }
 
       closes : is_inside now moved.client.link ≡ false → NextSwitch now input table ixl given machine far chain onward place switch (items_so_far part place first) part new new moved switch.side
@@ -338,12 +357,13 @@ module _ (now : ℕ) (input : Input) (table : Table) (ixl : IxlState) (given : G
         told = λ is still. absurd (true≢false (sym still ∙ shut));
         heard = λ is still. absurd (true≢false (sym still ∙ shut));
         last = λ is still risen. absurd (true≢false (sym still ∙ shut));
+        totals = λ alive readable as_given. as_given ∙ ap (λ list. length (moves_in list)) (sym (sent.refused (shut_not_open (is_open moved.client.link.phase) refl alive shut)));
       }
 
     pub move_given_on : On (giving_move now place side part)
     move_given_on = subst On (sym (giving_move_is place side part switch is)) (cases (is_inside now moved.client.link) refl) where
       cases : (b : Bool) → is_inside now moved.client.link ≡ b → On (with_switch place (switch_after switch.side (all_below (length part.ixl.routes)) moved.client) (noted (Point place) moved part))
-      cases true e = switch_next now input table ixl given machine far chain onward place switch part new now_given moved switch.side (all_below (length part.ixl.routes)) during is goes_on
+      cases true e = switch_next now input table ixl given machine far chain onward place switch part new now_given moved switch.side (all_below (length part.ixl.routes)) during is (λ first is_first was. goes_on first is_first was e)
       cases false e = switch_next now input table ixl given machine far chain onward place switch part new new moved switch.side (all_below (length part.ixl.routes)) during is (λ first is_first was. closes first is_first was e)
 
   -- ---- a datagram

@@ -6,7 +6,7 @@ use Rattle.std.specs.FinSet.{empty}
 use Rattle.bit_row.specs.Places.{Places}
 use Rattle.sci_telegram.specs.declared.message.Side.{Side as TelegramSide}
 use Rattle.rasta_core.specs.Clock.{settled}
-use Rattle.rasta_core.specs.State.{LinkState, is_up}
+use Rattle.rasta_core.specs.State.{LinkState, is_open, is_up}
 use Rattle.ixl_client.specs.Client.{ClientState, PeerState, is_outside}
 use Rattle.ixl_client.specs.declared.stage.Stage.{Stage}
 use Rattle.ixl_client.specs.declared.stage.Stage.TheVariants as stage
@@ -31,6 +31,8 @@ use Rattle.simulator_rules_seen.specs.Nodes.{IsOfPoint, SwitchFits}
 use Rattle.simulator_rules_seen.specs.Sees.{Given, IsClosedSince}
 use Rattle.simulator_rules_seen.specs.Step.{PointStays}
 use Rattle.simulator_rules_seen.specs.Telegrams.{AreHeard, position_seen, positions_told}
+use Rattle.simulator_items.specs.Items.{moves_in}
+use Rattle.simulator_rules_seen.specs.Totals.{IsReadable, KeepsMoves}
 use Rattle.simulator_rules_seen.proofs.Tests.{by_test}
 use Rattle.simulator_rules_seen.proofs.Phases.{Goes, stays_open, stays_up}
 use Rattle.simulator_rules_seen.proofs.Places.{inside_open, inside_start, open_inside}
@@ -95,6 +97,9 @@ module _ (now : ℕ) (input : Input) (table : Table) (ixl : IxlState) (given : G
       pub told : is_inside now switch.client.link ≡ true → is_inside now done.client.link ≡ true → (between.points place).heard ≡ positions_told switch.client.peer (items_after now done.calls switch.client.link items).taken
       pub heard : is_inside now switch.client.link ≡ true → is_inside now done.client.link ≡ true → AreHeard done.client.stage (length (between.points place).heard) (length commands)
       pub last : is_inside now switch.client.link ≡ true → is_inside now done.client.link ≡ true → is_outside done.client.stage ≡ false → last_of None (between.points place).heard ≡ position_seen side
+      -- where an open link is inside, as it is in a step
+      pub totals : (is_open done.client.link.phase ≡ true → is_inside now done.client.link ≡ true) →
+          KeepsMoves switch.client.peer items (items_after now done.calls switch.client.link items) (old.points place) (between.points place)
 
     -- the switch that the signal had at the beginning
     pub first_switch : (first current : Option SwitchState) (switch : SwitchState) (before : Items) (calls : List LinkCall) (old new : MachinePoint) → current ≡ Some switch →
@@ -224,6 +229,9 @@ module _ (now : ℕ) (input : Input) (table : Table) (ixl : IxlState) (given : G
         made = link_now ∙ made;
         same = ap (λ (c : ClientState). c.peer) (switch_client side moved done.client) ∙ it.stands.runs.same ∙ was.same;
         stays = record { server = goes.stays.server ∙ same_point.server; taken = goes.stays.taken ∙ same_point.taken; reports = goes.stays.reports ∙ same_point.reports; driven = goes.stays.driven ∙ same_point.driven; position = goes.stays.position ∙ same_point.position };
+        totals = λ readable as_given. goes.given
+            ∙ it.totals (open_inside now done.client.link facts.ends.alive) (subst IsReadable (sym was.same) readable) (was.totals readable as_given)
+            ∙ ap (λ (i : Items). length (moves_in i.given)) items_are;
       }
 
       Goal : ℕ → Type 0

@@ -56,6 +56,7 @@ module _ (now : ℕ) (input : Input) (table : Table) (ixl : IxlState) (given : G
     made = is.made;
     same = is.same;
     left = subst (λ b. SignalIsLeft b old new) (sym (none_begins now input first.client.peer calls (settled now first.client.link) is.are)) (record { server = is.stays.server; done = is.stays.done });
+    totals = is.totals;
   }
 
   switch_is_behind : (first : Option SwitchState) (before : Items) (calls : List LinkCall) (switch : Option SwitchState) (old new : MachinePoint) →
@@ -71,6 +72,7 @@ module _ (now : ℕ) (input : Input) (table : Table) (ixl : IxlState) (given : G
     same = is.same;
     left = subst (λ b. PointIsLeft b old new) (sym (none_begins now input first.client.peer calls (settled now first.client.link) is.are))
         (record { server = is.stays.server; taken = is.stays.taken; reports = is.stays.reports; driven = is.stays.driven; position = is.stays.position });
+    totals = is.totals;
   }
 
   pub during_is_behind : (part : Part) (new : Machine) → During now input table ixl given machine part new → Behind now input table ixl given machine part new

@@ -19,6 +19,7 @@ use Rattle.simulator_rules_seen.specs.Facts.{AreCallsIn}
 use Rattle.simulator_rules_seen.specs.Nodes.{LampFits, SwitchFits, route_seen}
 use Rattle.simulator_rules_seen.specs.Sees.{Given, IsClosedSince}
 use Rattle.simulator_rules_seen.specs.Step.{PointIsLeft, SignalIsLeft}
+use Rattle.simulator_rules_seen.specs.Totals.{KeepsAspects, KeepsMoves}
 
 -- The calls that a step with this input makes of one link: a tick ends with the one that opens it where it is down.
 abbrev pub AreCallsOf : Input → PeerState → List LinkCall → Type 0
@@ -55,6 +56,7 @@ module _ (now : ℕ) (input : Input) (table : Table) (ixl : IxlState) (given : G
     pub made : lamp.client.link ≡ link_after now calls (settled now first.client.link)
     pub same : lamp.client.peer ≡ first.client.peer
     pub left : SignalIsLeft (has_begun now calls (settled now first.client.link)) old new
+    pub totals : KeepsAspects first.client.peer before (items_after now calls (settled now first.client.link) before) old new
 
   abbrev pub LampIsBehind : Option LampState → Items → List LinkCall → Option LampState → MachineSignal → MachineSignal → Type 0
   LampIsBehind None before calls None old new = new ≡ old
@@ -70,6 +72,7 @@ module _ (now : ℕ) (input : Input) (table : Table) (ixl : IxlState) (given : G
     pub made : switch.client.link ≡ link_after now calls (settled now first.client.link)
     pub same : switch.client.peer ≡ first.client.peer
     pub left : PointIsLeft (has_begun now calls (settled now first.client.link)) old new
+    pub totals : KeepsMoves first.client.peer before (items_after now calls (settled now first.client.link) before) old new
 
   abbrev pub SwitchIsBehind : Option SwitchState → Items → List LinkCall → Option SwitchState → MachinePoint → MachinePoint → Type 0
   SwitchIsBehind None before calls None old new = new ≡ old

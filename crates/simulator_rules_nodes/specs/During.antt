@@ -22,6 +22,7 @@ use Rattle.simulator_rules_seen.specs.Facts.{AreCallsIn}
 use Rattle.simulator_rules_seen.specs.Nodes.{LampFits, SwitchFits, route_seen}
 use Rattle.simulator_rules_seen.specs.Sees.{Given, IsClosedSince}
 use Rattle.simulator_rules_seen.specs.Step.{PointStays, SignalStays}
+use Rattle.simulator_rules_seen.specs.Totals.{KeepsAspects, KeepsMoves}
 
 -- A step up to its rules: the clock, the input, what routes with authority watch, and the six rules. On a tick what each
 -- link does by itself comes after them.
@@ -39,6 +40,7 @@ module _ (now : ℕ) (input : Input) (table : Table) (ixl : IxlState) (given : G
     pub made : lamp.client.link ≡ link_after now calls (settled now first.client.link)
     pub same : lamp.client.peer ≡ first.client.peer
     pub stays : SignalStays old new
+    pub totals : KeepsAspects first.client.peer before (items_after now calls (settled now first.client.link) before) old new
 
   abbrev pub LampSoFar : Option LampState → Items → List LinkCall → Option LampState → MachineSignal → MachineSignal → Type 0
   LampSoFar None before calls None old new = new ≡ old
@@ -53,6 +55,7 @@ module _ (now : ℕ) (input : Input) (table : Table) (ixl : IxlState) (given : G
     pub made : switch.client.link ≡ link_after now calls (settled now first.client.link)
     pub same : switch.client.peer ≡ first.client.peer
     pub stays : PointStays old new
+    pub totals : KeepsMoves first.client.peer before (items_after now calls (settled now first.client.link) before) old new
 
   abbrev pub SwitchSoFar : Option SwitchState → Items → List LinkCall → Option SwitchState → MachinePoint → MachinePoint → Type 0
   SwitchSoFar None before calls None old new = new ≡ old

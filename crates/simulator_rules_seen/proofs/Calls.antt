@@ -1,16 +1,17 @@
 -- What each call of a client's link leaves.
 use Rattle.std.proofs.Common.{◌≡◌, ℕ, Bool, true, false, List, length, refl, sym, ◌∙◌}
-use Rattle.std.specs.Prelude.{◌&&◌, ◌-◌, nat_lt, nat_le, is_ok}
-use Rattle.std.proofs.lemmas.Bool.{true≢false}
+use Rattle.std.specs.Prelude.{◌&&◌, ◌-◌, nat_lt, nat_le, is_ok, Result, Ok, Err}
+use Rattle.std.proofs.lemmas.Bool.{true≢false, false≢true}
 use Rattle.rasta_core.specs.Calls.{acceptance, answer_to_send, closing_by, sending_item, ticking}
 use Rattle.rasta_core.specs.Parameters.{heartbeat_interval, window_size}
 use Rattle.rasta_core.specs.Sending.{Step, beating, closed, closing, entered, giving, is_told, sending, silent, telling}
 use Rattle.rasta_core.specs.State.{LinkState, is_client, is_open, is_up}
+use Rattle.rasta_core.specs.fault.SendFault.{SendFault}
 use Rattle.rasta_core.specs.reason.Reason.{Reason}
 use Rattle.ixl_client.specs.Part.{LinkCall, Opens, Ticks, Closes, Sends, Receives, call_made}
 use Rattle.ixl_client.specs.Step.{is_refused_by_window}
 use Rattle.simulator_rules_seen.proofs.Tests.{by_test}
-use Rattle.simulator_rules_seen.proofs.Phases.{Goes, goes_same, goes_closed, goes_then, stays_open, stays_up}
+use Rattle.simulator_rules_seen.proofs.Phases.{Goes, goes_same, goes_closed, goes_then, stays_open, stays_up, up_is_open}
 use Rattle.simulator_rules_seen.proofs.Receipts.{entered_goes, receiving_goes, telling_goes}
 
 beating_goes : (link : LinkState) → Goes link (beating link).link
@@ -91,3 +92,27 @@ accepted_where_open now item link up none inside = cases (is_ok (acceptance begu
   cases : (test : Bool) → is_ok (acceptance begun) ≡ test → is_ok (acceptance begun) ≡ true
   cases true is = is
   cases false is = refused_or_accepted begun (stays_up link.phase begun.phase (entered_goes now link).may up opened) none
+
+-- where it is accepted the link is up, and stays so
+accepted_is_up : (link : LinkState) → is_ok (acceptance link) ≡ true → is_up link.phase ≡ true
+unfolding acceptance
+accepted_is_up link = by_test (λ (answer : Result Unit SendFault). is_ok answer ≡ true → is_up link.phase ≡ true) (is_up link.phase) _ _ (λ e. λ is. e) (λ e. λ is. absurd (false≢true is))
+
+pub refused_where_shut : (now : ℕ) (item : List ℕ) (link : LinkState) → is_open (sending_item now item link).link.phase ≡ false → is_ok (answer_to_send now link) ≡ false
+unfolding answer_to_send sending_item giving sending
+refused_where_shut now item link shut = cases (is_ok (acceptance begun)) refl where
+  begun : LinkState
+  begun = (entered now link).link
+
+  opened : is_ok (acceptance begun) ≡ true → is_open (sending_item now item link).link.phase ≡ true
+  opened is = by_test (λ (step : Step). is_open step.link.phase ≡ true) (is_ok (acceptance begun)) (giving item begun) (silent begun)
+      (λ e. up_is_open begun.phase (accepted_is_up begun is)) (λ e. absurd (true≢false (sym is ∙ e)))
+
+  cases : (test : Bool) → is_ok (acceptance begun) ≡ test → is_ok (acceptance begun) ≡ false
+  cases true is = absurd (true≢false (sym (opened is) ∙ shut))
+  cases false is = is
+
+-- what the window refuses isn't accepted
+pub window_refuses : (answer : Result Unit SendFault) → is_refused_by_window answer ≡ true → is_ok answer ≡ false
+window_refuses (Ok done) is = absurd (false≢true is)
+window_refuses (Err fault) is = refl

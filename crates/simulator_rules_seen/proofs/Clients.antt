@@ -20,7 +20,7 @@ use Rattle.simulator_rules_seen.specs.Facts.{AreCallsIn, IsCallIn}
 use Rattle.simulator_rules_seen.specs.Telegrams.{AreHeard, given_by, item_of}
 use Rattle.simulator_rules_seen.proofs.Tests.{by_test}
 use Rattle.simulator_rules_seen.proofs.Phases.{Goes, goes_itself, goes_then, stays_open, stays_up}
-use Rattle.simulator_rules_seen.proofs.Calls.{IsNoOpening, accepted_where_open, call_goes, closed_by}
+use Rattle.simulator_rules_seen.proofs.Calls.{IsNoOpening, accepted_where_open, call_goes, closed_by, refused_where_shut, window_refuses}
 
 -- ---- lists of calls
 
@@ -154,6 +154,7 @@ module _ (now : ℕ) (input : Input) (start : LinkState) (items : Items) (peer :
     pub stage : after.client.stage ≡ part.client.stage
     pub heard : after.heard ≡ part.heard
     pub given : is_open after.client.link.phase ≡ true → (items_behind after.calls).given ≡ (items_behind part.calls).given ++ item_of peer told ∷ []
+    pub refused : is_open after.client.link.phase ≡ false → (items_behind after.calls).given ≡ (items_behind part.calls).given
     pub taken : (items_behind after.calls).taken ≡ (items_behind part.calls).taken
     pub up : is_open after.client.link.phase ≡ true → is_up after.client.link.phase ≡ true
 
@@ -171,6 +172,14 @@ module _ (now : ℕ) (input : Input) (start : LinkState) (items : Items) (peer :
   send_given : (item : List ℕ) (link : LinkState) (before : Items) → is_ok (answer_to_send now link) ≡ true → (items_by now (Sends item) link before).given ≡ before.given ++ item ∷ []
   unfolding items_by
   send_given item link before ok = rw ok refl
+
+  send_refused : (item : List ℕ) (link : LinkState) (before : Items) → is_ok (answer_to_send now link) ≡ false → (items_by now (Sends item) link before).given ≡ before.given
+  unfolding items_by
+  send_refused item link before none = rw none refl
+
+  close_gives : (why : Reason) (link : LinkState) (before : Items) → (items_by now (Closes why) link before).given ≡ before.given
+  unfolding items_by
+  close_gives why link before = refl
 
   pub posts : (told : Message) (part : Part) → Running part → is_up part.client.link.phase ≡ true → Posted told part (posting now told part)
   unfolding posting calling
@@ -192,12 +201,17 @@ module _ (now : ℕ) (input : Input) (start : LinkState) (items : Items) (peer :
       sent_taken : (items_behind sent.calls).taken ≡ (items_behind part.calls).taken
       sent_taken = ap (λ (i : Items). i.taken) (items_on (Sends item) part runs) ∙ send_taken item part.client.link (items_behind part.calls)
 
+      sent_nothing : is_ok (answer_to_send now part.client.link) ≡ false → (items_behind sent.calls).given ≡ (items_behind part.calls).given
+      sent_nothing none = ap (λ (i : Items). i.given) (items_on (Sends item) part runs) ∙ send_refused item part.client.link (items_behind part.calls) none
+
       refused : is_refused_by_window (answer_to_send now part.client.link) ≡ true → Posted told part (calling now (Closes reason.Window) sent)
       refused e = record {
         runs = runs_on (Closes reason.Window) sent tt ran;
         stage = refl;
         heard = refl;
         given = λ is. absurd (true≢false (sym is ∙ closes_shut reason.Window sent));
+        refused = λ is. ap (λ (i : Items). i.given) (items_on (Closes reason.Window) sent ran) ∙ close_gives reason.Window sent.client.link (items_behind sent.calls)
+            ∙ sent_nothing (window_refuses (answer_to_send now part.client.link) e);
         taken = ap (λ (i : Items). i.taken) (items_on (Closes reason.Window) sent ran) ∙ close_taken reason.Window sent.client.link (items_behind sent.calls) ∙ sent_taken;
         up = λ is. absurd (true≢false (sym is ∙ closes_shut reason.Window sent));
       }
@@ -210,6 +224,7 @@ module _ (now : ℕ) (input : Input) (start : LinkState) (items : Items) (peer :
         given = λ is. ap (λ (i : Items). i.given) (items_on (Sends item) part runs)
             ∙ send_given item part.client.link (items_behind part.calls) (accepted_where_open now item part.client.link up e is)
             ∙ ap (λ one. (items_behind part.calls).given ++ one ∷ []) (item_same told part runs);
+        refused = λ is. sent_nothing (refused_where_shut now item part.client.link is);
         taken = sent_taken;
         up = λ is. stays_up part.client.link.phase _ went_on.may up is;
       }

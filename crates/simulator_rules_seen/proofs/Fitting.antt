@@ -105,6 +105,8 @@ pub record Commanded (now : ℕ) (input : Input) (start : LinkState) (items : It
   pub stands : Standing now input start items peer (given ++ command ∷ []) of_point heard part
   pub outside : is_outside part.client.stage ≡ not (is_up part.client.link.phase)
   pub up : is_open part.client.link.phase ≡ true → is_up part.client.link.phase ≡ true
+  pub more : is_open part.client.link.phase ≡ true → (items_after now part.calls start items).given ≡ items.given ++ item_of peer (message_of command) ∷ []
+  pub refused : is_open part.client.link.phase ≡ false → (items_after now part.calls start items).given ≡ items.given
   pub taken : (items_after now part.calls start items).taken ≡ items.taken
   pub silent : part.heard ≡ []
 
@@ -148,6 +150,8 @@ commands_on now input client items given of_point heard outbox command stands up
     stands = ended.0;
     outside = ended.1;
     up = λ is. ap (λ (l : LinkState). is_up l.phase) same_link ∙ posted.up (ap (λ (l : LinkState). is_open l.phase) (sym same_link) ∙ is);
+    more = λ is. posted.given (ap (λ (l : LinkState). is_open l.phase) (sym same_link) ∙ is);
+    refused = λ is. posted.refused (ap (λ (l : LinkState). is_open l.phase) (sym same_link) ∙ is);
     taken = posted.taken;
     silent = posted.heard;
   }

@@ -14,3 +14,4 @@ pub mod Settled
 pub mod Entered
 pub mod Ticking
 pub mod FitBehind
+pub mod Totals

@@ -1,6 +1,7 @@
 pub mod Rows
 pub mod Calls
 pub mod Telegrams
+pub mod Totals
 pub mod Link
 pub mod Nodes
 pub mod Sees
