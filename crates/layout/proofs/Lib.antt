@@ -9,5 +9,6 @@ pub mod Directory
 pub mod StationEntries
 pub mod ReportedOnce
 pub mod TextIds
+pub mod TextNames
 pub mod StationPlan
 pub mod FaultLaws

@@ -3,6 +3,7 @@ use Rattle.std.proofs.Common.{◌≡◌, ◌≢◌, ℕ, suc, ◌≤◌, ◌<◌
 use Rattle.std.proofs.lemmas.Bool.Decides.{Decides-and}
 use Rattle.std.proofs.lemmas.List.{length-map, length-append, get_or_append_left}
 use Rattle.sci_telegram.specs.declared.message.Aspect.TheVariants.{Stop}
+use Rattle.sci_telegram.specs.Names.{IsName}
 use Rattle.toml.specs.Data.{Members}
 use Rattle.layout.specs.declared.fault.LayoutFault.TheVariants.{Limit}
 use Rattle.layout.specs.declared.fault.Place.{Place}
@@ -23,6 +24,7 @@ use Rattle.layout.proofs.Steps.{le-decides, passed, each-all, each-held, each-co
 use Rattle.layout.proofs.Directory.{IsPlaced, directory-placed}
 use Rattle.layout.proofs.StationEntries.{IsAsLong, track-there, point-there, joint-there, signal-at-there, detector-there, route-names-there}
 use Rattle.layout.proofs.ReportedOnce.{sections-distinct, detectors-named, reported-apart, each-reported}
+use Rattle.layout.proofs.TextNames.{text-names}
 use Rattle.layout.proofs.TextIds.{text-nodes, text-goes}
 
 -- the limits of a text
@@ -104,10 +106,10 @@ as_many f g xs ys e = ap length (sym e) ∙ length-map ys g
 same_length : {A B C : Type 0} (f : A → C) (g : B → C) (xs : List A) (ys : List B) → map g ys ≡ map f xs → length ys ≡ length xs
 same_length f g xs ys e = sym (length-map ys g) ∙ (ap length e ∙ length-map xs f)
 
-plan-station : (text : LayoutText) (directory reported : List (List ℕ × Place)) (l : Plan) → KeepsLimits text → All (IsPlaced text) directory → Apart same_name text.sections → All IsNodeId (ids_in text) → All (λ r. r.aspect ≢ Stop) text.routes
+plan-station : (text : LayoutText) (directory reported : List (List ℕ × Place)) (l : Plan) → KeepsLimits text → All (IsPlaced text) directory → Apart same_name text.sections → All IsNodeId (ids_in text) → All IsName (names_in text) → All (λ r. r.aspect ≢ Stop) text.routes
     → reported_of text.detectors ≡ Ok reported → plan_of directory text ≡ Ok l → all_within (section_reported reported) named.Section l.sections ≡ Ok tt → IsStation l
 unfolding plan_of
-plan-station text directory reported l limits placed apart ids goes noted h each =
+plan-station text directory reported l limits placed apart ids names goes noted h each =
     let one = came_from (each_of (track_named directory) named.Track 1 text.tracks) _ l h in
     let two = came_from (each_of (point_named directory) named.Point 1 text.points) _ l one.2 in
     let three = came_from (each_of (joint_named directory) named.Joint 1 text.joints) _ l two.2 in
@@ -153,6 +155,7 @@ plan-station text directory reported l limits placed apart ids goes noted h each
     let is : IsStation made = record {
       limits = within;
       ids = subst (All IsNodeId) (sym (plan-keeps directory text made (h ∙ ap Ok (sym e))).1) ids;
+      names = subst (All IsName) (sym (plan-keeps directory text made (h ∙ ap Ok (sym e))).0) names;
       tracks = each-all (track_named directory) (λ _. Unit {0}) (λ t. HasSection made t.section) (λ place x y _ k. track-there text directory placed made long place x y k) named.Track 1 text.tracks one.0 (λ k d lt. tt) one.1;
       points = each-all (point_named directory) (λ _. Unit {0}) (λ p. HasSection made p.section) (λ place x y _ k. point-there text directory placed made long place x y k) named.Point 1 text.points two.0 (λ k d lt. tt) two.1;
       joints = each-all (joint_named directory) (λ _. Unit {0}) (λ j. HasPort made j.first × HasPort made j.second) (λ place x y _ k. joint-there text directory placed made long place x y k) named.Joint 1 text.joints three.0 (λ k d lt. tt) three.1;
@@ -172,4 +175,4 @@ station_of document text l written h =
     let each = came_from (all_within (section_reported reported.0) named.Section plan.0.sections) (λ v3. Ok plan.0) l plan.2 in
     let kept = names-kept text names.0 names.1 in
     subst IsStation (same_ok plan.0 l each.2)
-    (plan-station text names.0 reported.0 plan.0 kept.0 kept.1 (sections-apart text (names-once text names.0 names.1).0) (text-nodes document text written) (text-goes document text written) reported.1 plan.1 each.1)
+    (plan-station text names.0 reported.0 plan.0 kept.0 kept.1 (sections-apart text (names-once text names.0 names.1).0) (text-nodes document text written) (text-names document text written) (text-goes document text written) reported.1 plan.1 each.1)

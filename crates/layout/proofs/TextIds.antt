@@ -88,7 +88,7 @@ detector-node place d x _ h =
     let made : DetectorText = record { name = name.0; id = id.0; sections = sections.0 } in
     subst (λ x. IsNodeId x.id) (same_ok made x sections.2) (id-field-node (codes "id") place fields.0 id.0 id.1)
 
-entries-node : {A : Type 0} (key : List ℕ) (table : TableName) (entry : Place → Data → Read A) (P : A → Type 0) → ((place : Place) (d : Data) (x : A) → Unit {0} → entry place d ≡ Ok x → P x)
+pub entries-node : {A : Type 0} (key : List ℕ) (table : TableName) (entry : Place → Data → Read A) (P : A → Type 0) → ((place : Place) (d : Data) (x : A) → Unit {0} → entry place d ≡ Ok x → P x)
     → (document : Members) (xs : List A) → entries_at key table entry document ≡ Ok xs → All P xs
 unfolding entries_at
 entries-node key table entry P makes document xs h =

@@ -1,6 +1,7 @@
 -- What every layout is: a station, which names only what is there, keeps every limit, and reports each section once.
 use Rattle.std.specs.Prelude.{◌≢◌, ℕ, ◌<◌, ◌≤◌, List, length, IsTrue}
 use Rattle.std.specs.List.{All, Contains, flat_map}
+use Rattle.sci_telegram.specs.Names.{IsName}
 use Rattle.sci_telegram.specs.declared.message.Aspect.TheVariants.{Stop}
 use Rattle.layout.specs.declared.ids.SectionId.{SectionId}
 use Rattle.layout.specs.declared.ids.PointId.{PointId}
@@ -12,7 +13,7 @@ use Rattle.layout.specs.declared.port.Element.TheVariants as element
 use Rattle.layout.specs.declared.entries.Exit.{Exit}
 use Rattle.layout.specs.declared.entries.Exit.TheVariants as exit
 use Rattle.layout.specs.Entries.{DetectorEntry, RouteEntry, Plan}
-use Rattle.layout.specs.Once.{Distinct, all_ids}
+use Rattle.layout.specs.Once.{Distinct, all_ids, all_names}
 use Rattle.layout.specs.Resolving.{has_port}
 
 -- An entry that is named is there: its place lies within its list.
@@ -87,6 +88,7 @@ IsNodeId id = (1 ≤ id) × (id ≤ 4294967295)
 pub record IsStation (l : Plan) : Type 0 where
   pub limits : IsWithinLimits l
   pub ids : All IsNodeId (all_ids l)
+  pub names : All IsName (all_names l)
   pub tracks : All (λ t. HasSection l t.section) l.tracks
   pub points : All (λ p. HasSection l p.section) l.points
   pub joints : All (λ j. HasPort l j.first × HasPort l j.second) l.joints
