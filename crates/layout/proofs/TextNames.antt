@@ -26,9 +26,9 @@ use Rattle.layout.proofs.OncePlan.{names_in}
 name-passed : (text : List ℕ) → is_name text ≡ true → IsName text
 name-passed text is =
     let each : Decides (list_all is_name_byte text) (IsTrue (list_all is_name_byte text)) = (λ e. e, λ t. t) in
-    let most = Decides-and (nat_le (length text) 20) (list_all is_name_byte text) (le-decides (length text) 20) each in
-    let all = (Decides-and (nat_le 1 (length text)) (nat_le (length text) 20 && list_all is_name_byte text) (le-decides 1 (length text)) most).0 is in
-    record { some = all.0; most = all.1.0; each = all.1.1 }
+    let few = Decides-and (nat_le 1 (length text)) (nat_le (length text) 20) (le-decides 1 (length text)) (le-decides (length text) 20) in
+    let all = (Decides-and (nat_le 1 (length text) && nat_le (length text) 20) (list_all is_name_byte text) few each).0 is in
+    record { some = all.0.0; most = all.0.1; each = all.1 }
 
 name-of-name : (place : Place) (text name : List ℕ) → name_of place text ≡ Ok name → IsName name
 name-of-name place text name h =
