@@ -28,7 +28,8 @@ use Rattle.simulator_world_links.proofs.Parts.{MayComeIn}
 use Rattle.simulator_world_links.proofs.Reached.{IsManned}
 use Rattle.simulator_world_links.proofs.Station.{reached}
 use Rattle.simulator_world_links.proofs.StationWhole.{restart_keeps}
-use Rattle.simulator_world_links.specs.Whole.{HasNames, IsPeer, IsWhole, client_states}
+use Rattle.simulator_world_links.proofs.Names.{station_names}
+use Rattle.simulator_world_links.specs.Whole.{IsPeer, IsWhole, client_states}
 
 states_count : (plan : Plan) (ixl : IxlState) → IsManned plan ixl → length (client_states ixl) ≡ links plan
 states_count plan ixl manned = length_joined lamps (switches ++ detectors) ∙ ap (λ n. length lamps + n) (length_joined switches detectors)
@@ -49,7 +50,7 @@ states_count plan ixl manned = length_joined lamps (switches ++ detectors) ∙ a
     sums : (a b c d e f : ℕ) → a ≡ d → b ≡ e → c ≡ f → a + (b + c) ≡ d + e + f
     sums a b c d e f p q r = omega arith
 
-module _ (laws : AllLaws) (plan : Plan) (are_links : AreLinks (links plan) (names_at plan)) (station : IsStation plan) (names : HasNames plan) (table : Table) (before : Links)
+module _ (laws : AllLaws) (plan : Plan) (are_links : AreLinks (links plan) (names_at plan)) (station : IsStation plan) (table : Table) (before : Links)
     (timely : AreTimely (links plan) (names_at plan) before) where
   module _ (world : WorldState) (whole : IsWhole plan world) (are : AreLinksOf plan world before) where
     station_keeps : (connection : ℕ) (input : ixl.Input)
@@ -121,4 +122,4 @@ module _ (laws : AllLaws) (plan : Plan) (are_links : AreLinks (links plan) (name
   event_keeps (event.Reach point position) world whole are none =
       point_keeps laws.steps.written plan (moved world (slice_set world.positions point.0 position) world.occupancies) (moved_whole plan world (slice_set world.positions point.0 position) world.occupancies whole)
       (inputs.Sense (sense.Position position)) 0 point.0
-  event_keeps (event.Restart node clock first) world whole are none = restart_keeps plan names station table (record { clock = clock; first = first }) world whole (node_at plan node.0)
+  event_keeps (event.Restart node clock first) world whole are none = restart_keeps plan (station_names plan station) station table (record { clock = clock; first = first }) world whole (node_at plan node.0)

@@ -24,6 +24,7 @@ pub mod Station
 pub mod Delivered
 pub mod Everything
 pub mod Named
+pub mod Names
 pub mod Runs
 pub mod KeptWhole
 pub mod StationWhole

@@ -31,7 +31,8 @@ use Rattle.simulator_world_links.proofs.KeptWhole.{AllAt, sections_at}
 use Rattle.simulator_world_links.proofs.Lists.{by_test, length_map, some_is, some_within, within_some}
 use Rattle.simulator_world_links.proofs.Partners.{partners_count}
 use Rattle.simulator_world_links.proofs.Tellings.{AreSectionsNamed, losing_named}
-use Rattle.simulator_world_links.specs.Whole.{HasClients, HasNames, HasSections, IsNamed, IsPeer, IsWhole}
+use Rattle.simulator_world_links.proofs.Names.{HasNames}
+use Rattle.simulator_world_links.specs.Whole.{HasClients, HasSections, IsNamed, IsPeer, IsWhole}
 
 -- ---- lists
 

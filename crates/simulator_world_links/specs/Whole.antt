@@ -36,14 +36,6 @@ pub record HasClients (plan : Plan) (ixl : IxlState) : Type 0 where
   pub detectors : length ixl.detectors ≡ length plan.detectors
   pub peers : (link : ℕ) (client : ClientState) → slice_get (client_states ixl) link ≡ Some client → IsPeer client.peer
 
--- the names of a layout are names of telegrams
-pub record HasNames (plan : Plan) : Type 0 where
-  pub station : IsName plan.station.name
-  pub signals : (place : ℕ) (entry : Signal) → slice_get plan.signals place ≡ Some entry → IsName entry.name
-  pub points : (place : ℕ) (entry : Point) → slice_get plan.points place ≡ Some entry → IsName entry.name
-  pub detectors : (place : ℕ) (entry : DetectorEntry) → slice_get plan.detectors place ≡ Some entry → IsName entry.name
-  pub sections : (place : ℕ) (name : List ℕ) → slice_get plan.sections place ≡ Some name → IsName name
-
 -- the controllers of a list have names
 abbrev pub AreNamed : {Object : Type 0} → List (ServerState Object) → Type 0
 AreNamed {Object} servers = (place : ℕ) (server : ServerState Object) → slice_get servers place ≡ Some server → IsNamed server.host

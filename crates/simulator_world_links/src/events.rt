@@ -13,7 +13,7 @@ ghost use Rattle.simulator_world_run.specs.Nodes.{links};
 ghost use Rattle.simulator_world_run.specs.Refusals.{refusal};
 ghost use Rattle.simulator_world_run.specs.State.{WorldState};
 ghost use Rattle.simulator_world_links.specs.Follows.{Follows};
-ghost use Rattle.simulator_world_links.specs.Whole.{HasNames, IsWhole};
+ghost use Rattle.simulator_world_links.specs.Whole.{IsWhole};
 
 use object_host::step_is_calls;
 use point_ctl::Point;
@@ -37,7 +37,7 @@ use tds_ctl::Detection;
 pub fn events_are_those_of_the_links()
     ensures follow { (plan : Plan) (table : Table) (event : Event) (world : WorldState) (before : Links) → AreLinks (links plan) (names_at plan) → IsWhole plan world
         → AreTimely (links plan) (names_at plan) before → AreLinksOf plan world before → refusal plan event world ≡ None → Follows plan (happens plan table event world) before }
-    ensures whole { (plan : Plan) (table : Table) (event : Event) (world : WorldState) (before : Links) → AreLinks (links plan) (names_at plan) → IsStation plan → HasNames plan
+    ensures whole { (plan : Plan) (table : Table) (event : Event) (world : WorldState) (before : Links) → AreLinks (links plan) (names_at plan) → IsStation plan
         → IsWhole plan world → AreTimely (links plan) (names_at plan) before → AreLinksOf plan world before → refusal plan event world ≡ None
         → IsWhole plan (happens plan table event world) }
 {

@@ -14,7 +14,6 @@ ghost use Rattle.simulator_world_run.specs.Nodes.{links};
 ghost use Rattle.simulator_world_run.specs.Refusals.{refusal};
 ghost use Rattle.simulator_world_run.specs.State.{WorldState};
 ghost use Rattle.simulator_world_links.specs.HasLinks.{CanHappen, HasLinks, IsSafeLink, IsStanding, after_all, links_in};
-ghost use Rattle.simulator_world_links.specs.Whole.{HasNames};
 
 use crate::events::events_are_those_of_the_links;
 use rasta_core::{
@@ -30,10 +29,10 @@ pub fn layouts_name_their_links()
 /// A station has the links of its layout, and all its nodes: at the beginning, after every event that can happen, and so
 /// after every list of them.
 pub fn stations_have_links()
-    ensures first { (plan : Plan) (table : Table) → IsStation plan → HasNames plan → IsStanding plan (first_world plan table) }
-    ensures kept { (plan : Plan) (table : Table) (event : Event) (world : WorldState) → IsStation plan → Once plan → HasNames plan → IsStanding plan world
+    ensures first { (plan : Plan) (table : Table) → IsStation plan → IsStanding plan (first_world plan table) }
+    ensures kept { (plan : Plan) (table : Table) (event : Event) (world : WorldState) → IsStation plan → Once plan → IsStanding plan world
         → refusal plan event world ≡ None → IsStanding plan (happens plan table event world) }
-    ensures run { (plan : Plan) (table : Table) (events : List Event) → IsStation plan → Once plan → HasNames plan
+    ensures run { (plan : Plan) (table : Table) (events : List Event) → IsStation plan → Once plan
         → CanHappen plan table events (first_world plan table) → IsStanding plan (after_all plan table events (first_world plan table)) }
 {
     events_are_those_of_the_links();

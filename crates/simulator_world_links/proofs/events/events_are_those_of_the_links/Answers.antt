@@ -48,5 +48,5 @@ returns c =
     }
     in record {
       follow = λ plan table happening world before are_links whole timely are none. event_follows laws plan are_links table before timely happening world whole are none;
-      whole = λ plan table happening world before are_links station names whole timely are none. event_keeps laws plan are_links station names table before timely happening world whole are none;
+      whole = λ plan table happening world before are_links station whole timely are none. event_keeps laws plan are_links station table before timely happening world whole are none;
     }
