@@ -5,7 +5,6 @@ ghost use Rattle.ixl_rules.specs.View.{has_authority};
 ghost use Rattle.ixl.specs.Interlocking.{authority_from};
 ghost use Rattle.ixl_state.specs.State.{AtRoute};
 
-use crate::watching::has_authority;
 use ixl_state::State;
 
 /// Whether a route begins at a signal.
@@ -21,7 +20,7 @@ fn has_authority_from(state: &State, number: usize, signal: usize) -> bool
     requires { number < length state.now.planned.table.rows }
     ensures { AtRoute state.now number (λ row route. result ≡ (row.entry == signal && has_authority route.phase)) }
 {
-    begins_at(state, number, signal) && has_authority(state.route(number).phase())
+    begins_at(state, number, signal) && state.route(number).has_authority()
 }
 
 /// The route that has authority from a signal: the first of the table.

@@ -6,24 +6,15 @@ ghost use Rattle.rasta_core.specs.Outbox.{HasRoomFor};
 ghost use Rattle.rasta_pdu.specs.Reading.{reading};
 ghost use Rattle.ixl_rules.specs.Part.{along};
 ghost use Rattle.ixl_rules.specs.Step.{Datagram, client_of, detector_hearing, given, looking, looking_by, node_of, told_before, told_now, verdict_at, verdict_of};
-ghost use Rattle.ixl_rules.specs.View.{was_authorised};
 ghost use Rattle.ixl_state.specs.State.{AllAt, Goes};
 ghost use Rattle.ixl.specs.inside.Parts.{Passes, heard_from, told_since};
 
 use bit_row::BitRow;
 use ixl_client::{Indication, Indications};
 use ixl_nodes::is_told_occupied;
-use ixl_rules::Phase;
 use ixl_state::State;
 use rasta_core::{Millis, Outbox, Verdict};
 use rasta_pdu::{Key, read};
-
-/// Whether a route in this phase was given authority in its present setting.
-fn was_authorised(phase: Phase) -> bool
-    ensures { result ≡ was_authorised phase }
-{
-    !matches!(phase, Phase::Free | Phase::Waiting)
-}
 
 /// A route looks at a section.
 fn look_by(state: &mut State, now: Millis, number: usize, section: usize, occupied: bool)
@@ -32,7 +23,7 @@ fn look_by(state: &mut State, now: Millis, number: usize, section: usize, occupi
     ensures { Passes now (looking_by section occupied state.old.planned.table number) state.old state.new }
 {
     state.table();
-    if was_authorised(state.route(number).phase()) {
+    if state.route(number).was_authorised() {
         state.look(number, section, occupied);
     }
 }

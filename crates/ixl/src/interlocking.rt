@@ -1,6 +1,6 @@
 //! The interlocking of a station.
 
-ghost use Rattle.std.specs.Prelude.{◌≡◌, ◌<◌, ◌≤◌, ◌↔◌, ℕ, [], drop, length, slice_get, IsTrue, IfOk};
+ghost use Rattle.std.specs.Prelude.{◌≡◌, ◌<◌, ◌≤◌, ◌↔◌, ℕ, [], drop, length, slice_get, IsTrue, IfOk, OnErr, OnOk};
 ghost use Rattle.std.specs.Option.{option_map};
 ghost use Rattle.bit_row.specs.Places.{Has};
 ghost use Rattle.layout.specs.declared.ids.RouteId.{RouteId};
@@ -12,7 +12,7 @@ ghost use Rattle.ixl_state.specs.First.{new_ixl};
 
 use crate::authority::authority;
 use crate::input::{Input, Reply};
-use crate::refusing::{is_holding, is_set};
+use crate::refusing::is_holding;
 use crate::stepping::step;
 use bit_row::BitRow;
 use control_table::Checked;
@@ -78,6 +78,19 @@ impl Interlocking {
         Ok(Interlocking { state, key, outbox })
     }
 
+    /// All but the table is made anew, as `new` makes it: no route is set, and every link is in no connection. The outbox is
+    /// empty then. Where there is no memory for that, nothing changes.
+    pub fn restart(&mut self, alloc: Global, first_sn: u32, now: Millis) -> Result<(), AllocError>
+        ensures planned { self.new.state.planned ≡ self.old.state.planned }
+        ensures ixl { OnOk result (self.new.state.ixl ≡ new_ixl self.old.state.planned.plan self.old.state.planned.table (record { clock = now; first = first_sn })) }
+        ensures outbox { OnOk result (self.new.outbox ≡ empty_outbox) }
+        ensures unchanged { OnErr result (self.new ≡ self.old) }
+    {
+        self.state.restart(alloc, first_sn, now)?;
+        empty(&mut self.outbox);
+        Ok(())
+    }
+
     /// Whether a step at this clock reading may be made: the clock of no link has fallen.
     pub fn may_step(&self, now: Millis) -> bool
         ensures { IsTrue result ↔ MayStepAll now self.now.state }
@@ -137,7 +150,7 @@ impl Interlocking {
         requires { route.0 < length self.now.state.planned.table.rows }
         ensures { AtRoute self.now.state route.0 (λ row kept. result ≡ is_set kept.phase) }
     {
-        is_set(self.state.route(route.0).phase())
+        self.state.route(route.0).is_set()
     }
 
     /// The sections that a route locks.

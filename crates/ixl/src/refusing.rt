@@ -8,7 +8,7 @@ ghost use Rattle.ixl_rules.specs.View.{is_at_known_stop, is_holding, is_occupied
 ghost use Rattle.ixl_state.specs.State.{AtRoute};
 ghost use Rattle.ixl.specs.inside.Parts.{first_where};
 
-use ixl_rules::{Command, Phase, Refusal};
+use ixl_rules::{Command, Refusal};
 use ixl_state::State;
 use ixl_table::Need;
 use layout::{PointId, RouteId, SectionId};
@@ -22,13 +22,6 @@ pub(crate) fn is_holding(state: &State, now: Millis) -> bool
     ensures { result ≡ is_holding now state.now.ixl }
 {
     now < state.created().saturating_add(HOLD_TIME)
-}
-
-/// Whether a route in this phase is set.
-pub(crate) fn is_set(phase: Phase) -> bool
-    ensures { result ≡ is_set phase }
-{
-    !matches!(phase, Phase::Free)
 }
 
 /// Whether a section was last told as occupied, by a detector that is ready.
@@ -133,7 +126,7 @@ fn request_refusal(state: &State, now: Millis, number: usize) -> Option<Refusal>
     if !state.is_resumed() {
         return Some(Refusal::NotResumed);
     }
-    if is_set(state.route(number).phase()) {
+    if state.route(number).is_set() {
         return Some(Refusal::AlreadySet);
     }
     locking_refusal(state, now, number)
@@ -152,7 +145,7 @@ fn cancel_refusal(state: &State, now: Millis, number: usize) -> Option<Refusal>
     if !state.is_resumed() {
         return Some(Refusal::NotResumed);
     }
-    if !is_set(state.route(number).phase()) {
+    if !state.route(number).is_set() {
         return Some(Refusal::NotSet);
     }
     None

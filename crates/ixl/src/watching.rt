@@ -4,21 +4,12 @@ ghost use Rattle.std.specs.Prelude.{◌≡◌, ◌<◌, length};
 ghost use Rattle.ixl_rules.specs.Part.{over};
 ghost use Rattle.ixl_rules.specs.Rules.{count};
 ghost use Rattle.ixl_rules.specs.Step.{watching};
-ghost use Rattle.ixl_rules.specs.View.{has_authority};
 ghost use Rattle.ixl_state.specs.State.{AllAt};
 ghost use Rattle.ixl.specs.inside.Parts.{Passes};
 
 use ixl_route_rules::is_approach_clear;
-use ixl_rules::Phase;
 use ixl_state::State;
 use rasta_core::Millis;
-
-/// Whether a route in this phase has authority: it was given, and isn't ended.
-pub(crate) fn has_authority(phase: Phase) -> bool
-    ensures { result ≡ has_authority phase }
-{
-    matches!(phase, Phase::Proceeding | Phase::Withdrawn)
-}
 
 /// A route that has authority watches its approach.
 fn watch_by(state: &mut State, now: Millis, number: usize)
@@ -27,7 +18,7 @@ fn watch_by(state: &mut State, now: Millis, number: usize)
     ensures { Passes now (watching state.old.planned.table number) state.old state.new }
 {
     state.table();
-    if has_authority(state.route(number).phase()) {
+    if state.route(number).has_authority() {
         let is_clear = is_approach_clear(state, number);
         state.watch(number, is_clear);
     }

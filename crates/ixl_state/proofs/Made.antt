@@ -22,7 +22,7 @@ use Rattle.ixl_rules.specs.View.{is_set}
 use Rattle.ixl_table.specs.Locks.{AreLocksOf, IsKeptRoute}
 use Rattle.ixl_table.specs.Table.{IsTableThere, PlannedTable, as_route}
 use Rattle.ixl_field.specs.Field.{FieldState, kept}
-use Rattle.ixl_state.specs.First.{Beginning, client_of, new_detector_of, new_ixl, new_lamp_of, new_route_of, new_switch_of}
+use Rattle.ixl_beginning.specs.First.{Beginning, client_of, new_detector_of, new_ixl, new_lamp_of, new_route_of, new_switch_of}
 use Rattle.ixl_state.specs.inside.Kept.{AreRoutesOf, IsPassageOf}
 
 -- one more of a list is made

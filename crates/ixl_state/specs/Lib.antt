@@ -1,3 +1,3 @@
 pub mod State
-pub mod First
+pub use Rattle.ixl_beginning.specs.First
 pub mod inside

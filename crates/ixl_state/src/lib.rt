@@ -8,6 +8,6 @@ mod progress;
 mod route;
 mod state;
 
-pub use making::key_of;
+pub use ixl_beginning::key_of;
 pub use route::Route;
 pub use state::State;

@@ -3,14 +3,13 @@
 ghost use Rattle.std.specs.Prelude.{◌≡◌, ◌↔◌, ℕ, ◌<◌, ◌≤◌, false, length, IsTrue};
 ghost use Rattle.bit_row.specs.Places.{Has};
 ghost use Rattle.ixl_rules.specs.Due.{HoldsSection};
-ghost use Rattle.ixl_rules.specs.View.{first_blocking, is_held_at, is_held_with_authority, is_set, was_authorised};
+ghost use Rattle.ixl_rules.specs.View.{first_blocking, is_held_at, is_held_with_authority, is_set};
 ghost use Rattle.ixl_state.specs.State.{AtRoute};
 ghost use Rattle.ixl_state.specs.inside.Kept.{HoldsWithAuthority, SomeHoldsWithAuthority};
 
 use crate::route::Route;
 use crate::state::State;
 use bit_row::BitRow;
-use ixl_rules::Phase;
 use ixl_table::{
     points_are_held_by_phase_at_a_side, points_are_held_by_some_phase, set_routes_lock_sections,
     the_first_blocking_route_is_told_by_phase,
@@ -19,22 +18,12 @@ use layout::{PointId, RouteId};
 use route_lock::{LockFault, Locks};
 use sci_telegram::Side;
 
-/// Whether a route was given authority in its present setting.
-fn was_authorised(phase: Phase) -> bool
-    ensures { result ≡ was_authorised phase }
-{
-    match phase {
-        Phase::Free | Phase::Waiting => false,
-        _ => true,
-    }
-}
-
 /// Whether this route was given authority in its present setting, and holds a point.
 fn holds_with_authority(locks: &Locks, number: usize, route: Route, point: usize) -> bool
     requires { number < length locks.now.table.routes }
     ensures { IsTrue result ↔ HoldsWithAuthority locks.now number route point }
 {
-    was_authorised(route.phase()) && locks.holds(RouteId(number), PointId(point))
+    route.was_authorised() && locks.holds(RouteId(number), PointId(point))
 }
 
 /// Whether one of the routes does.

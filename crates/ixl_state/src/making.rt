@@ -1,22 +1,24 @@
 //! How the state of an interlocking is made.
 
-ghost use Rattle.std.specs.Prelude.{◌≡◌, ◌<◌, ◌≤◌, ◌∷◌, [], length, map, IfOk, slice_index_or};
+ghost use Rattle.std.specs.Prelude.{◌≡◌, ◌<◌, ◌≤◌, ◌∷◌, [], false, length, map, IfOk, OnErr, OnOk, slice_index_or};
 ghost use Rattle.std.specs.List.{All};
 ghost use Rattle.layout.specs.declared.ids.SectionId.{SectionId as Section};
 ghost use Rattle.sci_telegram.specs.declared.message.Protocol.TheVariants as protocols;
 ghost use Rattle.ixl_rules.specs.Table.{Row as RowAt};
-ghost use Rattle.ixl_state.specs.First.{Beginning, client_of, key_of, new_detector_of, new_ixl, new_lamp_of, new_route_of, new_switch_of};
+ghost use Rattle.ixl_field.specs.Field.{kept};
+ghost use Rattle.ixl_beginning.specs.First.{Beginning, client_of, new_detector_of, new_ixl, new_lamp_of, new_route_of, new_switch_of};
+ghost use Rattle.ixl_state.specs.inside.Kept.{IsState};
 
 use crate::route::Route;
 use crate::state::State;
 use control_table::Checked;
+use ixl_beginning::key_of;
 use ixl_client::{Client, Peer};
 use ixl_field::Field;
 use ixl_nodes::{Detector, Lamp, Switch};
 use ixl_table::{Row, Table};
 use layout::{Layout, SectionId};
 use rasta_core::Millis;
-use rasta_pdu::Key;
 use route_lock::Locks;
 use sci_telegram::{Name, Protocol};
 use std::alloc::{AllocError, Global};
@@ -26,13 +28,6 @@ use std::alloc::{AllocError, Global};
 struct Makes {
     first: u32,
     now: Millis,
-}
-
-/// The key of the network: that of the layout, and otherwise the standard start of MD4.
-pub fn key_of(layout: &Layout) -> Key
-    ensures { result ≡ key_of layout.now }
-{
-    Key(layout.station().key.unwrap_or(md4::STANDARD))
 }
 
 /// The client of the controller under a name and an identity, which tells of these objects.
@@ -156,6 +151,34 @@ fn routes_of(alloc: Global, rows: &[Row]) -> Result<Vec<Route>, AllocError>
     Ok(routes)
 }
 
+/// What a state keeps of its table's controllers, locks and routes.
+#[derive(Debug, Drop)]
+struct Begun {
+    field: Field,
+    locks: Locks,
+    routes: Vec<Route>,
+}
+
+/// What is kept where no route is set and every link is in no connection.
+fn begun_of(alloc: Global, table: &Table, makes: Makes) -> Result<Begun, AllocError>
+    ensures ixl { IfOk result (λ b. kept b.field (record { routes = b.routes.items; created = makes.now; resumed = false }) ≡ new_ixl table.now.plan table.now.table (record { clock = makes.now; first = makes.first })) }
+    ensures whole { IfOk result (λ b. IsState table.now b.field b.routes.items b.locks) }
+{
+    let checked = table.checked();
+    let locks = Locks::new(alloc, checked)?;
+    let lamps = lamps_of(alloc, checked, makes)?;
+    let switches = switches_of(alloc, checked, makes)?;
+    let detectors = detectors_of(alloc, checked, makes)?;
+    let routes = routes_of(alloc, table.rows())?;
+    let reporters = Vec::from_slice(alloc, table.reporters())?;
+    let field = Field::new(lamps, switches, detectors, reporters);
+    Ok(Begun {
+        field,
+        locks,
+        routes,
+    })
+}
+
 impl State {
     /// The state in which no route is set and every link is in no connection.
     pub fn new(
@@ -172,21 +195,33 @@ impl State {
             now,
         };
         let table = Table::new(alloc, checked)?;
-        let checked = table.checked();
-        let locks = Locks::new(alloc, checked)?;
-        let lamps = lamps_of(alloc, checked, makes)?;
-        let switches = switches_of(alloc, checked, makes)?;
-        let detectors = detectors_of(alloc, checked, makes)?;
-        let routes = routes_of(alloc, table.rows())?;
-        let reporters = Vec::from_slice(alloc, table.reporters())?;
-        let field = Field::new(lamps, switches, detectors, reporters);
+        let begun = begun_of(alloc, &table, makes)?;
         Ok(State {
             table,
-            field,
-            locks,
-            routes,
+            field: begun.field,
+            locks: begun.locks,
+            routes: begun.routes,
             created: now,
             resumed: false,
         })
+    }
+
+    /// All but the table is made anew. Where there is no memory for that, nothing changes.
+    pub fn restart(&mut self, alloc: Global, first_sn: u32, now: Millis) -> Result<(), AllocError>
+        ensures planned { self.new.planned ≡ self.old.planned }
+        ensures ixl { OnOk result (self.new.ixl ≡ new_ixl self.old.planned.plan self.old.planned.table (record { clock = now; first = first_sn })) }
+        ensures unchanged { OnErr result (self.new ≡ self.old) }
+    {
+        let makes = Makes {
+            first: first_sn,
+            now,
+        };
+        let begun = begun_of(alloc, &self.table, makes)?;
+        self.field = begun.field;
+        self.locks = begun.locks;
+        self.routes = begun.routes;
+        self.created = now;
+        self.resumed = false;
+        Ok(())
     }
 }

@@ -6,7 +6,7 @@ ghost use Rattle.ixl_rules.specs.Commands.{set_anew};
 ghost use Rattle.ixl_rules.specs.Rules.{come_to, freed};
 ghost use Rattle.ixl_rules.specs.Step.{route_looks};
 ghost use Rattle.ixl_rules.specs.Table.{Row};
-ghost use Rattle.ixl_rules.specs.View.{place_in};
+ghost use Rattle.ixl_rules.specs.View.{has_authority, is_set, place_in, was_authorised};
 ghost use Rattle.ixl_rules.specs.declared.phase.Phase.TheVariants as phase;
 
 use ixl_rules::Phase;
@@ -57,6 +57,27 @@ impl Route {
         ensures { result ≡ self.phase }
     {
         self.phase
+    }
+
+    /// Whether it is set.
+    pub fn is_set(self) -> bool
+        ensures { result ≡ is_set self.phase }
+    {
+        !matches!(self.phase, Phase::Free)
+    }
+
+    /// Whether it was given authority in its present setting.
+    pub fn was_authorised(self) -> bool
+        ensures { result ≡ was_authorised self.phase }
+    {
+        !matches!(self.phase, Phase::Free | Phase::Waiting)
+    }
+
+    /// Whether it has authority: it was given, and isn't ended.
+    pub fn has_authority(self) -> bool
+        ensures { result ≡ has_authority self.phase }
+    {
+        matches!(self.phase, Phase::Proceeding | Phase::Withdrawn)
     }
 
     /// Whether it was cancelled.

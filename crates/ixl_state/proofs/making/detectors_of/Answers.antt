@@ -5,7 +5,7 @@ use Rattle.sci_telegram.specs.declared.message.Protocol.TheVariants as protocols
 use Rattle.layout.specs.Entries.{Plan}
 use Rattle.layout.specs.declared.ids.SectionId.{SectionId}
 use Rattle.ixl_client.specs.Client.{ClientState}
-use Rattle.ixl_state.specs.First.{Beginning, client_of, new_detector_of}
+use Rattle.ixl_beginning.specs.First.{Beginning, client_of, new_detector_of}
 use Rattle.ixl_state.proofs.Made.{few-objects, made-more, objects-of}
 use Rattle.ixl_state.proofs.making.detectors_of.Goals as goal
 

@@ -1,5 +1,5 @@
 use Rattle.std.proofs.Common.{◌≡◌, map, take}
-use Rattle.ixl_state.specs.First.{new_lamp_of}
+use Rattle.ixl_beginning.specs.First.{new_lamp_of}
 use Rattle.ixl_state.proofs.making.lamps_of.Given as goal
 
 abbrev pub invariant-loop-signal : goal.invariant-loop-signal

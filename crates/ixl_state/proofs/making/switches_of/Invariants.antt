@@ -1,5 +1,5 @@
 use Rattle.std.proofs.Common.{◌≡◌, map, take}
-use Rattle.ixl_state.specs.First.{new_switch_of}
+use Rattle.ixl_beginning.specs.First.{new_switch_of}
 use Rattle.ixl_state.proofs.making.switches_of.Given as goal
 
 abbrev pub invariant-loop-point : goal.invariant-loop-point

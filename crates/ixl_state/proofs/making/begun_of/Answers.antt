@@ -2,12 +2,12 @@ use Rattle.std.proofs.Common.{◌∙◌, ap, arith, length, map}
 use Rattle.std.proofs.lemmas.List.{length-map}
 use Rattle.layout.specs.Entries.{Plan}
 use Rattle.ixl_field.specs.Field.{FieldState}
-use Rattle.ixl_state.specs.First.{Beginning, new_detector_of, new_lamp_of, new_route_of, new_switch_of}
+use Rattle.ixl_beginning.specs.First.{Beginning, new_detector_of, new_lamp_of, new_route_of, new_switch_of}
 use Rattle.ixl_state.proofs.Made.{first-ixl, first-locks, first-routes, rows-long}
-use Rattle.ixl_state.proofs.state.State.new.Goals as goal
+use Rattle.ixl_state.proofs.making.begun_of.Goals as goal
 
 pub routes_of-requires : goal.routes_of-requires
-routes_of-requires c = rows-long c.in_ok-table.table.plan c.in_ok-table.table.table c.rows.result.now c.checked-checked.ensures.there c.rows.ensures
+routes_of-requires c = rows-long c.args.table.now.plan c.args.table.now.table c.rows.result.now c.checked-checked.ensures.there c.rows.ensures
 
 pub new-field-requires-clause-sections : goal.new-field-requires-clause-sections
 new-field-requires-clause-sections c =
@@ -16,10 +16,10 @@ new-field-requires-clause-sections c =
     let few = c.checked-checked.ensures.station.limits.sections in
     omega (arith, same, each, few)
 
-pub invariant_of-result : goal.invariant_of-result
-invariant_of-result c =
-    let planned = c.in_ok-table.table in
-    let begins : Beginning = record { clock = c.args.now; first = c.args.first_sn } in
+pub returns-clause-whole : goal.returns-clause-whole
+returns-clause-whole c =
+    let planned = c.args.table.now in
+    let begins : Beginning = record { clock = c.args.makes.now; first = c.args.makes.first } in
     let checked = c.checked-checked.ensures.plan in
     let routes = c.in_ok-routes.ensures ∙ ap (map new_route_of) c.rows.ensures in
     record {
@@ -35,8 +35,8 @@ invariant_of-result c =
 
 pub returns-clause-ixl : goal.returns-clause-ixl
 returns-clause-ixl c =
-    let planned = c.in_ok-table.table in
-    let begins : Beginning = record { clock = c.args.now; first = c.args.first_sn } in
+    let planned = c.args.table.now in
+    let begins : Beginning = record { clock = c.args.makes.now; first = c.args.makes.first } in
     let checked = c.checked-checked.ensures.plan in
     first-ixl planned.plan planned.table begins c.new-field.result c.in_ok-routes.routes.items
     (ap (λ (f : FieldState). f.lamps) c.new-field.ensures ∙ c.in_ok-lamps.ensures ∙ ap (λ (p : Plan). map (new_lamp_of p begins) p.signals) checked)
