@@ -31,7 +31,7 @@ use Rattle.simulator_world_links.proofs.Lists.{get_map, itself, other_number, un
 use Rattle.simulator_world_links.proofs.Partners.{below_links, named_at}
 use Rattle.simulator_world_links.proofs.Places.{IsKept, kept_at, one_server, server_same}
 use Rattle.simulator_world_links.proofs.Settled.{settled_new}
-use Rattle.simulator_world_links.specs.Follows.{Follows}
+use Rattle.simulator_world_links.specs.Events.{FollowsBy, numbers_below}
 
 pub reads_anew : (clock : ℕ) → reading_of (clock * 1000) ≡ clock
 reads_anew clock = omega arith
@@ -83,9 +83,8 @@ module _ (laws : LinkLaws) where
       → AreTimely (links plan) (names_at plan) before → AreLinksOf plan world before → slice_get (partners plan) link ≡ Some id → slice_get (server_ends world) link ≡ Some old
       → IsMadeAnew (identity_of role.Server (names_of plan id)) clock first (length world.sent) old end
       → new.time ≡ world.time → new.sent ≡ world.sent → new.station ≡ world.station → server_ends new ≡ slice_set (server_ends world) link end
-      → Follows plan new before
+      → FollowsBy plan (RestartsOn link role.Server clock first ∷ []) new before
   restart_follows plan world new before link id clock first old end timely are at there made time sent station ends = record {
-    events = RestartsOn link role.Server clock first ∷ [];
     may = (tt, tt);
     are = one_server plan world new before (happened_to (RestartsOn link role.Server clock first) before) link end are (record {
       time_is = are.time_is ∙ sym time;
@@ -108,11 +107,6 @@ module _ (laws : LinkLaws) where
           (kept_at world link (before.ends link).server old (are.servers link id at) there) made)
 
 -- ---- the interlocking is made anew
-
--- the numbers of the links
-abbrev pub numbers_below : ℕ → List ℕ
-numbers_below zero = []
-numbers_below (suc n) = n ∷ numbers_below n
 
 are_among : (count link : ℕ) → link < count → is_among link (numbers_below count) ≡ true
 are_among zero link below = absurd (omega arith)
@@ -210,11 +204,10 @@ module _ (node : NodeRestarts) (plan : Plan) (table : Table) (begins : Beginning
       (ap (λ (e : Ends). e.server) (seen_anew link (below_links plan link id at)) ∙ server_there begins.clock begins.first (seen link before))
       (are.servers link id at)
 
-  pub station_follows_anew : Follows plan anew before
+  pub station_follows_anew : FollowsBy plan (restarts_of role.Client begins.clock (λ link. begins.first) (numbers_below (links plan))) anew before
   station_follows_anew =
       let stays = anew_stays begins.clock begins.first (numbers_below (links plan)) before
       in record {
-        events = restarts_of role.Client begins.clock (λ link. begins.first) (numbers_below (links plan));
         may = anew_may (links plan) (names_at plan) begins.clock begins.first (numbers_below (links plan)) before;
         are = record {
           time_is = stays.0 ∙ are.time_is;

@@ -1,7 +1,7 @@
 -- The controllers of each kind, at the places of their links.
 use Rattle.std.proofs.Common.{◌≡◌, ℕ, ◌+◌, ◌<◌, List, [], ◌++◌, length, map, Some, option_map, slice_get, slice_set, refl, sym, ap, subst, ◌∙◌, arith}
 use Rattle.layout.specs.Entries.{Plan}
-use Rattle.rasta_core.specs.Links.{Links}
+use Rattle.rasta_core.specs.Links.{Links, LinksEvent}
 use Rattle.signal_ctl.specs.Signal.{SignalState}
 use Rattle.point_ctl.specs.Drive.{PointState}
 use Rattle.tds_ctl.specs.declared.section.Section.{Section}
@@ -10,12 +10,17 @@ use Rattle.simulator_world_run.specs.Nodes.{detector_link, point_link}
 use Rattle.simulator_world_run.specs.State.{ServerState, WorldState}
 use Rattle.simulator_world_links.proofs.Lists.{get_left, get_map, get_right, length_map, map_set, within_some}
 use Rattle.simulator_world_links.proofs.Places.{first_set, second_set, third_set}
+use Rattle.simulator_world_links.specs.Events.{FollowsBy}
 use Rattle.simulator_world_links.specs.Follows.{Follows}
 use Rattle.simulator_world_links.specs.Whole.{IsWhole}
 
+-- events that are told are some
+pub followed : (plan : Plan) (events : List LinksEvent) (new : WorldState) (before : Links) → FollowsBy plan events new before → Follows plan new before
+followed plan events new before by = record { events = events; may = by.may; are = by.are }
+
 -- nothing happens to the links
-pub stays_follows : (plan : Plan) (world : WorldState) (before : Links) → AreLinksOf plan world before → Follows plan world before
-stays_follows plan world before are = record { events = []; may = tt; are = are }
+pub stays_follows : (plan : Plan) (world : WorldState) (before : Links) → AreLinksOf plan world before → FollowsBy plan [] world before
+stays_follows plan world before are = record { may = tt; are = are }
 
 module _ (plan : Plan) (world : WorldState) (whole : IsWhole plan world) where
   abbrev signals : List ServerEnd

@@ -32,7 +32,7 @@ use Rattle.simulator_world_links.proofs.Laws.{CallLaws, LinkLaws, ServerLaws}
 use Rattle.simulator_world_links.proofs.Lists.{itself, within_some}
 use Rattle.simulator_world_links.proofs.Partners.{below_links}
 use Rattle.simulator_world_links.proofs.Places.{IsKept, kept_at, one_server}
-use Rattle.simulator_world_links.specs.Follows.{Follows}
+use Rattle.simulator_world_links.specs.Events.{FollowsBy}
 
 -- ---- what calls send
 
@@ -146,10 +146,9 @@ module _ {Object : Type 0} (does : Behaviour Object)
       → new.time ≡ world.time → new.station ≡ world.station
       → server_ends new ≡ slice_set (server_ends world) link (end_of_server (server_after (step_of does input server) connection (length world.sent) server))
       → new.sent ≡ world.sent ++ sent_by_server (step_of does input server) world.time link server (server_after (step_of does input server) connection (length world.sent) server)
-      → Follows plan new before
+      → FollowsBy plan (map (λ call. CallsOn link role.Server call) (map (as_call connection) (step_of does input server).calls)) new before
   unfolding sent_by_server
   controller_follows new link id server input connection at there items may time station ends sent = record {
-    events = events_of link role.Server list;
     may = links_may (links plan) (names_at plan) link role.Server list before below each;
     are = one_server plan world new before after link (end_of_server next) are (record {
       time_is = links_time link role.Server list before ∙ are.time_is ∙ sym time;

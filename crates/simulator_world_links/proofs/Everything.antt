@@ -33,7 +33,7 @@ use Rattle.simulator_world_links.proofs.Places.{client_same, server_same}
 use Rattle.simulator_world_links.proofs.Restarting.{restarts_follow}
 use Rattle.simulator_world_links.proofs.Station.{NodeLaws, station_follows}
 use Rattle.simulator_world_links.proofs.Steps.{HostLaws, detector_follows, point_follows, signal_follows}
-use Rattle.simulator_world_links.specs.Follows.{Follows}
+use Rattle.simulator_world_links.specs.Events.{FollowsBy, contact_events, delivery_events, events_of, point_events, station_events, tick_events}
 use Rattle.simulator_world_links.specs.Whole.{IsWhole}
 
 -- all laws that this stands on
@@ -78,14 +78,14 @@ moved_links plan world positions occupancies before are = record {
 
 module _ (laws : AllLaws) (plan : Plan) (are_links : AreLinks (links plan) (names_at plan)) (table : Table) (before : Links) (timely : AreTimely (links plan) (names_at plan) before) where
   module _ (world : WorldState) (whole : IsWhole plan world) (are : AreLinksOf plan world before) where
-    pub tick_follows : (at : Option Node) → Follows plan (ticked_at plan table at world) before
+    pub tick_follows : (at : Option Node) → FollowsBy plan (tick_events plan table at world) (ticked_at plan table at world) before
     tick_follows None = stays_follows plan world before are
     tick_follows (Some Station) = station_follows laws.link laws.asking laws.node laws.steps plan are_links table 0 world before whole timely are ixl.Tick tt
     tick_follows (Some (Signal place)) = signal_follows laws.link laws.calling laws.serving laws.steps.written plan are_links world before whole timely are laws.signal inputs.Tick 0 place (λ below. tt)
     tick_follows (Some (Point place)) = point_follows laws.link laws.calling laws.serving laws.steps.written plan are_links world before whole timely are laws.point inputs.Tick 0 place (λ below. tt)
     tick_follows (Some (Detector place)) = detector_follows laws.link laws.calling laws.serving laws.steps.written plan are_links world before whole timely are laws.detector inputs.Tick 0 place (λ below. tt)
 
-    pub delivery_follows : (bytes : List ℕ) → IsDeliverable plan bytes world → (at : Option Node) → Follows plan (delivered_to plan table bytes (connection_of (copy_of bytes world)) at world) before
+    pub delivery_follows : (bytes : List ℕ) → IsDeliverable plan bytes world → (at : Option Node) → FollowsBy plan (delivery_events plan table bytes (connection_of (copy_of bytes world)) at world) (delivered_to plan table bytes (connection_of (copy_of bytes world)) at world) before
     delivery_follows bytes is None = stays_follows plan world before are
     delivery_follows bytes is (Some Station) = station_follows laws.link laws.asking laws.node laws.steps plan are_links table (connection_of (copy_of bytes world)) world before whole timely are (ixl.Datagram bytes)
         (λ link below. delivery_may laws.delivered laws.tested plan world before bytes link are is)
@@ -96,18 +96,18 @@ module _ (laws : AllLaws) (plan : Plan) (are_links : AreLinks (links plan) (name
     delivery_follows bytes is (Some (Detector place)) = detector_follows laws.link laws.calling laws.serving laws.steps.written plan are_links world before whole timely are laws.detector (coming bytes) (connection_of (copy_of bytes world)) place
         (λ below. delivery_may laws.delivered laws.tested plan world before bytes (detector_link plan place) are is)
 
-    contact_follows : (occupancy : Occupancy) (reporter : Option (ℕ × ℕ)) → Follows plan (sensed_by plan occupancy reporter world) before
+    contact_follows : (occupancy : Occupancy) (reporter : Option (ℕ × ℕ)) → FollowsBy plan (contact_events plan reporter (λ place. inputs.Sense (sense.Section place occupancy)) world) (sensed_by plan occupancy reporter world) before
     contact_follows occupancy None = stays_follows plan world before are
     contact_follows occupancy (Some reporter) = detector_follows laws.link laws.calling laws.serving laws.steps.written plan are_links world before whole timely are laws.detector (inputs.Sense (sense.Section reporter.1 occupancy)) 0 reporter.0 (λ below. tt)
 
-    pub reach_follows : (place : ℕ) (position : Position) → Follows plan (point_stepped plan (inputs.Sense (sense.Position position)) 0 place world) before
+    pub reach_follows : (place : ℕ) (position : Position) → FollowsBy plan (point_events plan (inputs.Sense (sense.Position position)) 0 place world) (point_stepped plan (inputs.Sense (sense.Position position)) 0 place world) before
     reach_follows place position = point_follows laws.link laws.calling laws.serving laws.steps.written plan are_links world before whole timely are laws.point (inputs.Sense (sense.Position position)) 0 place (λ below. tt)
 
-    pub command_follows : (command : Command) → Follows plan (station_stepped plan table (ixl.Commands command) world) before
+    pub command_follows : (command : Command) → FollowsBy plan (station_events plan table (ixl.Commands command) 0 world.station) (station_stepped plan table (ixl.Commands command) world) before
     command_follows command = station_follows laws.link laws.asking laws.node laws.steps plan are_links table 0 world before whole timely are (ixl.Commands command) tt
 
-  pub event_follows : (happening : Event) (world : WorldState) → IsWhole plan world → AreLinksOf plan world before → refusal plan happening world ≡ None → Follows plan (happens plan table happening world) before
-  unfolding happens refusal
+  pub event_follows : (happening : Event) (world : WorldState) → IsWhole plan world → AreLinksOf plan world before → refusal plan happening world ≡ None → FollowsBy plan (events_of plan table happening world) (happens plan table happening world) before
+  unfolding happens refusal events_of
   event_follows (event.Request command) world whole are none = command_follows world whole are command
   event_follows (event.Occupy section occupancy) world whole are none =
       contact_follows (moved world world.positions (slice_set world.occupancies section.0 occupancy)) (moved_whole plan world world.positions (slice_set world.occupancies section.0 occupancy) whole)

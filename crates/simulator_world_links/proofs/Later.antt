@@ -21,7 +21,7 @@ use Rattle.simulator_world_run.specs.State.{ServerState, WorldState}
 use Rattle.simulator_world_links.proofs.Lists.{both_true, length_map, within_some}
 use Rattle.simulator_world_links.proofs.Places.{IsKept, at_kept, kept_at}
 use Rattle.simulator_world_links.proofs.Settled.{settled_twice}
-use Rattle.simulator_world_links.specs.Follows.{Follows}
+use Rattle.simulator_world_links.specs.Events.{FollowsBy, time_events}
 
 -- ---- steps that keep time
 
@@ -214,10 +214,9 @@ module _ (plan : Plan) (elapsed : ℕ) (steps : List ℕ) (world : WorldState) (
       (subst (λ n. IsKept (end_passed (length world.sent) (slice_index_or (drop 1 steps) link 0) is.kept) (end_later (slice_index_or (drop 1 steps) link 0) n (before.ends link).server)) (sym (ap length are.sent_is))
       (kept_later (length world.sent) (slice_index_or (drop 1 steps) link 0) is.kept (before.ends link).server (kept_at world link (before.ends link).server is.kept is is.there)))
 
-  pub time_follows : (partners_count : length (partners plan) ≡ links plan) → Follows plan (passed elapsed steps world) before
+  pub time_follows : (partners_count : length (partners plan) ≡ links plan) → FollowsBy plan (time_events elapsed steps) (passed elapsed steps world) before
   unfolding passed
   time_follows partners_count = record {
-    events = PassesFor elapsed of_clients of_servers ∷ [];
     may = (may_pass, tt);
     are = record {
       time_is = ap (λ t. t + elapsed) are.time_is;

@@ -21,6 +21,7 @@ pub mod PartCalls
 pub mod Reached
 pub mod Parts
 pub mod Station
+pub mod Kept
 pub mod Delivered
 pub mod Everything
 pub mod Named

@@ -5,11 +5,10 @@ use Rattle.rasta_core.specs.Links.{Links, LosesAny, without_oldest_of_all}
 use Rattle.simulator_world_run.specs.Links.{AreLinksOf}
 use Rattle.simulator_world_run.specs.State.{WorldState}
 use Rattle.simulator_world_links.proofs.Places.{client_same, server_same}
-use Rattle.simulator_world_links.specs.Follows.{Follows}
+use Rattle.simulator_world_links.specs.Events.{FollowsBy}
 
-pub lost_follows : (plan : Plan) (world : WorldState) (before : Links) (bytes : List ℕ) → AreLinksOf plan world before → Follows plan (record world { sent = without_oldest_of_all bytes world.sent }) before
+pub lost_follows : (plan : Plan) (world : WorldState) (before : Links) (bytes : List ℕ) → AreLinksOf plan world before → FollowsBy plan (LosesAny bytes ∷ []) (record world { sent = without_oldest_of_all bytes world.sent }) before
 lost_follows plan world before bytes are = record {
-  events = LosesAny bytes ∷ [];
   may = (tt, tt);
   are = record {
     time_is = are.time_is;

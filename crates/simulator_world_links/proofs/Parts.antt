@@ -109,6 +109,7 @@ module _ (laws : LinkLaws) (client_laws : ClientLaws) (plan : Plan) (are : AreLi
   -- an interlocking with the same clients
   ixl_kept : (part : Part) (ixl : IxlState) → client_states ixl ≡ client_states part.ixl → IsManned plan ixl → On part → On (record part { ixl = ixl })
   ixl_kept part ixl same manned on = record {
+    nodes = on.nodes;
     may = on.may;
     tells = on.tells;
     manned = manned;
@@ -175,6 +176,7 @@ module _ (laws : LinkLaws) (client_laws : ClientLaws) (plan : Plan) (are : AreLi
   lamp_kept : (part : Part) → On part → (place : ℕ) (lamp : LampState) → slice_get part.ixl.lamps place ≡ Some lamp → (done : client.Part) (aspect : Option Aspect) (number : ℕ) → IsDone place lamp.client part.outbox done
       → On (with_lamp place (lamp_after aspect number done.client) (noted (Signal place) done part))
   lamp_kept part on place lamp is done aspect number made = next (Signal place) lamp.client part done (record part.ixl { lamps = changed (λ old. lamp_after aspect number done.client) place part.ixl.lamps }) on (record {
+    node_is = subst (λ n. place < n) on.manned.lamps (within_some part.ixl.lamps place lamp is);
     below = signal_link part on place lamp is;
     at = lamp_at part place lamp is;
     list = made.list;
@@ -223,6 +225,7 @@ module _ (laws : LinkLaws) (client_laws : ClientLaws) (plan : Plan) (are : AreLi
   switch_kept : (part : Part) → On part → (place : ℕ) (switch : SwitchState) → slice_get part.ixl.switches place ≡ Some switch → (done : client.Part) (side : Option Side) (gone : Places) → IsDone (point_link plan place) switch.client part.outbox done
       → On (with_switch place (switch_after side gone done.client) (noted (Point place) done part))
   switch_kept part on place switch is done side gone made = next (Point place) switch.client part done (record part.ixl { switches = changed (λ old. switch_after side gone done.client) place part.ixl.switches }) on (record {
+    node_is = subst (λ n. place < n) on.manned.switches (within_some part.ixl.switches place switch is);
     below = switch_link part on place switch is;
     at = switch_at part on place switch is;
     list = made.list;
@@ -282,6 +285,7 @@ module _ (laws : LinkLaws) (client_laws : ClientLaws) (plan : Plan) (are : AreLi
   detector_kept : (part : Part) → On part → (place : ℕ) (detector : DetectorState) → slice_get part.ixl.detectors place ≡ Some detector → (done : client.Part) (occupied : Places) → IsDone (detector_link plan place) detector.client part.outbox done
       → On (with_detector place (detector_after occupied done.client) (noted (Detector place) done part))
   detector_kept part on place detector is done occupied made = next (Detector place) detector.client part done (record part.ixl { detectors = changed (λ old. detector_after occupied done.client) place part.ixl.detectors }) on (record {
+    node_is = subst (λ n. place < n) on.manned.detectors (within_some part.ixl.detectors place detector is);
     below = detector_below part on place detector is;
     at = detector_at part on place detector is;
     list = made.list;

@@ -20,7 +20,7 @@ use Rattle.simulator_world_links.proofs.Asking.{Tells}
 use Rattle.simulator_world_links.proofs.Laws.{ClientLaws, LinkLaws}
 use Rattle.simulator_world_links.proofs.Lists.{get_set, get_set_other, same_or_other, some_is, within_some}
 use Rattle.simulator_world_links.proofs.PartCalls.{AllMayMake, Leads, all_later, calls_lead, events_at}
-use Rattle.simulator_world_links.specs.Calls.{as_call, link_at, node_call}
+use Rattle.simulator_world_links.specs.Calls.{AreOfNodes, IsNodeOf, as_call, link_at, node_call}
 use Rattle.simulator_world_links.specs.Whole.{IsPeer, client_states}
 
 -- ---- lists of events
@@ -45,6 +45,16 @@ for_node : (plan : Plan) (connection : ℕ) (node : Node) (list : List LinkCall)
 for_node plan connection node [] = refl
 for_node plan connection node (call ∷ list) = ap (λ l. CallsOn (link_at plan node) role.Client (as_call connection call) ∷ l) (for_node plan connection node list)
 
+-- ---- the nodes of calls
+
+of_joined : (plan : Plan) (one other : List (Node × LinkCall)) → AreOfNodes plan one → AreOfNodes plan other → AreOfNodes plan (one ++ other)
+of_joined plan [] other are more = more
+of_joined plan (first ∷ others) other are more = (are.0, of_joined plan others other are.1 more)
+
+of_one : (plan : Plan) (node : Node) (list : List LinkCall) → IsNodeOf plan node → AreOfNodes plan (map (λ call. (node, call)) list)
+of_one plan node [] is = tt
+of_one plan node (call ∷ list) is = (is, of_one plan node list is)
+
 -- ---- clients
 
 -- the lists of an interlocking are as long as those of its layout
@@ -65,6 +75,7 @@ module _ (laws : LinkLaws) (client_laws : ClientLaws) (plan : Plan) (are : AreLi
   after made = run_links (events_for plan connection made) before
 
   pub record Reached (part : Part) : Type 0 where
+    pub nodes : AreOfNodes plan part.calls
     pub may : MayRunLinks (links plan) (names_at plan) (events_for plan connection part.calls) before
     pub tells : Tells laws client_laws plan are time (after part.calls) (sending_all plan time part.outbox.datagrams start)
     pub manned : IsManned plan part.ixl
@@ -73,6 +84,7 @@ module _ (laws : LinkLaws) (client_laws : ClientLaws) (plan : Plan) (are : AreLi
 
   -- a client did this in a part of a step, and is then at its place
   pub record Does (node : Node) (old : ClientState) (part : Part) (done : client.Part) (ixl : IxlState) : Type 0 where
+    pub node_is : IsNodeOf plan node
     pub below : link_at plan node < links plan
     pub at : slice_get (client_states part.ixl) (link_at plan node) ≡ Some old
     pub list : List LinkCall
@@ -137,6 +149,7 @@ module _ (laws : LinkLaws) (client_laws : ClientLaws) (plan : Plan) (are : AreLi
 
     pub reached_next : Reached (record (noted node done part) { ixl = ixl })
     reached_next = record {
+      nodes = of_joined plan part.calls (map (λ call. (node, call)) done.calls) reached.nodes (of_one plan node done.calls does.node_is);
       may = subst (λ l. MayRunLinks (links plan) (names_at plan) l before) (sym events_are)
           (may_joined (links plan) (names_at plan) (events_for plan connection part.calls) (events_at link connection does.list) before reached.may leads.may);
       tells = subst (λ a. Tells laws client_laws plan are time a (sending_all plan time done.outbox.datagrams start)) (sym after_is)

@@ -28,7 +28,7 @@ use Rattle.simulator_world_links.proofs.ByKind.{detector_there, detectors_set, p
 use Rattle.simulator_world_links.proofs.Laws.{LinkLaws}
 use Rattle.simulator_world_links.proofs.Lists.{changed_one, some_within, within_some}
 use Rattle.simulator_world_links.proofs.Partners.{detector_partner, point_partner, signal_partner}
-use Rattle.simulator_world_links.specs.Follows.{Follows}
+use Rattle.simulator_world_links.specs.Events.{FollowsBy, anew_events, restart_events}
 use Rattle.simulator_world_links.specs.Whole.{IsWhole}
 
 -- a host that was just made, in the state of a world
@@ -42,10 +42,10 @@ module _ (laws : LinkLaws) (node : NodeRestarts) (plan : Plan) (table : Table) (
   abbrev moment : ℕ
   moment = length world.sent
 
-  signal_restarts : (place : ℕ) (entry : Option SignalEntry) → slice_get plan.signals place ≡ entry → Follows plan (signal_anew plan begins place entry world) before
+  signal_restarts : (place : ℕ) (entry : Option SignalEntry) → slice_get plan.signals place ≡ entry → FollowsBy plan (anew_events begins.clock begins.first place entry) (signal_anew plan begins place entry world) before
   signal_restarts place None at = stays_follows plan world before are
   signal_restarts place (Some entry) at = from (some_within world.signals place (subst (λ n. place < n) (sym whole.signals) (within_some plan.signals place entry at))) where
-    from : (server : ServerState SignalState) × (slice_get world.signals place ≡ Some server) → Follows plan (signal_anew plan begins place (Some entry) world) before
+    from : (server : ServerState SignalState) × (slice_get world.signals place ≡ Some server) → FollowsBy plan (anew_events begins.clock begins.first place (Some entry)) (signal_anew plan begins place (Some entry) world) before
     from (server, is) =
         let next = server_anew (new_signal plan begins entry) begins.clock (length world.sent)
         in restart_follows laws plan world (signal_anew plan begins place (Some entry) world) before place entry.id begins.clock begins.first (end_of_server server) (end_of_server (next server)) timely are
@@ -53,10 +53,10 @@ module _ (laws : LinkLaws) (node : NodeRestarts) (plan : Plan) (table : Table) (
         (ap (λ l. map end_of_server l ++ (map end_of_server world.points ++ map end_of_server world.detectors)) (changed_one next place world.signals server is)
         ∙ signals_set plan world whole place (next server) (within_some world.signals place server is))
 
-  point_restarts : (place : ℕ) (entry : Option PointEntry) → slice_get plan.points place ≡ entry → Follows plan (point_anew plan begins place entry world) before
+  point_restarts : (place : ℕ) (entry : Option PointEntry) → slice_get plan.points place ≡ entry → FollowsBy plan (anew_events begins.clock begins.first (point_link plan place) entry) (point_anew plan begins place entry world) before
   point_restarts place None at = stays_follows plan world before are
   point_restarts place (Some entry) at = from (some_within world.points place (subst (λ n. place < n) (sym whole.points) (within_some plan.points place entry at))) where
-    from : (server : ServerState PointState) × (slice_get world.points place ≡ Some server) → Follows plan (point_anew plan begins place (Some entry) world) before
+    from : (server : ServerState PointState) × (slice_get world.points place ≡ Some server) → FollowsBy plan (anew_events begins.clock begins.first (point_link plan place) (Some entry)) (point_anew plan begins place (Some entry) world) before
     from (server, is) =
         let next = server_anew (new_point plan begins (slice_index_or world.positions place positions.NoEndPosition) entry) begins.clock (length world.sent)
         in restart_follows laws plan world (point_anew plan begins place (Some entry) world) before (point_link plan place) entry.id begins.clock begins.first (end_of_server server) (end_of_server (next server)) timely are
@@ -64,10 +64,10 @@ module _ (laws : LinkLaws) (node : NodeRestarts) (plan : Plan) (table : Table) (
         (ap (λ l. map end_of_server world.signals ++ (map end_of_server l ++ map end_of_server world.detectors)) (changed_one next place world.points server is)
         ∙ points_set plan world whole place (next server) (within_some world.points place server is))
 
-  detector_restarts : (place : ℕ) (entry : Option DetectorEntry) → slice_get plan.detectors place ≡ entry → Follows plan (detector_anew plan begins place entry world) before
+  detector_restarts : (place : ℕ) (entry : Option DetectorEntry) → slice_get plan.detectors place ≡ entry → FollowsBy plan (anew_events begins.clock begins.first (detector_link plan place) entry) (detector_anew plan begins place entry world) before
   detector_restarts place None at = stays_follows plan world before are
   detector_restarts place (Some entry) at = from (some_within world.detectors place (subst (λ n. place < n) (sym whole.detectors) (within_some plan.detectors place entry at))) where
-    from : (server : ServerState (List Section)) × (slice_get world.detectors place ≡ Some server) → Follows plan (detector_anew plan begins place (Some entry) world) before
+    from : (server : ServerState (List Section)) × (slice_get world.detectors place ≡ Some server) → FollowsBy plan (anew_events begins.clock begins.first (detector_link plan place) (Some entry)) (detector_anew plan begins place (Some entry) world) before
     from (server, is) =
         let next = server_anew (new_detector plan begins world.occupancies entry) begins.clock (length world.sent)
         in restart_follows laws plan world (detector_anew plan begins place (Some entry) world) before (detector_link plan place) entry.id begins.clock begins.first (end_of_server server) (end_of_server (next server)) timely are
@@ -75,7 +75,7 @@ module _ (laws : LinkLaws) (node : NodeRestarts) (plan : Plan) (table : Table) (
         (ap (λ l. map end_of_server world.signals ++ (map end_of_server world.points ++ map end_of_server l)) (changed_one next place world.detectors server is)
         ∙ detectors_set plan world whole place (next server))
 
-  pub restarts_follow : (at : Option Node) → Follows plan (made_anew plan table begins at world) before
+  pub restarts_follow : (at : Option Node) → FollowsBy plan (restart_events plan begins.clock begins.first at) (made_anew plan table begins at world) before
   restarts_follow None = stays_follows plan world before are
   restarts_follow (Some Station) = station_follows_anew node plan table begins world before timely are
   restarts_follow (Some (Signal place)) = signal_restarts place (slice_get plan.signals place) refl

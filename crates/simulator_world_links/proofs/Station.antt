@@ -30,7 +30,8 @@ use Rattle.simulator_world_links.proofs.Parts.{MayComeIn, StepLaws, lamp_client,
 use Rattle.simulator_world_links.proofs.Places.{server_same}
 use Rattle.simulator_world_links.proofs.Reached.{ClientIs, Reached, events_for}
 use Rattle.simulator_world_links.specs.Calls.{node_call}
-use Rattle.simulator_world_links.specs.Follows.{Follows}
+use Rattle.simulator_world_links.specs.Nodes.{MayComeWith}
+use Rattle.simulator_world_links.specs.Events.{FollowsBy, station_events}
 use Rattle.simulator_world_links.specs.Whole.{IsPeer, IsWhole, client_states}
 
 -- ---- the clients, and their links
@@ -156,6 +157,7 @@ module _ (laws : LinkLaws) (client_laws : ClientLaws) (node_laws : NodeLaws) (st
   begun_reached : Reached laws client_laws plan are_links world.time connection now before start begun
   unfolding sending_all all_clocked
   begun_reached = record {
+    nodes = tt;
     may = tt;
     tells = begun_tells;
     manned = record {
@@ -172,6 +174,12 @@ module _ (laws : LinkLaws) (client_laws : ClientLaws) (node_laws : NodeLaws) (st
 
   pub reached : (input : ixl.Input) → MayComeIn laws client_laws plan are_links world.time connection now before start steps table input → Reached laws client_laws plan are_links world.time connection now before start (done input)
   reached input may = step_kept laws client_laws plan are_links world.time connection now before start steps table (key_of plan) input (begun_with world.station.ixl empty_outbox) may begun_reached
+
+  -- what may come at the ends may come in the step
+  pub may_come : (input : ixl.Input) → MayComeWith plan input connection before → MayComeIn laws client_laws plan are_links world.time connection now before start steps table input
+  may_come ixl.Tick comes = tt
+  may_come (ixl.Datagram bytes) comes = comes bytes refl
+  may_come (ixl.Commands command) comes = tt
 
   abbrev last : ixl.Input → Links
   last input = run_links (events_for plan connection (done input).calls) before
@@ -198,12 +206,11 @@ module _ (laws : LinkLaws) (client_laws : ClientLaws) (node_laws : NodeLaws) (st
   server_after input new link id at same = server_same world new link (before.ends link).server ((last input).ends link).server (ap (λ l. slice_get l link) same) (node_laws.partner (map (node_call plan connection) (done input).calls) before link) (are.servers link id at)
 
   -- what the interlocking does in a step is a list of calls at its ends
-  pub station_follows : (input : ixl.Input) → MayComeIn laws client_laws plan are_links world.time connection now before start steps table input → Follows plan (station_stepped plan table input world) before
+  pub station_follows : (input : ixl.Input) → MayComeIn laws client_laws plan are_links world.time connection now before start steps table input → FollowsBy plan (station_events plan table input connection world.station) (station_stepped plan table input world) before
   unfolding station_stepped
   station_follows input may =
       let on = reached input may
       in record {
-        events = events_for plan connection (done input).calls;
         may = on.may;
         are = record {
           time_is = on.tells.time_is;

@@ -30,7 +30,7 @@ use Rattle.simulator_world_links.proofs.Laws.{CallLaws, LinkLaws, ServerLaws}
 use Rattle.simulator_world_links.proofs.Lists.{some_within, within_some}
 use Rattle.simulator_world_links.proofs.Partners.{detector_partner, point_partner, signal_partner}
 use Rattle.simulator_world_links.proofs.Tellings.{AnyPoint, AnySignal, AreSectionsNamed, detectors_tell, points_tell, signals_tell}
-use Rattle.simulator_world_links.specs.Follows.{Follows}
+use Rattle.simulator_world_links.specs.Events.{FollowsBy, detector_events, host_events, point_events, signal_events}
 use Rattle.simulator_world_links.specs.Whole.{IsWhole}
 
 -- the laws of a host
@@ -59,9 +59,9 @@ module _ (laws : LinkLaws) (calling : CallLaws) (serving : ServerLaws) (written 
     unfolding signal_stepped stepped_at
     signal_none input connection place is = rw is refl
 
-    pub signal_follows : (input : Input) (connection place : ℕ) → (link_may : place < length plan.signals → MayCome (names_at plan place) input connection before) → Follows plan (signal_stepped plan input connection place world) before
+    pub signal_follows : (input : Input) (connection place : ℕ) → (link_may : place < length plan.signals → MayCome (names_at plan place) input connection before) → FollowsBy plan (signal_events input connection place world) (signal_stepped plan input connection place world) before
     signal_follows input connection place may = cases (slice_get world.signals place) refl where
-      step : (server : ServerState SignalState) → slice_get world.signals place ≡ Some server → (entry : SignalEntry) → slice_get plan.signals place ≡ Some entry → Follows plan (record world {
+      step : (server : ServerState SignalState) → slice_get world.signals place ≡ Some server → (entry : SignalEntry) → slice_get plan.signals place ≡ Some entry → FollowsBy plan (host_events signal_behaviour input connection place (Some server)) (record world {
         signals = slice_set world.signals place (server_after (step_of signal_behaviour input server) connection (length world.sent) server);
         sent = world.sent ++ sent_by_server (step_of signal_behaviour input server) world.time place server (server_after (step_of signal_behaviour input server) connection (length world.sent) server);
       }) before
@@ -71,11 +71,11 @@ module _ (laws : LinkLaws) (calling : CallLaws) (serving : ServerLaws) (written 
           (may (within_some plan.signals place entry at)) refl refl
           (signals_set plan world whole place _ (within_some world.signals place server is)) refl
 
-      cases : (found : Option (ServerState SignalState)) → slice_get world.signals place ≡ found → Follows plan (signal_stepped plan input connection place world) before
-      cases None is = subst (λ w. Follows plan w before) (sym (signal_none input connection place is)) (stays_follows plan world before are)
+      cases : (found : Option (ServerState SignalState)) → slice_get world.signals place ≡ found → FollowsBy plan (host_events signal_behaviour input connection place found) (signal_stepped plan input connection place world) before
+      cases None is = subst (λ w. FollowsBy plan [] w before) (sym (signal_none input connection place is)) (stays_follows plan world before are)
       cases (Some server) is =
           let entry = some_within plan.signals place (subst (λ n. place < n) whole.signals (within_some world.signals place server is))
-          in subst (λ w. Follows plan w before) (sym (signal_is input connection place server is)) (step server is entry.0 entry.1)
+          in subst (λ w. FollowsBy plan (host_events signal_behaviour input connection place (Some server)) w before) (sym (signal_is input connection place server is)) (step server is entry.0 entry.1)
 
   -- ---- points
 
@@ -91,9 +91,9 @@ module _ (laws : LinkLaws) (calling : CallLaws) (serving : ServerLaws) (written 
     unfolding point_stepped stepped_at
     point_none input connection place is = rw is refl
 
-    pub point_follows : (input : Input) (connection place : ℕ) → (link_may : place < length plan.points → MayCome (names_at plan (point_link plan place)) input connection before) → Follows plan (point_stepped plan input connection place world) before
+    pub point_follows : (input : Input) (connection place : ℕ) → (link_may : place < length plan.points → MayCome (names_at plan (point_link plan place)) input connection before) → FollowsBy plan (point_events plan input connection place world) (point_stepped plan input connection place world) before
     point_follows input connection place may = cases (slice_get world.points place) refl where
-      step : (server : ServerState PointState) → slice_get world.points place ≡ Some server → (entry : PointEntry) → slice_get plan.points place ≡ Some entry → Follows plan (record world {
+      step : (server : ServerState PointState) → slice_get world.points place ≡ Some server → (entry : PointEntry) → slice_get plan.points place ≡ Some entry → FollowsBy plan (host_events point_behaviour input connection (point_link plan place) (Some server)) (record world {
         points = slice_set world.points place (server_after (step_of point_behaviour input server) connection (length world.sent) server);
         sent = world.sent ++ sent_by_server (step_of point_behaviour input server) world.time (point_link plan place) server (server_after (step_of point_behaviour input server) connection (length world.sent) server);
       }) before
@@ -103,11 +103,11 @@ module _ (laws : LinkLaws) (calling : CallLaws) (serving : ServerLaws) (written 
           (may (within_some plan.points place entry at)) refl refl
           (points_set plan world whole place _ (within_some world.points place server is)) refl
 
-      cases : (found : Option (ServerState PointState)) → slice_get world.points place ≡ found → Follows plan (point_stepped plan input connection place world) before
-      cases None is = subst (λ w. Follows plan w before) (sym (point_none input connection place is)) (stays_follows plan world before are)
+      cases : (found : Option (ServerState PointState)) → slice_get world.points place ≡ found → FollowsBy plan (host_events point_behaviour input connection (point_link plan place) found) (point_stepped plan input connection place world) before
+      cases None is = subst (λ w. FollowsBy plan [] w before) (sym (point_none input connection place is)) (stays_follows plan world before are)
       cases (Some server) is =
           let entry = some_within plan.points place (subst (λ n. place < n) whole.points (within_some world.points place server is))
-          in subst (λ w. Follows plan w before) (sym (point_is input connection place server is)) (step server is entry.0 entry.1)
+          in subst (λ w. FollowsBy plan (host_events point_behaviour input connection (point_link plan place) (Some server)) w before) (sym (point_is input connection place server is)) (step server is entry.0 entry.1)
 
   -- ---- detectors
 
@@ -123,9 +123,9 @@ module _ (laws : LinkLaws) (calling : CallLaws) (serving : ServerLaws) (written 
     unfolding detector_stepped stepped_at
     detector_none input connection place is = rw is refl
 
-    pub detector_follows : (input : Input) (connection place : ℕ) → (link_may : place < length plan.detectors → MayCome (names_at plan (detector_link plan place)) input connection before) → Follows plan (detector_stepped plan input connection place world) before
+    pub detector_follows : (input : Input) (connection place : ℕ) → (link_may : place < length plan.detectors → MayCome (names_at plan (detector_link plan place)) input connection before) → FollowsBy plan (detector_events plan input connection place world) (detector_stepped plan input connection place world) before
     detector_follows input connection place may = cases (slice_get world.detectors place) refl where
-      step : (server : ServerState (List Section)) → slice_get world.detectors place ≡ Some server → (entry : DetectorEntry) → slice_get plan.detectors place ≡ Some entry → Follows plan (record world {
+      step : (server : ServerState (List Section)) → slice_get world.detectors place ≡ Some server → (entry : DetectorEntry) → slice_get plan.detectors place ≡ Some entry → FollowsBy plan (host_events detection_behaviour input connection (detector_link plan place) (Some server)) (record world {
         detectors = slice_set world.detectors place (server_after (step_of detection_behaviour input server) connection (length world.sent) server);
         sent = world.sent ++ sent_by_server (step_of detection_behaviour input server) world.time (detector_link plan place) server (server_after (step_of detection_behaviour input server) connection (length world.sent) server);
       }) before
@@ -136,8 +136,8 @@ module _ (laws : LinkLaws) (calling : CallLaws) (serving : ServerLaws) (written 
           (may (within_some plan.detectors place entry at)) refl refl
           (detectors_set plan world whole place _) refl
 
-      cases : (found : Option (ServerState (List Section))) → slice_get world.detectors place ≡ found → Follows plan (detector_stepped plan input connection place world) before
-      cases None is = subst (λ w. Follows plan w before) (sym (detector_none input connection place is)) (stays_follows plan world before are)
+      cases : (found : Option (ServerState (List Section))) → slice_get world.detectors place ≡ found → FollowsBy plan (host_events detection_behaviour input connection (detector_link plan place) found) (detector_stepped plan input connection place world) before
+      cases None is = subst (λ w. FollowsBy plan [] w before) (sym (detector_none input connection place is)) (stays_follows plan world before are)
       cases (Some server) is =
           let entry = some_within plan.detectors place (subst (λ n. place < n) whole.detectors (within_some world.detectors place server is))
-          in subst (λ w. Follows plan w before) (sym (detector_is input connection place server is)) (step server is entry.0 entry.1)
+          in subst (λ w. FollowsBy plan (host_events detection_behaviour input connection (detector_link plan place) (Some server)) w before) (sym (detector_is input connection place server is)) (step server is entry.0 entry.1)

@@ -1,5 +1,5 @@
 -- The calls that a client of the interlocking makes of its link, as calls of an end of it.
-use Rattle.std.specs.Prelude.{ℕ}
+use Rattle.std.specs.Prelude.{ℕ, ◌<◌, List, [], ◌∷◌, length}
 use Rattle.layout.specs.Entries.{Plan}
 use Rattle.ixl_client.specs.Part.{LinkCall, Opens, Ticks, Closes, Sends, Receives}
 use Rattle.ixl_rules.specs.Part.{Node, Signal, Point, Detector}
@@ -15,6 +15,17 @@ as_call connection Ticks = calls.Ticks
 as_call connection (Closes why) = calls.Closes why
 as_call connection (Sends item) = calls.Sends item
 as_call connection (Receives bytes) = calls.Receives bytes connection
+
+-- a controller of the layout
+abbrev pub IsNodeOf : Plan → Node → Type 0
+IsNodeOf plan (Signal place) = place < length plan.signals
+IsNodeOf plan (Point place) = place < length plan.points
+IsNodeOf plan (Detector place) = place < length plan.detectors
+
+-- calls at the clients of controllers of the layout
+abbrev pub AreOfNodes : Plan → List (Node × LinkCall) → Type 0
+AreOfNodes plan [] = Unit {0}
+AreOfNodes plan (first ∷ others) = IsNodeOf plan first.0 × AreOfNodes plan others
 
 -- the link of a controller
 abbrev pub link_at : Plan → Node → ℕ

@@ -2,3 +2,5 @@ pub mod Follows
 pub mod Whole
 pub mod Calls
 pub mod HasLinks
+pub mod Events
+pub mod Nodes

@@ -12,6 +12,7 @@ ghost use Rattle.simulator_world_run.specs.Links.{AreLinksOf, names_at};
 ghost use Rattle.simulator_world_run.specs.Nodes.{links};
 ghost use Rattle.simulator_world_run.specs.Refusals.{refusal};
 ghost use Rattle.simulator_world_run.specs.State.{WorldState};
+ghost use Rattle.simulator_world_links.specs.Events.{FollowsBy, events_of};
 ghost use Rattle.simulator_world_links.specs.Follows.{Follows};
 ghost use Rattle.simulator_world_links.specs.Whole.{IsWhole};
 
@@ -32,11 +33,14 @@ use simulator_links::{
 use tds_ctl::Detection;
 
 /// An event that can happen to a station is a list of events that may happen to its links: calls at the ends of the node
-/// that makes a step, or time, a loss or a restart. After it they are the links of the station as it is then (*follow*). It
-/// leaves every node there (*whole*).
+/// that makes a step, or time, a loss or a restart. After it they are the links of the station as it is then (*follow*), and
+/// the events are those that the definitions say (*exactly*). It leaves every node there (*whole*).
 pub fn events_are_those_of_the_links()
     ensures follow { (plan : Plan) (table : Table) (event : Event) (world : WorldState) (before : Links) → AreLinks (links plan) (names_at plan) → IsWhole plan world
         → AreTimely (links plan) (names_at plan) before → AreLinksOf plan world before → refusal plan event world ≡ None → Follows plan (happens plan table event world) before }
+    ensures exactly { (plan : Plan) (table : Table) (event : Event) (world : WorldState) (before : Links) → AreLinks (links plan) (names_at plan) → IsWhole plan world
+        → AreTimely (links plan) (names_at plan) before → AreLinksOf plan world before → refusal plan event world ≡ None
+        → FollowsBy plan (events_of plan table event world) (happens plan table event world) before }
     ensures whole { (plan : Plan) (table : Table) (event : Event) (world : WorldState) (before : Links) → AreLinks (links plan) (names_at plan) → IsStation plan
         → IsWhole plan world → AreTimely (links plan) (names_at plan) before → AreLinksOf plan world before → refusal plan event world ≡ None
         → IsWhole plan (happens plan table event world) }

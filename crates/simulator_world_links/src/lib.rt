@@ -3,11 +3,15 @@
 #![tactic(auto)]
 
 mod events;
+mod nodes;
 mod passing;
 mod restarts;
 mod stations;
 
 pub use events::events_are_those_of_the_links;
+pub use nodes::{
+    deliveries_may_come, ends_are_those_of_the_nodes, hosts_say_items, stations_call_their_nodes,
+};
 pub use passing::{a_loss_is_one_of_the_links, time_passes_for_the_links};
 pub use restarts::restarts_are_those_of_the_links;
 pub use stations::{each_link_of_a_station_is_safe, layouts_name_their_links, stations_have_links};

@@ -1,6 +1,9 @@
 use Rattle.rasta_core.specs.identity.Role.TheVariants as role
+use Rattle.simulator_world_run.specs.Happens.{happens}
 use Rattle.simulator_world_links.proofs.AllKept.{event_keeps}
+use Rattle.simulator_world_links.proofs.ByKind.{followed}
 use Rattle.simulator_world_links.proofs.Everything.{AllLaws, event_follows}
+use Rattle.simulator_world_links.specs.Events.{events_of}
 use Rattle.simulator_world_links.proofs.events.events_are_those_of_the_links.Goals as goal
 
 pub returns : goal.returns
@@ -47,6 +50,8 @@ returns c =
       tested = c.intact_is_tested.ensures;
     }
     in record {
-      follow = λ plan table happening world before are_links whole timely are none. event_follows laws plan are_links table before timely happening world whole are none;
+      follow = λ plan table happening world before are_links whole timely are none. followed plan (events_of plan table happening world) (happens plan table happening world) before
+          (event_follows laws plan are_links table before timely happening world whole are none);
+      exactly = λ plan table happening world before are_links whole timely are none. event_follows laws plan are_links table before timely happening world whole are none;
       whole = λ plan table happening world before are_links station whole timely are none. event_keeps laws plan are_links station table before timely happening world whole are none;
     }

@@ -34,9 +34,9 @@ use Rattle.simulator_world_run.specs.State.{ServerState, WorldState}
 use Rattle.simulator_world_snapshot.specs.Safe.{IsHeldFor, IsOf, IsProtected, IsThere, Safe, Shows, ShowsOther, StandsUndriven, position_at}
 use Rattle.simulator_world_snapshot.specs.declared.snapshot.Held.{Held}
 use Rattle.simulator_world_snapshot.specs.declared.snapshot.Snapshot.{Snapshot}
-use Rattle.simulator_headline.specs.Seen.{IsSeen}
-use Rattle.simulator_headline.proofs.Lists.{get_below, get_map, map_get, map_length, some_injective}
-use Rattle.simulator_headline.proofs.Rows.{aspect_is_seen, aspects_are_told, conflict_is_seen, requirement_is_seen}
+use Rattle.simulator_picture.specs.Seen.{IsSeen}
+use Rattle.simulator_picture.proofs.Lists.{get_below, get_map, map_get, map_length, some_injective}
+use Rattle.simulator_picture.proofs.Rows.{aspect_is_seen, aspects_are_told, conflict_is_seen, requirement_is_seen}
 
 abbrev is_left : seen_point.Side → Bool
 is_left seen_point.Left = true

@@ -21,7 +21,7 @@ ghost use Rattle.simulator_world_run.specs.Station.{held_of};
 ghost use Rattle.simulator_world_snapshot.specs.Safe.{Safe};
 ghost use Rattle.simulator_world_snapshot.specs.declared.snapshot.Held.{Held};
 ghost use Rattle.simulator_world_snapshot.specs.declared.snapshot.Snapshot.{Snapshot};
-ghost use Rattle.simulator_headline.specs.Seen.{AreHeldPairs, IsSeen};
+ghost use Rattle.simulator_picture.specs.Seen.{AreHeldPairs, IsSeen};
 
 use control_table::{a_route_leads_over_its_sections_alone, required_points_are_there};
 use simulator_machine::equal_numbers_are_same;

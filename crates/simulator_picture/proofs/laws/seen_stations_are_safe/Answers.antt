@@ -1,5 +1,5 @@
-use Rattle.simulator_headline.proofs.Safe.{safe}
-use Rattle.simulator_headline.proofs.laws.seen_stations_are_safe.Goals as goal
+use Rattle.simulator_picture.proofs.Safe.{safe}
+use Rattle.simulator_picture.proofs.laws.seen_stations_are_safe.Goals as goal
 
 pub returns : goal.returns
 returns c plan table world machine seen once station is promise sees of =

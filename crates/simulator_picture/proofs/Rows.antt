@@ -21,7 +21,7 @@ use Rattle.simulator_rules_seen.specs.Rows.{is_elsewhere, is_side_seen, machine_
 use Rattle.simulator_machine.specs.Signal.{Stop, Proceed}
 use Rattle.simulator_machine.specs.Signal as machine
 use Rattle.simulator_rules_seen.specs.Telegrams.{aspect_seen, side_seen}
-use Rattle.simulator_headline.proofs.Lists.{any_true, contains_map, get_below, get_inside, left_of, right_of, some_injective}
+use Rattle.simulator_picture.proofs.Lists.{any_true, contains_map, get_below, get_inside, left_of, right_of, some_injective}
 
 pub true_both : (a b : Bool) → a ≡ true → b ≡ true → a && b ≡ true
 true_both true b one other = other

@@ -20,9 +20,9 @@ use Rattle.simulator_rules_seen.specs.Rows.{machine_table, row_at, row_or_none}
 use Rattle.simulator_world_run.specs.State.{StationState}
 use Rattle.simulator_world_run.specs.Station.{authorities, authority_from, held_of, pair_then}
 use Rattle.simulator_world_snapshot.specs.declared.snapshot.Held.{Held}
-use Rattle.simulator_headline.specs.Seen.{AreHeldPairs, pair_of}
-use Rattle.simulator_headline.proofs.Lists.{contains_cases, contains_here, contains_none, contains_there, get_below, get_contains, get_inside, none_some, some_injective}
-use Rattle.simulator_headline.proofs.Rows.{row_is, true_both}
+use Rattle.simulator_picture.specs.Seen.{AreHeldPairs, pair_of}
+use Rattle.simulator_picture.proofs.Lists.{contains_cases, contains_here, contains_none, contains_there, get_below, get_contains, get_inside, none_some, some_injective}
+use Rattle.simulator_picture.proofs.Rows.{row_is, true_both}
 
 -- ---- the route that has authority from a signal
 
