@@ -27,7 +27,7 @@ use Rattle.simulator_picture.proofs.Rows.{row_is, true_both}
 -- ---- the route that has authority from a signal
 
 -- the route at this place of both lists begins at the signal and has authority
-abbrev HasFrom : ℕ → List Row → List RouteState → ℕ → Type 0
+abbrev pub HasFrom : ℕ → List Row → List RouteState → ℕ → Type 0
 HasFrom signal rows routes place =
     (row : Row) × (route : RouteState) × (slice_get rows place ≡ Some row) × (slice_get routes place ≡ Some route) × (row.entry ≡ signal) × (has_authority route.phase ≡ true)
 
@@ -36,7 +36,7 @@ both_true true b is = (refl, is)
 both_true false b is = absurd (false≢true is)
 
 -- what is found has it
-found_has : (signal number : ℕ) (rows : List Row) (routes : List RouteState) (found : ℕ) → authority_from signal number rows routes ≡ Some found → (place : ℕ) × (found ≡ number + place) × HasFrom signal rows routes place
+pub found_has : (signal number : ℕ) (rows : List Row) (routes : List RouteState) (found : ℕ) → authority_from signal number rows routes ≡ Some found → (place : ℕ) × (found ≡ number + place) × HasFrom signal rows routes place
 found_has signal number [] routes found is = absurd (none_some found is)
 found_has signal number (row ∷ rows) [] found is = absurd (none_some found is)
 found_has signal number (row ∷ rows) (route ∷ routes) found is = cases (row.entry == signal && has_authority route.phase) refl is (found_has signal (suc number) rows routes found) where
@@ -68,10 +68,10 @@ one_found signal number (first ∷ rows) (kept ∷ routes) (suc place) (row, rou
 -- ---- the pairs of all signals
 
 module _ (table : Table) (ixl : IxlState) where
-  abbrev from : ℕ → Option ℕ
+  abbrev pub from : ℕ → Option ℕ
   from signal = authority_from signal 0 table.rows ixl.routes
 
-  pairs_have : (more place signal route : ℕ) → Contains (authorities table ixl place more) (pair_of signal route) → (place ≤ signal) × (from signal ≡ Some route)
+  pub pairs_have : (more place signal route : ℕ) → Contains (authorities table ixl place more) (pair_of signal route) → (place ≤ signal) × (from signal ≡ Some route)
   pairs_have zero place signal route c = absurd (contains_none (pair_of signal route) c)
   pairs_have (suc more) place signal route c = cases (from place) refl c (pairs_have more (suc place) signal route) where
     cases : (found : Option ℕ) → from place ≡ found → Contains (pair_then place found (authorities table ixl (suc place) more)) (pair_of signal route) →

@@ -2,3 +2,6 @@ mod Lists
 mod Rows
 mod Safe
 mod Held
+mod There
+mod Pictured
+mod First

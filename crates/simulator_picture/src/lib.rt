@@ -1,6 +1,10 @@
-//! The promise of a whole station: what its machine sees of it, and what follows. There is no code here but laws.
+//! When the machine sees a whole station, and that it is safe then. There is no code here but laws.
 #![tactic(auto)]
 
+mod first;
 mod laws;
+mod pictures;
 
+pub use first::{first_worlds_are_pictured, new_interlockings_are_just_made};
 pub use laws::{held_pairs_are_held_routes, seen_stations_are_safe};
+pub use pictures::{pictured_worlds_are_safe, pictured_worlds_are_seen};

@@ -10,7 +10,8 @@ mod stations;
 
 pub use events::events_are_those_of_the_links;
 pub use nodes::{
-    deliveries_may_come, ends_are_those_of_the_nodes, hosts_say_items, stations_call_their_nodes,
+    deliveries_may_come, ends_are_those_of_the_nodes, hosts_say_items,
+    links_are_named_by_their_controllers, stations_call_their_nodes,
 };
 pub use passing::{a_loss_is_one_of_the_links, time_passes_for_the_links};
 pub use restarts::restarts_are_those_of_the_links;

@@ -2,6 +2,8 @@
 
 ghost use Rattle.std.specs.Prelude.{◌≡◌, ℕ, ◌<◌, List, None, Some, slice_get};
 ghost use Rattle.layout.specs.Entries.{Plan};
+ghost use Rattle.layout.specs.declared.entries.Point.{Point};
+ghost use Rattle.layout.specs.declared.entries.Signal.{Signal};
 ghost use Rattle.object_host.specs.Made.{AreItems};
 ghost use Rattle.object_host.specs.declared.input.Input.{Input as HostInput};
 ghost use Rattle.point_ctl.specs.Controlled.{point_behaviour};
@@ -19,7 +21,7 @@ ghost use Rattle.simulator_event.specs.declared.event.Event.TheVariants.{Deliver
 ghost use Rattle.simulator_event.specs.declared.event.NodeId.{NodeId};
 ghost use Rattle.simulator_world_run.specs.Links.{AreLinksOf, names_at};
 ghost use Rattle.simulator_world_run.specs.Network.{connection_of, copy_of};
-ghost use Rattle.simulator_world_run.specs.Nodes.{links, point_link};
+ghost use Rattle.simulator_world_run.specs.Nodes.{links, names_of, point_link};
 ghost use Rattle.simulator_world_run.specs.Refusals.{refusal};
 ghost use Rattle.simulator_world_run.specs.Servers.{step_of};
 ghost use Rattle.simulator_world_run.specs.State.{ServerState, WorldState};
@@ -47,6 +49,13 @@ pub fn ends_are_those_of_the_nodes()
     ensures switch { (plan : Plan) (world : WorldState) (network : Links) → IsWhole plan world → AreLinksOf plan world network → (place : ℕ) (switch : SwitchState)
         → slice_get world.station.ixl.switches place ≡ Some switch
         → (point_link plan place < links plan) × IsEndOfClient world.station switch.client (network.ends (point_link plan place)).client }
+{}
+
+/// The link of a signal and of a point has the names of the interlocking and of its controller.
+pub fn links_are_named_by_their_controllers()
+    ensures signal { (plan : Plan) (place : ℕ) (entry : Signal) → slice_get plan.signals place ≡ Some entry → (place < links plan) × (names_at plan place ≡ names_of plan entry.id) }
+    ensures point { (plan : Plan) (place : ℕ) (entry : Point) → slice_get plan.points place ≡ Some entry
+        → (point_link plan place < links plan) × (names_at plan (point_link plan place) ≡ names_of plan entry.id) }
 {}
 
 /// Bytes that can be delivered may come at every end of every link.

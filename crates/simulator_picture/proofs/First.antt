@@ -1,0 +1,188 @@
+-- The first world, seen by the first state of the machine.
+use Rattle.std.proofs.Common.{◌≡◌, ◌∙◌, Bool, true, false, ℕ, ◌<◌, ◌≤◌, List, [], ◌∷◌, length, map, Option, Some, None, refl, sym, ap, subst, arith}
+use Rattle.std.specs.Prelude.{◌↔◌, slice_get}
+use Rattle.std.specs.List.{Contains}
+use Rattle.std.proofs.lemmas.Bool.{false≢true}
+use Rattle.sci_telegram.specs.Names.{IsName}
+use Rattle.sci_telegram.specs.declared.message.Position.{Position}
+use Rattle.sci_telegram.specs.declared.message.Position.TheVariants as positions
+use Rattle.layout.specs.declared.entries.Point.{Point}
+use Rattle.layout.specs.declared.entries.Signal.{Signal}
+use Rattle.layout.specs.Entries.{DetectorEntry, Plan}
+use Rattle.control_table.specs.Table.{telegram_version}
+use Rattle.rasta_core.specs.Calls.{created}
+use Rattle.rasta_core.specs.Events.{Start, started}
+use Rattle.rasta_core.specs.Links.{Links, LinksStart, begun, seen, start_of}
+use Rattle.rasta_core.specs.Names.{Names, identity_of}
+use Rattle.rasta_core.specs.identity.Role.TheVariants as role
+use Rattle.rasta_core.specs.Run.{Ends}
+use Rattle.object_host.specs.Behaviour.{Behaviour}
+use Rattle.object_host.specs.Host.{HostState, keeping}
+use Rattle.object_host.specs.Hosted.{new_host}
+use Rattle.point_ctl.specs.Controlled.{point_behaviour}
+use Rattle.point_ctl.specs.Drive.{PointState, made}
+use Rattle.signal_ctl.specs.Lamp.{new_lamp}
+use Rattle.signal_ctl.specs.Signal.{SignalState, signal_behaviour}
+use Rattle.ixl_client.specs.Client.{new_client}
+use Rattle.ixl_rules.specs.State.{IxlState, LampState, RouteState, SwitchState}
+use Rattle.ixl_rules.specs.Table.{Row, Table}
+use Rattle.simulator_machine.specs.Machine.{Machine}
+use Rattle.simulator_machine.specs.Point as machine
+use Rattle.simulator_machine.specs.Run.{first}
+use Rattle.simulator_items.specs.Items.{position_seen}
+use Rattle.simulator_controllers.specs.Ends.{AreFit}
+use Rattle.simulator_controllers.specs.Point.{IsPointSeen}
+use Rattle.simulator_controllers.specs.Signal.{IsSignalSeen}
+use Rattle.simulator_machine.specs.Route.{Free}
+use Rattle.ixl_rules.specs.View.{is_holding}
+use Rattle.simulator_links.specs.Lawful.{AreLawful, IsLawful}
+use Rattle.simulator_rules_seen.specs.Made.{IsJustMade, IsMadeClient, IsQuietMachine}
+use Rattle.simulator_rules_seen.specs.Nodes.{IsOfPoint, phase_seen}
+use Rattle.simulator_rules_seen.specs.Rows.{machine_table}
+use Rattle.simulator_rules_seen.specs.Sees.{Given, Sees}
+use Rattle.simulator_world_run.specs.First.{Beginning, at_zero, first_server, host_of, first_world, new_ixl, new_lamp_of, new_point, new_route_of, new_signal, new_switch_of}
+use Rattle.simulator_world_run.specs.Links.{names_at, starts_at_zero}
+use Rattle.simulator_world_run.specs.Nodes.{links, names_of, point_link}
+use Rattle.simulator_world_run.specs.State.{ServerState}
+use Rattle.simulator_world_links.specs.Whole.{IsNamed, IsWhole}
+use Rattle.simulator_picture.specs.Picture.{AreFrozen, ArePointsSeen, AreSignalsSeen, IsHostOf, IsStationSeen, given_in}
+use Rattle.simulator_picture.specs.Seen.{AreHeldPairs}
+use Rattle.simulator_picture.proofs.Lists.{contains_none, get_map, map_length, some_injective}
+
+-- ---- an interlocking that was just made
+
+pub just_made : (plan : Plan) (table : Table) (begins : Beginning) → IsJustMade (new_ixl plan table begins)
+unfolding new_ixl new_client created
+just_made plan table begins = record {
+  lamps = λ place lamp at.
+      let found = get_map (new_lamp_of plan begins) plan.signals place lamp at
+      in subst (λ (l : LampState). IsMadeClient begins.clock l.client) found.2 (record { since = record { closed = refl; at = refl }; outside = refl; opens = refl });
+  switches = λ place switch at.
+      let found = get_map (new_switch_of plan begins) plan.points place switch at
+      in subst (λ (s : SwitchState). IsMadeClient begins.clock s.client × IsOfPoint s.client.peer) found.2 (record { since = record { closed = refl; at = refl }; outside = refl; opens = refl }, record { protocol = refl; one = refl });
+  routes = λ number route at.
+      let found = get_map new_route_of table.rows number route at
+      in subst (λ (r : RouteState). phase_seen r.phase ≡ Free) found.2 refl;
+}
+
+-- ---- the controllers
+
+-- the laws that this stands on
+pub record FirstLaws : Type 0 where
+  pub signals : (names : Names) (start : Start) (own_name peer_name : List ℕ) (object : SignalState) (version place : ℕ) (positions : ℕ → machine.Position) → AreFit (started names start)
+      → IsSignalSeen (started names start) (new_host signal_behaviour (identity_of role.Server names) own_name peer_name start.server_first start.server_clock object version)
+      ((first positions).signals place)
+  pub points : (names : Names) (start : Start) (own_name peer_name : List ℕ) (object : PointState) (version place : ℕ) (positions : ℕ → machine.Position) → AreFit (started names start)
+      → IsName own_name → IsName peer_name → version < 256 → positions place ≡ position_seen object.sensed
+      → IsPointSeen (started names start) (new_host point_behaviour (identity_of role.Server names) own_name peer_name start.server_first start.server_clock object version)
+      ((first positions).points place)
+  pub fit : (names : Names) (ends : Ends) → IsLawful names ends → AreFit ends
+  pub each : (count : ℕ) (names : ℕ → Names) (network : Links) → AreLawful count names network → (link : ℕ) → link < count → IsLawful (names link) (seen link network)
+  pub signal_named : (plan : Plan) (place : ℕ) (entry : Signal) → slice_get plan.signals place ≡ Some entry → (place < links plan) × (names_at plan place ≡ names_of plan entry.id)
+  pub point_named : (plan : Plan) (place : ℕ) (entry : Point) → slice_get plan.points place ≡ Some entry
+      → (point_link plan place < links plan) × (names_at plan (point_link plan place) ≡ names_of plan entry.id)
+  pub made_seen : (now : ℕ) (ixl : IxlState) (given : Given) (kept : Machine) → is_holding now ixl ≡ true → IsJustMade ixl → IsQuietMachine ixl kept → Sees now ixl given kept
+  pub quiet : (ixl : IxlState) (positions : ℕ → machine.Position) → IsQuietMachine ixl (first positions)
+  pub holds : (plan : Plan) (table : Table) (begins : Beginning) → begins.clock ≤ 9000000000000 → is_holding begins.clock (new_ixl plan table begins) ≡ true
+
+-- what is seen as the left side is it
+is_left : (position : Position) → Some machine.Left ≡ position_seen position → position ≡ positions.Left
+is_left positions.Left same = refl
+is_left positions.Right same = absurd (cc (same))
+is_left positions.NoEndPosition same = absurd (cc (same))
+
+module _ (laws : FirstLaws) (plan : Plan) (table : Table) (lawful : AreLawful (links plan) (names_at plan) (begun (names_at plan) starts_at_zero)) (whole : IsWhole plan (first_world plan table)) where
+  abbrev network : Links
+  network = begun (names_at plan) starts_at_zero
+
+  abbrev begins : Machine
+  begins = first (λ place. Some machine.Left)
+
+  fit_at : (link : ℕ) → link < links plan → AreFit (started (names_at plan link) (start_of link starts_at_zero))
+  fit_at link below = laws.fit (names_at plan link) (seen link network) (laws.each (links plan) (names_at plan) network lawful link below)
+
+  -- a host that was just made has its names
+  host_is : {Object : Type 0} (does : Behaviour Object) (name : List ℕ) (id : ℕ) (object : Object) → IsHostOf plan name (host_of does plan at_zero name id object)
+  unfolding new_host keeping
+  host_is does name id object = record { own_name = refl; peer_name = refl; version = refl }
+
+  abbrev signal_made : Signal → ServerState SignalState
+  signal_made entry = first_server (new_signal plan at_zero entry)
+
+  one_signal : (place : ℕ) (entry : Signal) → slice_get plan.signals place ≡ Some entry → IsSignalSeen (seen place network) (new_signal plan at_zero entry) (begins.signals place)
+  one_signal place entry at =
+      let named = laws.signal_named plan place entry at
+      in subst (λ (names : Names). IsSignalSeen (seen place network) (new_host signal_behaviour (identity_of role.Server names) entry.name plan.station.name 0 0 (record { lamp = new_lamp; owes = false }) (telegram_version plan)) (begins.signals place))
+      named.1 (laws.signals (names_at plan place) (start_of place starts_at_zero) entry.name plan.station.name (record { lamp = new_lamp; owes = false }) (telegram_version plan) place (λ place. Some machine.Left) (fit_at place named.0))
+
+  pub first_signals : AreSignalsSeen plan network (first_world plan table).signals begins
+  unfolding first_world
+  first_signals = record {
+    each = λ place server at.
+        let found = get_map signal_made plan.signals place server at
+        in subst (λ (s : ServerState SignalState). IsSignalSeen (seen place network) s.host (begins.signals place)) found.2 (one_signal place found.0 found.1);
+    hosts = λ place entry server is at.
+        let found = get_map signal_made plan.signals place server at
+        in let same : found.0 ≡ entry = some_injective found.0 entry (sym found.1 ∙ is)
+        in subst (λ (s : ServerState SignalState). IsHostOf plan entry.name s.host) (ap signal_made (sym same) ∙ found.2) (host_is signal_behaviour entry.name entry.id (record { lamp = new_lamp; owes = false }));
+  }
+
+  abbrev point_made : Point → ServerState PointState
+  point_made entry = first_server (new_point plan at_zero positions.Left entry)
+
+  abbrev positions_made : List Position
+  positions_made = map (λ (entry : Point). positions.Left) plan.points
+
+  -- the names of a point's host
+  point_names : (place : ℕ) (entry : Point) → slice_get (map point_made plan.points) place ≡ Some (point_made entry) → IsNamed (new_point plan at_zero positions.Left entry)
+  unfolding first_world
+  point_names place entry at = whole.points_named place (point_made entry) at
+
+  one_point : (place : ℕ) (entry : Point) → slice_get plan.points place ≡ Some entry → IsNamed (new_point plan at_zero positions.Left entry)
+      → IsPointSeen (seen (point_link plan place) network) (new_point plan at_zero positions.Left entry) (begins.points place)
+  unfolding new_host keeping
+  one_point place entry at names =
+      let named = laws.point_named plan place entry at
+      in subst (λ (names : Names). IsPointSeen (seen (point_link plan place) network) (new_host point_behaviour (identity_of role.Server names) entry.name plan.station.name 0 0 (made positions.Left) (telegram_version plan)) (begins.points place))
+      named.1 (laws.points (names_at plan (point_link plan place)) (start_of (point_link plan place) starts_at_zero) entry.name plan.station.name (made positions.Left) (telegram_version plan) place (λ place. Some machine.Left)
+      (fit_at (point_link plan place) named.0) names.own_name names.peer_name names.version refl)
+
+  each_point : (place : ℕ) (server : ServerState PointState) → slice_get (map point_made plan.points) place ≡ Some server → IsPointSeen (seen (point_link plan place) network) server.host (begins.points place)
+  each_point place server at =
+      let found = get_map point_made plan.points place server at
+      in subst (λ (s : ServerState PointState). IsPointSeen (seen (point_link plan place) network) s.host (begins.points place)) found.2
+      (one_point place found.0 found.1 (point_names place found.0 (at ∙ ap (λ s. Some s) (sym found.2))))
+
+  pub first_points : ArePointsSeen plan network (first_world plan table).points (first_world plan table).positions begins
+  unfolding first_world
+  first_points = record {
+    each = each_point;
+    hosts = λ place entry server is at.
+        let found = get_map point_made plan.points place server at
+        in let same : found.0 ≡ entry = some_injective found.0 entry (sym found.1 ∙ is)
+        in subst (λ (s : ServerState PointState). IsHostOf plan entry.name s.host) (ap point_made (sym same) ∙ found.2) (host_is point_behaviour entry.name entry.id (made positions.Left));
+    sensed = λ place server position at is.
+        is_left server.host.object.sensed (each_point place server at).position ∙ (get_map (λ (entry : Point). positions.Left) plan.points place position is).2;
+    count = map_length (λ (entry : Point). positions.Left) plan.points;
+  }
+
+  -- ---- the interlocking
+
+  pub first_station : IsStationSeen plan table network (first_world plan table).station begins
+  unfolding first_world new_ixl new_client
+  first_station = record {
+    sees = laws.made_seen 0 (new_ixl plan table at_zero) (given_in plan network) begins (laws.holds plan table at_zero (omega arith)) (just_made plan table at_zero) (laws.quiet (new_ixl plan table at_zero) (λ place. Some machine.Left));
+    routes = map_length new_route_of table.rows;
+    objects = λ place entry switch is at.
+        let found = get_map (new_switch_of plan at_zero) plan.points place switch at
+        in let same : found.0 ≡ entry = some_injective found.0 entry (sym found.1 ∙ is)
+        in subst (λ (s : SwitchState). s.client.peer.objects ≡ entry.name ∷ []) (ap (new_switch_of plan at_zero) (sym same) ∙ found.2) refl;
+    clock = omega arith;
+  }
+
+  none_held : AreHeldPairs (machine_table table) [] (λ route. false)
+  none_held signal route = (λ contained. absurd (contains_none _ contained), λ both. absurd (false≢true both.1))
+
+  pub first_frozen : AreFrozen plan table (first_world plan table).frozen begins
+  unfolding first_world
+  first_frozen = record { pairs = none_held; there = λ pair contained. absurd (contains_none pair contained) }

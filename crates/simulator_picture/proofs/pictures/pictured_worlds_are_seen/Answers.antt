@@ -1,0 +1,24 @@
+use Rattle.simulator_machine.specs.Machine.{made_anew}
+use Rattle.simulator_rules_seen.specs.Rows.{machine_table}
+use Rattle.simulator_picture.proofs.Pictured.{SeeingLaws, held, pictured_is_seen}
+use Rattle.simulator_picture.proofs.There.{held_there}
+use Rattle.simulator_picture.proofs.pictures.pictured_worlds_are_seen.Goals as goal
+
+pub returns : goal.returns
+returns c =
+    let laws : SeeingLaws = record {
+      signal_end = c.ends_are_those_of_the_nodes.ensures.signal;
+      point_end = c.ends_are_those_of_the_nodes.ensures.point;
+      each = c.lawful_worlds_stay_lawful.ensures.each;
+      fit = c.lawful_ends_are_fit.ensures.fit;
+      shows = c.signal_shows_what_is_seen.ensures;
+      driven = c.driven_points_are_seen_driven.ensures;
+      held = λ table station frozen machine. c.held_pairs_are_held_routes.ensures table station frozen machine (c.tables_are_sound.ensures table);
+    }
+    in record {
+      seen = λ plan table world machine station is pictured. pictured_is_seen laws plan table world machine station is pictured;
+      frozen = λ plan table world machine station is pictured. record {
+        pairs = held laws plan table world machine station is pictured;
+        there = held_there plan table station is world.station world.frozen pictured.frozen.there;
+      };
+    }
