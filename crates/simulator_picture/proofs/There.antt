@@ -43,9 +43,9 @@ module _ (plan : Plan) (table : Table) (station : IsStation plan) (is : IsTableO
       from (place, same, (row, route, row_at, route_at, begins, has)) =
           let inside : place < length table.rows = get_inside table.rows place row row_at in
           let many : length table.rows ≡ length plan.routes = is.rows.each in record {
-        signal = subst (λ n. n < length plan.signals) begins (row_entry place row row_at);
-        route = omega (arith, inside, many, same);
-      }
+            signal = subst (λ n. n < length plan.signals) begins (row_entry place row row_at);
+            route = omega (arith, inside, many, same);
+          }
 
   pub held_there : (kept : StationState) (frozen : List Held) → ((pair : Held) → Contains frozen pair → IsThere plan pair) → (pair : Held) → Contains (held_of table kept frozen) pair → IsThere plan pair
   unfolding held_of

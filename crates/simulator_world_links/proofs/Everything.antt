@@ -96,7 +96,7 @@ module _ (laws : AllLaws) (plan : Plan) (are_links : AreLinks (links plan) (name
     delivery_follows bytes is (Some (Detector place)) = detector_follows laws.link laws.calling laws.serving laws.steps.written plan are_links world before whole timely are laws.detector (coming bytes) (connection_of (copy_of bytes world)) place
         (λ below. delivery_may laws.delivered laws.tested plan world before bytes (detector_link plan place) are is)
 
-    contact_follows : (occupancy : Occupancy) (reporter : Option (ℕ × ℕ)) → FollowsBy plan (contact_events plan reporter (λ place. inputs.Sense (sense.Section place occupancy)) world) (sensed_by plan occupancy reporter world) before
+    contact_follows : (occupancy : Occupancy) (reporter : Option (ℕ × ℕ)) → FollowsBy plan (contact_events plan reporter (λ place. inputs.Sense (sense.Section place occupancy)) world.detectors) (sensed_by plan occupancy reporter world) before
     contact_follows occupancy None = stays_follows plan world before are
     contact_follows occupancy (Some reporter) = detector_follows laws.link laws.calling laws.serving laws.steps.written plan are_links world before whole timely are laws.detector (inputs.Sense (sense.Section reporter.1 occupancy)) 0 reporter.0 (λ below. tt)
 

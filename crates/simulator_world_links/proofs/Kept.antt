@@ -4,9 +4,8 @@ use Rattle.layout.specs.Entries.{Plan}
 use Rattle.ixl_client.specs.Client.{ClientState}
 use Rattle.ixl_rules.specs.State.{DetectorState, LampState, SwitchState}
 use Rattle.rasta_core.specs.Clock.{settled}
-use Rattle.rasta_core.specs.Ends.{EndState, reading_of}
+use Rattle.rasta_core.specs.Ends.{reading_of}
 use Rattle.rasta_core.specs.Links.{Links}
-use Rattle.rasta_core.specs.State.{LinkState}
 use Rattle.signal_ctl.specs.Signal.{SignalState}
 use Rattle.point_ctl.specs.Drive.{PointState}
 use Rattle.simulator_world_run.specs.Links.{AreLinksOf, IsClientAt, end_of_server, server_ends}
@@ -87,8 +86,11 @@ module _ (plan : Plan) (world : WorldState) (network : Links) (whole : IsWhole p
       in let within = within_some switches place switch.client found
       in let long : length switches ≡ length plan.points = length_map (λ (s : SwitchState). s.client) world.station.ixl.switches ∙ whole.clients.switches
       in let below = sums (length plan.signals) (length plan.points) (length plan.detectors) (subst (λ n. place < n) long within)
-      in (below, of_client (point_link plan place) switch.client below
-      (get_right lamps (switches ++ detectors) place (point_link plan place) (ap (λ n. n + place) (sym lamps_long)) ∙ get_left switches detectors place within ∙ found))
+      in (
+        below,
+        of_client (point_link plan place) switch.client below
+            (get_right lamps (switches ++ detectors) place (point_link plan place) (ap (λ n. n + place) (sym lamps_long)) ∙ get_left switches detectors place within ∙ found),
+      )
     where
       sums : (a b c : ℕ) → place < b → a + place < a + b + c
       sums a b c below = omega arith

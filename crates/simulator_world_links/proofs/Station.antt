@@ -63,7 +63,7 @@ links_are ixl = sym (
     ∙ three_same _ _ _ _ _ _ (map_then (λ (lamp : LampState). lamp.client) link_of_client ixl.lamps) (map_then (λ (switch : SwitchState). switch.client) link_of_client ixl.switches)
     (map_then (λ (detector : DetectorState). detector.client) link_of_client ixl.detectors))
 
-link_there : (ixl : IxlState) (link : ℕ) (client : ClientState) → slice_get (client_states ixl) link ≡ Some client → slice_get (client_links ixl) link ≡ Some client.link
+pub link_there : (ixl : IxlState) (link : ℕ) (client : ClientState) → slice_get (client_states ixl) link ≡ Some client → slice_get (client_links ixl) link ≡ Some client.link
 link_there ixl link client at = ap (λ l. slice_get l link) (links_are ixl) ∙ get_map link_of_client (client_states ixl) link ∙ ap (option_map link_of_client) at
 
 -- ---- the clock

@@ -9,6 +9,7 @@ use Rattle.object_host_theorem.specs.World.{as_call}
 use Rattle.signal_ctl.specs.Signal.{signal_behaviour}
 use Rattle.point_ctl.specs.Controlled.{point_behaviour}
 use Rattle.tds_ctl.specs.Controlled.{detection_behaviour}
+use Rattle.tds_ctl.specs.declared.section.Section.{Section}
 use Rattle.rasta_core.specs.Links.{CallsOn, Links, LinksEvent, LosesAny, MayRunLinks, PassesFor, RestartsOn, run_links}
 use Rattle.rasta_core.specs.Nodes.{calls_of, restarts_of}
 use Rattle.rasta_core.specs.identity.Role.TheVariants as role
@@ -61,9 +62,10 @@ delivery_events plan table bytes connection (Some (Point place)) world = point_e
 delivery_events plan table bytes connection (Some (Detector place)) world = detector_events plan (coming bytes) connection place world
 
 -- a detector's, at which a section is reported
-abbrev pub contact_events : Plan → (Option (ℕ × ℕ)) → (ℕ → Input) → WorldState → List LinksEvent
-contact_events plan None input world = []
-contact_events plan (Some reporter) input world = detector_events plan (input reporter.1) 0 reporter.0 world
+abbrev pub contact_events : Plan → Option (ℕ × ℕ) → (ℕ → Input) → List (ServerState (List Section)) → List LinksEvent
+contact_events plan None input detectors = []
+contact_events plan (Some reporter) input detectors =
+    host_events detection_behaviour (input reporter.1) 0 (detector_link plan reporter.0) (slice_get detectors reporter.0)
 
 -- ---- time and restarts
 
@@ -93,7 +95,7 @@ restart_events plan clock first (Some (Detector place)) = anew_events clock firs
 unfoldable pub events_of : Plan → Table → Event → WorldState → List LinksEvent
 events_of plan table (event.Request command) world = station_events plan table (ixl.Commands command) 0 world.station
 events_of plan table (event.Occupy section occupancy) world =
-    contact_events plan (slice_get table.reporters section.0) (λ place. inputs.Sense (sense.Section place occupancy)) world
+    contact_events plan (slice_get table.reporters section.0) (λ place. inputs.Sense (sense.Section place occupancy)) world.detectors
 events_of plan table (event.Tick node) world = tick_events plan table (node_at plan node.0) world
 events_of plan table (event.Time elapsed clocks) world = time_events elapsed clocks
 events_of plan table (event.Deliver node bytes) world = delivery_events plan table bytes (connection_of (copy_of bytes world)) (node_at plan node.0) world

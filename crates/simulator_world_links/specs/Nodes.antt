@@ -1,5 +1,5 @@
 -- The ends of a link, as the nodes at them keep them.
-use Rattle.std.specs.Prelude.{◌≡◌, ℕ, ◌<◌, List, Some, slice_get}
+use Rattle.std.specs.Prelude.{◌≡◌, ℕ, ◌<◌, List}
 use Rattle.layout.specs.Entries.{Plan}
 use Rattle.rasta_core.specs.Clock.{settled}
 use Rattle.rasta_core.specs.Ends.{EndState, Receives, reading_of}

@@ -1,8 +1,6 @@
 -- What is always true of the nodes of a world: every node of the layout is there, and what it says are telegrams.
 use Rattle.std.specs.Prelude.{◌≡◌, ℕ, ◌<◌, List, ◌++◌, length, map, Some, slice_get}
-use Rattle.layout.specs.Entries.{DetectorEntry, Plan}
-use Rattle.layout.specs.declared.entries.Point.{Point}
-use Rattle.layout.specs.declared.entries.Signal.{Signal}
+use Rattle.layout.specs.Entries.{Plan}
 use Rattle.sci_telegram.specs.Names.{IsName}
 use Rattle.ixl_client.specs.Client.{ClientState, PeerState}
 use Rattle.ixl_rules.specs.State.{IxlState}

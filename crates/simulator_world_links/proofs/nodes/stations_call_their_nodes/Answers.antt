@@ -1,5 +1,3 @@
-use Rattle.std.proofs.Common.{refl}
-use Rattle.rasta_core.specs.Ends.{reading_of}
 use Rattle.rasta_core.specs.identity.Role.TheVariants as role
 use Rattle.simulator_world_links.proofs.Laws.{ClientLaws, LinkLaws}
 use Rattle.simulator_world_links.proofs.Parts.{StepLaws}
