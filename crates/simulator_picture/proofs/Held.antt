@@ -1,6 +1,6 @@
 -- The pairs that a station holds are the routes that its machine holds, each with its signal.
 use Rattle.std.proofs.Common.{◌≡◌, ◌∙◌, ◌⊎◌, Bool, true, false, ◌&&◌, ◌==◌, ℕ, zero, suc, ◌+◌, ◌<◌, ◌≤◌, List, [], ◌∷◌, length, Option, Some, None, refl, sym, ap, subst, inl, inr, ⊎_elim, arith}
-use Rattle.std.specs.Prelude.{◌≢◌, ◌↔◌, slice_get, if◌then◌else◌}
+use Rattle.std.specs.Prelude.{◌≢◌, slice_get, if◌then◌else◌}
 use Rattle.std.specs.List.{All, Contains}
 use Rattle.std.proofs.Math.Nat.{eq-or-lt_of_le}
 use Rattle.std.proofs.lemmas.Bool.{cases_order, eqb-true, eq-eqb, false≢true}
@@ -16,7 +16,7 @@ use Rattle.simulator_machine.specs.Machine.{Machine, is_held}
 use Rattle.simulator_machine.specs.Route as machine
 use Rattle.simulator_machine.specs.Table.{IsSound}
 use Rattle.simulator_rules_seen.specs.Nodes.{phase_seen, route_seen}
-use Rattle.simulator_rules_seen.specs.Rows.{machine_table, row_at, row_or_none}
+use Rattle.simulator_rules_seen.specs.Rows.{machine_table, row_at}
 use Rattle.simulator_world_run.specs.State.{StationState}
 use Rattle.simulator_world_run.specs.Station.{authorities, authority_from, held_of, pair_then}
 use Rattle.simulator_world_snapshot.specs.declared.snapshot.Held.{Held}

@@ -4,4 +4,4 @@ mod Safe
 mod Held
 mod There
 mod Pictured
-mod First
+mod FirstWorld

@@ -1,7 +1,7 @@
 -- A pictured world is seen as its promise needs it.
-use Rattle.std.proofs.Common.{◌≡◌, ◌∙◌, ℕ, ◌<◌, List, length, Some, refl, sym, ap, subst}
-use Rattle.std.specs.Prelude.{◌≢◌, true, false, slice_get}
-use Rattle.std.specs.List.{All, Contains}
+use Rattle.std.proofs.Common.{◌≡◌, ◌∙◌, ℕ, ◌<◌, List, length, Some, sym, ap, subst}
+use Rattle.std.specs.Prelude.{◌≢◌, true, slice_get}
+use Rattle.std.specs.List.{All}
 use Rattle.sci_telegram.specs.declared.message.Aspect.TheVariants as aspects
 use Rattle.sci_telegram.specs.declared.message.Position.{Position}
 use Rattle.sci_telegram.specs.declared.message.Side.{Side}
@@ -15,7 +15,6 @@ use Rattle.object_host.specs.Host.{HostState}
 use Rattle.point_ctl.specs.Drive.{PointState, drives}
 use Rattle.signal_ctl.specs.Lamp.{aspect_shown}
 use Rattle.signal_ctl.specs.Signal.{SignalState}
-use Rattle.ixl_rules.specs.State.{IxlState}
 use Rattle.ixl_rules.specs.Table.{Row, Table}
 use Rattle.ixl_rules.specs.View.{is_holding}
 use Rattle.ixl_table.specs.Table.{IsTableOf}

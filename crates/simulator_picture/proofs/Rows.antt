@@ -1,8 +1,8 @@
 -- The machine's table, by what the layout says of its routes.
-use Rattle.std.proofs.Common.{◌≡◌, ◌∙◌, ◌⊎◌, Bool, true, false, not, ◌&&◌, ◌||◌, ◌==◌, ◌<◌, ℕ, zero, suc, List, map, Option, Some, None, refl, sym, ap, subst, inl, inr, ⊎_elim}
+use Rattle.std.proofs.Common.{◌≡◌, ◌∙◌, Bool, true, false, not, ◌&&◌, ◌||◌, ◌==◌, ◌<◌, ℕ, zero, suc, List, map, Option, Some, None, refl, sym, ap, subst, ⊎_elim}
 use Rattle.std.specs.Prelude.{◌≢◌, ◌↔◌, slice_get}
 use Rattle.std.specs.List.{Contains, list_any}
-use Rattle.std.proofs.lemmas.Bool.{eqb-true, eq-eqb, false≢true}
+use Rattle.std.proofs.lemmas.Bool.{eq-eqb, false≢true}
 use Rattle.sci_telegram.specs.declared.message.Aspect.{Aspect}
 use Rattle.sci_telegram.specs.declared.message.Aspect.TheVariants as aspects
 use Rattle.sci_telegram.specs.declared.message.Side.{Side}
@@ -15,7 +15,7 @@ use Rattle.layout.specs.Station.{HasRoute}
 use Rattle.control_table.specs.Topology.{IsRoute}
 use Rattle.control_table.specs.Table.{AreSections, Conflict, HasAspect, LeadsOver, Lists, RequireDifferently, RouteRequires, SameEntry, ShareSection}
 use Rattle.ixl_rules.specs.Table.{Need, Row, Table, is_same_side}
-use Rattle.ixl_table.specs.Table.{IsRowOf, IsTableOf, as_point, as_route, as_section, required}
+use Rattle.ixl_table.specs.Table.{IsRowOf, IsTableOf, as_point, as_route, as_section}
 use Rattle.simulator_machine.specs.Lists.{is_same}
 use Rattle.simulator_rules_seen.specs.Rows.{is_elsewhere, is_side_seen, machine_table, row_at, row_or_none, rows_conflict, some_pair}
 use Rattle.simulator_machine.specs.Signal.{Stop, Proceed}

@@ -1,5 +1,5 @@
 -- A station that the machine sees is safe where the machine keeps its promise.
-use Rattle.std.proofs.Common.{◌≡◌, ◌∙◌, Bool, true, false, ℕ, ◌<◌, List, length, map, Option, Some, None, refl, sym, ap, subst}
+use Rattle.std.proofs.Common.{◌≡◌, ◌∙◌, Bool, true, false, ℕ, ◌<◌, List, length, Option, Some, None, refl, sym, ap, subst}
 use Rattle.std.specs.Prelude.{◌≢◌, ◌↔◌, slice_get}
 use Rattle.std.specs.List.{Contains}
 use Rattle.std.proofs.lemmas.Bool.{true≢false}
@@ -25,13 +25,13 @@ use Rattle.simulator_machine.specs.Lists.{is_same}
 use Rattle.simulator_machine.specs.Machine.{Machine}
 use Rattle.simulator_machine.specs.Promise as promised
 use Rattle.simulator_machine.specs.Point as seen_point
-use Rattle.simulator_machine.specs.Signal.{Stop, shown}
+use Rattle.simulator_machine.specs.Signal.{shown}
 use Rattle.simulator_rules_seen.specs.Rows.{machine_table}
 use Rattle.simulator_rules_seen.specs.Telegrams.{side_seen}
 use Rattle.simulator_world_run.specs.Refusals.{driven_by}
 use Rattle.simulator_world_run.specs.Seen.{IsSnapshotOf, as_shown, as_stands, shown_by}
 use Rattle.simulator_world_run.specs.State.{ServerState, WorldState}
-use Rattle.simulator_world_snapshot.specs.Safe.{IsHeldFor, IsOf, IsProtected, IsThere, Safe, Shows, ShowsOther, StandsUndriven, position_at}
+use Rattle.simulator_world_snapshot.specs.Safe.{IsHeldFor, IsProtected, IsThere, Safe, Shows, ShowsOther, StandsUndriven, position_at}
 use Rattle.simulator_world_snapshot.specs.declared.snapshot.Held.{Held}
 use Rattle.simulator_world_snapshot.specs.declared.snapshot.Snapshot.{Snapshot}
 use Rattle.simulator_picture.specs.Seen.{IsSeen}

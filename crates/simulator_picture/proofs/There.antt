@@ -1,9 +1,10 @@
 -- What rows and pairs name is there.
-use Rattle.std.proofs.Common.{◌≡◌, ◌∙◌, Bool, true, false, ℕ, zero, suc, ◌+◌, ◌<◌, List, [], ◌∷◌, length, Some, refl, sym, ap, subst, arith}
-use Rattle.std.specs.Prelude.{slice_get, if◌then◌else◌}
+use Rattle.std.proofs.Common.{◌≡◌, Bool, true, false, ℕ, ◌+◌, ◌<◌, List, length, Some, sym, subst, arith}
+use Rattle.std.specs.Prelude.{get_or, slice_get, if◌then◌else◌}
 use Rattle.std.specs.List.{All, Contains}
 use Rattle.std.proofs.lemmas.List.Elements.{All-contains}
-use Rattle.layout.specs.Entries.{Plan, RouteEntry}
+use Rattle.std.proofs.lemmas.Option.{slice_get-get_or}
+use Rattle.layout.specs.Entries.{Plan}
 use Rattle.layout.specs.Station.{IsRouteOf, IsStation}
 use Rattle.rasta_core.specs.Ends.{reading_of}
 use Rattle.ixl_rules.specs.State.{IxlState}
@@ -18,8 +19,7 @@ use Rattle.simulator_picture.proofs.Held.{HasFrom, found_has, pairs_have}
 use Rattle.simulator_picture.proofs.Lists.{get_contains, get_inside}
 
 pub all_of : {A : Type 0} (P : A → Type 0) (list : List A) → ((place : ℕ) (one : A) → slice_get list place ≡ Some one → P one) → All P list
-all_of P [] each = tt
-all_of P (first ∷ others) each = (each 0 first refl, all_of P others (λ place one at. each (suc place) one at))
+all_of P list each = λ place other within. each place (get_or list place other) (slice_get-get_or list place other within)
 
 module _ (plan : Plan) (table : Table) (station : IsStation plan) (is : IsTableOf plan table) where
   -- each row begins at a signal of the layout

@@ -64,7 +64,7 @@ module _ (plan : Plan) (world : WorldState) (network : Links) (whole : IsWhole p
       let partner = partner_at plan link below
       in let is : IsClientAt world link (network.ends link).client = are.clients link partner.0 partner.1
       in let same : is.kept ≡ client.link = some_is is.kept client.link (sym is.there ∙ link_there world.station.ixl link client there)
-      in record { link_is = is.link_is ∙ ap (settled (reading_of world.station.clock)) same; clock_is = is.clock_is }
+      in record { link_is = is.link_is ∙ ap (settled (reading_of world.station.clock)) same; clock_is = is.clock_is; peer = whole.clients.peers link client there }
 
   lamps_long : length lamps ≡ length plan.signals
   lamps_long = length_map (λ (lamp : LampState). lamp.client) world.station.ixl.lamps ∙ whole.clients.lamps

@@ -7,7 +7,7 @@ use Rattle.simulator_world_links.specs.Whole.{IsWhole}
 use Rattle.simulator_world_run.specs.First.{first_world}
 use Rattle.simulator_world_run.specs.Links.{names_at, starts_at_zero}
 use Rattle.simulator_world_run.specs.Nodes.{links}
-use Rattle.simulator_picture.proofs.First.{FirstLaws, first_frozen, first_points, first_signals, first_station}
+use Rattle.simulator_picture.proofs.FirstWorld.{FirstLaws, first_frozen, first_points, first_signals, first_station}
 use Rattle.simulator_picture.proofs.first.first_worlds_are_pictured.Goals as goal
 
 pub returns : goal.returns

@@ -1,5 +1,3 @@
-use Rattle.simulator_machine.specs.Machine.{made_anew}
-use Rattle.simulator_rules_seen.specs.Rows.{machine_table}
 use Rattle.simulator_picture.proofs.Pictured.{SeeingLaws, held, pictured_is_seen}
 use Rattle.simulator_picture.proofs.There.{held_there}
 use Rattle.simulator_picture.proofs.pictures.pictured_worlds_are_seen.Goals as goal

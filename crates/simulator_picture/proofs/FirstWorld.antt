@@ -1,23 +1,22 @@
 -- The first world, seen by the first state of the machine.
-use Rattle.std.proofs.Common.{◌≡◌, ◌∙◌, Bool, true, false, ℕ, ◌<◌, ◌≤◌, List, [], ◌∷◌, length, map, Option, Some, None, refl, sym, ap, subst, arith}
-use Rattle.std.specs.Prelude.{◌↔◌, slice_get}
-use Rattle.std.specs.List.{Contains}
+use Rattle.std.proofs.Common.{◌≡◌, ◌∙◌, true, false, ℕ, ◌<◌, ◌≤◌, List, [], ◌∷◌, map, Some, refl, sym, ap, subst, arith}
+use Rattle.std.specs.Prelude.{slice_get}
 use Rattle.std.proofs.lemmas.Bool.{false≢true}
 use Rattle.sci_telegram.specs.Names.{IsName}
 use Rattle.sci_telegram.specs.declared.message.Position.{Position}
 use Rattle.sci_telegram.specs.declared.message.Position.TheVariants as positions
 use Rattle.layout.specs.declared.entries.Point.{Point}
 use Rattle.layout.specs.declared.entries.Signal.{Signal}
-use Rattle.layout.specs.Entries.{DetectorEntry, Plan}
+use Rattle.layout.specs.Entries.{Plan}
 use Rattle.control_table.specs.Table.{telegram_version}
 use Rattle.rasta_core.specs.Calls.{created}
 use Rattle.rasta_core.specs.Events.{Start, started}
-use Rattle.rasta_core.specs.Links.{Links, LinksStart, begun, seen, start_of}
+use Rattle.rasta_core.specs.Links.{Links, begun, seen, start_of}
 use Rattle.rasta_core.specs.Names.{Names, identity_of}
 use Rattle.rasta_core.specs.identity.Role.TheVariants as role
 use Rattle.rasta_core.specs.Run.{Ends}
 use Rattle.object_host.specs.Behaviour.{Behaviour}
-use Rattle.object_host.specs.Host.{HostState, keeping}
+use Rattle.object_host.specs.Host.{keeping}
 use Rattle.object_host.specs.Hosted.{new_host}
 use Rattle.point_ctl.specs.Controlled.{point_behaviour}
 use Rattle.point_ctl.specs.Drive.{PointState, made}
@@ -25,7 +24,7 @@ use Rattle.signal_ctl.specs.Lamp.{new_lamp}
 use Rattle.signal_ctl.specs.Signal.{SignalState, signal_behaviour}
 use Rattle.ixl_client.specs.Client.{new_client}
 use Rattle.ixl_rules.specs.State.{IxlState, LampState, RouteState, SwitchState}
-use Rattle.ixl_rules.specs.Table.{Row, Table}
+use Rattle.ixl_rules.specs.Table.{Table}
 use Rattle.simulator_machine.specs.Machine.{Machine}
 use Rattle.simulator_machine.specs.Point as machine
 use Rattle.simulator_machine.specs.Run.{first}
