@@ -1,12 +1,9 @@
 -- How a station is made: the first world of a layout, and a node that is made anew.
-use Rattle.std.specs.Prelude.{ℕ, false, List, [], ◌∷◌, length, map, Option, None, slice_index_or}
-use Rattle.std.specs.FinSet.{empty}
+use Rattle.std.specs.Prelude.{ℕ, false, List, [], map, Option, None, slice_index_or}
 use Rattle.sci_telegram.specs.declared.message.Occupancy.{Occupancy}
 use Rattle.sci_telegram.specs.declared.message.Occupancy.TheVariants as occupancies
 use Rattle.sci_telegram.specs.declared.message.Position.{Position}
 use Rattle.sci_telegram.specs.declared.message.Position.TheVariants as positions
-use Rattle.sci_telegram.specs.declared.message.Protocol.{Protocol}
-use Rattle.sci_telegram.specs.declared.message.Protocol.TheVariants as protocols
 use Rattle.rasta_core.specs.Names.{identity_of}
 use Rattle.rasta_core.specs.identity.Role.TheVariants as role
 use Rattle.layout.specs.declared.entries.Point.{Point}
@@ -24,18 +21,11 @@ use Rattle.point_ctl.specs.Drive.{PointState, made}
 use Rattle.tds_ctl.specs.Controlled.{detection_behaviour}
 use Rattle.tds_ctl.specs.Sections as sections
 use Rattle.tds_ctl.specs.declared.section.Section.{Section}
-use Rattle.release.specs.Passage.{passage_after}
-use Rattle.ixl_client.specs.Client.{ClientState, new_client}
-use Rattle.ixl_rules.specs.State.{DetectorState, IxlState, LampState, RouteState, SwitchState}
-use Rattle.ixl_rules.specs.Table.{Row, Table}
-use Rattle.ixl_rules.specs.declared.phase.Phase.TheVariants as phase
+use Rattle.ixl_rules.specs.Table.{Table}
+pub use Rattle.ixl_beginning.specs.First.{Beginning, client_of, new_detector_of, new_lamp_of, new_route_of, new_switch_of}
+unfoldable pub use Rattle.ixl_beginning.specs.First.{new_ixl}
 use Rattle.simulator_world_run.specs.Nodes.{names_of, partners}
 use Rattle.simulator_world_run.specs.State.{ServerState, WorldState}
-
--- with which clock, in milliseconds, and with which number of its first PDU a node is made
-pub record Beginning : Type 0 where
-  pub clock : ℕ
-  pub first : ℕ
 
 -- ---- object controllers
 
@@ -60,50 +50,6 @@ named_section plan occupied section = (slice_index_or plan.sections section.0 []
 abbrev pub new_detector : Plan → Beginning → List Occupancy → DetectorEntry → HostState (List Section)
 new_detector plan begins occupied detector =
     host_of detection_behaviour plan begins detector.name detector.id (map (λ section. sections.made (named_section plan occupied section)) detector.sections)
-
--- ---- the interlocking
-
--- its client of the controller under a name and an identity, which tells of these objects
-abbrev pub client_of : Protocol → Plan → Beginning → List ℕ → ℕ → List (List ℕ) → ClientState
-client_of protocol plan begins name id objects =
-    new_client (identity_of role.Client (names_of plan id))
-    (record { protocol = protocol; version = telegram_version plan; own_name = plan.station.name; name = name; objects = objects })
-    begins.first begins.clock
-
-abbrev pub new_lamp_of : Plan → Beginning → Signal → LampState
-new_lamp_of plan begins signal = record {
-  client = client_of protocols.LightSignal plan begins signal.name signal.id (signal.name ∷ []);
-  aspect = None;
-  number = 0;
-}
-
-abbrev pub new_switch_of : Plan → Beginning → Point → SwitchState
-new_switch_of plan begins point = record {
-  client = client_of protocols.Point plan begins point.name point.id (point.name ∷ []);
-  side = None;
-  moved = empty;
-}
-
-abbrev pub new_detector_of : Plan → Beginning → DetectorEntry → DetectorState
-new_detector_of plan begins detector = record {
-  client = client_of protocols.TrainDetection plan begins detector.name detector.id
-      (map (λ section. slice_index_or plan.sections section.0 []) detector.sections);
-  occupied = empty;
-}
-
-abbrev pub new_route_of : Row → RouteState
-new_route_of row = record { phase = phase.Free; cancelled = false; passage = passage_after (length row.sections) []; approached = false }
-
--- no route is set, and every link is in no connection
-unfoldable pub new_ixl : Plan → Table → Beginning → IxlState
-new_ixl plan table begins = record {
-  lamps = map (new_lamp_of plan begins) plan.signals;
-  switches = map (new_switch_of plan begins) plan.points;
-  detectors = map (new_detector_of plan begins) plan.detectors;
-  routes = map new_route_of table.rows;
-  created = begins.clock;
-  resumed = false;
-}
 
 -- ---- the first world
 

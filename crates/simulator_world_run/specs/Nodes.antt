@@ -1,9 +1,7 @@
 -- The nodes of a station: how many, under which names and identities, and by which numbers events name them.
-use Rattle.std.specs.Prelude.{ℕ, zero, suc, ◌+◌, ◌-◌, nat_lt, List, ◌++◌, length, map, Option, Some, None, unwrap_or, if◌then◌else◌}
-use Rattle.md4.specs.declared.message.TheConstants.{STANDARD}
-use Rattle.rasta_pdu.specs.declared.key.Key.{Key}
-use Rattle.rasta_core.specs.Names.{Names}
+use Rattle.std.specs.Prelude.{ℕ, zero, suc, ◌+◌, ◌-◌, nat_lt, List, ◌++◌, length, map, Option, Some, None, if◌then◌else◌}
 use Rattle.layout.specs.Entries.{Plan}
+pub use Rattle.ixl_beginning.specs.First.{key_of, names_of}
 
 -- how many object controllers there are, and so how many links
 abbrev pub links : Plan → ℕ
@@ -16,14 +14,6 @@ nodes plan = suc (links plan)
 -- the identities of all controllers, in the order of their links
 abbrev pub partners : Plan → List ℕ
 partners plan = map (λ s. s.id) plan.signals ++ (map (λ p. p.id) plan.points ++ map (λ d. d.id) plan.detectors)
-
--- the key of the network: that of the layout, and otherwise the standard start of MD4
-abbrev pub key_of : Plan → Key
-key_of plan = record { 0 = unwrap_or plan.station.key STANDARD }
-
--- the two ends of the link to a controller of this identity
-abbrev pub names_of : Plan → ℕ → Names
-names_of plan id = record { key = key_of plan; client = plan.station.id; server = id }
 
 -- A node: the station, or a controller by its place among those of its kind.
 pub data Node : Type 0 where

@@ -13,6 +13,8 @@ ghost use Rattle.simulator_world_run.specs.Nodes.{nodes};
 ghost use Rattle.simulator_world_run.specs.Refusals.{refusal};
 ghost use Rattle.simulator_world_run.specs.State.{WorldState};
 
+use ixl_beginning::new_interlockings_hold;
+
 /// A node that isn't there can't be ticked.
 #[tactic(auto, unfolding(crate::specs::Refusals::refusal))]
 pub fn an_event_at_no_node_is_refused()
@@ -20,10 +22,11 @@ pub fn an_event_at_no_node_is_refused()
 {}
 
 /// An interlocking that was just made holds.
-#[tactic(auto, unfolding(crate::specs::First::new_ixl))]
 pub fn a_restarted_station_holds()
     ensures { (plan : Plan) (table : Table) (begins : Beginning) → begins.clock ≤ 9000000000000 → is_holding begins.clock (new_ixl plan table begins) ≡ true }
-{}
+{
+    new_interlockings_hold();
+}
 
 /// The first world has the links of its layout at their beginning.
 #[tactic(auto, using(crate::proofs::FirstLinks::first_is_links))]

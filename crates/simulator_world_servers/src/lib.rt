@@ -6,5 +6,5 @@ mod sending;
 mod server;
 mod stay;
 
-pub use making::{key_of, new_detector, new_point, new_signal};
+pub use making::{new_detector, new_point, new_signal};
 pub use server::{MOST_SENT, Server};

@@ -5,25 +5,17 @@ ghost use Rattle.std.specs.List.{All};
 ghost use Rattle.layout.specs.Station.{HasSection};
 ghost use Rattle.simulator_world_run.specs.First as first;
 ghost use Rattle.tds_ctl.specs.Sections as tds;
-ghost use Rattle.simulator_world_run.specs.Nodes.{key_of};
 
 use control_table::Checked;
+use ixl_beginning::key_of;
 use layout::{Detector, Layout, Point as PointEntry, SectionId, Signal as SignalEntry};
 use object_host::Hosted;
 use point_ctl::Point;
 use rasta_core::Millis;
-use rasta_pdu::Key;
 use sci_telegram::{Name, Occupancy, Position};
 use signal_ctl::Signal;
 use std::alloc::{AllocError, Global};
 use tds_ctl::Detection;
-
-/// The key of the network: that of the layout, and otherwise the standard start of MD4.
-pub fn key_of(layout: &Layout) -> Key
-    ensures { result ≡ key_of layout.now }
-{
-    Key(layout.station().key.unwrap_or(md4::STANDARD))
-}
 
 /// A signal that was told nothing yet, with its clock in milliseconds and the number of its first PDU.
 #[tactic(auto, unfolding(crate::proofs::Below::new_host, crate::proofs::Below::keeping, crate::proofs::Below::created))]
