@@ -1,7 +1,7 @@
 -- The calls of an interlocking's client as calls of the client's end of a link.
 use Rattle.std.proofs.Common.{◌≡◌, ◌≤◌, ◌+◌, ℕ, Bool, true, false, List, [], ◌∷◌, ◌++◌, length, map, if◌then◌else◌, arith, refl, ap, sym, ◌∙◌, subst}
 use Rattle.std.specs.Int.{w16, to_le_bytes}
-use Rattle.std.specs.Prelude.{is_ok}
+use Rattle.std.specs.Prelude.{◌||◌, is_ok}
 use Rattle.std.proofs.lemmas.List.{length-append}
 use Rattle.sci_telegram.specs.Messages.{payload, protocol_byte, protocol_of, type_number}
 use Rattle.sci_telegram.specs.Names.{name_field}
@@ -27,22 +27,13 @@ use Rattle.ixl_client.specs.Made.{link_after}
 use Rattle.ixl_client.specs.Part.{LinkCall, Opens, Ticks, Closes, Sends, Receives, call_made}
 use Rattle.ixl_client.specs.Step.{telegram_to}
 use Rattle.ixl_rules.specs.Step.{Input, Datagram}
-use Rattle.simulator_links.specs.Flows.{given_after, given_by, has_begun, taken_after, taken_by}
+use Rattle.simulator_links.specs.Flows.{begins, given_after, given_by, has_begun, taken_after, taken_by}
+use Rattle.simulator_rules_seen.specs.Calls as rules
 use Rattle.simulator_rules_seen.specs.Calls.{Items, items_after, items_by}
 use Rattle.simulator_rules_seen.specs.Facts.{AreCallsIn}
 use Rattle.simulator_rules_seen.specs.Telegrams.{item_of}
 use Rattle.simulator_far_ends.specs.At.{HasNames}
-
--- a call, where a datagram that comes was sent in this connection
-abbrev pub as_call : ℕ → LinkCall → Call
-as_call connection Opens = calls.Opens
-as_call connection Ticks = calls.Ticks
-as_call connection (Closes why) = calls.Closes why
-as_call connection (Sends item) = calls.Sends item
-as_call connection (Receives bytes) = calls.Receives bytes connection
-
-abbrev pub as_calls : ℕ → List LinkCall → List Call
-as_calls connection made = map (as_call connection) made
+use Rattle.simulator_far_ends.specs.Calls.{as_call, as_calls}
 
 made_same : (now connection : ℕ) (call : LinkCall) (link : LinkState) → (made_by now (as_call connection call) link).link ≡ (call_made now call link).link
 unfolding made_by
@@ -106,6 +97,23 @@ taken_same now connection (call ∷ others) link items =
     ap (λ (l : LinkState). taken_after now (as_calls connection others) l (taken_by now (as_call connection call) link items.taken)) (made_same now connection call link)
     ∙ ap (taken_after now (as_calls connection others) (call_made now call link).link) (one_taken now connection call link items)
     ∙ taken_same now connection others (call_made now call link).link (items_by now call link items)
+
+-- ---- whether it begins a connection
+
+pub begun_same : (now connection : ℕ) (made : List LinkCall) (link : LinkState) → has_begun now (as_calls connection made) link ≡ rules.has_begun now made link
+unfolding has_begun rules.has_begun
+begun_same now connection [] link = refl
+begun_same now connection (call ∷ others) link =
+    ap (λ (b : Bool). b || has_begun now (as_calls connection others) (made_by now (as_call connection call) link).link) (one_begins now connection call link)
+    ∙ ap (λ (l : LinkState). rules.begins now call link || has_begun now (as_calls connection others) l) (made_same now connection call link)
+    ∙ ap (λ (b : Bool). rules.begins now call link || b) (begun_same now connection others (call_made now call link).link)
+  where
+    one_begins : (now connection : ℕ) (call : LinkCall) (link : LinkState) → begins now (as_call connection call) link ≡ rules.begins now call link
+    one_begins now connection Opens link = refl
+    one_begins now connection Ticks link = refl
+    one_begins now connection (Closes why) link = refl
+    one_begins now connection (Sends item) link = refl
+    one_begins now connection (Receives bytes) link = refl
 
 -- ---- that it may be made
 

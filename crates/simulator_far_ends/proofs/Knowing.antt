@@ -46,7 +46,8 @@ use Rattle.simulator_rules_seen.specs.Nodes.{LampFits, openings}
 use Rattle.simulator_rules_seen.specs.Telegrams as rules
 use Rattle.simulator_rules_seen.specs.Telegrams.{given_by, item_of, positions_told}
 use Rattle.simulator_far_ends.specs.At.{IsClientAt}
-use Rattle.simulator_far_ends.proofs.Calls.{as_calls, given_same, links_same, taken_same}
+use Rattle.simulator_far_ends.specs.Calls.{as_calls}
+use Rattle.simulator_far_ends.proofs.Calls.{given_same, links_same, taken_same}
 use Rattle.simulator_far_ends.proofs.Told.{heard_of_said}
 
 -- ---- the link

@@ -2,3 +2,4 @@ pub mod Calls
 pub mod Told
 pub mod Knowing
 pub mod Quiet
+pub mod Readable

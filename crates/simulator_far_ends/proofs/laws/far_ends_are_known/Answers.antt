@@ -10,7 +10,8 @@ use Rattle.simulator_rules_seen.specs.Calls.{Items, items_after}
 use Rattle.simulator_rules_seen.specs.Facts.{AreCallsIn}
 use Rattle.simulator_rules_seen.specs.Sees.{SeesSignal, SignalFits}
 use Rattle.simulator_far_ends.specs.At.{IsClientAt}
-use Rattle.simulator_far_ends.proofs.Calls.{as_calls, begins_none, may_each}
+use Rattle.simulator_far_ends.specs.Calls.{as_calls}
+use Rattle.simulator_far_ends.proofs.Calls.{begins_none, may_each}
 use Rattle.simulator_far_ends.proofs.Knowing.{confirmed_done, known_then, link_facts, reports_heard}
 use Rattle.simulator_far_ends.proofs.laws.far_ends_are_known.Goals as goal
 
