@@ -1,0 +1,8 @@
+mod Lists
+mod Calls
+mod Ends
+mod Step
+mod Stepping
+mod Restart
+mod Passing
+mod Time

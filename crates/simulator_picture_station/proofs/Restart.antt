@@ -1,0 +1,208 @@
+-- The interlocking is made anew.
+use Rattle.std.proofs.Common.{◌≡◌, ◌∙◌, ◌*◌, ◌+◌, ◌<◌, ◌≤◌, ℕ, zero, suc, Bool, true, false, nat_lt, List, [], ◌∷◌, length, Option, Some, None, refl, sym, ap, subst, arith, if◌then◌else◌}
+use Rattle.std.specs.Prelude.{◌==◌, slice_get}
+use Rattle.std.proofs.lemmas.Bool.Decides.{nat_tests}
+use Rattle.layout.specs.Entries.{Plan}
+use Rattle.layout.specs.Once.{Once}
+use Rattle.layout.specs.Station.{IsStation}
+use Rattle.layout.specs.declared.entries.Point.{Point as PointEntry}
+use Rattle.rasta_core.specs.Ends.{end_restarted, reading_of}
+use Rattle.rasta_core.specs.Events.{Restarts, happened}
+use Rattle.rasta_core.specs.Links.{Links, run_links, seen}
+use Rattle.rasta_core.specs.Nodes.{is_among, restarts_of}
+use Rattle.rasta_core.specs.Parameters.{greatest}
+use Rattle.rasta_core.specs.Run.{Ends, restarted}
+use Rattle.rasta_core.specs.identity.Role.{Role}
+use Rattle.rasta_core.specs.identity.Role.TheVariants as role
+use Rattle.object_host.specs.Host.{HostState}
+use Rattle.point_ctl.specs.Drive.{PointState}
+use Rattle.signal_ctl.specs.Signal.{SignalState}
+use Rattle.ixl_client.specs.Client.{new_client}
+use Rattle.ixl_rules.specs.State.{IxlState, SwitchState}
+use Rattle.ixl_rules.specs.Table.{Table}
+use Rattle.ixl_table.specs.Table.{IsTableOf}
+use Rattle.simulator_event.specs.declared.event.NodeId.{NodeId}
+use Rattle.simulator_event.specs.declared.refused.Refused.{Refused}
+use Rattle.simulator_event.specs.declared.refused.Refused.TheVariants as refused
+use Rattle.simulator_machine.specs.Chains.{MovesTo}
+use Rattle.simulator_machine.specs.Invariant.{Invariant}
+use Rattle.simulator_machine.specs.Link.{Closes, Link, link_after}
+use Rattle.simulator_machine.specs.Machine.{Machine, made_anew}
+use Rattle.simulator_machine.specs.Point.{Point as MachinePoint, PointLink, point_after}
+use Rattle.simulator_machine.specs.Signal.{Signal as MachineSignal, SignalLink, signal_after}
+use Rattle.simulator_machine.specs.Table.{Table as MachineTable}
+use Rattle.simulator_items.specs.Items.{aspects_in, moves_in, reports_in}
+use Rattle.simulator_links.specs.Flows.{of_server, reports_given}
+use Rattle.simulator_links.specs.Picture.{pictured, server_of}
+use Rattle.simulator_controllers.specs.Point.{IsPointSeen}
+use Rattle.simulator_controllers.specs.Signal.{IsSignalSeen}
+use Rattle.simulator_rules.specs.Onward.{IsMadeAnew}
+use Rattle.simulator_rules_seen.specs.Made.{IsJustMade}
+use Rattle.simulator_rules_seen.specs.Rows.{machine_table}
+use Rattle.simulator_rules_seen.specs.Sees.{Given, Sees}
+use Rattle.simulator_world_links.specs.Events.{numbers_below, restart_events}
+use Rattle.simulator_world_run.specs.First.{Beginning, new_ixl, new_lamp_of, new_route_of, new_switch_of}
+use Rattle.simulator_world_run.specs.Nodes.{Station, links, point_link}
+use Rattle.simulator_world_run.specs.Refusals.{is_missing, refused_where}
+use Rattle.simulator_world_run.specs.State.{WorldState}
+use Rattle.simulator_world_run.specs.Station.{held_of}
+use Rattle.simulator_world_run.specs.Happens as world_run
+use Rattle.simulator_picture.specs.Picture.{AreFrozen, ArePointsSeen, AreSignalsSeen, IsNetworkOf, IsPictured, given_in}
+use Rattle.simulator_picture_station.proofs.Ends.{EndLaws, server_pictured}
+use Rattle.simulator_picture_station.proofs.Lists.{get_map, length_map, some_is, within_some}
+
+-- ---- each link sees a restart of its client
+
+are_among : (count link : ℕ) → link < count → is_among link (numbers_below count) ≡ true
+are_among zero link below = absurd (omega arith)
+are_among (suc n) link below = cases (link == n) refl (are_among n link) where
+  cases : (b : Bool) → (link == n) ≡ b → (link < n → is_among link (numbers_below n) ≡ true) → (if b then true else is_among link (numbers_below n)) ≡ true
+  cases true e inner = refl
+  cases false e inner = let less : link < n = grind (arith, nat_tests) in inner less
+
+reads_anew : (clock : ℕ) → reading_of (clock * 1000) ≡ clock
+reads_anew clock = omega arith
+
+below_greatest : (clock : ℕ) → clock * 1000 ≤ 9000000000000000 → clock < greatest
+below_greatest clock within = omega arith
+
+not_refused : (fails : Bool) (why : Refused) (otherwise : Option Refused) → refused_where fails why otherwise ≡ None → (fails ≡ false) × (otherwise ≡ None)
+not_refused true why otherwise e = absurd (cc (e))
+not_refused false why otherwise e = (refl, e)
+
+not_above : (a b : ℕ) → nat_lt a b ≡ false → b ≤ a
+not_above a b e = grind (arith, nat_tests)
+
+pub restart_within : (plan : Plan) (node : NodeId) (clock : ℕ)
+    → refused_where (is_missing node.0 plan) refused.NoSuchNode (refused_where (nat_lt 9000000000000000 (clock * 1000)) refused.ClockLimit None) ≡ None → clock * 1000 ≤ 9000000000000000
+restart_within plan node clock none =
+    not_above 9000000000000000 (clock * 1000) (not_refused (nat_lt 9000000000000000 (clock * 1000)) refused.ClockLimit None (not_refused (is_missing node.0 plan) refused.NoSuchNode _ none).1).0
+
+-- ---- a controller when its client is made anew
+
+pub record AnewLaws : Type 0 where
+  pub ends : EndLaws
+  pub node : (who : Role) (clock : ℕ) (firsts : ℕ → ℕ) (numbers : List ℕ) (network : Links) (link : ℕ)
+      → seen link (run_links (restarts_of who clock firsts numbers) network) ≡ (if is_among link numbers then restarted who clock (firsts link) (seen link network) else seen link network)
+  pub closes : (clock first : ℕ) (ends : Ends) → pictured (happened (Restarts role.Client clock first) ends) ≡ link_after Closes (pictured ends)
+  pub anew : (now later : ℕ) (table : MachineTable) (old new : IxlState) (given new_given : Given) (machine : Machine) → Sees now old given machine
+      → IsJustMade new → new.created ≡ later → later < greatest → length new.lamps ≡ length old.lamps
+      → IsMadeAnew now later table old new new_given machine (made_anew machine)
+  pub made : (plan : Plan) (table : Table) (begins : Beginning) → IsJustMade (new_ixl plan table begins)
+  pub frozen : (plan : Plan) (table : Table) (world : WorldState) (machine : Machine) → IsStation plan → IsTableOf plan table
+      → IsPictured plan table world machine → AreFrozen plan table (held_of table world.station world.frozen) (made_anew machine)
+  pub reached : (table : Table) (old new : Machine) → Invariant (machine_table table) old → MovesTo (machine_table table) old new → Invariant (machine_table table) new
+
+module _ (laws : AnewLaws) (clock first : ℕ) (ends : Ends) where
+  abbrev new : Ends
+  new = restarted role.Client clock first ends
+
+  server_stays : new.server ≡ ends.server
+  unfolding restarted
+  server_stays = refl
+
+  given_stays : new.client.given ≡ ends.client.given
+  unfolding restarted end_restarted
+  given_stays = refl
+
+  link_closes : (link : Link) → link ≡ pictured ends → link_after Closes link ≡ pictured new
+  link_closes link is = ap (link_after Closes) is ∙ sym (laws.closes clock first ends)
+
+  server_kept : server_of new ≡ server_of ends
+  server_kept = sym (server_pictured new) ∙ ap (λ (l : Link). l.server) (laws.closes clock first ends) ∙ server_pictured ends
+
+  reports_stay : reports_given new ≡ reports_given ends
+  reports_stay = ap (λ s. of_server s new.server.given) server_kept ∙ ap (λ e. of_server (server_of ends) e.given) server_stays
+
+  pub signal_anew : (host : HostState SignalState) (signal : MachineSignal) → IsSignalSeen ends host signal → IsSignalSeen new host (signal_after (SignalLink Closes) signal)
+  signal_anew host signal is = laws.ends.signal_stays ends new host signal (signal_after (SignalLink Closes) signal) server_stays is (link_closes signal.link is.link)
+      (is.given ∙ ap aspects_in (sym given_stays)) (λ opened. refl)
+
+  pub point_anew : (host : HostState PointState) (point : MachinePoint) → IsPointSeen ends host point → IsPointSeen new host (point_after (PointLink Closes) point)
+  point_anew host point is = laws.ends.point_stays ends new host point (point_after (PointLink Closes) point) server_stays is (link_closes point.link is.link)
+      (is.given ∙ ap (λ g. length (moves_in g)) (sym given_stays)) (λ opened. refl) (is.made ∙ ap reports_in (sym reports_stay)) refl refl
+
+-- ---- the world
+
+module _ (laws : AnewLaws) (plan : Plan) (table : Table) (once : Once plan) (station : IsStation plan) (is : IsTableOf plan table) (begins : Beginning) (world : WorldState) (machine : Machine)
+    (pictured_is : IsPictured plan table world machine) (within : begins.clock * 1000 ≤ 9000000000000000) where
+  abbrev network : Links
+  network = pictured_is.network
+
+  abbrev after : Links
+  after = run_links (restart_events plan begins.clock begins.first (Some Station)) network
+
+  abbrev fresh : IxlState
+  fresh = new_ixl plan table begins
+
+  abbrev anew : WorldState
+  anew = world_run.made_anew plan table begins (Some Station) world
+
+  link_anew : (link : ℕ) → link < links plan → seen link after ≡ restarted role.Client begins.clock begins.first (seen link network)
+  link_anew link below = laws.node role.Client begins.clock (λ link. begins.first) (numbers_below (links plan)) network link
+      ∙ ap (λ b. if b then restarted role.Client begins.clock begins.first (seen link network) else seen link network) (are_among (links plan) link below)
+
+  signal_below : (place : ℕ) → place < length world.signals → place < links plan
+  signal_below place inside = sums (length plan.signals) (length plan.points) (length plan.detectors) (subst (λ n. place < n) pictured_is.linked.whole.signals inside) where
+    sums : (a b c : ℕ) → place < a → place < a + b + c
+    sums a b c less = omega arith
+
+  point_below : (place : ℕ) → place < length world.points → point_link plan place < links plan
+  point_below place inside = sums (length plan.signals) (length plan.points) (length plan.detectors) (subst (λ n. place < n) pictured_is.linked.whole.points inside) where
+    sums : (a b c : ℕ) → place < b → a + place < a + b + c
+    sums a b c less = omega arith
+
+  signals_anew : AreSignalsSeen plan after world.signals (made_anew machine)
+  signals_anew = record {
+    each = λ place server at. subst (λ (e : Ends). IsSignalSeen e server.host ((made_anew machine).signals place)) (sym (link_anew place (signal_below place (within_some world.signals place server at))))
+        (signal_anew laws begins.clock begins.first (seen place network) server.host (machine.signals place) (pictured_is.signals.each place server at));
+    hosts = pictured_is.signals.hosts;
+  }
+
+  points_anew : ArePointsSeen plan after world.points world.positions (made_anew machine)
+  points_anew = record {
+    each = λ place server at. subst (λ (e : Ends). IsPointSeen e server.host ((made_anew machine).points place)) (sym (link_anew (point_link plan place) (point_below place (within_some world.points place server at))))
+        (point_anew laws begins.clock begins.first (seen (point_link plan place) network) server.host (machine.points place) (pictured_is.points.each place server at));
+    hosts = pictured_is.points.hosts;
+    sensed = pictured_is.points.sensed;
+    count = pictured_is.points.count;
+  }
+
+  created_is : fresh.created ≡ begins.clock
+  unfolding new_ixl
+  created_is = refl
+
+  lamps_are : length fresh.lamps ≡ length plan.signals
+  unfolding new_ixl
+  lamps_are = length_map (new_lamp_of plan begins) plan.signals
+
+  routes_are : length fresh.routes ≡ length table.rows
+  unfolding new_ixl
+  routes_are = length_map new_route_of table.rows
+
+  is_anew : IsMadeAnew (reading_of world.station.clock) begins.clock (machine_table table) world.station.ixl fresh (given_in plan after) machine (made_anew machine)
+  is_anew = laws.anew (reading_of world.station.clock) begins.clock (machine_table table) world.station.ixl fresh (given_in plan network) (given_in plan after) machine
+      pictured_is.station.sees (laws.made plan table begins) created_is (below_greatest begins.clock within) (lamps_are ∙ sym pictured_is.linked.whole.clients.lamps)
+
+  objects_anew : (place : ℕ) (entry : PointEntry) (switch : SwitchState) → slice_get plan.points place ≡ Some entry → slice_get fresh.switches place ≡ Some switch → switch.client.peer.objects ≡ entry.name ∷ []
+  unfolding new_ixl new_client
+  objects_anew place entry switch there at =
+      let found = get_map (new_switch_of plan begins) plan.points place switch at
+      in let same : found.0 ≡ entry = some_is found.0 entry (sym found.1 ∙ there)
+      in subst (λ (s : SwitchState). s.client.peer.objects ≡ entry.name ∷ []) (ap (new_switch_of plan begins) (sym same) ∙ found.2) refl
+
+  pub restart_pictured : IsNetworkOf plan anew after → IsPictured plan table anew (made_anew machine)
+  restart_pictured linked = record {
+    network = after;
+    linked = linked;
+    signals = signals_anew;
+    points = points_anew;
+    station = record {
+      sees = subst (λ n. Sees n fresh (given_in plan after) (made_anew machine)) (sym (reads_anew begins.clock)) is_anew.sees;
+      routes = routes_are;
+      objects = objects_anew;
+      clock = within;
+    };
+    frozen = laws.frozen plan table world machine station is pictured_is;
+    invariant = laws.reached table machine (made_anew machine) pictured_is.invariant is_anew.keeps.moves;
+  }

@@ -1,0 +1,38 @@
+use Rattle.std.proofs.Common.{Option, sym, subst}
+use Rattle.rasta_core.specs.Links.{run_links}
+use Rattle.simulator_event.specs.declared.event.Event.TheVariants.{Restart}
+use Rattle.simulator_machine.specs.Machine as machine
+use Rattle.simulator_rules_seen.specs.Rows.{machine_table}
+use Rattle.simulator_world_links.specs.Events.{events_of, restart_events}
+use Rattle.simulator_world_run.specs.Happens.{happens, made_anew}
+use Rattle.simulator_world_run.specs.Nodes.{Node}
+use Rattle.simulator_world_run.specs.Refusals.{refusal}
+use Rattle.simulator_picture.specs.Picture.{IsNetworkOf, IsPictured}
+use Rattle.simulator_picture_station.proofs.Restart.{AnewLaws, restart_pictured, restart_within}
+use Rattle.simulator_picture_station.proofs.clocks.restarts_of_stations_keep_pictures.Goals as goal
+
+pub returns : goal.returns
+unfolding happens events_of refusal
+returns c =
+    let laws : AnewLaws = record {
+      ends = record {
+        at_end = c.clients_are_seen_at_their_ends.ensures;
+        given = c.calls_give_and_take_at_the_ends.ensures.given;
+        taken = c.calls_give_and_take_at_the_ends.ensures.taken;
+        begun = c.calls_give_and_take_at_the_ends.ensures.begun;
+        inside = c.pictures_tell_the_connection.ensures.inside;
+        signal_stays = c.signals_stay_elsewhere.ensures;
+        point_stays = c.points_stay_elsewhere.ensures;
+      };
+      node = c.a_node_restarts.ensures;
+      closes = c.restarts_are_moves.ensures.client;
+      anew = c.restarts_are_moves-2.ensures;
+      made = c.new_interlockings_are_just_made.ensures;
+      frozen = c.pictured_worlds_are_seen.ensures.frozen;
+      reached = λ table old new. c.invariant_is_kept.ensures.reached (machine_table table) old new (c.tables_are_sound.ensures table);
+    }
+    in λ plan table node clock first world kept once station is pictured none at.
+    subst (λ (n : Option Node). IsPictured plan table (made_anew plan table (record { clock = clock; first = first }) n world) (machine.made_anew kept)) (sym at)
+    (restart_pictured laws plan table once station is (record { clock = clock; first = first }) world kept pictured (restart_within plan node clock none)
+    (subst (λ (n : Option Node). IsNetworkOf plan (made_anew plan table (record { clock = clock; first = first }) n world) (run_links (restart_events plan clock first n) pictured.network)) at
+    (c.networks_follow_their_worlds.ensures plan table (Restart node clock first) world pictured.network station once pictured.linked none)))
