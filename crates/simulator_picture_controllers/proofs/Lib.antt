@@ -1,0 +1,9 @@
+mod Lists
+mod Elsewhere
+mod Changed
+mod Stepping
+mod AtSignals
+mod AtPoints
+mod Reached
+mod AtDetectors
+mod AtNodes

@@ -1,0 +1,65 @@
+//! What happens at the controller of a signal.
+
+ghost use Rattle.std.specs.Prelude.{◌≡◌, ℕ, List, None, Some};
+ghost use Rattle.layout.specs.Entries.{Plan};
+ghost use Rattle.layout.specs.Once.{Once};
+ghost use Rattle.layout.specs.Station.{IsStation};
+ghost use Rattle.ixl_rules.specs.Table.{Table};
+ghost use Rattle.simulator_event.specs.declared.event.Event.TheVariants.{Deliver, Restart, Tick};
+ghost use Rattle.simulator_event.specs.declared.event.NodeId.{NodeId};
+ghost use Rattle.simulator_machine.specs.Machine.{Machine};
+ghost use Rattle.simulator_picture.specs.Picture.{IsPictured};
+ghost use Rattle.simulator_world_run.specs.Happens.{happens};
+ghost use Rattle.simulator_world_run.specs.Nodes.{Signal as SignalAt, node_at};
+ghost use Rattle.simulator_world_run.specs.Refusals.{refusal};
+ghost use Rattle.simulator_world_run.specs.State.{WorldState};
+ghost use Rattle.simulator_picture_controllers.specs.After.{IsPicturedAfter};
+
+use crate::changes::changes_are_pictured;
+use object_host::{step_is_calls, steps_keep_a_host};
+use rasta_core::a_node_restarts;
+use signal_ctl::Signal;
+use simulator_controllers::{
+    lawful_ends_are_fit, signals_pass_time_and_restart, steps_of_signals_are_moves,
+};
+use simulator_links::{
+    a_node_of_one_link_makes_a_step, lawful_worlds_stay_lawful, restarts_are_moves,
+};
+use simulator_machine::lists_of_moves_compose;
+use simulator_picture::networks_follow_their_worlds;
+use simulator_world_links::{
+    deliveries_may_come, ends_are_those_of_the_nodes, hosts_say_items, layouts_name_their_links,
+    links_are_named_by_their_controllers,
+};
+
+/// What happens at the controller of a signal is a list of moves of the machine, which sees the world then: its tick, what
+/// is delivered to it, and its being made anew.
+pub fn events_at_signals_are_pictured()
+    ensures tick { (plan : Plan) (table : Table) (node : NodeId) (place : ℕ) (world : WorldState) (machine : Machine) → IsStation plan → Once plan
+        → node_at plan node.0 ≡ Some (SignalAt place) → refusal plan (Tick node) world ≡ None → IsPictured plan table world machine
+        → IsPicturedAfter plan table machine (happens plan table (Tick node) world) }
+    ensures delivery { (plan : Plan) (table : Table) (node : NodeId) (bytes : List ℕ) (place : ℕ) (world : WorldState) (machine : Machine) → IsStation plan → Once plan
+        → node_at plan node.0 ≡ Some (SignalAt place) → refusal plan (Deliver node bytes) world ≡ None → IsPictured plan table world machine
+        → IsPicturedAfter plan table machine (happens plan table (Deliver node bytes) world) }
+    ensures restart { (plan : Plan) (table : Table) (node : NodeId) (clock first place : ℕ) (world : WorldState) (machine : Machine) → IsStation plan → Once plan
+        → node_at plan node.0 ≡ Some (SignalAt place) → refusal plan (Restart node clock first) world ≡ None → IsPictured plan table world machine
+        → IsPicturedAfter plan table machine (happens plan table (Restart node clock first) world) }
+{
+    a_node_of_one_link_makes_a_step();
+    a_node_restarts();
+    changes_are_pictured();
+    deliveries_may_come();
+    ends_are_those_of_the_nodes();
+    hosts_say_items();
+    lawful_ends_are_fit();
+    lawful_worlds_stay_lawful();
+    layouts_name_their_links();
+    links_are_named_by_their_controllers();
+    lists_of_moves_compose();
+    networks_follow_their_worlds();
+    restarts_are_moves();
+    signals_pass_time_and_restart();
+    step_is_calls::<Signal>();
+    steps_keep_a_host::<Signal>();
+    steps_of_signals_are_moves();
+}
