@@ -19,7 +19,7 @@ use Rattle.simulator_world_run.specs.State.{ServerState, WorldState}
 use Rattle.simulator_picture.specs.Picture.{IsNetworkOf, IsPictured}
 use Rattle.simulator_picture_controllers.specs.After.{IsPicturedAfter}
 use Rattle.simulator_picture_controllers.specs.Change.{NoneChanges}
-use Rattle.simulator_picture_controllers.proofs.Stepping.{AnewLaws, LinkLaws, clients_anew, clients_stepped, servers_anew, servers_stepped}
+use Rattle.simulator_picture_controllers.proofs.Stepping.{CallLaws, SeesAnew, clients_anew, clients_stepped, servers_anew, servers_stepped}
 
 abbrev pub NoneLaw : Type 0
 NoneLaw = (plan : Plan) (table : Table) (world new : WorldState) (machine : Machine) (pictured : IsPictured plan table world machine) (after : Links)
@@ -27,8 +27,8 @@ NoneLaw = (plan : Plan) (table : Table) (world new : WorldState) (machine : Mach
 
 -- the laws that this stands on
 pub record DetectorLaws : Type 0 where
-  pub link : LinkLaws
-  pub anew : AnewLaws
+  pub calling : CallLaws
+  pub anew : SeesAnew
   pub change : NoneLaw
 
 detector_is : (plan : Plan) (world : WorldState) (input : Input) (connection place : ℕ) (server : ServerState (List Section)) → slice_get world.detectors place ≡ Some server → detector_stepped plan input connection place world ≡ record world {
@@ -88,11 +88,11 @@ module _ (laws : DetectorLaws) (plan : Plan) (table : Table) (world : WorldState
       step : (server : ServerState (List Section)) → (new : WorldState) → new.station ≡ world.station → new.frozen ≡ world.frozen → new.signals ≡ world.signals → new.points ≡ world.points → new.positions ≡ world.positions
           → IsNetworkOf plan new (events (Some server)) → IsPicturedAfter plan table machine new
       step server new station frozen signals points positions linked = laws.change plan table world new machine pictured (events (Some server)) (record {
-        leaves = record { linked = linked; station = station; frozen = frozen; clients = clients_stepped laws.link (detector_link plan place) connection (step_of detection_behaviour input server).calls before };
+        leaves = record { linked = linked; station = station; frozen = frozen; clients = clients_stepped laws.calling (detector_link plan place) connection (step_of detection_behaviour input server).calls before };
         signals = signals;
         points = points;
         positions = positions;
-        servers = λ link below. servers_stepped laws.link (detector_link plan place) connection (step_of detection_behaviour input server).calls before link (other_link plan place link below);
+        servers = λ link below. servers_stepped laws.calling (detector_link plan place) connection (step_of detection_behaviour input server).calls before link (other_link plan place link below);
       })
 
       cases : (found : Option (ServerState (List Section))) → slice_get world.detectors place ≡ found → IsNetworkOf plan (detector_stepped plan input connection place moved) (events found)

@@ -52,12 +52,11 @@ use Rattle.simulator_picture_controllers.specs.After.{IsPicturedAfter}
 use Rattle.simulator_picture_controllers.specs.Change.{PointChanges}
 use Rattle.simulator_picture_controllers.proofs.AtSignals.{named_still}
 use Rattle.simulator_picture_controllers.proofs.Lists.{changed_one, get_set, get_set_other, length_set, none_some, some_is, some_within, within_some}
-use Rattle.simulator_picture_controllers.proofs.Stepping.{AnewLaws, LinkLaws, clients_anew, clients_stepped, host_after, host_anew, own_anew, own_stepped, servers_anew, servers_stepped}
+use Rattle.simulator_picture_controllers.proofs.Stepping.{LinkLaws, clients_anew, clients_stepped, host_after, host_anew, own_anew, own_stepped, servers_anew, servers_stepped}
 
 -- the laws of points that this stands on
 pub record PointLaws : Type 0 where
   pub link : LinkLaws
-  pub anew : AnewLaws
   pub change : (plan : Plan) (table : Table) (world new : WorldState) (machine : Machine) (pictured : IsPictured plan table world machine) (after : Links)
       (place : ℕ) (next : ServerState PointState) → place < length plan.points → PointChanges plan world new pictured.network after place next
       → PointGoes (machine.points place) (IsPointSeen (seen (point_link plan place) after) next.host) → IsPicturedAfter plan table machine new
@@ -156,14 +155,14 @@ module _ (laws : PointLaws) (plan : Plan) (table : Table) (world : WorldState) (
 
         goes : PointGoes (machine.points place) (IsPointSeen (seen link after) next.host)
         goes = subst (λ (h : HostState PointState). PointGoes (machine.points place) (IsPointSeen (seen link after) h)) (sym (host_after (step_of point_behaviour input server) connection (length world.sent) server))
-            (subst (λ (e : Ends). PointGoes (machine.points place) (IsPointSeen e (step_of point_behaviour input server).host)) (sym (own_stepped laws.link link connection calls before)) (goes_at steps))
+            (subst (λ (e : Ends). PointGoes (machine.points place) (IsPointSeen e (step_of point_behaviour input server).host)) (sym (own_stepped laws.link.calling link connection calls before)) (goes_at steps))
 
         step_pictured : IsNetworkOf plan new after → IsPicturedAfter plan table machine new
         step_pictured linked = laws.change plan table world new machine pictured after place next below (record {
-          leaves = record { linked = linked; station = refl; frozen = refl; clients = clients_stepped laws.link link connection calls before };
+          leaves = record { linked = linked; station = refl; frozen = refl; clients = clients_stepped laws.link.calling link connection calls before };
           signals = refl;
           points = refl;
-          others = servers_stepped laws.link link connection calls before;
+          others = servers_stepped laws.link.calling link connection calls before;
           host = host_is;
           stands = λ position at. sensed_then ∙ stands position at;
           elsewhere = elsewhere;
@@ -259,21 +258,21 @@ module _ (laws : PointLaws) (plan : Plan) (table : Table) (world : WorldState) (
 
         anew_goes : IsNetworkOf plan (point_anew plan begins place (Some entry) world) anew_after → PointGoes (machine.points place) (IsPointSeen (seen (point_link plan place) anew_after) next_anew.host)
         anew_goes linked =
-            let fit_after : AreFit (restarted role.Server begins.clock begins.first (seen (point_link plan place) before)) = subst AreFit (own_anew laws.anew (point_link plan place) begins.clock begins.first before)
-            (laws.anew.fit (names_at plan (point_link plan place)) (seen (point_link plan place) anew_after) (laws.link.each (links plan) (names_at plan) anew_after linked.lawful (point_link plan place) anew_below))
-            in let goes = laws.restarts begins.clock begins.first object (seen (point_link plan place) before) server.host (machine.points place) (laws.anew.fit (names_at plan (point_link plan place)) (seen (point_link plan place) before) lawful) fit_after
-            (pictured.points.each place server is) stands_there (laws.anew.goes (names_at plan (point_link plan place)) begins.clock begins.first (seen (point_link plan place) before) ((laws.link.are_links plan station once).each (point_link plan place) anew_below) lawful.timely)
+            let fit_after : AreFit (restarted role.Server begins.clock begins.first (seen (point_link plan place) before)) = subst AreFit (own_anew laws.link.anew (point_link plan place) begins.clock begins.first before)
+            (laws.link.fit (names_at plan (point_link plan place)) (seen (point_link plan place) anew_after) (laws.link.each (links plan) (names_at plan) anew_after linked.lawful (point_link plan place) anew_below))
+            in let goes = laws.restarts begins.clock begins.first object (seen (point_link plan place) before) server.host (machine.points place) (laws.link.fit (names_at plan (point_link plan place)) (seen (point_link plan place) before) lawful) fit_after
+            (pictured.points.each place server is) stands_there (laws.link.restarts (names_at plan (point_link plan place)) begins.clock begins.first (seen (point_link plan place) before) ((laws.link.are_links plan station once).each (point_link plan place) anew_below) lawful.timely)
             in subst (λ (h : HostState PointState). PointGoes (machine.points place) (IsPointSeen (seen (point_link plan place) anew_after) h))
             (from_names server.host (before.ends (point_link plan place)).server.link.identity identity_is (pictured.points.hosts place entry server at is) ∙ sym (host_anew (new_point plan begins position entry) begins.clock (length world.sent) server))
             (subst (λ (e : Ends). PointGoes (machine.points place) (IsPointSeen e (new_host point_behaviour (before.ends (point_link plan place)).server.link.identity server.host.own_name server.host.peer_name begins.first begins.clock object server.host.version)))
-            (sym (own_anew laws.anew (point_link plan place) begins.clock begins.first before)) goes)
+            (sym (own_anew laws.link.anew (point_link plan place) begins.clock begins.first before)) goes)
 
         anew_pictured : IsNetworkOf plan (point_anew plan begins place (Some entry) world) anew_after → IsPicturedAfter plan table machine (point_anew plan begins place (Some entry) world)
         anew_pictured linked = laws.change plan table world (point_anew plan begins place (Some entry) world) machine pictured anew_after place next_anew (within_some plan.points place entry at) (record {
-          leaves = record { linked = linked; station = refl; frozen = refl; clients = clients_anew laws.anew (point_link plan place) begins.clock begins.first before };
+          leaves = record { linked = linked; station = refl; frozen = refl; clients = clients_anew laws.link.anew (point_link plan place) begins.clock begins.first before };
           signals = refl;
           points = changed_one (server_anew (new_point plan begins position entry) begins.clock (length world.sent)) place world.points server is;
-          others = servers_anew laws.anew (point_link plan place) begins.clock begins.first before;
+          others = servers_anew laws.link.anew (point_link plan place) begins.clock begins.first before;
           host = λ other that. subst (λ (e : Point). IsHostOf plan e.name next_anew.host) (some_is entry other (sym at ∙ that))
               (subst (IsHostOf plan entry.name) (sym (host_anew (new_point plan begins position entry) begins.clock (length world.sent) server)) new_is_host);
           stands = λ other that. ap (λ (h : HostState PointState). h.object.sensed) (host_anew (new_point plan begins position entry) begins.clock (length world.sent) server) ∙ new_stands

@@ -43,12 +43,11 @@ use Rattle.simulator_picture.specs.Picture.{IsHostOf, IsNetworkOf, IsPictured}
 use Rattle.simulator_picture_controllers.specs.After.{IsPicturedAfter}
 use Rattle.simulator_picture_controllers.specs.Change.{SignalChanges}
 use Rattle.simulator_picture_controllers.proofs.Lists.{changed_one, some_is, some_within, within_some}
-use Rattle.simulator_picture_controllers.proofs.Stepping.{AnewLaws, LinkLaws, clients_anew, clients_stepped, host_after, host_anew, own_anew, own_stepped, servers_anew, servers_stepped}
+use Rattle.simulator_picture_controllers.proofs.Stepping.{LinkLaws, clients_anew, clients_stepped, host_after, host_anew, own_anew, own_stepped, servers_anew, servers_stepped}
 
 -- the laws of signals that this stands on
 pub record SignalLaws : Type 0 where
   pub link : LinkLaws
-  pub anew : AnewLaws
   pub change : (plan : Plan) (table : Table) (world new : WorldState) (machine : Machine) (pictured : IsPictured plan table world machine) (after : Links)
       (place : ℕ) (next : ServerState SignalState) → place < length plan.signals → SignalChanges plan world new pictured.network after place next
       → SignalGoes (machine.signals place) (IsSignalSeen (seen place after) next.host) → IsPicturedAfter plan table machine new
@@ -133,7 +132,7 @@ module _ (laws : SignalLaws) (plan : Plan) (table : Table) (world : WorldState) 
       goes : SignalGoes (machine.signals place) (IsSignalSeen (seen place after) next.host)
       goes = subst (λ (h : HostState SignalState). SignalGoes (machine.signals place) (IsSignalSeen (seen place after) h)) (sym (host_after (step_of signal_behaviour input server) connection (length world.sent) server))
           (subst (λ (e : Ends). SignalGoes (machine.signals place) (IsSignalSeen e (step_of signal_behaviour input server).host))
-          (sym (own_stepped laws.link place connection (step_of signal_behaviour input server).calls before)) (goes_at steps))
+          (sym (own_stepped laws.link.calling place connection (step_of signal_behaviour input server).calls before)) (goes_at steps))
 
       host_is : (entry : Signal) → slice_get plan.signals place ≡ Some entry → IsHostOf plan entry.name next.host
       host_is entry at = subst (IsHostOf plan entry.name) (sym (host_after (step_of signal_behaviour input server) connection (length world.sent) server))
@@ -141,11 +140,11 @@ module _ (laws : SignalLaws) (plan : Plan) (table : Table) (world : WorldState) 
 
       step_pictured : IsNetworkOf plan new after → IsPicturedAfter plan table machine new
       step_pictured linked = laws.change plan table world new machine pictured after place next below (record {
-        leaves = record { linked = linked; station = refl; frozen = refl; clients = clients_stepped laws.link place connection (step_of signal_behaviour input server).calls before };
+        leaves = record { linked = linked; station = refl; frozen = refl; clients = clients_stepped laws.link.calling place connection (step_of signal_behaviour input server).calls before };
         signals = refl;
         points = refl;
         positions = refl;
-        others = servers_stepped laws.link place connection (step_of signal_behaviour input server).calls before;
+        others = servers_stepped laws.link.calling place connection (step_of signal_behaviour input server).calls before;
         host = host_is;
       }) goes
 
@@ -196,22 +195,22 @@ module _ (laws : SignalLaws) (plan : Plan) (table : Table) (world : WorldState) 
 
         anew_goes : IsNetworkOf plan (signal_anew plan begins place (Some entry) world) anew_after → SignalGoes (machine.signals place) (IsSignalSeen (seen place anew_after) next_anew.host)
         anew_goes linked =
-            let fit_after : AreFit (restarted role.Server begins.clock begins.first (seen place before)) = subst AreFit (own_anew laws.anew place begins.clock begins.first before)
-            (laws.anew.fit (names_at plan place) (seen place anew_after) (laws.link.each (links plan) (names_at plan) anew_after linked.lawful place anew_below))
-            in let goes = laws.restarts begins.clock begins.first object (seen place before) server.host (machine.signals place) (laws.anew.fit (names_at plan place) (seen place before) lawful) fit_after
-            (pictured.signals.each place server is) (laws.anew.goes (names_at plan place) begins.clock begins.first (seen place before) ((laws.link.are_links plan station once).each place anew_below) lawful.timely)
+            let fit_after : AreFit (restarted role.Server begins.clock begins.first (seen place before)) = subst AreFit (own_anew laws.link.anew place begins.clock begins.first before)
+            (laws.link.fit (names_at plan place) (seen place anew_after) (laws.link.each (links plan) (names_at plan) anew_after linked.lawful place anew_below))
+            in let goes = laws.restarts begins.clock begins.first object (seen place before) server.host (machine.signals place) (laws.link.fit (names_at plan place) (seen place before) lawful) fit_after
+            (pictured.signals.each place server is) (laws.link.restarts (names_at plan place) begins.clock begins.first (seen place before) ((laws.link.are_links plan station once).each place anew_below) lawful.timely)
             in subst (λ (h : HostState SignalState). SignalGoes (machine.signals place) (IsSignalSeen (seen place anew_after) h))
             (from_names server.host (before.ends place).server.link.identity identity_is (pictured.signals.hosts place entry server at is) ∙ sym (host_anew (new_signal plan begins entry) begins.clock (length world.sent) server))
             (subst (λ (e : Ends). SignalGoes (machine.signals place) (IsSignalSeen e (new_host signal_behaviour (before.ends place).server.link.identity server.host.own_name server.host.peer_name begins.first begins.clock object server.host.version)))
-            (sym (own_anew laws.anew place begins.clock begins.first before)) goes)
+            (sym (own_anew laws.link.anew place begins.clock begins.first before)) goes)
 
         anew_pictured : IsNetworkOf plan (signal_anew plan begins place (Some entry) world) anew_after → IsPicturedAfter plan table machine (signal_anew plan begins place (Some entry) world)
         anew_pictured linked = laws.change plan table world (signal_anew plan begins place (Some entry) world) machine pictured anew_after place next_anew (within_some plan.signals place entry at) (record {
-          leaves = record { linked = linked; station = refl; frozen = refl; clients = clients_anew laws.anew place begins.clock begins.first before };
+          leaves = record { linked = linked; station = refl; frozen = refl; clients = clients_anew laws.link.anew place begins.clock begins.first before };
           signals = changed_one (server_anew (new_signal plan begins entry) begins.clock (length world.sent)) place world.signals server is;
           points = refl;
           positions = refl;
-          others = servers_anew laws.anew place begins.clock begins.first before;
+          others = servers_anew laws.link.anew place begins.clock begins.first before;
           host = λ other that. subst (λ (e : Signal). IsHostOf plan e.name next_anew.host) (some_is entry other (sym at ∙ that))
               (subst (IsHostOf plan entry.name) (sym (host_anew (new_signal plan begins entry) begins.clock (length world.sent) server)) new_is_host);
         }) (anew_goes linked)

@@ -29,24 +29,29 @@ use Rattle.simulator_world_run.specs.Servers.{server_after, server_anew}
 use Rattle.simulator_world_run.specs.State.{ServerState}
 use Rattle.simulator_picture_controllers.proofs.Lists.{itself, same_or_other, unequal}
 
--- the laws of links that this stands on
-pub record LinkLaws : Type 0 where
-  pub are_links : (plan : Plan) → IsStation plan → Once plan → AreLinks (links plan) (names_at plan)
-  pub each : (count : ℕ) (names : ℕ → Names) (network : Links) → AreLawful count names network → (link : ℕ) → link < count → IsLawful (names link) (seen link network)
+-- what calls at one end leave of every end
+pub record CallLaws : Type 0 where
   pub own : (who : Role) (link : ℕ) (calls : List Call) (links : Links)
       → seen link (run_links (map (λ call. CallsOn link who call) calls) links) ≡ run (calls_at who calls) (seen link links)
   pub others : (who : Role) (link other : ℕ) (calls : List Call) (links : Links) → other ≢ link
       → (whose : Role) → end_of whose (seen other (run_links (map (λ call. CallsOn link who call) calls) links)) ≡ end_of whose (seen other links)
+
+-- what a node that is made anew leaves of them
+abbrev pub SeesAnew : Type 0
+SeesAnew = (who : Role) (clock : ℕ) (firsts : ℕ → ℕ) (numbers : List ℕ) (links : Links) (link : ℕ)
+    → seen link (run_links (restarts_of who clock firsts numbers) links) ≡ (if is_among link numbers then restarted who clock (firsts link) (seen link links) else seen link links)
+
+-- the laws of a link whose server makes a step, or is made anew
+pub record LinkLaws : Type 0 where
+  pub calling : CallLaws
+  pub anew : SeesAnew
+  pub are_links : (plan : Plan) → IsStation plan → Once plan → AreLinks (links plan) (names_at plan)
+  pub each : (count : ℕ) (names : ℕ → Names) (network : Links) → AreLawful count names network → (link : ℕ) → link < count → IsLawful (names link) (seen link network)
+  pub fit : (names : Names) (ends : Ends) → IsLawful names ends → AreFit ends
   pub steps : (names : Names) (input : Input) (connection : ℕ) (calls : List LinkCall) (ends : Ends) → AreNames names → IsLawful names ends
       → MayHear names input connection ends → AreCallsFor input calls → AreItems calls → Steps input connection ends (called_all connection calls ends)
-
--- those of a node that is made anew
-pub record AnewLaws : Type 0 where
-  pub seen_anew : (who : Role) (clock : ℕ) (firsts : ℕ → ℕ) (numbers : List ℕ) (links : Links) (link : ℕ)
-      → seen link (run_links (restarts_of who clock firsts numbers) links) ≡ (if is_among link numbers then restarted who clock (firsts link) (seen link links) else seen link links)
-  pub goes : (names : Names) (clock first : ℕ) (ends : Ends) → AreNames names → Timely names ends
+  pub restarts : (names : Names) (clock first : ℕ) (ends : Ends) → AreNames names → Timely names ends
       → LinkGoes (moves_by false (is_open ends.server.link.phase) false) (pictured ends) (pictured (happened (Restarts role.Server clock first) ends))
-  pub fit : (names : Names) (ends : Ends) → IsLawful names ends → AreFit ends
 
 -- ---- calls of a server
 
@@ -65,7 +70,7 @@ module _ (connection : ℕ) where
   client_stays [] ends = refl
   client_stays (first ∷ others) ends = client_stays others (called role.Server (as_call connection first) ends) ∙ client_called (as_call connection first) ends
 
-module _ (laws : LinkLaws) (link connection : ℕ) (calls : List LinkCall) (before : Links) where
+module _ (laws : CallLaws) (link connection : ℕ) (calls : List LinkCall) (before : Links) where
   abbrev stepped : Links
   stepped = run_links (map (λ call. CallsOn link role.Server call) (map (as_call connection) calls)) before
 
@@ -87,12 +92,12 @@ client_there : (clock first : ℕ) (ends : Ends) → (restarted role.Server cloc
 unfolding restarted
 client_there clock first ends = refl
 
-module _ (laws : AnewLaws) (link clock first : ℕ) (before : Links) where
+module _ (law : SeesAnew) (link clock first : ℕ) (before : Links) where
   abbrev anew : Links
   anew = run_links (RestartsOn link role.Server clock first ∷ []) before
 
   seen_by : (other : ℕ) → seen other anew ≡ (if is_among other (link ∷ []) then restarted role.Server clock first (seen other before) else seen other before)
-  seen_by other = laws.seen_anew role.Server clock (λ n. first) (link ∷ []) before other
+  seen_by other = law role.Server clock (λ n. first) (link ∷ []) before other
 
   pub own_anew : seen link anew ≡ restarted role.Server clock first (seen link before)
   own_anew = seen_by link ∙ ap (λ (b : Bool). if (if b then true else false) then restarted role.Server clock first (seen link before) else seen link before) (itself link)

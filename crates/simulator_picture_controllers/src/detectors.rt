@@ -19,12 +19,8 @@ ghost use Rattle.simulator_picture_controllers.specs.After.{IsPicturedAfter};
 
 use crate::changes::changes_are_pictured;
 use rasta_core::a_node_restarts;
-use simulator_controllers::lawful_ends_are_fit;
-use simulator_links::{
-    a_node_of_one_link_makes_a_step, lawful_worlds_stay_lawful, restarts_are_moves,
-};
+use simulator_links::a_node_of_one_link_makes_a_step;
 use simulator_picture::networks_follow_their_worlds;
-use simulator_world_links::layouts_name_their_links;
 
 /// The machine sees nothing of what happens at the controller of a detector, and so it sees the world then: its tick, what
 /// is delivered to it, a section that is occupied or cleared, and its being made anew.
@@ -45,11 +41,7 @@ pub fn events_at_detectors_are_pictured()
     a_node_of_one_link_makes_a_step();
     a_node_restarts();
     changes_are_pictured();
-    lawful_ends_are_fit();
-    lawful_worlds_stay_lawful();
-    layouts_name_their_links();
     networks_follow_their_worlds();
-    restarts_are_moves();
 }
 
 /// Nor does it see which datagrams are lost.

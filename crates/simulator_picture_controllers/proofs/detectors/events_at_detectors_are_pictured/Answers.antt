@@ -15,14 +15,8 @@ pub returns : goal.returns
 unfolding happens events_of
 returns c =
     let laws : DetectorLaws = record {
-      link = record {
-        are_links = c.layouts_name_their_links.ensures;
-        each = c.lawful_worlds_stay_lawful.ensures.each;
-        own = c.a_node_of_one_link_makes_a_step.ensures.own;
-        others = c.a_node_of_one_link_makes_a_step.ensures.ends;
-        steps = c.lawful_ends_are_fit.ensures.steps;
-      };
-      anew = record { seen_anew = c.a_node_restarts.ensures; goes = c.restarts_are_moves.ensures.server; fit = c.lawful_ends_are_fit.ensures.fit };
+      calling = record { own = c.a_node_of_one_link_makes_a_step.ensures.own; others = c.a_node_of_one_link_makes_a_step.ensures.ends };
+      anew = c.a_node_restarts.ensures;
       change = c.changes_are_pictured.ensures.none;
     }
     in record {

@@ -17,13 +17,14 @@ unfolding happens events_of
 returns c =
     let laws : SignalLaws = record {
       link = record {
+        calling = record { own = c.a_node_of_one_link_makes_a_step.ensures.own; others = c.a_node_of_one_link_makes_a_step.ensures.ends };
+        anew = c.a_node_restarts.ensures;
         are_links = c.layouts_name_their_links.ensures;
         each = c.lawful_worlds_stay_lawful.ensures.each;
-        own = c.a_node_of_one_link_makes_a_step.ensures.own;
-        others = c.a_node_of_one_link_makes_a_step.ensures.ends;
+        fit = c.lawful_ends_are_fit.ensures.fit;
         steps = c.lawful_ends_are_fit.ensures.steps;
+        restarts = c.restarts_are_moves.ensures.server;
       };
-      anew = record { seen_anew = c.a_node_restarts.ensures; goes = c.restarts_are_moves.ensures.server; fit = c.lawful_ends_are_fit.ensures.fit };
       change = c.changes_are_pictured.ensures.signal;
       none = c.lists_of_moves_compose.ensures.none;
       end = c.ends_are_those_of_the_nodes.ensures.signal;
