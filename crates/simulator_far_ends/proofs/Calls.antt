@@ -1,5 +1,5 @@
 -- The calls of an interlocking's client as calls of the client's end of a link.
-use Rattle.std.proofs.Common.{◌≡◌, ◌≤◌, ◌+◌, ℕ, Bool, true, false, List, [], ◌∷◌, ◌++◌, length, map, if◌then◌else◌, arith, refl, ap, sym, ◌∙◌, subst}
+use Rattle.std.proofs.Common.{◌≡◌, ◌≤◌, ◌+◌, ℕ, Bool, true, false, List, [], ◌∷◌, ◌++◌, length, if◌then◌else◌, arith, refl, ap, sym, ◌∙◌, subst}
 use Rattle.std.specs.Int.{w16, to_le_bytes}
 use Rattle.std.specs.Prelude.{◌||◌, is_ok}
 use Rattle.std.proofs.lemmas.List.{length-append}
@@ -15,7 +15,6 @@ use Rattle.rasta_pdu.specs.Items.{IsItem}
 use Rattle.rasta_core.specs.Calls.{answer_to_send, opens}
 use Rattle.rasta_core.specs.Each.{Each}
 use Rattle.rasta_core.specs.Ends as calls
-use Rattle.rasta_core.specs.Ends.{Call}
 use Rattle.rasta_core.specs.Events.{MayCall}
 use Rattle.rasta_core.specs.Names.{Names}
 use Rattle.rasta_core.specs.Run.{Ends}

@@ -1,5 +1,5 @@
 -- What is written to a peer with names is read as it was meant.
-use Rattle.std.proofs.Common.{◌≡◌, ◌<◌, ℕ, Ok}
+use Rattle.std.proofs.Common.{◌≡◌, ◌<◌, Ok}
 use Rattle.sci_telegram.specs.Reading.{reading}
 use Rattle.sci_telegram.specs.Telegrams.{IsMessage, IsTelegram, writing}
 use Rattle.sci_telegram.specs.declared.message.Initialisation.TheVariants.{InitialisationRequest, VersionCheck}
