@@ -3,5 +3,7 @@
 #![tactic(auto)]
 
 mod laws;
+mod reached;
 
 pub use laws::{every_event_keeps_the_picture, every_world_is_safe, lists_of_events_go_on};
+pub use reached::reached_worlds_are_safe;
