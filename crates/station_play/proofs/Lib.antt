@@ -1,0 +1,4 @@
+pub mod Answering
+pub mod Noted
+pub mod Rounds
+pub mod Transcripts
