@@ -1,5 +1,5 @@
 -- Numbers and bytes as words spell them.
-use Rattle.std.proofs.Common.{Bool, false, codes, if◌then◌else◌, ◌≡◌, ◌⊎◌, ℕ, ◌*◌, ◌^◌, ◌/◌, ◌<◌, ◌≤◌, true, List, [], ◌∷◌, length, get_or, Result, Ok, Err, refl, ap, ◌∙◌, arith, inl, inr}
+use Rattle.std.proofs.Common.{Bool, false, ◌&&◌, ◌==◌, nat_lt, nat_le, codes, if◌then◌else◌, ◌≡◌, ◌⊎◌, ℕ, ◌*◌, ◌^◌, ◌/◌, ◌<◌, ◌≤◌, true, List, [], ◌∷◌, length, get_or, Result, Ok, Err, refl, ap, ◌∙◌, arith, inl, inr}
 use Rattle.std.specs.Result.{OkIff, MatchResult}
 use Rattle.std.specs.Str.{all_ascii_digits, bytes_eq}
 use Rattle.std.specs.Str.Parse.{digits_value, ParsesUnsigned}
@@ -7,9 +7,10 @@ use Rattle.std.proofs.lemmas.Str.Parse.{IsNumeralModel, numerals_by_value, tells
 use Rattle.hex.specs.declared.error.FromHexError.{FromHexError}
 use Rattle.hex.specs.Hex.{decode_of, decode_sized, encode_lower, lower_digits, IsBytes}
 use Rattle.hex.proofs.HexLemmas.{decode_of-ok, decode_of-encode_lower, length-encode_with}
+use Rattle.std.proofs.lemmas.Bool.Decides.{nat_tests}
 use Rattle.std.proofs.lemmas.Slice.Eq.{bytes_eq-Decides}
 use Rattle.event_words.specs.declared.fault.Fault.TheVariants.{Number, Hexadecimal}
-use Rattle.event_words.specs.Read.{decimal, hexadecimal, hexadecimal_or_none, within_bounds}
+use Rattle.event_words.specs.Read.{decimal, hex_word, hexadecimal, hexadecimal_or_none, within_bounds}
 
 -- a word that begins with a plus is no number
 pub decimal-plus : (word : List ℕ) → get_or word 0 0 ≡ 43 → decimal word ≡ Err Number
@@ -64,3 +65,28 @@ hexadecimal_or_none-encode_lower bytes some few small =
 
     kept : within_bounds (Ok bytes) ≡ Ok bytes
     kept = grind arith
+
+-- the word for some bytes is their digits
+pub hex_word-some : (b : ℕ) (bytes : List ℕ) → hex_word (b ∷ bytes) ≡ encode_lower (b ∷ bytes)
+hex_word-some b bytes = by (length (b ∷ bytes) == 0) (grind (arith, nat_tests))
+  where
+    by : (v : Bool) → v ≡ false → (if v then codes "-" else encode_lower (b ∷ bytes)) ≡ encode_lower (b ∷ bytes)
+    by true e = cc
+    by false e = refl
+
+-- it is read back
+pub some_bytes_read : (bytes : List ℕ) → IsBytes bytes → 0 < length bytes → length bytes ≤ 512 → hexadecimal (hex_word bytes) ≡ Ok bytes
+some_bytes_read [] small some few = absurd (omega arith)
+some_bytes_read (b ∷ bytes) small some few =
+    ap hexadecimal (hex_word-some b bytes) ∙ ap within_bounds (decode_of-encode_lower (b ∷ bytes) small)
+    ∙ kept (nat_lt 0 (length (b ∷ bytes))) (nat_le (length (b ∷ bytes)) 512) (grind (arith, nat_tests)) (grind (arith, nat_tests))
+  where
+    kept : (v w : Bool) → v ≡ true → w ≡ true → (if v && w then Ok (b ∷ bytes) else Err Hexadecimal) ≡ Ok (b ∷ bytes)
+    kept true true e f = refl
+    kept true false e f = cc
+    kept false w e f = cc
+
+pub bytes_read : (bytes : List ℕ) → IsBytes bytes → length bytes ≤ 512 → hexadecimal_or_none (hex_word bytes) ≡ Ok bytes
+bytes_read [] small few = refl
+bytes_read (b ∷ bytes) small few =
+    ap hexadecimal_or_none (hex_word-some b bytes) ∙ hexadecimal_or_none-encode_lower (b ∷ bytes) (omega arith) few small

@@ -15,8 +15,9 @@ use Rattle.hex.specs.Hex.{encode_lower, encode_with, lower_digits}
 use Rattle.event_words.specs.declared.fault.Fault.{Fault}
 use Rattle.event_words.specs.declared.fault.Fault.TheVariants.{Words as Unknown}
 use Rattle.event_words.specs.Cut.{words, name_and_number}
-use Rattle.event_words.specs.Read.{decimal}
+use Rattle.event_words.specs.Read.{decimal, hex_word}
 use Rattle.event_words.specs.Words.{are_words, is_without}
+use Rattle.event_words.proofs.Spelled.{hex_word-some}
 
 -- both of two tests that pass together
 pub both : (a b : Bool) → (a && b) ≡ true → (a ≡ true) × (b ≡ true)
@@ -120,3 +121,7 @@ encode_lower-word (b ∷ rest) =
     two true w e f h = cc
     two false true e f h = cc
     two false false e f h = h
+
+pub bytes_word : (bytes : List ℕ) → is_without 32 (hex_word bytes) ≡ true
+bytes_word [] = refl
+bytes_word (b ∷ bytes) = ap (is_without 32) (hex_word-some b bytes) ∙ encode_lower-word (b ∷ bytes)

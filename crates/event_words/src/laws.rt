@@ -1,10 +1,11 @@
 //! What is written in a line is read again.
 
-ghost use Rattle.std.specs.Prelude.{◌≡◌, ◌^◌, ◌<◌, ◌∷◌, ◌++◌, ℕ, List, length, true, Ok};
+ghost use Rattle.std.specs.Prelude.{◌≡◌, ◌^◌, ◌<◌, ◌≤◌, ◌∷◌, ◌++◌, ℕ, List, length, true, Ok};
 ghost use Rattle.std.specs.Fmt.{decimal as written};
 ghost use Rattle.std.specs.List.{join_with_byte};
 ghost use Rattle.event_words.specs.Cut.{words, name_and_number};
-ghost use Rattle.event_words.specs.Read.{decimal};
+ghost use Rattle.event_words.specs.Read.{decimal, hex_word, hexadecimal, hexadecimal_or_none};
+ghost use Rattle.hex.specs.Hex.{IsBytes};
 ghost use Rattle.event_words.specs.Words.{are_words, is_without};
 
 /// Words without spaces are the words of the line that they make, parted by single spaces.
@@ -24,4 +25,12 @@ pub fn a_number_is_read_again()
 #[tactic(auto, using(crate::proofs::Written::sides_read))]
 pub fn a_name_and_its_number_are_parted_again()
     ensures { (name number : List ℕ) → is_without 61 name ≡ true → name_and_number (name ++ 61 ∷ number) ≡ Ok (name, number) }
+{}
+
+/// Bytes are read as they were written, in a word without spaces.
+#[tactic(auto, using(crate::proofs::Spelled::bytes_read, crate::proofs::Spelled::some_bytes_read, crate::proofs::Written::bytes_word))]
+pub fn bytes_are_read_again()
+    ensures any { (bytes : List ℕ) → IsBytes bytes → length bytes ≤ 512 → hexadecimal_or_none (hex_word bytes) ≡ Ok bytes }
+    ensures some { (bytes : List ℕ) → IsBytes bytes → 0 < length bytes → length bytes ≤ 512 → hexadecimal (hex_word bytes) ≡ Ok bytes }
+    ensures word { (bytes : List ℕ) → is_without 32 (hex_word bytes) ≡ true }
 {}

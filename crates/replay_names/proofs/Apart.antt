@@ -143,7 +143,7 @@ names_of plan once =
 some-same : {A : Type 0} (x y : A) → Some x ≡ Some y → x ≡ y
 some-same {A} x y e = let unwrap : Option A → A = λ o. elim o [ None ↦ x | Some z ↦ z ] in ap unwrap e
 
-get-contains : {A : Type 0} (xs : List A) (i : ℕ) (x : A) → slice_get xs i ≡ Some x → Contains xs x
+pub get-contains : {A : Type 0} (xs : List A) (i : ℕ) (x : A) → slice_get xs i ≡ Some x → Contains xs x
 get-contains [] i x e = absurd (cc)
 get-contains {A} (w ∷ xs) zero x e = let H : A → Type 0 = λ v. Contains (w ∷ xs) v in subst H (some-same w x e) (0, omega arith, refl)
 get-contains (w ∷ xs) (suc i) x e = contains-there w x xs (get-contains xs i x e)

@@ -5,7 +5,7 @@ mod laws;
 mod names;
 mod nodes;
 
-pub use laws::names_are_read_again;
+pub use laws::{names_are_read_again, names_are_words};
 pub use names::{
     name_word, point_named, point_word, route_named, route_word, section_named, section_word,
 };

@@ -1,0 +1,253 @@
+-- The words of each event say it again.
+use Rattle.std.proofs.Common.{◌≡◌, ◌≤◌, ◌<◌, ◌^◌, ◌∙◌, ℕ, zero, suc, nat_lt, nat_le, ◌&&◌, Bool, true, false, List, [], ◌∷◌, codes, length, Option, Some, None, slice_get, Result, Ok, Err, refl, sym, ap, subst, arith, option_map, if◌then◌else◌}
+use Rattle.std.proofs.lemmas.Bool.Decides.{nat_tests}
+use Rattle.std.proofs.lemmas.Bool.{true≢false}
+use Rattle.std.proofs.lemmas.Option.{slice_get_within}
+use Rattle.std.specs.Option.{option_map_or}
+use Rattle.std.specs.List.{join_with_byte}
+use Rattle.std.specs.Fmt.{decimal as written}
+use Rattle.hex.specs.Hex.{IsBytes}
+use Rattle.event_words.specs.declared.fault.Fault.{Fault}
+use Rattle.event_words.specs.declared.fault.Fault.TheVariants.{Number}
+use Rattle.event_words.specs.Fault.{both, ◌>>=◌}
+use Rattle.event_words.specs.Cut.{words}
+use Rattle.event_words.specs.Read.{decimal, hex_word, hexadecimal, hexadecimal_or_none}
+use Rattle.event_words.specs.Words.{are_words, is_without}
+use Rattle.layout.specs.declared.entries.Point.{Point}
+use Rattle.layout.specs.declared.ids.PointId.{PointId}
+use Rattle.layout.specs.declared.ids.RouteId.{RouteId}
+use Rattle.layout.specs.declared.ids.SectionId.{SectionId}
+use Rattle.layout.specs.Entries.{Plan, RouteEntry}
+use Rattle.ixl_rules.specs.declared.command.Command.TheVariants as command
+use Rattle.sci_telegram.specs.declared.message.Occupancy.TheVariants as occupancy
+use Rattle.sci_telegram.specs.declared.message.Position.{Position}
+use Rattle.sci_telegram.specs.declared.message.Position.TheVariants as position
+use Rattle.simulator_event.specs.declared.event.Event.{Event}
+use Rattle.simulator_event.specs.declared.event.Event.TheVariants.{Request, Occupy, Tick, Time, Deliver, Lose, Reach, Restart}
+use Rattle.simulator_event.specs.declared.event.NodeId.{NodeId}
+use Rattle.replay_names.specs.Names.{node_named, node_names, point_named, route_named, route_word, section_named}
+use Rattle.replay_lines.specs.Events.{event as said, number_up_to}
+use Rattle.replay_lines.specs.Written.{event_line, event_words, position_word}
+use Rattle.replay_round_trip.specs.ReadAgain.{IsOfValues, event_read, route_read}
+
+-- what the crates below say of names, numbers and bytes
+pub record Laws (plan : Plan) : Type 0 where
+  pub joined : (ws : List (List ℕ)) → 0 < length ws → are_words ws ≡ true → words (join_with_byte 32 ws) ≡ ws
+  pub number : (n : ℕ) → n < 2 ^ 64 → decimal (written n) ≡ Ok n
+  pub number_word : (n : ℕ) → n < 2 ^ 64 → is_without 32 (written n) ≡ true
+  pub bytes : (bytes : List ℕ) → IsBytes bytes → length bytes ≤ 512 → hexadecimal_or_none (hex_word bytes) ≡ Ok bytes
+  pub some_bytes : (bytes : List ℕ) → IsBytes bytes → 0 < length bytes → length bytes ≤ 512 → hexadecimal (hex_word bytes) ≡ Ok bytes
+  pub bytes_word : (bytes : List ℕ) → is_without 32 (hex_word bytes) ≡ true
+  pub nodes : (k : ℕ) (name : List ℕ) → slice_get (node_names plan) k ≡ Some name → node_named plan name ≡ Ok (record { 0 = k })
+  pub sections : (k : ℕ) (name : List ℕ) → slice_get plan.sections k ≡ Some name → section_named plan name ≡ Ok (record { 0 = k })
+  pub points : (k : ℕ) (point : Point) → slice_get plan.points k ≡ Some point → point_named plan point.name ≡ Ok (record { 0 = k })
+  pub routes : (k : ℕ) (route : RouteEntry) → slice_get plan.routes k ≡ Some route → route_named plan route.name ≡ record { 0 = k }
+  pub node_words : (k : ℕ) (name : List ℕ) → slice_get (node_names plan) k ≡ Some name → is_without 32 name ≡ true
+  pub section_words : (k : ℕ) (name : List ℕ) → slice_get plan.sections k ≡ Some name → is_without 32 name ≡ true
+  pub point_words : (k : ℕ) (point : Point) → slice_get plan.points k ≡ Some point → is_without 32 point.name ≡ true
+  pub route_words : (k : ℕ) (route : RouteEntry) → slice_get plan.routes k ≡ Some route → is_without 32 route.name ≡ true
+  pub unknown : route_named plan (codes "_") ≡ record { 0 = length plan.routes }
+
+-- ---- options and tests
+
+some_same : {A : Type 0} (x y : A) → Some x ≡ Some y → x ≡ y
+some_same {A} x y e = let unwrap : Option A → A = λ o. elim o [ None ↦ x | Some z ↦ z ] in ap unwrap e
+
+mapped : {A B : Type 0} (f : A → B) (o : Option A) (b : B) → option_map f o ≡ Some b → (a : A) × (o ≡ Some a) × (b ≡ f a)
+mapped f (Some a) b e = (a, refl, sym (some_same (f a) b e))
+mapped f None b e = absurd (cc)
+
+kept : {A : Type 0} (test : Bool) (o : Option A) (b : A) → (if test then o else None) ≡ Some b → (test ≡ true) × (o ≡ Some b)
+kept true o b e = (refl, e)
+kept false o b e = absurd (cc)
+
+within : (n most : ℕ) → nat_le n most ≡ true → n ≤ most
+within n most e = grind (arith, nat_tests)
+
+below : (n most : ℕ) → nat_lt n most ≡ true → n < most
+below n most e = grind (arith, nat_tests)
+
+two_tests : (a b : Bool) → (a && b) ≡ true → (a ≡ true) × (b ≡ true)
+two_tests true b e = (refl, e)
+two_tests false b e = absurd (cc)
+
+not_past : {A : Type 0} (xs : List A) (k : ℕ) → k < length xs → slice_get xs k ≡ None → ⊥
+not_past [] k h e = omega arith
+not_past (x ∷ xs) zero h e = cc
+not_past (x ∷ xs) (suc k) h e = not_past xs k (omega arith) e
+
+-- ---- words
+
+one_more : (w : List ℕ) (ws : List (List ℕ)) → is_without 32 w ≡ true → are_words ws ≡ true → are_words (w ∷ ws) ≡ true
+one_more w ws e f = ap (λ v. v && are_words ws) e ∙ f
+
+-- words say an event, and are words without spaces
+pub record Says (plan : Plan) (ws : List (List ℕ)) (event : Event) : Type 0 where
+  pub said_is : said plan ws ≡ Ok event
+  pub some : 0 < length ws
+  pub are : are_words ws ≡ true
+
+says-same : (plan : Plan) (ws vs : List (List ℕ)) (event : Event) → ws ≡ vs → Says plan vs event → Says plan ws event
+says-same plan ws vs event e says = subst (λ (list : List (List ℕ)). Says plan list event) (sym e) says
+
+module _ (plan : Plan) (laws : Laws plan) where
+  -- ---- commands
+
+  route-says : (route : RouteId) → (route_named plan (route_word plan route) ≡ route_read plan route) × (is_without 32 (route_word plan route) ≡ true)
+  route-says route = by (slice_get plan.routes route.0) refl (nat_lt route.0 (length plan.routes)) refl
+    where
+      by : (found : Option RouteEntry) → slice_get plan.routes route.0 ≡ found → (v : Bool) → nat_lt route.0 (length plan.routes) ≡ v
+          → (route_named plan (route_word plan route) ≡ (if v then route else record { 0 = length plan.routes })) × (is_without 32 (route_word plan route) ≡ true)
+      by (Some entry) e true h =
+          let word : route_word plan route ≡ entry.name = ap (λ f. option_map_or (λ r. r.name) f (codes "_")) e in
+          (ap (route_named plan) word ∙ laws.routes route.0 entry e, ap (is_without 32) word ∙ laws.route_words route.0 entry e)
+      by (Some entry) e false h =
+          let there = slice_get_within plan.routes route.0 entry e in
+          absurd (true≢false (sym (grind (arith, nat_tests, there)) ∙ h))
+      by None e false h =
+          let word : route_word plan route ≡ codes "_" = ap (λ f. option_map_or (λ r. r.name) f (codes "_")) e in
+          (ap (route_named plan) word ∙ laws.unknown, ap (is_without 32) word)
+      by None e true h = absurd (not_past plan.routes route.0 (below route.0 (length plan.routes) h) e)
+
+  set-says : (route : RouteId) → Says plan (codes "set" ∷ route_word plan route ∷ []) (Request (command.Request (route_read plan route)))
+  set-says route =
+      let says = route-says route in
+      record {
+        said_is = ap (λ (r : RouteId). Ok (Request (command.Request r))) says.0;
+        some = omega arith;
+        are = one_more (codes "set") (route_word plan route ∷ []) refl (one_more (route_word plan route) [] says.1 refl);
+      }
+
+  cancel-says : (route : RouteId) → Says plan (codes "cancel" ∷ route_word plan route ∷ []) (Request (command.Cancel (route_read plan route)))
+  cancel-says route =
+      let says = route-says route in
+      record {
+        said_is = ap (λ (r : RouteId). Ok (Request (command.Cancel r))) says.0;
+        some = omega arith;
+        are = one_more (codes "cancel") (route_word plan route ∷ []) refl (one_more (route_word plan route) [] says.1 refl);
+      }
+
+  -- ---- occupancies
+
+  occupy-says : (k : ℕ) (name : List ℕ) → slice_get plan.sections k ≡ Some name → Says plan (codes "occupy" ∷ name ∷ []) (Occupy (record { 0 = k }) occupancy.Occupied)
+  occupy-says k name e = record {
+    said_is = ap (λ (r : Result SectionId Fault). r >>= (λ of. Ok (Occupy of occupancy.Occupied))) (laws.sections k name e);
+    some = omega arith;
+    are = one_more (codes "occupy") (name ∷ []) refl (one_more name [] (laws.section_words k name e) refl);
+  }
+
+  clear-says : (k : ℕ) (name : List ℕ) → slice_get plan.sections k ≡ Some name → Says plan (codes "clear" ∷ name ∷ []) (Occupy (record { 0 = k }) occupancy.Clear)
+  clear-says k name e = record {
+    said_is = ap (λ (r : Result SectionId Fault). r >>= (λ of. Ok (Occupy of occupancy.Clear))) (laws.sections k name e);
+    some = omega arith;
+    are = one_more (codes "clear") (name ∷ []) refl (one_more name [] (laws.section_words k name e) refl);
+  }
+
+  -- ---- nodes
+
+  tick-says : (k : ℕ) (name : List ℕ) → slice_get (node_names plan) k ≡ Some name → Says plan (codes "tick" ∷ name ∷ []) (Tick (record { 0 = k }))
+  tick-says k name e = record {
+    said_is = ap (λ (r : Result NodeId Fault). r >>= (λ of. Ok (Tick of))) (laws.nodes k name e);
+    some = omega arith;
+    are = one_more (codes "tick") (name ∷ []) refl (one_more name [] (laws.node_words k name e) refl);
+  }
+
+  deliver-says : (k : ℕ) (name bytes : List ℕ) → slice_get (node_names plan) k ≡ Some name → IsBytes bytes → length bytes ≤ 512
+      → Says plan (codes "deliver" ∷ name ∷ hex_word bytes ∷ []) (Deliver (record { 0 = k }) bytes)
+  deliver-says k name bytes e are few = record {
+    said_is =
+        ap (λ (r : Result NodeId Fault). both r (hexadecimal_or_none (hex_word bytes)) >>= (λ of. Ok (Deliver of.0 of.1))) (laws.nodes k name e)
+        ∙ ap (λ (r : Result (List ℕ) Fault). both (Ok (record { 0 = k })) r >>= (λ (of : NodeId × List ℕ). Ok (Deliver of.0 of.1))) (laws.bytes bytes are few);
+    some = omega arith;
+    are = one_more (codes "deliver") (name ∷ hex_word bytes ∷ []) refl (one_more name (hex_word bytes ∷ []) (laws.node_words k name e) (one_more (hex_word bytes) [] (laws.bytes_word bytes) refl));
+  }
+
+  lose-says : (bytes : List ℕ) → IsBytes bytes → 0 < length bytes → length bytes ≤ 512 → Says plan (codes "lose" ∷ hex_word bytes ∷ []) (Lose bytes)
+  lose-says bytes are any few = record {
+    said_is = ap (λ (r : Result (List ℕ) Fault). r >>= (λ of. Ok (Lose of))) (laws.some_bytes bytes are any few);
+    some = omega arith;
+    are = one_more (codes "lose") (hex_word bytes ∷ []) refl (one_more (hex_word bytes) [] (laws.bytes_word bytes) refl);
+  }
+
+  reach-says : (k : ℕ) (point : Point) (lies : Position) → slice_get plan.points k ≡ Some point
+      → Says plan (codes "reach" ∷ point.name ∷ position_word lies ∷ []) (Reach (record { 0 = k }) lies)
+  reach-says k point lies e = record {
+    said_is = by lies;
+    some = omega arith;
+    are = one_more (codes "reach") (point.name ∷ position_word lies ∷ []) refl (one_more point.name (position_word lies ∷ []) (laws.point_words k point e) (one_more (position_word lies) [] (word lies) refl));
+  }
+    where
+      by : (p : Position) → said plan (codes "reach" ∷ point.name ∷ position_word p ∷ []) ≡ Ok (Reach (record { 0 = k }) p)
+      by position.Left = ap (λ (r : Result PointId Fault). r >>= (λ of. Ok (Reach of position.Left))) (laws.points k point e)
+      by position.Right = ap (λ (r : Result PointId Fault). r >>= (λ of. Ok (Reach of position.Right))) (laws.points k point e)
+      by position.NoEndPosition = ap (λ (r : Result PointId Fault). r >>= (λ of. Ok (Reach of position.NoEndPosition))) (laws.points k point e)
+
+      word : (p : Position) → is_without 32 (position_word p) ≡ true
+      word position.Left = refl
+      word position.Right = refl
+      word position.NoEndPosition = refl
+
+  up_to : (most n : ℕ) → n < 2 ^ 64 → n ≤ most → number_up_to most (written n) ≡ Ok n
+  up_to most n small few =
+      ap (λ (r : Result ℕ Fault). r >>= (λ (k : ℕ). if nat_le k most then Ok k else Err Number)) (laws.number n small)
+      ∙ fits (nat_le n most) (grind (arith, nat_tests, few))
+    where
+      fits : (v : Bool) → v ≡ true → (if v then Ok n else Err Number) ≡ Ok n
+      fits true h = refl
+      fits false h = cc
+
+  restart-says : (k : ℕ) (name : List ℕ) (clock number : ℕ) → slice_get (node_names plan) k ≡ Some name → clock ≤ 9000000000000 → number < 2 ^ 32
+      → Says plan (codes "restart" ∷ name ∷ written clock ∷ written number ∷ []) (Restart (record { 0 = k }) clock number)
+  restart-says k name clock number e early small =
+      let clock_small : clock < 2 ^ 64 = omega (arith, early) in
+      let number_small : number < 2 ^ 64 = omega (arith, small) in
+      record {
+        said_is =
+            ap (λ (r : Result NodeId Fault). both r (both (number_up_to 9000000000000 (written clock)) (number_up_to 4294967295 (written number))) >>= (λ of. Ok (Restart of.0 of.1.0 of.1.1))) (laws.nodes k name e)
+            ∙ ap (λ (r : Result ℕ Fault). both (Ok (record { 0 = k })) (both r (number_up_to 4294967295 (written number))) >>= (λ (of : NodeId × (ℕ × ℕ)). Ok (Restart of.0 of.1.0 of.1.1))) (up_to 9000000000000 clock clock_small early)
+            ∙ ap (λ (r : Result ℕ Fault). both (Ok (record { 0 = k })) (both (Ok clock) r) >>= (λ (of : NodeId × (ℕ × ℕ)). Ok (Restart of.0 of.1.0 of.1.1))) (up_to 4294967295 number number_small (omega (arith, small)));
+        some = omega arith;
+        are =
+            one_more (codes "restart") (name ∷ written clock ∷ written number ∷ []) refl
+            (one_more name (written clock ∷ written number ∷ []) (laws.node_words k name e)
+            (one_more (written clock) (written number ∷ []) (laws.number_word clock clock_small) (one_more (written number) [] (laws.number_word number number_small) refl)));
+      }
+
+  -- ---- all events
+
+  pub words-say : (event : Event) → IsOfValues event → (ws : List (List ℕ)) → event_words plan event ≡ Some ws → Says plan ws (event_read plan event)
+  words-say (Request (command.Request route)) values ws e = says-same plan ws _ _ (sym (some_same _ ws e)) (set-says route)
+  words-say (Request (command.Cancel route)) values ws e = says-same plan ws _ _ (sym (some_same _ ws e)) (cancel-says route)
+  words-say (Request command.Resume) values ws e =
+      says-same plan ws _ _ (sym (some_same _ ws e)) (record { said_is = refl; some = omega arith; are = refl })
+  words-say (Occupy section occupancy.Occupied) values ws e =
+      let found = mapped _ (slice_get plan.sections section.0) ws e in
+      says-same plan ws _ _ found.2 (occupy-says section.0 found.0 found.1)
+  words-say (Occupy section occupancy.Clear) values ws e =
+      let found = mapped _ (slice_get plan.sections section.0) ws e in
+      says-same plan ws _ _ found.2 (clear-says section.0 found.0 found.1)
+  words-say (Tick node) values ws e =
+      let found = mapped _ (slice_get (node_names plan) node.0) ws e in
+      says-same plan ws _ _ found.2 (tick-says node.0 found.0 found.1)
+  words-say (Time elapsed steps) values ws e = absurd values
+  words-say (Deliver node bytes) values ws e =
+      let passed = kept (nat_le (length bytes) 512) _ ws e in
+      let found = mapped _ (slice_get (node_names plan) node.0) ws passed.1 in
+      says-same plan ws _ _ found.2 (deliver-says node.0 found.0 bytes found.1 values (within (length bytes) 512 passed.0))
+  words-say (Lose bytes) values ws e =
+      let passed = kept (nat_lt 0 (length bytes) && nat_le (length bytes) 512) _ ws e in
+      let tests = two_tests (nat_lt 0 (length bytes)) (nat_le (length bytes) 512) passed.0 in
+      says-same plan ws _ _ (sym (some_same _ ws passed.1)) (lose-says bytes values (below 0 (length bytes) tests.0) (within (length bytes) 512 tests.1))
+  words-say (Reach point lies) values ws e =
+      let found = mapped _ (slice_get plan.points point.0) ws e in
+      says-same plan ws _ _ found.2 (reach-says point.0 found.0 lies found.1)
+  words-say (Restart node clock number) values ws e =
+      let passed = kept (nat_le clock 9000000000000) _ ws e in
+      let found = mapped _ (slice_get (node_names plan) node.0) ws passed.1 in
+      says-same plan ws _ _ found.2 (restart-says node.0 found.0 clock number found.1 (within clock 9000000000000 passed.0) values)
+
+  pub line-says : (event : Event) → IsOfValues event → (line : List ℕ) → event_line plan event ≡ Some line → said plan (words line) ≡ Ok (event_read plan event)
+  line-says event values line e =
+      let found = mapped (join_with_byte 32) (event_words plan event) line e in
+      let says = words-say event values found.0 found.1 in
+      ap (said plan) (ap words found.2 ∙ laws.joined found.0 says.some says.are) ∙ says.said_is

@@ -1,0 +1,30 @@
+-- The event as which the line of an event is read.
+use Rattle.std.specs.Prelude.{◌^◌, ◌<◌, nat_lt, if◌then◌else◌, length}
+use Rattle.hex.specs.Hex.{IsBytes}
+use Rattle.layout.specs.Entries.{Plan}
+use Rattle.layout.specs.declared.ids.RouteId.{RouteId}
+use Rattle.ixl_rules.specs.declared.command.Command.{Command}
+use Rattle.ixl_rules.specs.declared.command.Command.TheVariants as command
+use Rattle.simulator_event.specs.declared.event.Event.{Event}
+use Rattle.simulator_event.specs.declared.event.Event.TheVariants.{Request, Time, Deliver, Lose, Restart}
+
+-- all routes that the table lacks are one, that behind the last
+abbrev pub route_read : Plan → RouteId → RouteId
+route_read plan route = if nat_lt route.0 (length plan.routes) then route else record { 0 = length plan.routes }
+
+abbrev pub command_read : Plan → Command → Command
+command_read plan (command.Request route) = command.Request (route_read plan route)
+command_read plan (command.Cancel route) = command.Cancel (route_read plan route)
+command_read plan command.Resume = command.Resume
+
+abbrev pub event_read : Plan → Event → Event
+event_read plan (Request of) = Request (command_read plan of)
+event_read plan event = event
+
+-- The numbers of an event are those of its code: bytes, and a sequence number of 32 bits. It is no step of time.
+abbrev pub IsOfValues : Event → Type 0
+IsOfValues (Time elapsed steps) = ⊥
+IsOfValues (Deliver node bytes) = IsBytes bytes
+IsOfValues (Lose bytes) = IsBytes bytes
+IsOfValues (Restart node clock number) = number < 2 ^ 32
+IsOfValues event = Unit {0}
