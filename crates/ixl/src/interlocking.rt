@@ -114,10 +114,12 @@ impl Interlocking {
         step(&mut self.state, now, &self.key, &input, &mut self.outbox)
     }
 
-    /// The datagrams that the last step handed out and that weren't taken out since.
+    /// The datagrams that the last step handed out and that weren't taken out since. There are 5120 at most.
     pub fn outbox(&self) -> &Outbox
-        ensures { result.now ≡ self.now.outbox }
+        ensures outbox { result.now ≡ self.now.outbox }
+        ensures few { length self.now.outbox.datagrams ≤ 5120 }
     {
+        self.outbox.len();
         &self.outbox
     }
 
@@ -130,10 +132,11 @@ impl Interlocking {
         self.outbox.take_first()
     }
 
-    /// The control table, as the rules read it. A route is kept of each of its rows.
+    /// The control table, as the rules read it. A route is kept of each of its rows, and what is known of each signal.
     pub fn table(&self) -> &Table
         ensures planned { result.now ≡ self.now.state.planned }
         ensures each { length self.now.state.ixl.routes ≡ length self.now.state.planned.table.rows }
+        ensures lamps { length self.now.state.ixl.lamps ≡ length self.now.state.planned.plan.signals }
     {
         self.state.table()
     }

@@ -48,6 +48,7 @@ impl State {
         ensures few { length self.now.planned.table.rows ≤ 64 }
         ensures there { (number : ℕ) → number < length self.now.planned.table.rows → HasRoute self.now number }
         ensures detectors { length self.now.ixl.detectors ≡ length self.now.planned.table.detectors }
+        ensures lamps { length self.now.ixl.lamps ≡ length self.now.planned.plan.signals }
         ensures lengths { (length self.now.ixl.lamps ≤ 32) × (length self.now.ixl.switches ≤ 32) × (length self.now.ixl.detectors ≤ 16) }
         ensures within { (number : ℕ) → AtRoute self.now number (λ row route. (route.passage.sections ≡ length row.sections) × ((place : ℕ) → Has route.passage.seen place → place < length row.sections) × (IsTrue (is_set route.phase) → freed_sections route.phase < length row.sections)) }
     {
