@@ -1,16 +1,20 @@
 -- The words of each event say it again.
-use Rattle.std.proofs.Common.{◌≡◌, ◌≤◌, ◌<◌, ◌^◌, ◌∙◌, ℕ, zero, suc, nat_lt, nat_le, ◌&&◌, Bool, true, false, List, [], ◌∷◌, codes, length, Option, Some, None, slice_get, Result, Ok, Err, refl, sym, ap, subst, arith, option_map, if◌then◌else◌}
+use Rattle.std.proofs.Common.{◌≡◌, ◌≤◌, ◌<◌, ◌^◌, ◌∙◌, ℕ, zero, suc, ◌+◌, nat_lt, nat_le, ◌==◌, ◌&&◌, ◌||◌, not, Bool, true, false, List, [], ◌∷◌, ◌++◌, codes, length, replicate, slice_set, length-append, append_assoc, Option, Some, None, slice_get, Result, Ok, Err, refl, sym, ap, subst, arith, option_map, if◌then◌else◌}
 use Rattle.std.proofs.lemmas.Bool.Decides.{nat_tests}
-use Rattle.std.proofs.lemmas.Bool.{true≢false}
+use Rattle.std.proofs.lemmas.Bool.{eqb-true, true≢false}
+use Rattle.std.proofs.lemmas.List.{set_at}
+use Rattle.std.proofs.lemmas.List.Elements.{All-head, All-tail}
+use Rattle.std.proofs.lemmas.Slice.Eq.{bytes_eq-Decides}
 use Rattle.std.proofs.lemmas.Option.{slice_get_within}
 use Rattle.std.specs.Option.{option_map_or}
-use Rattle.std.specs.List.{join_with_byte}
+use Rattle.std.specs.List.{All, join_with_byte, list_any}
+use Rattle.std.specs.Str.{bytes_eq}
 use Rattle.std.specs.Fmt.{decimal as written}
 use Rattle.hex.specs.Hex.{IsBytes}
 use Rattle.event_words.specs.declared.fault.Fault.{Fault}
-use Rattle.event_words.specs.declared.fault.Fault.TheVariants.{Number}
+use Rattle.event_words.specs.declared.fault.Fault.TheVariants.{Name, Number}
 use Rattle.event_words.specs.Fault.{both, ◌>>=◌}
-use Rattle.event_words.specs.Cut.{words}
+use Rattle.event_words.specs.Cut.{name_and_number, words}
 use Rattle.event_words.specs.Read.{decimal, hex_word, hexadecimal, hexadecimal_or_none}
 use Rattle.event_words.specs.Words.{are_words, is_without}
 use Rattle.layout.specs.declared.entries.Point.{Point}
@@ -26,13 +30,14 @@ use Rattle.simulator_event.specs.declared.event.Event.{Event}
 use Rattle.simulator_event.specs.declared.event.Event.TheVariants.{Request, Occupy, Tick, Time, Deliver, Lose, Reach, Restart}
 use Rattle.simulator_event.specs.declared.event.NodeId.{NodeId}
 use Rattle.replay_names.specs.Names.{node_named, node_names, point_named, route_named, route_word, section_named}
-use Rattle.replay_lines.specs.Events.{event as said, number_up_to}
-use Rattle.replay_lines.specs.Written.{event_line, event_words, position_word}
+use Rattle.replay_lines.specs.Events.{are_formed, event as said, has_name, is_for, name_nodes, number_up_to, steps_set}
+use Rattle.replay_lines.specs.Written.{clock_words, event_line, event_words, position_word}
 use Rattle.replay_round_trip.specs.ReadAgain.{IsOfValues, event_read, route_read}
 
 -- what the crates below say of names, numbers and bytes
 pub record Laws (plan : Plan) : Type 0 where
   pub joined : (ws : List (List ℕ)) → 0 < length ws → are_words ws ≡ true → words (join_with_byte 32 ws) ≡ ws
+  pub parted : (name number : List ℕ) → is_without 61 name ≡ true → name_and_number (name ++ 61 ∷ number) ≡ Ok (name, number)
   pub number : (n : ℕ) → n < 2 ^ 64 → decimal (written n) ≡ Ok n
   pub number_word : (n : ℕ) → n < 2 ^ 64 → is_without 32 (written n) ≡ true
   pub bytes : (bytes : List ℕ) → IsBytes bytes → length bytes ≤ 512 → hexadecimal_or_none (hex_word bytes) ≡ Ok bytes
@@ -43,6 +48,7 @@ pub record Laws (plan : Plan) : Type 0 where
   pub points : (k : ℕ) (point : Point) → slice_get plan.points k ≡ Some point → point_named plan point.name ≡ Ok (record { 0 = k })
   pub routes : (k : ℕ) (route : RouteEntry) → slice_get plan.routes k ≡ Some route → route_named plan route.name ≡ record { 0 = k }
   pub node_words : (k : ℕ) (name : List ℕ) → slice_get (node_names plan) k ≡ Some name → is_without 32 name ≡ true
+  pub node_equals : (k : ℕ) (name : List ℕ) → slice_get (node_names plan) k ≡ Some name → is_without 61 name ≡ true
   pub section_words : (k : ℕ) (name : List ℕ) → slice_get plan.sections k ≡ Some name → is_without 32 name ≡ true
   pub point_words : (k : ℕ) (point : Point) → slice_get plan.points k ≡ Some point → is_without 32 point.name ≡ true
   pub route_words : (k : ℕ) (route : RouteEntry) → slice_get plan.routes k ≡ Some route → is_without 32 route.name ≡ true
@@ -213,6 +219,135 @@ module _ (plan : Plan) (laws : Laws plan) where
             (one_more (written clock) (written number ∷ []) (laws.number_word clock clock_small) (one_more (written number) [] (laws.number_word number number_small) refl)));
       }
 
+  -- ---- time
+
+  -- two nodes have different names
+  unlike : (p q : ℕ) (name other : List ℕ) → slice_get (node_names plan) p ≡ Some name → slice_get (node_names plan) q ≡ Some other → p < q → bytes_eq other name ≡ false
+  unlike p q name other at there less = by (bytes_eq other name) refl
+    where
+      by : (v : Bool) → bytes_eq other name ≡ v → v ≡ false
+      by true e =
+          let same : other ≡ name = (bytes_eq-Decides other name).0 e in
+          let place : Result NodeId Fault → ℕ = λ r. elim r [ Ok node ↦ node.0 | Err fault ↦ p ] in
+          let places : p ≡ q = ap place (sym (laws.nodes p name at) ∙ ap (node_named plan) (sym same) ∙ laws.nodes q other there) in
+          absurd (omega (arith, places, less))
+      by false e = refl
+
+  -- names are those of the nodes from a place on
+  abbrev Follow : ℕ → List (List ℕ) → Type 0
+  Follow place names = (k : ℕ) → slice_get (node_names plan) (place + k) ≡ slice_get names k
+
+  first : (place : ℕ) (name : List ℕ) (names : List (List ℕ)) → Follow place (name ∷ names) → slice_get (node_names plan) place ≡ Some name
+  first place name names same = ap (slice_get (node_names plan)) (omega arith) ∙ same 0
+
+  later : (place : ℕ) (name : List ℕ) (names : List (List ℕ)) → Follow place (name ∷ names) → Follow (suc place) names
+  later place name names same k = ap (slice_get (node_names plan)) (omega arith) ∙ same (suc k)
+
+  -- no word behind that of a node names it
+  none_has : (p : ℕ) (name : List ℕ) → slice_get (node_names plan) p ≡ Some name → (elapsed q : ℕ) (names : List (List ℕ)) (steps : List ℕ) → p < q → Follow q names
+      → list_any (has_name name) (clock_words elapsed names steps) ≡ false
+  none_has p name at elapsed q [] [] less same = refl
+  none_has p name at elapsed q [] (step ∷ steps) less same = refl
+  none_has p name at elapsed q (other ∷ names) [] less same = refl
+  none_has p name at elapsed q (other ∷ names) (step ∷ steps) less same = one (step == elapsed) (none_has p name at elapsed (suc q) names steps (omega (arith, less)) (later q other names same))
+    where
+      one : (v : Bool) → list_any (has_name name) (clock_words elapsed names steps) ≡ false → list_any (has_name name) (if v then clock_words elapsed names steps else (other ++ 61 ∷ written step) ∷ clock_words elapsed names steps) ≡ false
+      one true rest = rest
+      one false rest =
+          ap (λ (r : Result (List ℕ × List ℕ) Fault). is_for name r || list_any (has_name name) (clock_words elapsed names steps)) (laws.parted other (written step) (laws.node_equals q other (first q other names same)))
+          ∙ ap (λ (v : Bool). v || list_any (has_name name) (clock_words elapsed names steps)) (unlike p q name other at (first q other names same) less)
+          ∙ rest
+
+  formed : (elapsed place : ℕ) (names : List (List ℕ)) (steps : List ℕ) → Follow place names → are_formed (clock_words elapsed names steps) ≡ Ok tt
+  formed elapsed place [] [] same = refl
+  formed elapsed place [] (step ∷ steps) same = refl
+  formed elapsed place (name ∷ names) [] same = refl
+  formed elapsed place (name ∷ names) (step ∷ steps) same = one (step == elapsed) (formed elapsed (suc place) names steps (later place name names same))
+    where
+      one : (v : Bool) → are_formed (clock_words elapsed names steps) ≡ Ok tt → are_formed (if v then clock_words elapsed names steps else (name ++ 61 ∷ written step) ∷ clock_words elapsed names steps) ≡ Ok tt
+      one true rest = rest
+      one false rest =
+          ap (λ (r : Result (List ℕ × List ℕ) Fault). r >>= (λ sides. are_formed (clock_words elapsed names steps))) (laws.parted name (written step) (laws.node_equals place name (first place name names same)))
+          ∙ rest
+
+  nodes_named : (elapsed place : ℕ) (names : List (List ℕ)) (steps : List ℕ) → Follow place names → name_nodes plan (clock_words elapsed names steps) ≡ Ok tt
+  nodes_named elapsed place [] [] same = refl
+  nodes_named elapsed place [] (step ∷ steps) same = refl
+  nodes_named elapsed place (name ∷ names) [] same = refl
+  nodes_named elapsed place (name ∷ names) (step ∷ steps) same = one (step == elapsed) (nodes_named elapsed (suc place) names steps (later place name names same))
+    where
+      there : slice_get (node_names plan) place ≡ Some name
+      there = first place name names same
+
+      one : (v : Bool) → name_nodes plan (clock_words elapsed names steps) ≡ Ok tt → name_nodes plan (if v then clock_words elapsed names steps else (name ++ 61 ∷ written step) ∷ clock_words elapsed names steps) ≡ Ok tt
+      one true rest = rest
+      one false rest =
+          let more = clock_words elapsed names steps in
+          ap (λ (r : Result (List ℕ × List ℕ) Fault). r >>= (λ sides. node_named plan sides.0 >>= (λ node. if list_any (has_name sides.0) more then Err Name else name_nodes plan more))) (laws.parted name (written step) (laws.node_equals place name there))
+          ∙ ap (λ (r : Result NodeId Fault). r >>= (λ node. if list_any (has_name name) more then Err Name else name_nodes plan more)) (laws.nodes place name there)
+          ∙ ap (λ (v : Bool). if v then Err Name else name_nodes plan more) (none_has place name there elapsed (suc place) names steps (omega arith) (later place name names same))
+          ∙ rest
+
+  clocks_set : (elapsed place : ℕ) (names : List (List ℕ)) (done steps : List ℕ) → Follow place names → length steps ≡ length names → length done ≡ place → All (λ step. step < 2 ^ 64) steps
+      → steps_set plan (clock_words elapsed names steps) (done ++ replicate (length names) elapsed) ≡ Ok (done ++ steps)
+  clocks_set elapsed place [] done [] same counted at small = refl
+  clocks_set elapsed place [] done (step ∷ steps) same counted at small = absurd (omega (arith, counted))
+  clocks_set elapsed place (name ∷ names) done [] same counted at small = absurd (omega (arith, counted))
+  clocks_set elapsed place (name ∷ names) done (step ∷ steps) same counted at small =
+      one (step == elapsed) refl
+      (ap (steps_set plan (clock_words elapsed names steps)) (sym (append_assoc done (step ∷ []) (replicate (length names) elapsed)))
+      ∙ clocks_set elapsed (suc place) names (done ++ step ∷ []) steps (later place name names same) (omega (arith, counted)) (length-append done (step ∷ []) ∙ omega (arith, at)) (All-tail (λ (s : ℕ). s < 2 ^ 64) step steps small)
+      ∙ ap Ok (append_assoc done (step ∷ []) steps))
+    where
+      there : slice_get (node_names plan) place ≡ Some name
+      there = first place name names same
+
+      one : (v : Bool) → (step == elapsed) ≡ v → steps_set plan (clock_words elapsed names steps) (done ++ step ∷ replicate (length names) elapsed) ≡ Ok (done ++ step ∷ steps)
+          → steps_set plan (if v then clock_words elapsed names steps else (name ++ 61 ∷ written step) ∷ clock_words elapsed names steps) (done ++ elapsed ∷ replicate (length names) elapsed) ≡ Ok (done ++ step ∷ steps)
+      one true e rest =
+          ap (λ (n : ℕ). steps_set plan (clock_words elapsed names steps) (done ++ n ∷ replicate (length names) elapsed)) (sym (eqb-true step elapsed e)) ∙ rest
+      one false e rest =
+          let start = done ++ elapsed ∷ replicate (length names) elapsed in
+          ap (λ (r : Result (List ℕ × List ℕ) Fault). r >>= (λ sides. node_named plan sides.0 >>= (λ node. decimal sides.1 >>= (λ number. steps_set plan (clock_words elapsed names steps) (slice_set start node.0 number))))) (laws.parted name (written step) (laws.node_equals place name there))
+          ∙ ap (λ (r : Result NodeId Fault). r >>= (λ node. decimal (written step) >>= (λ number. steps_set plan (clock_words elapsed names steps) (slice_set start node.0 number)))) (laws.nodes place name there)
+          ∙ ap (λ (r : Result ℕ Fault). r >>= (λ number. steps_set plan (clock_words elapsed names steps) (slice_set start place number))) (laws.number step (All-head (λ (s : ℕ). s < 2 ^ 64) step steps small))
+          ∙ ap (steps_set plan (clock_words elapsed names steps)) (set_at done elapsed (replicate (length names) elapsed) step place at)
+          ∙ rest
+
+  without-append : (a b : List ℕ) → is_without 32 a ≡ true → is_without 32 b ≡ true → is_without 32 (a ++ b) ≡ true
+  without-append [] b e f = f
+  without-append (x ∷ a) b e f =
+      let parts = two_tests (not (x == 32)) (is_without 32 a) e in
+      ap (λ (v : Bool). v && is_without 32 (a ++ b)) parts.0 ∙ without-append a b parts.1 f
+
+  clocks_are_words : (elapsed place : ℕ) (names : List (List ℕ)) (steps : List ℕ) → Follow place names → All (λ step. step < 2 ^ 64) steps → are_words (clock_words elapsed names steps) ≡ true
+  clocks_are_words elapsed place [] [] same small = refl
+  clocks_are_words elapsed place [] (step ∷ steps) same small = refl
+  clocks_are_words elapsed place (name ∷ names) [] same small = refl
+  clocks_are_words elapsed place (name ∷ names) (step ∷ steps) same small = one (step == elapsed) (clocks_are_words elapsed (suc place) names steps (later place name names same) (All-tail (λ (s : ℕ). s < 2 ^ 64) step steps small))
+    where
+      one : (v : Bool) → are_words (clock_words elapsed names steps) ≡ true → are_words (if v then clock_words elapsed names steps else (name ++ 61 ∷ written step) ∷ clock_words elapsed names steps) ≡ true
+      one true rest = rest
+      one false rest =
+          one_more (name ++ 61 ∷ written step) (clock_words elapsed names steps)
+          (without-append name (61 ∷ written step) (laws.node_words place name (first place name names same)) (laws.number_word step (All-head (λ (s : ℕ). s < 2 ^ 64) step steps small)))
+          rest
+
+  time-says : (elapsed : ℕ) (steps : List ℕ) → elapsed < 2 ^ 64 → All (λ step. step < 2 ^ 64) steps → length steps ≡ length (node_names plan)
+      → Says plan (codes "time" ∷ written elapsed ∷ clock_words elapsed (node_names plan) steps) (Time elapsed steps)
+  time-says elapsed steps small all_small counted =
+      let names = node_names plan in
+      let same : Follow 0 names = λ k. ap (slice_get names) (omega arith) in
+      record {
+        said_is =
+            ap (λ (r : Result (Unit {0}) Fault). r >>= (λ _. name_nodes plan (clock_words elapsed names steps) >>= (λ _. decimal (written elapsed) >>= (λ d. steps_set plan (clock_words elapsed names steps) (replicate (length names) d) >>= (λ set. Ok (Time d set)))))) (formed elapsed 0 names steps same)
+            ∙ ap (λ (r : Result (Unit {0}) Fault). r >>= (λ _. decimal (written elapsed) >>= (λ d. steps_set plan (clock_words elapsed names steps) (replicate (length names) d) >>= (λ set. Ok (Time d set))))) (nodes_named elapsed 0 names steps same)
+            ∙ ap (λ (r : Result ℕ Fault). r >>= (λ d. steps_set plan (clock_words elapsed names steps) (replicate (length names) d) >>= (λ set. Ok (Time d set)))) (laws.number elapsed small)
+            ∙ ap (λ (r : Result (List ℕ) Fault). r >>= (λ set. Ok (Time elapsed set))) (clocks_set elapsed 0 names [] steps same counted refl all_small);
+        some = omega arith;
+        are = one_more (codes "time") (written elapsed ∷ clock_words elapsed names steps) refl (one_more (written elapsed) (clock_words elapsed names steps) (laws.number_word elapsed small) (clocks_are_words elapsed 0 names steps same all_small));
+      }
+
   -- ---- all events
 
   pub words-say : (event : Event) → IsOfValues event → (ws : List (List ℕ)) → event_words plan event ≡ Some ws → Says plan ws (event_read plan event)
@@ -229,7 +364,9 @@ module _ (plan : Plan) (laws : Laws plan) where
   words-say (Tick node) values ws e =
       let found = mapped _ (slice_get (node_names plan) node.0) ws e in
       says-same plan ws _ _ found.2 (tick-says node.0 found.0 found.1)
-  words-say (Time elapsed steps) values ws e = absurd values
+  words-say (Time elapsed steps) values ws e =
+      let passed = kept (length steps == length (node_names plan)) _ ws e in
+      says-same plan ws _ _ (sym (some_same _ ws passed.1)) (time-says elapsed steps values.0 values.1 (eqb-true (length steps) (length (node_names plan)) passed.0))
   words-say (Deliver node bytes) values ws e =
       let passed = kept (nat_le (length bytes) 512) _ ws e in
       let found = mapped _ (slice_get (node_names plan) node.0) ws passed.1 in

@@ -1,5 +1,6 @@
 -- The event as which the line of an event is read.
 use Rattle.std.specs.Prelude.{◌^◌, ◌<◌, nat_lt, if◌then◌else◌, length}
+use Rattle.std.specs.List.{All}
 use Rattle.hex.specs.Hex.{IsBytes}
 use Rattle.layout.specs.Entries.{Plan}
 use Rattle.layout.specs.declared.ids.RouteId.{RouteId}
@@ -21,9 +22,9 @@ abbrev pub event_read : Plan → Event → Event
 event_read plan (Request of) = Request (command_read plan of)
 event_read plan event = event
 
--- The numbers of an event are those of its code: bytes, and a sequence number of 32 bits. It is no step of time.
+-- The numbers of an event are those of its code: bytes, a sequence number of 32 bits, and steps of time of 64.
 abbrev pub IsOfValues : Event → Type 0
-IsOfValues (Time elapsed steps) = ⊥
+IsOfValues (Time elapsed steps) = (elapsed < 2 ^ 64) × All (λ step. step < 2 ^ 64) steps
 IsOfValues (Deliver node bytes) = IsBytes bytes
 IsOfValues (Lose bytes) = IsBytes bytes
 IsOfValues (Restart node clock number) = number < 2 ^ 32
