@@ -1,0 +1,189 @@
+-- Doings one after another.
+use Rattle.std.proofs.Common.{◌≡◌, ℕ, ◌+◌, List, [], ◌∷◌, ◌++◌, length, map, drop, take, Option, Some, None, Result, Ok, Err, refl, sym, ap, ◌∙◌, subst, append_assoc, append-nil}
+use Rattle.std.proofs.Math.Seq.{take-append-add, take-length}
+use Rattle.std.proofs.KnownBytes.{Appends-nil, Appends-trans, Appends-kept}
+use Rattle.std.specs.Io.KnownBytes.{Appends, Keeps}
+use Rattle.layout.specs.Entries.{Plan}
+use Rattle.std.specs.Result.{OnErr}
+use Rattle.std.proofs.lemmas.List.{map-append}
+use Rattle.simulator_event.specs.declared.event.Event.{Event}
+use Rattle.simulator_event.specs.declared.event.NodeId.{NodeId}
+use Rattle.simulator_event.specs.declared.refused.Refused.{Refused}
+use Rattle.simulator_event.specs.declared.refused.Refused.TheVariants.{NoSuchNode, NeverSent, Drift, NotDriven, ClockLimit, OutOfMemory}
+use Rattle.simulator_event.specs.declared.reply.Reply.{Reply}
+use Rattle.simulator_event.specs.declared.reply.Answer.{Answer}
+use Rattle.replay_answer.specs.Answers.{answer_text, recorded}
+use Rattle.replay_lines.specs.Written.{event_line}
+use Rattle.station_drive.specs.Told.{Asks, Call, Grows, Heard, Sends}
+use Rattle.station_drive.specs.Doings.{added, recorded_line, Applies, Applying, Asking, Behaviour, Doing, Performs, Stops, after_doing, picture_after, calls_of, calls_of_doing, text_of, line_of_doing}
+
+-- ---- what is told grows
+
+pub Grows-nil : {A : Type 0} (told : Option (List A)) → Grows told told []
+Grows-nil None = tt
+Grows-nil (Some xs) = sym (append-nil xs)
+
+pub Grows-trans : {A : Type 0} (a b c : Option (List A)) (xs ys : List A) → Grows a b xs → Grows b c ys → Grows a c (xs ++ ys)
+Grows-trans a b None xs ys p q = tt
+Grows-trans a None (Some z) xs ys p q = absurd q
+Grows-trans None (Some y) (Some z) xs ys p q = absurd p
+Grows-trans (Some x) (Some y) (Some z) xs ys p q = q ∙ ap (λ l. l ++ ys) p ∙ append_assoc x xs ys
+
+-- ---- doings behind others
+
+module _ {Picture : Type 0} (does : Behaviour Picture) where
+  pub picture_after-append : (p : Picture) (xs ys : List Doing) → picture_after does p (xs ++ ys) ≡ picture_after does (picture_after does p xs) ys
+  picture_after-append p [] ys = refl
+  picture_after-append p (x ∷ xs) ys = picture_after-append (after_doing does p x) xs ys
+
+  pub calls_of-append : (p : Picture) (xs ys : List Doing) → calls_of does p (xs ++ ys) ≡ calls_of does p xs ++ calls_of does (picture_after does p xs) ys
+  calls_of-append p [] ys = refl
+  calls_of-append p (x ∷ xs) ys =
+      ap (λ l. calls_of_doing does p x ++ l) (calls_of-append (after_doing does p x) xs ys)
+      ∙ sym (append_assoc (calls_of_doing does p x) (calls_of does (after_doing does p x) xs) _)
+
+  pub text_of-append : (plan : Plan) (p : Picture) (xs ys : List Doing) → text_of does plan p (xs ++ ys) ≡ text_of does plan p xs ++ text_of does plan (picture_after does p xs) ys
+  text_of-append plan p [] ys = refl
+  text_of-append plan p (x ∷ xs) ys =
+      ap (λ l. line_of_doing does plan p x ++ l) (text_of-append plan (after_doing does p x) xs ys)
+      ∙ sym (append_assoc (line_of_doing does plan p x) (text_of does plan (after_doing does p x) xs) _)
+
+  -- the same of the pictures that were reached
+  calls_joined : (a b : Picture) (xs ys : List Doing) → b ≡ picture_after does a xs → calls_of does a xs ++ calls_of does b ys ≡ calls_of does a (xs ++ ys)
+  calls_joined a b xs ys h = ap (λ p. calls_of does a xs ++ calls_of does p ys) h ∙ sym (calls_of-append a xs ys)
+
+  text_joined : (plan : Plan) (a b : Picture) (xs ys : List Doing) → b ≡ picture_after does a xs → text_of does plan a xs ++ text_of does plan b ys ≡ text_of does plan a (xs ++ ys)
+  text_joined plan a b xs ys h = ap (λ p. text_of does plan a xs ++ text_of does plan p ys) h ∙ sym (text_of-append plan a xs ys)
+
+-- ---- what was done, one behind another
+
+module _ {Picture : Type 0} {does : Behaviour Picture} {plan : Plan} where
+  pub performs_none : (a : Picture) (ca : Option (List Call)) (ta : Option (List ℕ)) → Performs does plan [] a a ca ca ta ta
+  performs_none a ca ta = record { picture_is = refl; called = Grows-nil ca; written = Appends-nil ta }
+
+  pub performs_then : {xs ys : List Doing} {a b c : Picture} {ca cb cc : Option (List Call)} {ta tb tc : Option (List ℕ)}
+      → Performs does plan xs a b ca cb ta tb → Performs does plan ys b c cb cc tb tc → Performs does plan (xs ++ ys) a c ca cc ta tc
+  performs_then {xs} {ys} {a} {b} {c} {ca} {cb} {cc} {ta} {tb} {tc} first second = record {
+    picture_is = second.picture_is ∙ (ap (λ p. picture_after does p ys) first.picture_is ∙ sym (picture_after-append does a xs ys));
+    called = subst (Grows ca cc) (calls_joined does a b xs ys first.picture_is) (Grows-trans ca cb cc _ _ first.called second.called);
+    written = subst (Appends ta tc) (text_joined does plan a b xs ys first.picture_is) (Appends-trans ta tb tc _ _ first.written second.written);
+  }
+
+  pub stops_then : {xs : List Doing} {a b c : Picture} {ca cb cc : Option (List Call)} {ta tb tc : Option (List ℕ)}
+      → Performs does plan xs a b ca cb ta tb → Stops does plan b c cb cc tb tc → Stops does plan a c ca cc ta tc
+  stops_then {xs} {a} {b} {c} {ca} {cb} {cc} {ta} {tb} {tc} first second =
+      let before : List ℕ = text_of does plan a xs in
+      let behind : List ℕ = text_of does plan b second.doings in
+      record {
+        doings = xs ++ second.doings;
+        picture_is = second.picture_is ∙ (ap (λ p. picture_after does p second.doings) first.picture_is ∙ sym (picture_after-append does a xs second.doings));
+        called = subst (Grows ca cc) (calls_joined does a b xs second.doings first.picture_is) (Grows-trans ca cb cc _ _ first.called second.called);
+        taken = length before + second.taken;
+        written = subst (Appends ta tc)
+          (sym (take-append-add before behind second.taken) ∙ ap (take (length before + second.taken)) (text_joined does plan a b xs second.doings first.picture_is))
+          (Appends-trans ta tb tc _ _ first.written second.written);
+      }
+
+  pub stops_now : {xs : List Doing} {a b : Picture} {ca cb : Option (List Call)} {ta tb : Option (List ℕ)} → Performs does plan xs a b ca cb ta tb → Stops does plan a b ca cb ta tb
+  stops_now {xs} {a} {b} {ca} {cb} {ta} {tb} done = record {
+    doings = xs;
+    picture_is = done.picture_is;
+    called = done.called;
+    taken = length (text_of does plan a xs);
+    written = subst (Appends ta tb) (sym (take-length (text_of does plan a xs))) done.written;
+  }
+
+  -- nothing was done
+  pub stops_none : (a : Picture) (ca : Option (List Call)) (ta : Option (List ℕ)) → Stops does plan a a ca ca ta ta
+  stops_none a ca ta = stops_now (performs_none a ca ta)
+
+  -- what was written was handed on
+  pub performs_kept : {xs : List Doing} {a b : Picture} {ca cb : Option (List Call)} {ta tb tc : Option (List ℕ)} → Performs does plan xs a b ca cb ta tb → Keeps tb tc → Performs does plan xs a b ca cb ta tc
+  performs_kept {xs} {a} {b} {ca} {cb} {ta} {tb} {tc} done kept = record {
+    picture_is = done.picture_is;
+    called = done.called;
+    written = Appends-kept ta tb tc _ done.written kept;
+  }
+
+  -- the same where the layout of what comes behind is the same, seen from there
+  pub performs_next : {other : Plan} {xs ys : List Doing} {a b c : Picture} {ca cb cc : Option (List Call)} {ta tb tc : Option (List ℕ)}
+      → other ≡ plan → Performs does plan xs a b ca cb ta tb → Performs does other ys b c cb cc tb tc → Performs does plan (xs ++ ys) a c ca cc ta tc
+  performs_next {other} {xs} {ys} {a} {b} {c} {ca} {cb} {cc} {ta} {tb} {tc} e first second =
+      performs_then first (subst (λ (p : Plan). Performs does p ys b c cb cc tb tc) e second)
+
+  pub stops_next : {other : Plan} {xs : List Doing} {a b c : Picture} {ca cb cc : Option (List Call)} {ta tb tc : Option (List ℕ)}
+      → other ≡ plan → Performs does plan xs a b ca cb ta tb → Stops does other b c cb cc tb tc → Stops does plan a c ca cc ta tc
+  stops_next {other} {xs} {a} {b} {c} {ca} {cb} {cc} {ta} {tb} {tc} e first second =
+      stops_then first (subst (λ (p : Plan). Stops does p b c cb cc tb tc) e second)
+
+  -- one more event was applied
+  pub performs_push : {other : Plan} {event : Event} {a b c : Picture} {ca cb cc : Option (List Call)} {ta tb tc : Option (List ℕ)}
+      → (events : List Event) → other ≡ plan → Performs does plan (map Applying events) a b ca cb ta tb → Performs does other (Applying event ∷ []) b c cb cc tb tc
+      → Performs does plan (map Applying (events ++ event ∷ [])) a c ca cc ta tc
+  performs_push {other} {event} {a} {b} {c} {ca} {cb} {cc} {ta} {tb} {tc} events e first second =
+      subst (λ (l : List Doing). Performs does plan l a c ca cc ta tc) (sym (map-append Applying events (event ∷ []))) (performs_next e first second)
+
+  pub performs_same : {xs ys : List Doing} {a b : Picture} {ca cb : Option (List Call)} {ta tb : Option (List ℕ)} → xs ≡ ys → Performs does plan xs a b ca cb ta tb → Performs does plan ys a b ca cb ta tb
+  performs_same {xs} {ys} {a} {b} {ca} {cb} {ta} {tb} e done = subst (λ (l : List Doing). Performs does plan l a b ca cb ta tb) e done
+
+  -- a node asked
+  pub performs_asking : {node : NodeId} {heard : Heard} (a : Picture) {ca cb : Option (List Call)} (ta : Option (List ℕ)) → Grows ca cb (Asks node heard ∷ []) → Performs does plan (Asking node heard ∷ []) a a ca cb ta ta
+  performs_asking a ta told = record { picture_is = refl; called = told; written = Appends-nil ta }
+
+  -- what was given up stays so, whatever fault is told
+  pub stopped : {T E : Type 0} {a b : Picture} {ca cb : Option (List Call)} {ta tb : Option (List ℕ)} (result : Result T E) → Stops does plan a b ca cb ta tb → OnErr result (Stops does plan a b ca cb ta tb)
+  stopped (Ok value) h = tt
+  stopped (Err fault) h = h
+
+-- ---- an event
+
+-- where memory was lacking nothing happened
+pub unchanged : {Picture : Type 0} (does : Behaviour Picture) (event : Event) (old : Picture) (reply : Result Reply Refused) (new : Picture)
+    → recorded reply ≡ Err OutOfMemory → Applies does event old reply new → new ≡ old
+unchanged does event old (Ok reply) new e h = absurd (let f : ⊥ = cc in f)
+unchanged does event old (Err OutOfMemory) new e h = h
+unchanged does event old (Err NoSuchNode) new e h = absurd (let f : ⊥ = cc in f)
+unchanged does event old (Err NeverSent) new e h = absurd (let f : ⊥ = cc in f)
+unchanged does event old (Err Drift) new e h = absurd (let f : ⊥ = cc in f)
+unchanged does event old (Err NotDriven) new e h = absurd (let f : ⊥ = cc in f)
+unchanged does event old (Err ClockLimit) new e h = absurd (let f : ⊥ = cc in f)
+
+-- otherwise it was answered and happened
+pub happened : {Picture : Type 0} (does : Behaviour Picture) (event : Event) (old : Picture) (reply : Result Reply Refused) (new : Picture)
+    → (recorded reply ≡ Err OutOfMemory → ⊥) → Applies does event old reply new → (recorded reply ≡ does.answer old event) × (new ≡ does.after old event)
+happened does event old (Ok reply) new e h = h
+happened does event old (Err OutOfMemory) new e h = absurd (e refl)
+happened does event old (Err NoSuchNode) new e h = h
+happened does event old (Err NeverSent) new e h = h
+happened does event old (Err Drift) new e h = h
+happened does event old (Err NotDriven) new e h = h
+happened does event old (Err ClockLimit) new e h = h
+
+-- one more datagram was sent
+pub sent_more : (a b c : Option (List Call)) (done : List (NodeId × List ℕ)) (one : NodeId × List ℕ)
+    → Grows a b (map (λ o. Sends o.0 o.1) done) → Grows b c (Sends one.0 one.1 ∷ []) → Grows a c (map (λ o. Sends o.0 o.1) (done ++ one ∷ []))
+sent_more a b c done one first second =
+    let send : NodeId × List ℕ → Call = λ o. Sends o.0 o.1 in
+    subst (Grows a c) (sym (map-append send done (one ∷ []))) (Grows-trans a b c (map send done) (send one ∷ []) first second)
+
+-- the datagrams that an event added were sent
+pub event_called : {Picture : Type 0} (does : Behaviour Picture) (event : Event) (old new : Picture) (count : ℕ) (a b : Option (List Call))
+    → new ≡ does.after old event → count ≡ length (does.sent old)
+    → Grows a b (map (λ o. Sends o.0 o.1) (drop count (does.sent new))) → Grows a b (calls_of does old (Applying event ∷ []))
+event_called does event old new count a b is counted h =
+    let send : NodeId × List ℕ → Call = λ o. Sends o.0 o.1 in
+    subst (Grows a b)
+    (ap (λ p. map send (drop count (does.sent p))) is
+    ∙ (ap (λ n. map send (drop n (does.sent (does.after old event)))) counted
+    ∙ sym (append-nil (map send (added does old event)))))
+    h
+
+-- the line of an event with its answer
+pub event_text : {Picture : Type 0} (does : Behaviour Picture) (plan : Plan) (event : Event) (old : Picture) (line : Option (List ℕ)) (table : Plan) (answer : Result Answer Refused)
+    → line ≡ event_line plan event → table ≡ plan → answer ≡ does.answer old event
+    → recorded_line line (answer_text table answer) ≡ text_of does plan old (Applying event ∷ [])
+event_text does plan event old line table answer is same answered =
+    ap (λ l. recorded_line l (answer_text table answer)) is
+    ∙ (ap (λ p. recorded_line (event_line plan event) (answer_text p answer)) same
+    ∙ (ap (λ r. recorded_line (event_line plan event) (answer_text plan r)) answered
+    ∙ sym (append-nil (recorded_line (event_line plan event) (answer_text plan (does.answer old event))))))

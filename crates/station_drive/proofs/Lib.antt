@@ -1,0 +1,3 @@
+pub mod Composed
+pub mod Rows
+pub mod Turns

@@ -1,0 +1,15 @@
+use Rattle.std.proofs.Common.{◌≡◌, ◌++◌, List, map, drop}
+use Rattle.simulator_event.specs.declared.event.Event.{Event}
+use Rattle.station_drive.specs.Doings.{Applying, Performs}
+use Rattle.station_drive.specs.Rounds.{reaches}
+use Rattle.station_drive.proofs.events.reach_all.Given as goal
+
+-- the points so far reached their end positions
+abbrev pub invariant-loop-place : goal.invariant-loop-place
+invariant-loop-place g l =
+    let s = g.S.Station in
+    (done : List Event)
+    × (done ++ reaches l.reading l.place (drop l.place l.drives) ≡ reaches l.reading 0 l.drives)
+    × Performs s.does (s.plan l.fn.station) (map Applying done) (s.picture l.fn.station) (s.picture l.station)
+      (g.N.Datagrams.calls l.fn.net) (g.N.Datagrams.calls l.net) (g.W.Write.contents l.fn.recorder) (g.W.Write.contents l.recorder)
+    × (s.plan l.station ≡ s.plan l.fn.station)

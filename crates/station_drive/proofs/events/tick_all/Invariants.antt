@@ -1,0 +1,12 @@
+use Rattle.std.proofs.Common.{◌≡◌, map}
+use Rattle.station_drive.specs.Doings.{Applying, Performs}
+use Rattle.station_drive.specs.Rounds.{ticks}
+use Rattle.station_drive.proofs.events.tick_all.Given as goal
+
+-- the nodes so far ticked
+abbrev pub invariant-loop-node : goal.invariant-loop-node
+invariant-loop-node g l =
+    let s = g.S.Station in
+    Performs s.does (s.plan l.fn.station) (map Applying (ticks l.node)) (s.picture l.fn.station) (s.picture l.station)
+      (g.N.Datagrams.calls l.fn.net) (g.N.Datagrams.calls l.net) (g.W.Write.contents l.fn.recorder) (g.W.Write.contents l.recorder)
+    × (s.plan l.station ≡ s.plan l.fn.station)

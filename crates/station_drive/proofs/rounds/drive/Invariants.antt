@@ -1,0 +1,24 @@
+use Rattle.std.proofs.Common.{◌≡◌, ◌<◌, ◌-◌, ◌/◌, ◌∷◌, List, length, map}
+use Rattle.std.specs.List.{AllByRecursion}
+use Rattle.station_drive.specs.Told.{Grows}
+use Rattle.station_drive.specs.Doings.{Performs}
+use Rattle.station_drive.specs.Drives.{IsWhole, beginning}
+use Rattle.station_drive.specs.Rounds.{Turn, rounds}
+use Rattle.station_drive.proofs.Turns.{standing_end}
+use Rattle.station_drive.proofs.rounds.drive.Given as goal
+
+-- the rounds so far, none of which was the last
+abbrev pub invariant-loop : goal.invariant-loop
+invariant-loop g l =
+    let s = g.S.Station in
+    let plan = s.plan l.fn.station in
+    (turns : List Turn)
+    × Grows (g.C.Clock.readings l.fn.clock) (g.C.Clock.readings l.clock) (l.first ∷ map (λ turn. turn.reading) turns)
+    × AllByRecursion (IsWhole plan) turns
+    × AllByRecursion (λ turn. (turn.reading - l.first) / 1000 < l.for_ms) turns
+    × Performs s.does plan (rounds s.does plan (s.picture l.fn.station) (beginning plan l.script l.first) turns) (s.picture l.fn.station) (s.picture l.station)
+      (g.N.Datagrams.calls l.fn.net) (g.N.Datagrams.calls l.net) (g.W.Write.contents l.fn.recorder) (g.W.Write.contents l.recorder)
+    × (l.course ≡ standing_end s.does plan (s.picture l.fn.station) (beginning plan l.script l.first) turns)
+    × (l.course.first ≡ l.first)
+    × (length l.course.drives ≡ length plan.points)
+    × (s.plan l.station ≡ plan)

@@ -1,0 +1,90 @@
+-- What a driven station does one after another, and what comes of it.
+use Rattle.std.specs.Prelude.{◌≡◌, ℕ, List, [], ◌∷◌, ◌++◌, length, map, drop, take, codes, Option, Some, None, Result, Err}
+use Rattle.std.specs.Io.KnownBytes.{Appends}
+use Rattle.layout.specs.Entries.{Plan}
+use Rattle.sci_telegram.specs.declared.message.Side.{Side}
+use Rattle.simulator_event.specs.declared.event.Event.{Event}
+use Rattle.simulator_event.specs.declared.event.NodeId.{NodeId}
+use Rattle.simulator_event.specs.declared.refused.Refused.{Refused}
+use Rattle.simulator_event.specs.declared.refused.Refused.TheVariants.{OutOfMemory}
+use Rattle.simulator_event.specs.declared.reply.Answer.{Answer}
+use Rattle.simulator_event.specs.declared.reply.Reply.{Reply}
+use Rattle.replay_lines.specs.Written.{event_line}
+use Rattle.replay_answer.specs.Answers.{answer_text, recorded}
+use Rattle.station_drive.specs.Told.{Call, Sends, Asks, Heard, Grows}
+
+-- how a station behaves to which events happen
+pub record Behaviour (Picture : Type 0) : Type 0 where
+  -- what it answers to an event, and how it is after that
+  pub answer : Picture → Event → Result Answer Refused
+  pub after : Picture → Event → Picture
+  -- every datagram that was sent so far, oldest first, with the node to which it goes
+  pub sent : Picture → List (NodeId × List ℕ)
+  -- the side to which a point is driven, by its place
+  pub driven : Picture → ℕ → Option Side
+
+-- A node is asked for, and hears something; or an event is applied.
+pub data Doing : Type 0 where
+  Asking : (node : NodeId) (heard : Heard) → Doing
+  Applying : (event : Event) → Doing
+
+-- ---- an event
+
+-- an event is answered and happens, or memory is lacking and nothing happens
+abbrev pub Applies : {Picture : Type 0} → Behaviour Picture → Event → Picture → Result Reply Refused → Picture → Type 0
+Applies does event old (Err OutOfMemory) new = new ≡ old
+Applies does event old reply new = (recorded reply ≡ does.answer old event) × (new ≡ does.after old event)
+
+-- the line of an event with its answer; an event without a line leaves none
+abbrev pub recorded_line : Option (List ℕ) → List ℕ → List ℕ
+recorded_line None answer = []
+recorded_line (Some line) answer = line ++ (codes " = " ++ (answer ++ codes "\n"))
+
+-- ---- what comes of doings
+
+module _ {Picture : Type 0} (does : Behaviour Picture) where
+  abbrev pub after_doing : Picture → Doing → Picture
+  after_doing picture (Asking node heard) = picture
+  after_doing picture (Applying event) = does.after picture event
+
+  -- the station after doings
+  abbrev pub picture_after : Picture → List Doing → Picture
+  picture_after picture [] = picture
+  picture_after picture (doing ∷ doings) = picture_after (after_doing picture doing) doings
+
+  -- the datagrams that an event adds
+  abbrev pub added : Picture → Event → List (NodeId × List ℕ)
+  added picture event = drop (length (does.sent picture)) (does.sent (does.after picture event))
+
+  -- the calls of the network: each event sends the datagrams that it adds
+  abbrev pub calls_of_doing : Picture → Doing → List Call
+  calls_of_doing picture (Asking node heard) = Asks node heard ∷ []
+  calls_of_doing picture (Applying event) = map (λ one. Sends one.0 one.1) (added picture event)
+
+  abbrev pub calls_of : Picture → List Doing → List Call
+  calls_of picture [] = []
+  calls_of picture (doing ∷ doings) = calls_of_doing picture doing ++ calls_of (after_doing picture doing) doings
+
+  -- the record: each event that has a line, with its answer
+  abbrev pub line_of_doing : Plan → Picture → Doing → List ℕ
+  line_of_doing plan picture (Asking node heard) = []
+  line_of_doing plan picture (Applying event) = recorded_line (event_line plan event) (answer_text plan (does.answer picture event))
+
+  abbrev pub text_of : Plan → Picture → List Doing → List ℕ
+  text_of plan picture [] = []
+  text_of plan picture (doing ∷ doings) = line_of_doing plan picture doing ++ text_of plan (after_doing picture doing) doings
+
+  -- These were done: the station, and what the network and the record tell, are as they come of it.
+  pub record Performs (plan : Plan) (doings : List Doing) (old new : Picture) (calls_old calls_new : Option (List Call)) (text_old text_new : Option (List ℕ)) : Type 0 where
+    pub picture_is : new ≡ picture_after old doings
+    pub called : Grows calls_old calls_new (calls_of old doings)
+    pub written : Appends text_old text_new (text_of plan old doings)
+
+  -- Something was done before it was given up: the station is as it comes of that, and so are the calls; a beginning of
+  -- the record was written.
+  pub record Stops (plan : Plan) (old new : Picture) (calls_old calls_new : Option (List Call)) (text_old text_new : Option (List ℕ)) : Type 0 where
+    pub doings : List Doing
+    pub picture_is : new ≡ picture_after old doings
+    pub called : Grows calls_old calls_new (calls_of old doings)
+    pub taken : ℕ
+    pub written : Appends text_old text_new (take taken (text_of plan old doings))

@@ -1,0 +1,4 @@
+pub mod Told
+pub mod Doings
+pub mod Rounds
+pub mod Drives

@@ -1,0 +1,146 @@
+-- The rounds by which a station is driven: what they do, by what the clock and the network tell.
+use Rattle.std.specs.Prelude.{◌≡◌, ℕ, zero, suc, ◌+◌, ◌-◌, ◌/◌, nat_le, Bool, true, false, if◌then◌else◌, List, [], ◌∷◌, ◌++◌, length, map, replicate, Option, Some, None}
+use Rattle.layout.specs.Entries.{Plan}
+use Rattle.replay_names.specs.Names.{node_names}
+use Rattle.sci_telegram.specs.declared.message.Position.{Position}
+use Rattle.sci_telegram.specs.declared.message.Position.TheVariants as positions
+use Rattle.sci_telegram.specs.declared.message.Side.{Side}
+use Rattle.sci_telegram.specs.declared.message.Side.TheVariants as sides
+use Rattle.simulator_event.specs.declared.event.Event.{Event}
+use Rattle.simulator_event.specs.declared.event.Event.TheVariants.{Deliver, Reach, Tick, Time}
+use Rattle.simulator_event.specs.declared.event.NodeId.{NodeId}
+use Rattle.station_drive.specs.declared.course.Drive.{Drive}
+use Rattle.station_drive.specs.Told.{Heard, Datagram, Nothing, Failed}
+use Rattle.station_drive.specs.Doings.{Behaviour, Doing, Asking, Applying, picture_after}
+
+-- ---- what is told of a round
+
+-- no datagram was heard: there was none, or the call failed
+abbrev pub IsSilence : Heard → Type 0
+IsSilence (Datagram bytes) = ⊥
+IsSilence Nothing = Unit {0}
+IsSilence Failed = Unit {0}
+
+-- what a node hears until it hears no datagram
+pub record Hearing : Type 0 where
+  pub datagrams : List (List ℕ)
+  pub last : Heard
+  pub silent : IsSilence last
+
+-- the clock at a round, in microseconds, and what each node heard in it
+pub record Turn : Type 0 where
+  pub reading : ℕ
+  pub heard : List Hearing
+
+-- ---- how far a run has come
+
+pub record Standing : Type 0 where
+  -- the clock when it began, and at its last round
+  pub first : ℕ
+  pub reading : ℕ
+  -- the lines of the script that weren't applied
+  pub left : List (ℕ × Event)
+  -- of each point, to which side it was driven at the end of the last round, and the clock at the first of the rounds,
+  -- one behind another up to the last, at whose ends it was driven so
+  pub drives : List (Option Drive)
+
+-- ---- datagrams
+
+-- each datagram that a node hears is delivered to it
+abbrev pub comings : NodeId → List (List ℕ) → List Doing
+comings node [] = []
+comings node (bytes ∷ more) = Asking node (Datagram bytes) ∷ Applying (Deliver node bytes) ∷ comings node more
+
+abbrev pub hearing_of : NodeId → Hearing → List Doing
+hearing_of node hearing = comings node hearing.datagrams ++ Asking node hearing.last ∷ []
+
+-- the nodes from this one on hear, in their order
+abbrev pub hearings : ℕ → List Hearing → List Doing
+hearings node [] = []
+hearings node (hearing ∷ more) = hearing_of (record { 0 = node }) hearing ++ hearings (suc node) more
+
+-- ---- the script
+
+-- the lines in front whose milliseconds have passed, and those behind them
+abbrev pub due : ℕ → List (ℕ × Event) → List Event
+due passed [] = []
+due passed (line ∷ more) = if nat_le line.0 passed then line.1 ∷ due passed more else []
+
+abbrev pub not_due : ℕ → List (ℕ × Event) → List (ℕ × Event)
+not_due passed [] = []
+not_due passed (line ∷ more) = if nat_le line.0 passed then not_due passed more else line ∷ more
+
+-- ---- points
+
+abbrev pub end_position : Side → Position
+end_position sides.Right = positions.Right
+end_position sides.Left = positions.Left
+
+-- a point that was driven so for 500 ms reaches its end position
+abbrev pub reach : ℕ → ℕ → Option Drive → List Event
+reach reading place None = []
+reach reading place (Some drive) =
+    if nat_le 500000 (reading - drive.since) then Reach (record { 0 = place }) (end_position drive.side) ∷ [] else []
+
+-- the points from this place on
+abbrev pub reaches : ℕ → ℕ → List (Option Drive) → List Event
+reaches reading place [] = []
+reaches reading place (drive ∷ more) = reach reading place drive ++ reaches reading (suc place) more
+
+abbrev pub is_same : Side → Side → Bool
+is_same sides.Right sides.Right = true
+is_same sides.Left sides.Left = true
+is_same _ _ = false
+
+-- a drive at the end of a round with this clock, by the one at the end of the round before
+abbrev pub drive_after : ℕ → Option Side → Option Drive → Option Drive
+drive_after reading None before = None
+drive_after reading (Some side) None = Some (record { side = side; since = reading })
+drive_after reading (Some side) (Some before) = if is_same side before.side then Some before else Some (record { side = side; since = reading })
+
+abbrev pub drives_after : ℕ → (ℕ → Option Side) → ℕ → List (Option Drive) → List (Option Drive)
+drives_after reading driven place [] = []
+drives_after reading driven place (drive ∷ more) = drive_after reading (driven place) drive ∷ drives_after reading driven (suc place) more
+
+-- ---- a round
+
+-- a tick of each of the first nodes
+abbrev pub ticks : ℕ → List Event
+ticks zero = []
+ticks (suc node) = ticks node ++ Tick (record { 0 = node }) ∷ []
+
+-- how many whole milliseconds a reading lies behind the first
+abbrev pub passed : Standing → ℕ → ℕ
+passed standing reading = (reading - standing.first) / 1000
+
+-- Time goes on at equal rates; each node hears; the lines of the script that are due; points reach their end positions; each
+-- node ticks.
+abbrev pub round : Plan → Standing → Turn → List Doing
+round plan standing turn =
+    let elapsed = turn.reading - standing.reading
+    in let nodes = length (node_names plan)
+    in Applying (Time elapsed (replicate nodes elapsed))
+    ∷ (hearings 0 turn.heard
+    ++ (map Applying (due (passed standing turn.reading) standing.left)
+    ++ (map Applying (reaches turn.reading 0 standing.drives)
+    ++ map Applying (ticks nodes))))
+
+-- how far a run has come after a round at this reading that left the station so
+abbrev pub standing_after : {Picture : Type 0} → Behaviour Picture → Picture → Standing → ℕ → Standing
+standing_after does picture standing reading = record {
+  first = standing.first;
+  reading = reading;
+  left = not_due (passed standing reading) standing.left;
+  drives = drives_after reading (does.driven picture) 0 standing.drives;
+}
+
+module _ {Picture : Type 0} (does : Behaviour Picture) (plan : Plan) where
+  abbrev pub after_round : Picture → Standing → Turn → Picture
+  after_round picture standing turn = picture_after does picture (round plan standing turn)
+
+  -- what rounds do, one after another
+  abbrev pub rounds : Picture → Standing → List Turn → List Doing
+  rounds picture standing [] = []
+  rounds picture standing (turn ∷ turns) =
+      let new = after_round picture standing turn
+      in round plan standing turn ++ rounds new (standing_after does new standing turn.reading) turns

@@ -1,0 +1,36 @@
+//! How far a run has come.
+
+ghost use Rattle.std.specs.Prelude.{◌≡◌};
+
+use sci_telegram::Side;
+use simulator_event::Event;
+use std::marker::Model;
+
+/// A point was driven to one side at the ends of rounds, one behind another up to the last.
+#[derive(Clone, Copy, Debug)]
+pub(crate) struct Drive {
+    pub(crate) side: Side,
+    /// The clock at the first of these rounds, in microseconds.
+    pub(crate) since: u64,
+}
+
+/// How far a run has come.
+#[derive(Drop)]
+pub(crate) struct Course<'a> {
+    /// The clock when it began, in microseconds.
+    pub(crate) first: u64,
+    /// The clock at the last round.
+    pub(crate) reading: u64,
+    /// The lines of the script that weren't applied.
+    pub(crate) left: &'a [(u64, Event)],
+    /// Of each point, how it was driven at the end of the last round.
+    pub(crate) drives: Vec<Option<Drive>>,
+}
+
+impl<'a> Model for Course<'a> {
+    ghost use Rattle.station_drive.specs.Rounds.{Standing};
+
+    ghost Value = { Standing };
+
+    ghost view = { λ c. record { first = c.first; reading = c.reading; left = c.left.now; drives = c.drives.items } };
+}

@@ -1,0 +1,40 @@
+//! The network over which a station is driven.
+
+use arrayvec::ArrayVec;
+use simulator_event::NodeId;
+
+/// The bytes that a node receives at once; longer datagrams are cut.
+pub type Received = ArrayVec<u8, 512>;
+
+/// A call of a network failed.
+#[derive(Clone, Copy, Debug, PartialEq, Eq)]
+pub enum NetFault {
+    Failed,
+}
+
+/// A network that carries datagrams between the nodes of a station, or loses them.
+pub trait Datagrams {
+    ghost use Rattle.std.specs.Prelude.{◌≡◌, ℕ, List, [], ◌∷◌, Option, None};
+    ghost use Rattle.station_drive.specs.Told.{Asks, Call, Counts, Grows, Sends, heard_of};
+
+    /// Its calls so far, with what was heard, where it tells them.
+    ghost calls: { Self → Option (List Call) } = { λ _. None };
+
+    /// How many of its calls failed.
+    ghost failed: { Self → ℕ };
+
+    /// Sends bytes to a node. Where that fails they are lost.
+    fn send(&mut self, to: NodeId, bytes: &[u8]) -> Result<(), NetFault>
+        ensures told { Grows (calls self.old) (calls self.new) (Sends to bytes.now ∷ []) }
+        ensures faults { Counts result (failed self.old) (failed self.new) };
+
+    /// A datagram that has come to a node, if there is one. It doesn't wait.
+    fn receive(&mut self, node: NodeId) -> Result<Option<Received>, NetFault>
+        ensures told { Grows (calls self.old) (calls self.new) (Asks node (heard_of (λ bytes. bytes.items) result) ∷ []) }
+        ensures faults { Counts result (failed self.old) (failed self.new) };
+
+    /// How many calls failed. At its greatest value the count stays: a call that fails then answers that it sent, or
+    /// that there is nothing.
+    fn faults(&self) -> u64
+        ensures { result ≡ failed self.now };
+}

@@ -1,0 +1,132 @@
+//! The other events of a round: time, the script, points that reach their end positions, and ticks.
+
+ghost use Rattle.std.specs.Prelude.{◌≡◌, [], ◌∷◌, length, map, replicate, IfOk, OnErr, OnOk, ℕ};
+ghost use Rattle.simulator_event.specs.declared.event.Event.TheVariants.{Time};
+ghost use Rattle.replay_names.specs.Names.{node_names};
+ghost use Rattle.station_drive.specs.Doings.{Applying, Performs, Stops};
+ghost use Rattle.station_drive.specs.Rounds.{due, end_position, not_due, reach, reaches, ticks};
+
+use crate::course::Drive;
+use crate::datagrams::Datagrams;
+use crate::fault::DriveFault;
+use crate::performing::perform;
+use crate::station::Station;
+use layout::PointId;
+use replay_names::node_count;
+use sci_telegram::{Position, Side};
+use simulator_event::{ClockSteps, Event, NodeId};
+use std::alloc::Global;
+use std::io::Write;
+
+// After how many microseconds of drive a point has reached its end position.
+const WAY: u64 = 500_000;
+
+/// Time goes on, in microseconds, at equal rates.
+pub(crate) fn pass<S: Station, N: Datagrams, W: Write>(
+    alloc: Global,
+    station: &mut S,
+    net: &mut N,
+    recorder: &mut W,
+    elapsed: u64,
+) -> Result<(), DriveFault>
+    ensures done { OnOk result (Performs S.does (S.plan station.old) (Applying (Time elapsed (replicate (length (node_names (S.plan station.old))) elapsed)) ∷ []) (S.picture station.old) (S.picture station.new) (N.calls net.old) (N.calls net.new) (W.contents recorder.old) (W.contents recorder.new)) }
+    ensures stopped { OnErr result (Stops S.does (S.plan station.old) (S.picture station.old) (S.picture station.new) (N.calls net.old) (N.calls net.new) (W.contents recorder.old) (W.contents recorder.new)) }
+    ensures plan { S.plan station.new ≡ S.plan station.old }
+{
+    let nodes = node_count(station.table().layout());
+    let clocks = ClockSteps::of(vec![in alloc; elapsed; nodes]?);
+    perform(alloc, station, net, recorder, &Event::Time { elapsed, clocks })
+}
+
+/// Applies the lines of a script whose milliseconds have passed, and answers those that are left.
+pub(crate) fn apply_due<'a, S: Station, N: Datagrams, W: Write>(
+    alloc: Global,
+    station: &mut S,
+    net: &mut N,
+    recorder: &mut W,
+    script: &'a [(u64, Event)],
+    passed: u64,
+) -> Result<&'a [(u64, Event)], DriveFault>
+    ensures done { OnOk result (Performs S.does (S.plan station.old) (map Applying (due passed script.now)) (S.picture station.old) (S.picture station.new) (N.calls net.old) (N.calls net.new) (W.contents recorder.old) (W.contents recorder.new)) }
+    ensures left { IfOk result (λ left. left.now ≡ not_due passed script.now) }
+    ensures stopped { OnErr result (Stops S.does (S.plan station.old) (S.picture station.old) (S.picture station.new) (N.calls net.old) (N.calls net.new) (W.contents recorder.old) (W.contents recorder.new)) }
+    ensures plan { S.plan station.new ≡ S.plan station.old }
+{
+    for place in 0..script.len() {
+        let (time, event) = &script[place];
+        if passed < *time {
+            return Ok(&script[place..]);
+        }
+        perform(alloc, station, net, recorder, event)?;
+    }
+    Ok(&[])
+}
+
+/// The points that were driven for their whole way reach their end positions.
+pub(crate) fn reach_all<S: Station, N: Datagrams, W: Write>(
+    alloc: Global,
+    station: &mut S,
+    net: &mut N,
+    recorder: &mut W,
+    drives: &[Option<Drive>],
+    reading: u64,
+) -> Result<(), DriveFault>
+    ensures done { OnOk result (Performs S.does (S.plan station.old) (map Applying (reaches reading 0 drives.now)) (S.picture station.old) (S.picture station.new) (N.calls net.old) (N.calls net.new) (W.contents recorder.old) (W.contents recorder.new)) }
+    ensures stopped { OnErr result (Stops S.does (S.plan station.old) (S.picture station.old) (S.picture station.new) (N.calls net.old) (N.calls net.new) (W.contents recorder.old) (W.contents recorder.new)) }
+    ensures plan { S.plan station.new ≡ S.plan station.old }
+{
+    for (place, drive) in drives.iter().enumerate() {
+        reach(alloc, station, net, recorder, PointId(place), *drive, reading)?;
+    }
+    Ok(())
+}
+
+/// A point reaches its end position, if it was driven for its whole way.
+fn reach<S: Station, N: Datagrams, W: Write>(
+    alloc: Global,
+    station: &mut S,
+    net: &mut N,
+    recorder: &mut W,
+    point: PointId,
+    drive: Option<Drive>,
+    reading: u64,
+) -> Result<(), DriveFault>
+    ensures done { OnOk result (Performs S.does (S.plan station.old) (map Applying (reach reading point.0 drive)) (S.picture station.old) (S.picture station.new) (N.calls net.old) (N.calls net.new) (W.contents recorder.old) (W.contents recorder.new)) }
+    ensures stopped { OnErr result (Stops S.does (S.plan station.old) (S.picture station.old) (S.picture station.new) (N.calls net.old) (N.calls net.new) (W.contents recorder.old) (W.contents recorder.new)) }
+    ensures plan { S.plan station.new ≡ S.plan station.old }
+{
+    match drive {
+        Some(drive) if reading.saturating_sub(drive.since) >= WAY => {
+            let position = end_position(drive.side);
+            perform(alloc, station, net, recorder, &Event::Reach { point, position })
+        }
+        _ => Ok(()),
+    }
+}
+
+/// The end position of a point at a side.
+fn end_position(side: Side) -> Position
+    ensures { result ≡ end_position side }
+{
+    match side {
+        Side::Right => Position::Right,
+        Side::Left => Position::Left,
+    }
+}
+
+/// Each node ticks, in order.
+pub(crate) fn tick_all<S: Station, N: Datagrams, W: Write>(
+    alloc: Global,
+    station: &mut S,
+    net: &mut N,
+    recorder: &mut W,
+) -> Result<(), DriveFault>
+    ensures done { OnOk result (Performs S.does (S.plan station.old) (map Applying (ticks (length (node_names (S.plan station.old))))) (S.picture station.old) (S.picture station.new) (N.calls net.old) (N.calls net.new) (W.contents recorder.old) (W.contents recorder.new)) }
+    ensures stopped { OnErr result (Stops S.does (S.plan station.old) (S.picture station.old) (S.picture station.new) (N.calls net.old) (N.calls net.new) (W.contents recorder.old) (W.contents recorder.new)) }
+    ensures plan { S.plan station.new ≡ S.plan station.old }
+{
+    for node in 0..node_count(station.table().layout()) {
+        perform(alloc, station, net, recorder, &Event::Tick(NodeId(node)))?;
+    }
+    Ok(())
+}

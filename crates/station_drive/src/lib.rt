@@ -1,0 +1,20 @@
+//! The engine by which a station runs over datagrams: rounds, in which time goes on, each node hears, the lines of a script
+//! that are due are applied, points reach their end positions, and each node ticks. Every event is applied, recorded, and
+//! what it adds is sent.
+#![tactic(auto)]
+
+mod clock;
+mod course;
+mod datagrams;
+mod events;
+mod fault;
+mod hearing;
+mod performing;
+mod rounds;
+mod station;
+
+pub use clock::Clock;
+pub use datagrams::{Datagrams, NetFault, Received};
+pub use fault::DriveFault;
+pub use rounds::drive;
+pub use station::{Outgoing, Station};

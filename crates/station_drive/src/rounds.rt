@@ -1,0 +1,146 @@
+//! The rounds by which a station is driven.
+
+ghost use Rattle.std.specs.Prelude.{◌≡◌, ◌-◌, ◌/◌, IfOk, List, OnErr, OnOk, length};
+ghost use Rattle.replay_names.specs.Names.{node_names};
+ghost use Rattle.station_drive.specs.Doings.{Performs, Stops};
+ghost use Rattle.station_drive.specs.Drives.{Driven, beginning};
+ghost use Rattle.station_drive.specs.Rounds.{Hearing, drive_after, drives_after, is_same, round, standing_after};
+
+use crate::clock::Clock;
+use crate::course::{Course, Drive};
+use crate::datagrams::Datagrams;
+use crate::events::{apply_due, pass, reach_all, tick_all};
+use crate::fault::DriveFault;
+use crate::hearing::hear_all;
+use crate::performing::flush;
+use crate::station::Station;
+use layout::PointId;
+use sci_telegram::Side;
+use simulator_event::Event;
+use std::alloc::{AllocError, Global};
+use std::io::Write;
+
+// How many microseconds a millisecond has.
+const MICROS: u64 = 1000;
+
+/// Drives a station for so many milliseconds by its clock. After a first reading of the clock each further one makes a round,
+/// up to and with the first that is so much later. The script's times are milliseconds since the first reading, and don't
+/// fall.
+pub fn drive<S: Station, N: Datagrams, C: Clock, W: Write>(
+    alloc: Global,
+    station: &mut S,
+    net: &mut N,
+    clock: &mut C,
+    script: &[(u64, Event)],
+    for_ms: u64,
+    recorder: &mut W,
+) -> Result<(), DriveFault>
+    ensures done { OnOk result (Driven S.does (S.plan station.old) script.now for_ms (S.picture station.old) (S.picture station.new) (C.readings clock.old) (C.readings clock.new) (N.calls net.old) (N.calls net.new) (W.contents recorder.old) (W.contents recorder.new)) }
+    // The station is as the events applied so far left it, and a beginning of their lines was written.
+    ensures stopped { OnErr result (Stops S.does (S.plan station.old) (S.picture station.old) (S.picture station.new) (N.calls net.old) (N.calls net.new) (W.contents recorder.old) (W.contents recorder.new)) }
+{
+    let first = clock.read();
+    let mut course = begin(alloc, station, script, first)?;
+    for _ in 0..u64::MAX {
+        let reading = clock.read();
+        round(alloc, station, net, recorder, &mut course, reading)?;
+        if millis_since(first, reading) >= for_ms {
+            return Ok(());
+        }
+    }
+    // No record is so long.
+    Err(DriveFault::WriteFailed)
+}
+
+/// How many microseconds a reading of the clock lies behind an earlier one.
+fn micros_since(earlier: u64, reading: u64) -> u64
+    ensures { result ≡ reading - earlier }
+{
+    reading.saturating_sub(earlier)
+}
+
+/// How many whole milliseconds a reading of the clock lies behind an earlier one.
+fn millis_since(earlier: u64, reading: u64) -> u64
+    ensures { result ≡ (reading - earlier) / 1000 }
+{
+    micros_since(earlier, reading) / MICROS
+}
+
+/// A run begins: no line of the script was applied, and no point was seen driven.
+fn begin<'a, S: Station>(
+    alloc: Global,
+    station: &S,
+    script: &'a [(u64, Event)],
+    first: u64,
+) -> Result<Course<'a>, AllocError>
+    ensures { IfOk result (λ course. course ≡ beginning (S.plan station.now) script.now first) }
+{
+    let points = station.table().layout().points().len();
+    Ok(Course {
+        first,
+        reading: first,
+        left: script,
+        drives: vec![in alloc; None; points]?,
+    })
+}
+
+/// A round at a clock reading. The record is flushed at its end.
+fn round<S: Station, N: Datagrams, W: Write>(
+    alloc: Global,
+    station: &mut S,
+    net: &mut N,
+    recorder: &mut W,
+    course: &mut Course<'_>,
+    reading: u64,
+) -> Result<(), DriveFault>
+    requires { length course.old.drives ≡ length (S.plan station.old).points }
+    ensures done { OnOk result ((heard : List Hearing) × (length heard ≡ length (node_names (S.plan station.old))) × Performs S.does (S.plan station.old) (round (S.plan station.old) course.old (record { reading = reading; heard = heard })) (S.picture station.old) (S.picture station.new) (N.calls net.old) (N.calls net.new) (W.contents recorder.old) (W.contents recorder.new)) }
+    ensures course { OnOk result (course.new ≡ standing_after S.does (S.picture station.new) course.old reading) }
+    ensures stopped { OnErr result (Stops S.does (S.plan station.old) (S.picture station.old) (S.picture station.new) (N.calls net.old) (N.calls net.new) (W.contents recorder.old) (W.contents recorder.new)) }
+    ensures plan { S.plan station.new ≡ S.plan station.old }
+{
+    let passed = millis_since(course.first, reading);
+    let elapsed = micros_since(course.reading, reading);
+    pass(alloc, station, net, recorder, elapsed)?;
+    hear_all(alloc, station, net, recorder)?;
+    course.left = apply_due(alloc, station, net, recorder, course.left, passed)?;
+    reach_all(alloc, station, net, recorder, &course.drives, reading)?;
+    tick_all(alloc, station, net, recorder)?;
+    flush(recorder)?;
+    course.reading = reading;
+    see_drives(station, &mut course.drives, reading);
+    Ok(())
+}
+
+/// At the end of a round it is seen which points are driven.
+fn see_drives<S: Station>(station: &S, drives: &mut [Option<Drive>], reading: u64)
+    requires { length drives.old ≡ length (S.plan station.now).points }
+    ensures { drives.new ≡ drives_after reading (S.does.driven (S.picture station.now)) 0 drives.old }
+{
+    for place in 0..drives.len() {
+        drives[place] = drive_after(reading, station.driven(PointId(place)), drives[place]);
+    }
+}
+
+/// The drive of a point at the end of a round, by that at the end of the round before.
+fn drive_after(reading: u64, driven: Option<Side>, before: Option<Drive>) -> Option<Drive>
+    ensures { result ≡ drive_after reading driven before }
+{
+    match (driven, before) {
+        (Some(side), Some(before)) if is_same(side, before.side) => Some(before),
+        (Some(side), _) => Some(Drive {
+            side,
+            since: reading,
+        }),
+        (None, _) => None,
+    }
+}
+
+fn is_same(one: Side, other: Side) -> bool
+    ensures { result ≡ is_same one other }
+{
+    match (one, other) {
+        (Side::Right, Side::Right) | (Side::Left, Side::Left) => true,
+        _ => false,
+    }
+}
