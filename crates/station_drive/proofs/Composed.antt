@@ -80,8 +80,8 @@ module _ {Picture : Type 0} {does : Behaviour Picture} {plan : Plan} where
         called = subst (Grows ca cc) (calls_joined does a b xs second.doings first.picture_is) (Grows-trans ca cb cc _ _ first.called second.called);
         taken = length before + second.taken;
         written = subst (Appends ta tc)
-          (sym (take-append-add before behind second.taken) ∙ ap (take (length before + second.taken)) (text_joined does plan a b xs second.doings first.picture_is))
-          (Appends-trans ta tb tc _ _ first.written second.written);
+            (sym (take-append-add before behind second.taken) ∙ ap (take (length before + second.taken)) (text_joined does plan a b xs second.doings first.picture_is))
+            (Appends-trans ta tb tc _ _ first.written second.written);
       }
 
   pub stops_now : {xs : List Doing} {a b : Picture} {ca cb : Option (List Call)} {ta tb : Option (List ℕ)} → Performs does plan xs a b ca cb ta tb → Stops does plan a b ca cb ta tb

@@ -1,9 +1,9 @@
 -- Lists of doings that grow at their end.
-use Rattle.std.proofs.Common.{◌≡◌, ℕ, zero, suc, ◌+◌, List, [], ◌∷◌, ◌++◌, length, map, drop, Option, Some, None, slice_get, ◌<◌, ◌≤◌, nat_le, true, refl, sym, ap, ◌∙◌, subst, append_assoc, append-nil, arith}
+use Rattle.std.proofs.Common.{◌≡◌, ℕ, zero, suc, ◌+◌, List, [], ◌∷◌, ◌++◌, length, map, drop, Option, Some, None, slice_get, ◌<◌, ◌≤◌, nat_le, true, refl, sym, ap, ◌∙◌, append_assoc, append-nil, arith}
 use Rattle.std.proofs.Math.Numerals.{add-one}
 use Rattle.std.proofs.lemmas.List.{map-append}
 use Rattle.std.proofs.lemmas.Bool.Decides.{nat_tests}
-use Rattle.std.specs.Prelude.{IfNone, IfSome, Result, Ok, IsTrue, ◌↔◌, Bool, false}
+use Rattle.std.specs.Prelude.{IfNone, IfSome, Ok, IsTrue, ◌↔◌, Bool, false}
 use Rattle.std.specs.List.{AllByRecursion}
 use Rattle.sci_telegram.specs.declared.message.Side.{Side}
 use Rattle.simulator_event.specs.declared.event.Event.{Event}
@@ -11,7 +11,7 @@ use Rattle.simulator_event.specs.declared.event.Event.TheVariants.{Deliver, Tick
 use Rattle.simulator_event.specs.declared.event.NodeId.{NodeId}
 use Rattle.station_drive.specs.declared.course.Drive.{Drive}
 use Rattle.station_drive.specs.Told.{Asks, Call, Datagram, Grows, Heard, Nothing, heard_of}
-use Rattle.station_drive.specs.Doings.{Doing, Asking, Applying}
+use Rattle.station_drive.specs.Doings.{Asking, Applying}
 use Rattle.station_drive.specs.Rounds.{IsSilence, drives_after, Hearing, comings, hearing_of, due, not_due, hearings, ticks}
 
 none-some : {A : Type 0} {x : A} → None ≡ Some x → ⊥

@@ -1,5 +1,5 @@
 -- The rounds by which a station is driven: what they do, by what the clock and the network tell.
-use Rattle.std.specs.Prelude.{◌≡◌, ℕ, zero, suc, ◌+◌, ◌-◌, ◌/◌, nat_le, Bool, true, false, if◌then◌else◌, List, [], ◌∷◌, ◌++◌, length, map, replicate, Option, Some, None}
+use Rattle.std.specs.Prelude.{ℕ, zero, suc, ◌-◌, ◌/◌, nat_le, Bool, true, false, if◌then◌else◌, List, [], ◌∷◌, ◌++◌, length, map, replicate, Option, Some, None}
 use Rattle.layout.specs.Entries.{Plan}
 use Rattle.replay_names.specs.Names.{node_names}
 use Rattle.sci_telegram.specs.declared.message.Position.{Position}

@@ -1,5 +1,5 @@
 -- What clocks and networks tell of their calls.
-use Rattle.std.specs.Prelude.{◌≡◌, ℕ, suc, List, [], ◌++◌, Option, Some, None, Result, Ok, Err}
+use Rattle.std.specs.Prelude.{◌≡◌, ℕ, suc, List, ◌++◌, Option, Some, None, Result, Ok, Err}
 use Rattle.simulator_event.specs.declared.event.NodeId.{NodeId}
 use Rattle.station_drive.specs.declared.datagrams.NetFault.{NetFault}
 

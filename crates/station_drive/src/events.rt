@@ -35,7 +35,13 @@ pub(crate) fn pass<S: Station, N: Datagrams, W: Write>(
 {
     let nodes = node_count(station.table().layout());
     let clocks = ClockSteps::of(vec![in alloc; elapsed; nodes]?);
-    perform(alloc, station, net, recorder, &Event::Time { elapsed, clocks })
+    perform(
+        alloc,
+        station,
+        net,
+        recorder,
+        &Event::Time { elapsed, clocks },
+    )
 }
 
 /// Applies the lines of a script whose milliseconds have passed, and answers those that are left.
@@ -76,7 +82,15 @@ pub(crate) fn reach_all<S: Station, N: Datagrams, W: Write>(
     ensures plan { S.plan station.new ≡ S.plan station.old }
 {
     for (place, drive) in drives.iter().enumerate() {
-        reach(alloc, station, net, recorder, PointId(place), *drive, reading)?;
+        reach(
+            alloc,
+            station,
+            net,
+            recorder,
+            PointId(place),
+            *drive,
+            reading,
+        )?;
     }
     Ok(())
 }
@@ -98,7 +112,13 @@ fn reach<S: Station, N: Datagrams, W: Write>(
     match drive {
         Some(drive) if reading.saturating_sub(drive.since) >= WAY => {
             let position = end_position(drive.side);
-            perform(alloc, station, net, recorder, &Event::Reach { point, position })
+            perform(
+                alloc,
+                station,
+                net,
+                recorder,
+                &Event::Reach { point, position },
+            )
         }
         _ => Ok(()),
     }

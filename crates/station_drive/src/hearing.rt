@@ -80,5 +80,11 @@ fn deliver<S: Station, N: Datagrams, W: Write>(
     ensures plan { S.plan station.new ≡ S.plan station.old }
 {
     let bytes = RawDatagram::of(Vec::from_slice(alloc, bytes)?);
-    perform(alloc, station, net, recorder, &Event::Deliver { node, bytes })
+    perform(
+        alloc,
+        station,
+        net,
+        recorder,
+        &Event::Deliver { node, bytes },
+    )
 }

@@ -21,8 +21,7 @@ loop-place-preserved g c =
     let line = c.index-script-place.result in
     let left : drop place script ≡ line ∷ drop (place + 1) script =
     drop_more script place line c.loop-place-test.true ∙ ap (λ e. e ∷ drop (place + 1) script) (sym c.index-script-place.is) in
-    let rest = drop (place + 1) script in
-    (
+    let rest = drop (place + 1) script in (
       before.0 ++ line.1 ∷ [],
       moved before.0 _ _ line.1 _ (ap (due c.args.passed) left ∙ due_more c.args.passed line rest c.if-passed-time.false) before.1,
       sym (ap (not_due c.args.passed) left ∙ not_due_more c.args.passed line rest c.if-passed-time.false) ∙ before.2,

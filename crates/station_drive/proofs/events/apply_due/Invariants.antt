@@ -12,5 +12,5 @@ invariant-loop-place g l =
     × (done ++ due l.passed (drop l.place l.script) ≡ due l.passed l.script)
     × (not_due l.passed (drop l.place l.script) ≡ not_due l.passed l.script)
     × Performs s.does (s.plan l.fn.station) (map Applying done) (s.picture l.fn.station) (s.picture l.station)
-      (g.N.Datagrams.calls l.fn.net) (g.N.Datagrams.calls l.net) (g.W.Write.contents l.fn.recorder) (g.W.Write.contents l.recorder)
+    (g.N.Datagrams.calls l.fn.net) (g.N.Datagrams.calls l.net) (g.W.Write.contents l.fn.recorder) (g.W.Write.contents l.recorder)
     × (s.plan l.station ≡ s.plan l.fn.station)

@@ -24,11 +24,10 @@ loop-place-preserved g c =
     let drive : Option Drive = get_or drives place None in
     let rest = drop (place + 1) drives in
     let now : List Event = reach c.args.reading place drive in
-    let left : drop place drives ≡ drive ∷ rest = drop_more drives place None c.loop-place-test.true in
-    (
+    let left : drop place drives ≡ drive ∷ rest = drop_more drives place None c.loop-place-test.true in (
       before.0 ++ now,
       append_assoc before.0 now (reaches c.args.reading (place + 1) rest)
-      ∙ (ap (λ l. before.0 ++ l) (ap (λ n. now ++ reaches c.args.reading n rest) (add-one place) ∙ sym (ap (reaches c.args.reading place) left)) ∙ before.1),
+          ∙ (ap (λ l. before.0 ++ l) (ap (λ n. now ++ reaches c.args.reading n rest) (add-one place) ∙ sym (ap (reaches c.args.reading place) left)) ∙ before.1),
       performs_same (sym (map-append Applying before.0 now)) (performs_next before.3 before.2 c.in_ok-reach.ensures.done),
       c.in_ok-reach.ensures.plan ∙ before.3,
     )

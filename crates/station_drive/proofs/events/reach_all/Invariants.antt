@@ -11,5 +11,5 @@ invariant-loop-place g l =
     (done : List Event)
     × (done ++ reaches l.reading l.place (drop l.place l.drives) ≡ reaches l.reading 0 l.drives)
     × Performs s.does (s.plan l.fn.station) (map Applying done) (s.picture l.fn.station) (s.picture l.station)
-      (g.N.Datagrams.calls l.fn.net) (g.N.Datagrams.calls l.net) (g.W.Write.contents l.fn.recorder) (g.W.Write.contents l.recorder)
+    (g.N.Datagrams.calls l.fn.net) (g.N.Datagrams.calls l.net) (g.W.Write.contents l.fn.recorder) (g.W.Write.contents l.recorder)
     × (s.plan l.station ≡ s.plan l.fn.station)

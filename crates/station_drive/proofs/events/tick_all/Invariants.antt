@@ -8,5 +8,5 @@ abbrev pub invariant-loop-node : goal.invariant-loop-node
 invariant-loop-node g l =
     let s = g.S.Station in
     Performs s.does (s.plan l.fn.station) (map Applying (ticks l.node)) (s.picture l.fn.station) (s.picture l.station)
-      (g.N.Datagrams.calls l.fn.net) (g.N.Datagrams.calls l.net) (g.W.Write.contents l.fn.recorder) (g.W.Write.contents l.recorder)
+    (g.N.Datagrams.calls l.fn.net) (g.N.Datagrams.calls l.net) (g.W.Write.contents l.fn.recorder) (g.W.Write.contents l.recorder)
     × (s.plan l.station ≡ s.plan l.fn.station)

@@ -1,4 +1,3 @@
-use Rattle.std.proofs.Common.{ℕ}
 use Rattle.station_drive.proofs.Rows.{asked_none, asked_some}
 use Rattle.station_drive.proofs.hearing.ask.Goals as goal
 

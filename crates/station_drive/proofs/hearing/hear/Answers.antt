@@ -1,4 +1,4 @@
-use Rattle.std.proofs.Common.{◌≡◌, ◌∙◌, [], ◌∷◌, ◌++◌}
+use Rattle.std.proofs.Common.{◌∙◌, [], ◌∷◌, ◌++◌}
 use Rattle.station_drive.proofs.Composed.{performs_asking, performs_next, performs_then, stopped, stops_next, stops_now}
 use Rattle.station_drive.proofs.Rows.{comings-push}
 use Rattle.station_drive.proofs.hearing.hear.Goals as goal
@@ -17,8 +17,7 @@ returns-in_default-clause-done g c =
 pub loop-preserved : goal.loop-preserved
 loop-preserved g c =
     let before = c.loop.invariant in
-    let bytes = c.in-Some.bytes.items in
-    (
+    let bytes = c.in-Some.bytes.items in (
       before.0 ++ bytes ∷ [],
       rw (comings-push c.args.node before.0 bytes) (performs_then before.1 (performs_next before.2 (performs_asking _ _ c.in-Some.ensures.heard) c.in_ok-deliver.ensures.done)),
       c.in_ok-deliver.ensures.plan ∙ before.2,

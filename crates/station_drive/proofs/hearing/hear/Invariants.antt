@@ -9,5 +9,5 @@ invariant-loop g l =
     let s = g.S.Station in
     (heard : List (List ℕ))
     × Performs s.does (s.plan l.fn.station) (comings l.node heard) (s.picture l.fn.station) (s.picture l.station)
-      (g.N.Datagrams.calls l.fn.net) (g.N.Datagrams.calls l.net) (g.W.Write.contents l.fn.recorder) (g.W.Write.contents l.recorder)
+    (g.N.Datagrams.calls l.fn.net) (g.N.Datagrams.calls l.net) (g.W.Write.contents l.fn.recorder) (g.W.Write.contents l.recorder)
     × (s.plan l.station ≡ s.plan l.fn.station)

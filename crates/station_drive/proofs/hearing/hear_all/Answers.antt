@@ -1,4 +1,4 @@
-use Rattle.std.proofs.Common.{◌≡◌, ◌∙◌, [], ◌∷◌, ◌++◌, length, sym, arith}
+use Rattle.std.proofs.Common.{◌∙◌, [], ◌∷◌, ◌++◌, arith}
 use Rattle.std.proofs.lemmas.List.{length_push}
 use Rattle.station_drive.proofs.Composed.{performs_next, stopped, stops_next}
 use Rattle.station_drive.proofs.Rows.{hearings-push}
@@ -14,8 +14,7 @@ loop-node-preserved g c =
     let before = c.loop-node.invariant in
     let heard = c.in_ok-hear.ensures.done in
     let count = before.1 in
-    let more = length_push before.0 heard.0 in
-    (
+    let more = length_push before.0 heard.0 in (
       before.0 ++ heard.0 ∷ [],
       omega (arith, count, more),
       rw (hearings-push 0 before.0 heard.0 c.loop-node.node (omega (arith, count))) (performs_next before.3 before.2 heard.1),

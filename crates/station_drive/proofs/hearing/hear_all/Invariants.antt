@@ -1,4 +1,4 @@
-use Rattle.std.proofs.Common.{◌≡◌, ℕ, List, length}
+use Rattle.std.proofs.Common.{◌≡◌, List, length}
 use Rattle.station_drive.specs.Doings.{Performs}
 use Rattle.station_drive.specs.Rounds.{Hearing, hearings}
 use Rattle.station_drive.proofs.hearing.hear_all.Given as goal
@@ -10,5 +10,5 @@ invariant-loop-node g l =
     (heard : List Hearing)
     × (length heard ≡ l.node)
     × Performs s.does (s.plan l.fn.station) (hearings 0 heard) (s.picture l.fn.station) (s.picture l.station)
-      (g.N.Datagrams.calls l.fn.net) (g.N.Datagrams.calls l.net) (g.W.Write.contents l.fn.recorder) (g.W.Write.contents l.recorder)
+    (g.N.Datagrams.calls l.fn.net) (g.N.Datagrams.calls l.net) (g.W.Write.contents l.fn.recorder) (g.W.Write.contents l.recorder)
     × (s.plan l.station ≡ s.plan l.fn.station)

@@ -1,4 +1,4 @@
-use Rattle.std.proofs.Common.{◌≡◌, ◌<◌, ◌≤◌, ◌∙◌, [], ◌∷◌, ◌++◌, length, sym, ap, subst, refl}
+use Rattle.std.proofs.Common.{◌<◌, ◌≤◌, ◌∙◌, [], ◌∷◌, ◌++◌, length, ap, subst, refl}
 use Rattle.std.proofs.lemmas.List.{length-replicate}
 use Rattle.replay_names.specs.Names.{node_names}
 use Rattle.station_drive.specs.Drives.{beginning}
@@ -13,8 +13,7 @@ returns-in_err-course-clause-stopped g c = stopped c.from_residual.result (stops
 
 pub loop-init : goal.loop-init
 loop-init g c =
-    let began = c.in_ok-course.ensures in
-    (
+    let began = c.in_ok-course.ensures in (
       [],
       c.read-first.ensures.told,
       tt,
@@ -58,8 +57,7 @@ loop-preserved g c =
     let turn : Turn = record { reading = c.read-reading.result; heard = done.0 } in
     let start = beginning plan c.args.script.now c.read-first.result in
     let performs = next_round start c.loop.course before.0 turn before.8 before.5 before.4 done.2 in
-    let course = c.in_ok-round.ensures.course in
-    (
+    let course = c.in_ok-round.ensures.course in (
       before.0 ++ turn ∷ [],
       next_read _ _ _ _ before.0 turn before.1 c.read-reading.ensures.told,
       all-push _ before.0 turn before.2 (done.1 ∙ ap (λ p. length (node_names p)) before.8),

@@ -17,7 +17,7 @@ invariant-loop g l =
     × AllByRecursion (IsWhole plan) turns
     × AllByRecursion (λ turn. (turn.reading - l.first) / 1000 < l.for_ms) turns
     × Performs s.does plan (rounds s.does plan (s.picture l.fn.station) (beginning plan l.script l.first) turns) (s.picture l.fn.station) (s.picture l.station)
-      (g.N.Datagrams.calls l.fn.net) (g.N.Datagrams.calls l.net) (g.W.Write.contents l.fn.recorder) (g.W.Write.contents l.recorder)
+    (g.N.Datagrams.calls l.fn.net) (g.N.Datagrams.calls l.net) (g.W.Write.contents l.fn.recorder) (g.W.Write.contents l.recorder)
     × (l.course ≡ standing_end s.does plan (s.picture l.fn.station) (beginning plan l.script l.first) turns)
     × (l.course.first ≡ l.first)
     × (length l.course.drives ≡ length plan.points)

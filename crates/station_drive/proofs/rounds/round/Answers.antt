@@ -1,4 +1,4 @@
-use Rattle.std.proofs.Common.{◌≡◌, ◌-◌, ◌/◌, [], ◌∷◌, ◌∙◌, length, map, replicate, sym, ap}
+use Rattle.std.proofs.Common.{◌≡◌, ◌-◌, [], ◌∷◌, ◌∙◌, length, map, replicate, ap}
 use Rattle.replay_names.specs.Names.{node_names}
 use Rattle.simulator_event.specs.declared.event.Event.TheVariants.{Time}
 use Rattle.station_drive.specs.Doings.{Applying}
@@ -59,14 +59,13 @@ returns-clause-done g c =
     let heard = c.in_ok-hear_all.ensures.done in
     let script = performs_same (ap (λ n. map Applying (due n c.course.inside.left.now)) since ∙ ap (λ k. map Applying (due (passed c.args.course.now reading) k.left)) course) c.in_ok-course-inside.ensures.done in
     let reached = performs_same (ap (λ d. map Applying (reaches reading 0 d)) c.deref.ensures.value ∙ ap (λ k. map Applying (reaches reading 0 k.drives)) course) c.in_ok-reach_all.ensures.done in
-    let ticked = performs_same (ap (λ p. map Applying (ticks (length (node_names p)))) same-4) c.in_ok-tick_all.ensures.done in
-    (
+    let ticked = performs_same (ap (λ p. map Applying (ticks (length (node_names p)))) same-4) c.in_ok-tick_all.ensures.done in (
       heard.0,
       heard.1 ∙ ap (λ p. length (node_names p)) same-1,
       performs_kept
-      (performs_next same-1 time
-        (performs_next c.in_ok-hear_all.ensures.plan heard.2
+          (performs_next same-1 time
+          (performs_next c.in_ok-hear_all.ensures.plan heard.2
           (performs_next c.in_ok-course-inside.ensures.plan script
-            (performs_next c.in_ok-reach_all.ensures.plan reached ticked))))
-      c.flush.ensures,
+          (performs_next c.in_ok-reach_all.ensures.plan reached ticked))))
+          c.flush.ensures,
     )

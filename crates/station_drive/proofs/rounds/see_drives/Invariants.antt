@@ -1,4 +1,4 @@
-use Rattle.std.proofs.Common.{◌≡◌, ◌++◌, take, drop, length}
+use Rattle.std.proofs.Common.{◌≡◌, ◌++◌, take, drop}
 use Rattle.station_drive.specs.Rounds.{drives_after}
 use Rattle.station_drive.proofs.rounds.see_drives.Given as goal
 
