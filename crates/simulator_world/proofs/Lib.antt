@@ -1,0 +1,9 @@
+mod Below
+mod Coming
+mod Few
+mod Going
+mod Memory
+mod Reading
+mod Runs
+mod Within
+mod Promise

@@ -1,0 +1,7 @@
+use Rattle.std.proofs.Common.{◌≤◌, take}
+use Rattle.simulator_world.specs.Runs.{Runs}
+use Rattle.simulator_world.proofs.world.World.run.Given as goal
+
+abbrev pub invariant-loop-event : goal.invariant-loop-event
+invariant-loop-event l =
+    Runs (take l.event-index l.events) l.initial.self l.accepted l.self × (l.accepted ≤ l.event-index)

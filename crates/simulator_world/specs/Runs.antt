@@ -1,0 +1,27 @@
+-- A list of events applied to a world, one after another.
+use Rattle.std.specs.Prelude.{◌≡◌, ℕ, ◌+◌, ◌≤◌, ◌<◌, IsTrue, List, [], ◌∷◌, Some, None}
+use Rattle.simulator_event.specs.declared.event.Event.{Event}
+use Rattle.simulator_event.specs.declared.refused.Refused.{Refused}
+use Rattle.simulator_world_run.specs.Happens.{happens, is_restart}
+use Rattle.simulator_world_run.specs.Refusals.{refusal}
+use Rattle.simulator_world.specs.World.{View}
+
+-- An event was refused or lacked memory: nothing has changed, but there may be more room.
+pub record Stays (old new : View) : Type 0 where
+  pub planned : new.planned ≡ old.planned
+  pub run : new.run ≡ old.run
+  pub room : old.room ≤ new.room
+
+-- An event happened, which took the memory of one step at most.
+pub record Goes (event : Event) (old new : View) : Type 0 where
+  pub planned : new.planned ≡ old.planned
+  pub run : new.run ≡ happens old.planned.plan old.planned.table event old.run
+  pub room : old.room ≤ new.room + 1
+
+-- So many of the events are accepted. Those that can't happen change nothing, and neither do those for which memory is
+-- lacking: restarts, and others only where there was no room for a step.
+pub data Runs : List Event → View → ℕ → View → Type 0 where
+  stops : {world : View} → Runs [] world 0 world
+  refuses : {event : Event} {later : List Event} {world next last : View} {count : ℕ} {why : Refused} → refusal world.planned.plan event world.run ≡ Some why → Stays world next → Runs later next count last → Runs (event ∷ later) world count last
+  lacks_memory : {event : Event} {later : List Event} {world next last : View} {count : ℕ} → refusal world.planned.plan event world.run ≡ None → (0 < world.room → IsTrue (is_restart event)) → Stays world next → Runs later next count last → Runs (event ∷ later) world count last
+  accepts : {event : Event} {later : List Event} {world next last : View} {count : ℕ} → refusal world.planned.plan event world.run ≡ None → Goes event world next → Runs later next count last → Runs (event ∷ later) world (count + 1) last
