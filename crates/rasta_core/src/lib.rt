@@ -3,22 +3,21 @@
 //! their public surface.
 #![tactic(auto)]
 
-pub use rasta_core_link::{
-    Identity, Inbox, Link, Millis, Outbox, Reason, Role, SendFault, State, Verdict,
+pub use rasta_core_network::theorem::time::{
+    alone_after_quiet, alone_after_waiting, copies_are_delivered, every_event_keeps_time,
+    every_run_keeps_time, items_are_fresh, links_are_settled, one_connection, opening_is_new,
+    own_connection, quiet_is_counted, starts_in_time,
+};
+pub use rasta_core_network::theorem::{
+    calls_at_one_clock, calls_follow_calls, every_event_keeps_order, every_run_keeps_order,
+    given_was_sent, items_are_counted, link_is_safe, newest_tells_the_connection,
+    nothing_before_a_connection, order_is_safe, outside_until_it_enters, what_is_taken,
 };
 pub use rasta_core_network::{
     a_node_makes_a_step, a_node_restarts, each_delivery_is_seen, each_link_is_a_run,
     each_link_sees_its_events, links_can_be_read_off, links_count_their_quiet, links_keep_order,
     links_keep_time, links_of_one_client,
 };
-pub use rasta_core_run::Sent;
-pub use rasta_core_theorem::{
-    calls_at_one_clock, calls_follow_calls, every_event_keeps_order, every_run_keeps_order,
-    given_was_sent, items_are_counted, link_is_safe, newest_tells_the_connection,
-    nothing_before_a_connection, order_is_safe, outside_until_it_enters, what_is_taken,
-};
-pub use rasta_core_time::{
-    alone_after_quiet, alone_after_waiting, copies_are_delivered, every_event_keeps_time,
-    every_run_keeps_time, items_are_fresh, links_are_settled, one_connection, opening_is_new,
-    own_connection, quiet_is_counted, starts_in_time,
+pub use rasta_core_run::{
+    Identity, Inbox, Link, Millis, Outbox, Reason, Role, SendFault, Sent, State, Verdict,
 };

@@ -1,9 +1,9 @@
 -- What a step of a node, and its restart, are to each link.
 use Rattle.std.proofs.Common.{◌≡◌, ℕ, Bool, true, false, if◌then◌else◌, List, [], ◌∷◌, length, refl, sym, ap, subst, ◌∙◌}
 use Rattle.std.specs.Prelude.{◌==◌}
-use Rattle.rasta_core_link.specs.Calls.{created}
-use Rattle.rasta_core_link.specs.declared.identity.Role.{Role}
-use Rattle.rasta_core_link.specs.declared.identity.Role.TheVariants.{Client, Server}
+use Rattle.rasta_core_run.specs.Calls.{created}
+use Rattle.rasta_core_run.specs.identity.Role.{Role}
+use Rattle.rasta_core_run.specs.identity.Role.TheVariants.{Client, Server}
 use Rattle.rasta_core_run.specs.Ends.{Call, EndState, end_restarted, reading_of}
 use Rattle.rasta_core_run.specs.Events.{Elsewhere, happened, run}
 use Rattle.rasta_core_run.specs.Names.{partner_of}

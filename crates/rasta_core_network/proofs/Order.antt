@@ -3,7 +3,7 @@ use Rattle.std.proofs.Common.{ℕ, sym, subst, List, [], ◌∷◌}
 use Rattle.rasta_core_run.specs.Events.{Event, MayRun, run}
 use Rattle.rasta_core_run.specs.Names.{AreNames, Names}
 use Rattle.rasta_core_run.specs.Run.{Ends}
-use Rattle.rasta_core_time.specs.Invariant.{Timely}
+use Rattle.rasta_core_theorem.specs.Invariant.{Timely}
 use Rattle.rasta_core_theorem.specs.Ordered.{Ordered}
 use Rattle.rasta_core_network.specs.EachLink.{AreOrdered, AreTimely}
 use Rattle.rasta_core_network.specs.Links.{AreLinks, Links, LinksEvent, MayHappenTo, MayRunLinks, events_on, happened_to, run_links, seen}

@@ -2,7 +2,7 @@
 use Rattle.std.specs.Prelude.{ℕ, ◌<◌}
 use Rattle.rasta_core_run.specs.Each.{Each}
 use Rattle.rasta_core_run.specs.Names.{Names}
-use Rattle.rasta_core_time.specs.Invariant.{Timely}
+use Rattle.rasta_core_theorem.specs.Invariant.{Timely}
 use Rattle.rasta_core_theorem.specs.Ordered.{Ordered}
 use Rattle.rasta_core_network.specs.Links.{Links, seen}
 

@@ -1,6 +1,6 @@
 -- A node of a world: the client of many links, or the server of one. What it does in a step, and how it is made anew.
 use Rattle.std.specs.Prelude.{ℕ, ◌==◌, Bool, true, false, List, [], ◌∷◌, map, if◌then◌else◌}
-use Rattle.rasta_core_link.specs.declared.identity.Role.{Role}
+use Rattle.rasta_core_run.specs.identity.Role.{Role}
 use Rattle.rasta_core_run.specs.Ends.{Call}
 use Rattle.rasta_core_network.specs.Links.{CallsOn, LinksEvent, RestartsOn}
 

@@ -1,8 +1,8 @@
 //! Each link of a world, seen by itself: event by event, and after every list of events.
 
 ghost use Rattle.std.specs.Prelude.{◌≡◌, ◌≢◌, ℕ, ◌-◌, ◌^◌, ◌<◌, List, if◌then◌else◌};
-ghost use Rattle.rasta_core_link.specs.declared.identity.Role.{Role};
-ghost use Rattle.rasta_core_link.specs.declared.identity.Role.TheVariants as role;
+ghost use Rattle.rasta_core_run.specs.identity.Role.{Role};
+ghost use Rattle.rasta_core_run.specs.identity.Role.TheVariants as role;
 ghost use Rattle.rasta_core_network.specs.EachLink.{AreOrdered, AreTimely};
 ghost use Rattle.rasta_core_network.specs.Links.{AreLinks, LeavesClientOf, Links, LinksEvent, LinksStart, MayHappenTo, MayRunLinks, OnLink, RestartsOn, WasSent, begun, events_on, happened_to, run_links, run_on, seen, star, start_of};
 ghost use Rattle.rasta_core_network.specs.Nodes.{NodeCall, at_link, calls_of, is_among, restarts_of};
@@ -15,15 +15,15 @@ ghost use Rattle.rasta_core_run.specs.Run.{end_of, restarted};
 ghost use Rattle.rasta_core_run.specs.Safe.{AreSafe};
 ghost use Rattle.rasta_core_run.specs.Sentences.{IsIn, IsOut};
 ghost use Rattle.rasta_core_run.specs.Steps.{EnterNone, IsAfter, StaysIn};
-ghost use Rattle.rasta_core_time.specs.Invariant.{HasBeenOut};
-ghost use Rattle.rasta_pdu.specs.declared.key.Key.{Key};
+ghost use Rattle.rasta_core_theorem.specs.Invariant.{HasBeenOut};
+ghost use Rattle.rasta_core_run.specs.key.Key.{Key};
 
+use rasta_core_theorem::time::{
+    every_event_keeps_time, every_run_keeps_time, quiet_is_counted, starts_in_time,
+};
 use rasta_core_theorem::{
     calls_at_one_clock, calls_follow_calls, every_event_keeps_order, every_run_keeps_order,
     given_was_sent, link_is_safe, newest_tells_the_connection, nothing_before_a_connection,
-};
-use rasta_core_time::{
-    every_event_keeps_time, every_run_keeps_time, quiet_is_counted, starts_in_time,
 };
 
 /// What a link sees after an event of a world is what the events that this is to the link make of what it saw before,

@@ -10,3 +10,4 @@ pub use laws::{
     each_link_sees_its_events, links_can_be_read_off, links_count_their_quiet, links_keep_order,
     links_keep_time, links_of_one_client,
 };
+pub use rasta_core_theorem as theorem;

@@ -1,12 +1,12 @@
 -- A connection stays in order where an end answers a retransmission request.
 use Rattle.std.proofs.Common.{◌≡◌, ℕ, zero, suc, ◌+◌, ◌-◌, ◌^◌, ◌<◌, ◌≤◌, min, false, List, [], ◌∷◌, ◌++◌, length, take, ◌⊎◌, inl, inr, refl, sym, ap, subst, ◌∙◌, arith}
 use Rattle.std.proofs.lemmas.List.{length-append, append-nil}
-use Rattle.rasta_core_link.specs.Sequence.{wire}
-use Rattle.rasta_core_link.specs.Sending.{pdu_of}
-use Rattle.rasta_core_link.specs.Receiving.{repeated, retagged}
-use Rattle.rasta_pdu.specs.declared.pdu.Pdu.{Pdu}
-use Rattle.rasta_pdu.specs.declared.body.Body.{Body}
-use Rattle.rasta_pdu.specs.declared.body.Body.TheVariants.{RetransmissionRequest, RetransmissionResponse, Heartbeat, RetransmittedData}
+use Rattle.rasta_core_run.specs.Sequence.{wire}
+use Rattle.rasta_core_run.specs.Sending.{pdu_of}
+use Rattle.rasta_core_run.specs.Receiving.{repeated, retagged}
+use Rattle.rasta_core_run.specs.pdu.Pdu.{Pdu}
+use Rattle.rasta_core_run.specs.body.Body.{Body}
+use Rattle.rasta_core_run.specs.body.Body.TheVariants.{RetransmissionRequest, RetransmissionResponse, Heartbeat, RetransmittedData}
 use Rattle.rasta_core_order.specs.Held.{Held, Head}
 use Rattle.rasta_core_order.specs.Part.{IsAt, Part, sent, later, items_of}
 use Rattle.rasta_core_order.specs.Order.{IsLevel, Brings, Carries, IsClosing, OpensOn, IsSent, Rises, Waits, Counts, Way}

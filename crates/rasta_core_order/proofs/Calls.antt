@@ -3,21 +3,21 @@ use Rattle.std.proofs.Common.{◌≡◌, ℕ, ◌<◌, Bool, true, false, List, 
 use Rattle.std.specs.Prelude.{nat_lt, nat_le, ◌-◌, ◌==◌, ◌&&◌, not, if◌then◌else◌, Result, Ok, Err, is_ok}
 use Rattle.std.proofs.lemmas.Bool.{ltb-true}
 use Rattle.std.proofs.lemmas.List.{append-nil}
-use Rattle.rasta_core_link.specs.Parameters.{connection_limit, heartbeat_interval, window_size}
-use Rattle.rasta_core_link.specs.State.{LinkState, is_open, is_up, is_asking}
-use Rattle.rasta_core_link.specs.Clock.{deadline, settled}
-use Rattle.rasta_core_link.specs.Sending.{Step, silent, then_do, sending, telling, closing, limited, entered, beating, giving}
-use Rattle.rasta_core_link.specs.Receiving.{Receipt, hearing, refusing}
-use Rattle.rasta_core_link.specs.Calls.{ticking, closing_by, acceptance, answer_to_send, sending_item, hearing_bytes, receiving}
-use Rattle.rasta_core_link.specs.declared.identity.Identity.{Identity}
-use Rattle.rasta_core_link.specs.declared.reason.Reason.{Reason}
-use Rattle.rasta_core_link.specs.declared.fault.SendFault.{SendFault}
-use Rattle.rasta_core_link.specs.declared.fault.SendFault.TheVariants as fault
-use Rattle.rasta_core_link.specs.declared.verdict.Verdict.{Verdict}
-use Rattle.rasta_core_link.specs.declared.verdict.Verdict.TheVariants as verdict
-use Rattle.rasta_pdu.specs.declared.pdu.Pdu.{Pdu}
-use Rattle.rasta_pdu.specs.declared.fault.PduFault.{PduFault}
-use Rattle.rasta_pdu.specs.Reading.{reading}
+use Rattle.rasta_core_run.specs.Parameters.{connection_limit, heartbeat_interval, window_size}
+use Rattle.rasta_core_run.specs.State.{LinkState, is_open, is_up, is_asking}
+use Rattle.rasta_core_run.specs.Clock.{deadline, settled}
+use Rattle.rasta_core_run.specs.Sending.{Step, silent, then_do, sending, telling, closing, limited, entered, beating, giving}
+use Rattle.rasta_core_run.specs.Receiving.{Receipt, hearing, refusing}
+use Rattle.rasta_core_run.specs.Calls.{ticking, closing_by, acceptance, answer_to_send, sending_item, hearing_bytes, receiving}
+use Rattle.rasta_core_run.specs.identity.Identity.{Identity}
+use Rattle.rasta_core_run.specs.reason.Reason.{Reason}
+use Rattle.rasta_core_run.specs.fault.SendFault.{SendFault}
+use Rattle.rasta_core_run.specs.fault.SendFault.TheVariants as fault
+use Rattle.rasta_core_run.specs.verdict.Verdict.{Verdict}
+use Rattle.rasta_core_run.specs.verdict.Verdict.TheVariants as verdict
+use Rattle.rasta_core_run.specs.pdu.Pdu.{Pdu}
+use Rattle.rasta_core_run.specs.pdu_fault.PduFault.{PduFault}
+use Rattle.rasta_core_run.specs.Reading.{reading}
 use Rattle.rasta_core_order.specs.Part.{IsOf, Part}
 use Rattle.rasta_core_order.specs.Order.{InOrder}
 use Rattle.rasta_core_order.specs.Playing.{HasJoined, IsStillAsking, Plays, GoesOn}

@@ -2,12 +2,12 @@
 use Rattle.std.proofs.Common.{◌≡◌, ℕ, ◌+◌, ◌-◌, ◌^◌, ◌<◌, ◌≤◌, Bool, true, false, List, length, ◌⊎◌, inl, inr, refl, sym, ap, subst, ◌∙◌, arith}
 use Rattle.std.specs.Prelude.{nat_lt, if◌then◌else◌}
 use Rattle.std.proofs.lemmas.Bool.{ltb-false}
-use Rattle.rasta_core_link.specs.Parameters.{sequence_range, stops_at_greatest}
-use Rattle.rasta_core_link.specs.Sequence.{wire, before, distance}
-use Rattle.rasta_core_link.specs.State.{LinkState, is_open, is_up, is_asking}
-use Rattle.rasta_core_link.specs.Clock.{open_state}
-use Rattle.rasta_core_link.specs.Receiving.{ahead, behind, taking, still_waiting}
-use Rattle.rasta_pdu.specs.declared.pdu.Pdu.{Pdu}
+use Rattle.rasta_core_run.specs.Parameters.{sequence_range, stops_at_greatest}
+use Rattle.rasta_core_run.specs.Sequence.{wire, before, distance}
+use Rattle.rasta_core_run.specs.State.{LinkState, is_open, is_up, is_asking}
+use Rattle.rasta_core_run.specs.Clock.{open_state}
+use Rattle.rasta_core_run.specs.Receiving.{ahead, behind, taking, still_waiting}
+use Rattle.rasta_core_run.specs.pdu.Pdu.{Pdu}
 use Rattle.rasta_core_order.specs.Held.{Stage}
 use Rattle.rasta_core_order.specs.Part.{IsAt, Part, sent}
 use Rattle.rasta_core_order.specs.Order.{IsSent, InOrder}

@@ -2,14 +2,14 @@
 use Rattle.std.proofs.Common.{◌≡◌, ℕ, ◌+◌, ◌^◌, ◌<◌, ◌≤◌, true, [], ◌∷◌, length, take, ◌⊎◌, inl, inr, refl, sym, ap, subst, ◌∙◌, arith}
 use Rattle.std.specs.Prelude.{if◌then◌else◌}
 use Rattle.std.proofs.lemmas.List.{length-append, append-nil}
-use Rattle.rasta_core_link.specs.Parameters.{most_sent}
-use Rattle.rasta_core_link.specs.Sequence.{wire}
-use Rattle.rasta_core_link.specs.State.{LinkState, is_asking}
-use Rattle.rasta_core_link.specs.Sending.{Step, silent, header_of, pdu_of, sending, closed, telling, closing, reason_number, is_told}
-use Rattle.rasta_core_link.specs.declared.reason.Reason.{Reason}
-use Rattle.rasta_pdu.specs.declared.pdu.Pdu.{Pdu}
-use Rattle.rasta_pdu.specs.declared.body.Body.{Body}
-use Rattle.rasta_pdu.specs.declared.body.Body.TheVariants.{RetransmissionRequest, RetransmissionResponse, DisconnectionRequest}
+use Rattle.rasta_core_run.specs.Parameters.{most_sent}
+use Rattle.rasta_core_run.specs.Sequence.{wire}
+use Rattle.rasta_core_run.specs.State.{LinkState, is_asking}
+use Rattle.rasta_core_run.specs.Sending.{Step, silent, header_of, pdu_of, sending, closed, telling, closing, reason_number, is_told}
+use Rattle.rasta_core_run.specs.reason.Reason.{Reason}
+use Rattle.rasta_core_run.specs.pdu.Pdu.{Pdu}
+use Rattle.rasta_core_run.specs.body.Body.{Body}
+use Rattle.rasta_core_run.specs.body.Body.TheVariants.{RetransmissionRequest, RetransmissionResponse, DisconnectionRequest}
 use Rattle.rasta_core_order.specs.Part.{IsAt, Part, sent}
 use Rattle.rasta_core_order.specs.Order.{Brings, Carries, IsClosing, IsSent, Counts}
 use Rattle.rasta_core_order.specs.Playing.{IsInside, Plays, asking, left}

@@ -1,12 +1,12 @@
 -- A connection begins in order.
 use Rattle.std.proofs.Common.{◌≡◌, ℕ, ◌^◌, ◌<◌, ◌≤◌, true, false, [], ◌∷◌, length, take, inl, inr, refl, sym, ap, subst, ◌∙◌, arith}
 use Rattle.std.specs.Prelude.{if◌then◌else◌}
-use Rattle.rasta_core_link.specs.Sequence.{wire, before}
-use Rattle.rasta_core_link.specs.State.{LinkState, is_client}
-use Rattle.rasta_core_link.specs.Sending.{header_of, pdu_of, sending}
-use Rattle.rasta_core_link.specs.Opening.{own_opening, beginning, requesting, meeting, judging, granting}
-use Rattle.rasta_pdu.specs.declared.pdu.Pdu.{Pdu}
-use Rattle.rasta_pdu.specs.declared.body.Body.TheVariants.{ConnectionRequest, ConnectionResponse, RetransmissionRequest, RetransmissionResponse}
+use Rattle.rasta_core_run.specs.Sequence.{wire, before}
+use Rattle.rasta_core_run.specs.State.{LinkState, is_client}
+use Rattle.rasta_core_run.specs.Sending.{header_of, pdu_of, sending}
+use Rattle.rasta_core_run.specs.Opening.{own_opening, beginning, requesting, meeting, judging, granting}
+use Rattle.rasta_core_run.specs.pdu.Pdu.{Pdu}
+use Rattle.rasta_core_run.specs.body.Body.TheVariants.{ConnectionRequest, ConnectionResponse, RetransmissionRequest, RetransmissionResponse}
 use Rattle.rasta_core_order.specs.Part.{IsAt, Part, sent, later, items_of}
 use Rattle.rasta_core_order.specs.Order.{IsLevel, Carries, IsRequest, IsResponse, IsSent, Rises, Waits, Way}
 use Rattle.rasta_core_order.specs.Playing.{joined}

@@ -2,20 +2,20 @@
 use Rattle.std.proofs.Common.{◌≡◌, ℕ, ◌≤◌, Bool, true, false, List, [], ◌++◌, ◌⊎◌, inl, inr, refl, sym, subst, arith}
 use Rattle.std.specs.Prelude.{nat_le, ◌==◌, ◌&&◌, not, if◌then◌else◌}
 use Rattle.std.proofs.lemmas.List.{append-nil}
-use Rattle.rasta_core_link.specs.Parameters.{connection_limit}
-use Rattle.rasta_core_link.specs.State.{LinkState, is_open, is_client}
-use Rattle.rasta_core_link.specs.Clock.{deadline, settled, state_at}
-use Rattle.rasta_core_link.specs.Sending.{Step, silent, telling, limited, entered}
-use Rattle.rasta_core_link.specs.Opening.{may_open, requesting, granting}
-use Rattle.rasta_core_link.specs.Receiving.{accepting, refusing, resting, by_state, hearing}
-use Rattle.rasta_core_link.specs.Calls.{opening, opens}
-use Rattle.rasta_core_link.specs.declared.phase.State.{State}
-use Rattle.rasta_core_link.specs.declared.phase.State.TheVariants as state
-use Rattle.rasta_core_link.specs.declared.reason.Reason.TheVariants as reason
-use Rattle.rasta_core_link.specs.declared.verdict.Verdict.TheVariants as verdict
-use Rattle.rasta_pdu.specs.declared.pdu.Pdu.{Pdu}
-use Rattle.rasta_pdu.specs.declared.body.Body.{Body}
-use Rattle.rasta_pdu.specs.declared.body.Body.TheVariants.{ConnectionRequest, ConnectionResponse, RetransmissionRequest, RetransmissionResponse, DisconnectionRequest, Heartbeat, Data, RetransmittedData}
+use Rattle.rasta_core_run.specs.Parameters.{connection_limit}
+use Rattle.rasta_core_run.specs.State.{LinkState, is_open, is_client}
+use Rattle.rasta_core_run.specs.Clock.{deadline, settled, state_at}
+use Rattle.rasta_core_run.specs.Sending.{Step, silent, telling, limited, entered}
+use Rattle.rasta_core_run.specs.Opening.{may_open, requesting, granting}
+use Rattle.rasta_core_run.specs.Receiving.{accepting, refusing, resting, by_state, hearing}
+use Rattle.rasta_core_run.specs.Calls.{opening, opens}
+use Rattle.rasta_core_run.specs.phase.State.{State}
+use Rattle.rasta_core_run.specs.phase.State.TheVariants as state
+use Rattle.rasta_core_run.specs.reason.Reason.TheVariants as reason
+use Rattle.rasta_core_run.specs.verdict.Verdict.TheVariants as verdict
+use Rattle.rasta_core_run.specs.pdu.Pdu.{Pdu}
+use Rattle.rasta_core_run.specs.body.Body.{Body}
+use Rattle.rasta_core_run.specs.body.Body.TheVariants.{ConnectionRequest, ConnectionResponse, RetransmissionRequest, RetransmissionResponse, DisconnectionRequest, Heartbeat, Data, RetransmittedData}
 use Rattle.rasta_core_order.specs.Part.{Part}
 use Rattle.rasta_core_order.specs.Order.{InOrder}
 use Rattle.rasta_core_order.specs.Playing.{Plays, GoesOn, StepGoesOn}

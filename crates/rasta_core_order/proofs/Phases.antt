@@ -1,15 +1,15 @@
 -- What may come in a connection, phase by phase.
 use Rattle.std.proofs.Common.{◌≡◌, ℕ, Bool, true, false, List, refl, sym, subst, arith, ◌⊎◌, inl, inr}
-use Rattle.rasta_core_link.specs.State.{LinkState, is_open, is_up}
-use Rattle.rasta_core_link.specs.Clock.{open_state}
-use Rattle.rasta_core_link.specs.Sending.{silent, closed}
-use Rattle.rasta_core_link.specs.Receiving.{Receipt, accepting, refusing, violating, taking, admission, admitting, in_turn}
-use Rattle.rasta_core_link.specs.declared.phase.State.TheVariants as state
-use Rattle.rasta_core_link.specs.declared.verdict.Verdict.TheVariants as verdict
-use Rattle.rasta_pdu.specs.declared.body.Opening.{Opening}
-use Rattle.rasta_pdu.specs.declared.body.Body.{Body}
-use Rattle.rasta_pdu.specs.declared.body.Body.TheVariants.{ConnectionRequest, ConnectionResponse, RetransmissionRequest, RetransmissionResponse, DisconnectionRequest, Heartbeat, Data, RetransmittedData}
-use Rattle.rasta_pdu.specs.declared.pdu.Pdu.{Pdu}
+use Rattle.rasta_core_run.specs.State.{LinkState, is_open, is_up}
+use Rattle.rasta_core_run.specs.Clock.{open_state}
+use Rattle.rasta_core_run.specs.Sending.{silent, closed}
+use Rattle.rasta_core_run.specs.Receiving.{Receipt, accepting, refusing, violating, taking, admission, admitting, in_turn}
+use Rattle.rasta_core_run.specs.phase.State.TheVariants as state
+use Rattle.rasta_core_run.specs.verdict.Verdict.TheVariants as verdict
+use Rattle.rasta_core_run.specs.body.Opening.{Opening}
+use Rattle.rasta_core_run.specs.body.Body.{Body}
+use Rattle.rasta_core_run.specs.body.Body.TheVariants.{ConnectionRequest, ConnectionResponse, RetransmissionRequest, RetransmissionResponse, DisconnectionRequest, Heartbeat, Data, RetransmittedData}
+use Rattle.rasta_core_run.specs.pdu.Pdu.{Pdu}
 use Rattle.rasta_core_order.specs.Held.{Stage}
 use Rattle.rasta_core_order.specs.Order.{IsClosing}
 use Rattle.rasta_core_order.specs.Playing.{reads}

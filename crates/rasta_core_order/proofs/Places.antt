@@ -1,6 +1,6 @@
 -- Places in a flow that grows.
 use Rattle.std.proofs.Common.{◌≡◌, ℕ, zero, suc, ◌+◌, ◌<◌, List, [], ◌∷◌, ◌++◌, length, ◌⊎◌, inl, inr, refl, sym, subst, ◌∙◌, arith}
-use Rattle.rasta_pdu.specs.declared.pdu.Pdu.{Pdu}
+use Rattle.rasta_core_run.specs.pdu.Pdu.{Pdu}
 use Rattle.rasta_core_order.specs.Part.{IsAt}
 use Rattle.rasta_core_order.specs.Order.{IsClosing, BeginsByResponse, OpensOn}
 

@@ -1,12 +1,12 @@
 -- A link in the connection answers a retransmission request that it has taken.
 use Rattle.std.proofs.Common.{◌≡◌, ℕ, ◌+◌, ◌^◌, ◌<◌, ◌≤◌, true, false, List, [], ◌++◌, length, refl, sym, ap, ◌∙◌, arith}
 use Rattle.std.proofs.lemmas.List.{append-nil}
-use Rattle.rasta_core_link.specs.Parameters.{connection_limit}
-use Rattle.rasta_core_link.specs.State.{LinkState, is_up}
-use Rattle.rasta_core_link.specs.Sending.{header_of, pdu_of, sending}
-use Rattle.rasta_core_link.specs.Receiving.{retagged, repeating, answering}
-use Rattle.rasta_pdu.specs.declared.pdu.Pdu.{Pdu}
-use Rattle.rasta_pdu.specs.declared.body.Body.TheVariants.{RetransmissionRequest, RetransmissionResponse}
+use Rattle.rasta_core_run.specs.Parameters.{connection_limit}
+use Rattle.rasta_core_run.specs.State.{LinkState, is_up}
+use Rattle.rasta_core_run.specs.Sending.{header_of, pdu_of, sending}
+use Rattle.rasta_core_run.specs.Receiving.{retagged, repeating, answering}
+use Rattle.rasta_core_run.specs.pdu.Pdu.{Pdu}
+use Rattle.rasta_core_run.specs.body.Body.TheVariants.{RetransmissionRequest, RetransmissionResponse}
 use Rattle.rasta_core_order.specs.Held.{Head}
 use Rattle.rasta_core_order.specs.Part.{IsAt, Part, sent, later}
 use Rattle.rasta_core_order.specs.Order.{InOrder}

@@ -3,9 +3,9 @@ use Rattle.std.proofs.Common.{◌≡◌, ℕ, ◌+◌, ◌-◌, ◌^◌, ◌<◌
 use Rattle.std.specs.Prelude.{nat_le, if◌then◌else◌}
 use Rattle.std.proofs.lemmas.List.{length-append, append-nil}
 use Rattle.std.proofs.lemmas.Bool.{leb-true, leb-false}
-use Rattle.rasta_core_link.specs.Sequence.{wire}
-use Rattle.rasta_pdu.specs.declared.pdu.Pdu.{Pdu}
-use Rattle.rasta_pdu.specs.declared.body.Body.TheVariants.{RetransmissionResponse}
+use Rattle.rasta_core_run.specs.Sequence.{wire}
+use Rattle.rasta_core_run.specs.pdu.Pdu.{Pdu}
+use Rattle.rasta_core_run.specs.body.Body.TheVariants.{RetransmissionResponse}
 use Rattle.rasta_core_order.specs.Part.{IsAt, Part, sent, later}
 use Rattle.rasta_core_order.specs.Order.{Brings, Carries, OpensOn, IsUnanswered, IsSent, Counts, Way}
 use Rattle.rasta_core_order.proofs.Tests.{by_test}

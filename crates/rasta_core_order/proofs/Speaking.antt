@@ -1,12 +1,12 @@
 -- What a link in a connection sends is the next PDU of its part.
 use Rattle.std.proofs.Common.{◌≡◌, ◌-◌, ◌≤◌, [], ◌∷◌, ◌++◌, length, ◌⊎◌, inl, inr, ap, ◌∙◌, arith}
 use Rattle.std.specs.Prelude.{if◌then◌else◌}
-use Rattle.rasta_core_link.specs.Sequence.{wire, before}
-use Rattle.rasta_core_link.specs.State.{LinkState}
-use Rattle.rasta_core_link.specs.Sending.{header_of, pdu_of}
-use Rattle.rasta_pdu.specs.declared.pdu.Pdu.{Pdu}
-use Rattle.rasta_pdu.specs.declared.body.Body.{Body}
-use Rattle.rasta_pdu.specs.declared.body.Body.TheVariants.{RetransmissionRequest, RetransmissionResponse}
+use Rattle.rasta_core_run.specs.Sequence.{wire, before}
+use Rattle.rasta_core_run.specs.State.{LinkState}
+use Rattle.rasta_core_run.specs.Sending.{header_of, pdu_of}
+use Rattle.rasta_core_run.specs.pdu.Pdu.{Pdu}
+use Rattle.rasta_core_run.specs.body.Body.{Body}
+use Rattle.rasta_core_run.specs.body.Body.TheVariants.{RetransmissionRequest, RetransmissionResponse}
 use Rattle.rasta_core_order.specs.Part.{Part, sent}
 use Rattle.rasta_core_order.specs.Order.{Brings, Carries, IsClosing, BeginsByResponse, InOrder}
 use Rattle.rasta_core_order.specs.Playing.{IsInside, HasJoined}

@@ -2,7 +2,7 @@
 use Rattle.std.proofs.Common.{◌≡◌, ℕ, ◌+◌, ◌-◌, ◌<◌, ◌≤◌, List, [], ◌∷◌, ◌++◌, length, refl, arith, ap, sym, ◌∙◌, append_assoc}
 use Rattle.std.specs.Prelude.{nat_le}
 use Rattle.std.proofs.lemmas.Bool.{leb-false}
-use Rattle.rasta_core_link.specs.Receiving.{still_waiting, retagged}
+use Rattle.rasta_core_run.specs.Receiving.{still_waiting, retagged}
 use Rattle.rasta_core_order.specs.Held.{Held}
 use Rattle.rasta_core_order.specs.Part.{later, items_of}
 use Rattle.rasta_core_order.specs.Order.{Rises}

@@ -3,16 +3,16 @@ use Rattle.std.proofs.Common.{◌≡◌, ℕ, zero, suc, Bool, ◌⊎◌, ◌+�
 use Rattle.std.specs.Prelude.{nat_lt, ◌==◌}
 use Rattle.std.proofs.lemmas.Bool.{eqb-true}
 use Rattle.std.proofs.lemmas.List.{length-append, append-nil}
-use Rattle.rasta_core_link.specs.Parameters.{sequence_range, stops_at_greatest, connection_limit}
-use Rattle.rasta_core_link.specs.Sequence.{wire}
-use Rattle.rasta_core_link.specs.State.{LinkState, is_open, is_up, is_asking}
-use Rattle.rasta_core_link.specs.Clock.{open_state}
-use Rattle.rasta_core_link.specs.Sending.{closed}
-use Rattle.rasta_core_link.specs.Receiving.{Receipt, ahead, behind, taking, still_waiting, answering, missing, handing, up, bringing, in_turn}
-use Rattle.rasta_core_link.specs.declared.phase.State.TheVariants as state
-use Rattle.rasta_pdu.specs.declared.pdu.Pdu.{Pdu}
-use Rattle.rasta_pdu.specs.declared.body.Body.{Body}
-use Rattle.rasta_pdu.specs.declared.body.Body.TheVariants.{ConnectionRequest, ConnectionResponse, RetransmissionRequest, RetransmissionResponse, DisconnectionRequest, Heartbeat, Data, RetransmittedData}
+use Rattle.rasta_core_run.specs.Parameters.{sequence_range, stops_at_greatest, connection_limit}
+use Rattle.rasta_core_run.specs.Sequence.{wire}
+use Rattle.rasta_core_run.specs.State.{LinkState, is_open, is_up, is_asking}
+use Rattle.rasta_core_run.specs.Clock.{open_state}
+use Rattle.rasta_core_run.specs.Sending.{closed}
+use Rattle.rasta_core_run.specs.Receiving.{Receipt, ahead, behind, taking, still_waiting, answering, missing, handing, up, bringing, in_turn}
+use Rattle.rasta_core_run.specs.phase.State.TheVariants as state
+use Rattle.rasta_core_run.specs.pdu.Pdu.{Pdu}
+use Rattle.rasta_core_run.specs.body.Body.{Body}
+use Rattle.rasta_core_run.specs.body.Body.TheVariants.{ConnectionRequest, ConnectionResponse, RetransmissionRequest, RetransmissionResponse, DisconnectionRequest, Heartbeat, Data, RetransmittedData}
 use Rattle.rasta_core_order.specs.Held.{Stage}
 use Rattle.rasta_core_order.specs.Part.{IsAt, Part, sent}
 use Rattle.rasta_core_order.specs.Order.{Brings, Carries, IsClosing, BeginsByResponse, OpensOn, IsAsking, InOrder}

@@ -1,9 +1,9 @@
 -- Types of a link: the items that it holds to be unconfirmed, the fields that the PDUs of one step share, and the
 -- phases of a connection.
 use Rattle.std.specs.Prelude.{List, []}
-use Rattle.rasta_core_link.specs.State.{is_open}
-use Rattle.rasta_core_link.specs.Sending.{header_of}
-use Rattle.rasta_core_link.specs.Receiving.{still_waiting}
+use Rattle.rasta_core_run.specs.State.{is_open}
+use Rattle.rasta_core_run.specs.Sending.{header_of}
+use Rattle.rasta_core_run.specs.Receiving.{still_waiting}
 
 abbrev pub ElementOf : {A : Type 0} → List A → Type 0
 ElementOf {A} list = A

@@ -1,16 +1,16 @@
 -- The link of an end, and the part of that end in a connection.
 use Rattle.std.specs.Prelude.{◌≡◌, ℕ, ◌^◌, ◌<◌, ◌≤◌, Bool, true, false, List, [], ◌∷◌, ◌++◌, length, ◌⊎◌, Result, is_ok, if◌then◌else◌}
-use Rattle.rasta_core_link.specs.Parameters.{most_sent, stops_at_greatest}
-use Rattle.rasta_core_link.specs.State.{LinkState, is_open, is_up, is_asking}
-use Rattle.rasta_core_link.specs.Clock.{open_state}
-use Rattle.rasta_core_link.specs.Sending.{Step}
-use Rattle.rasta_core_link.specs.Receiving.{Receipt}
-use Rattle.rasta_core_link.specs.declared.fault.SendFault.{SendFault}
-use Rattle.rasta_core_link.specs.declared.phase.State.{State}
-use Rattle.rasta_core_link.specs.declared.phase.State.TheVariants as state
+use Rattle.rasta_core_run.specs.Parameters.{most_sent, stops_at_greatest}
+use Rattle.rasta_core_run.specs.State.{LinkState, is_open, is_up, is_asking}
+use Rattle.rasta_core_run.specs.Clock.{open_state}
+use Rattle.rasta_core_run.specs.Sending.{Step}
+use Rattle.rasta_core_run.specs.Receiving.{Receipt}
+use Rattle.rasta_core_run.specs.fault.SendFault.{SendFault}
+use Rattle.rasta_core_run.specs.phase.State.{State}
+use Rattle.rasta_core_run.specs.phase.State.TheVariants as state
 use Rattle.rasta_core_order.specs.Part.{Part, sent}
 use Rattle.rasta_core_order.specs.Order.{BeginsByResponse, OpensOn, InOrder}
-use Rattle.rasta_pdu.specs.declared.pdu.Pdu.{Pdu}
+use Rattle.rasta_core_run.specs.pdu.Pdu.{Pdu}
 
 -- an end takes PDUs in turn, but where it has asked for a retransmission
 abbrev pub reads : State → Bool

@@ -1,23 +1,23 @@
 //! What holds of a connection in order, for the crates above.
 
 ghost use Rattle.std.specs.Prelude.{◌≡◌, ◌≤◌, ◌<◌, ◌^◌, ◌&&◌, ◌==◌, true, false, ℕ, List, [], ◌++◌, length, Ok, Err};
-ghost use Rattle.rasta_core_link.specs.Calls.{answer_to_send, closing_by, created, opening, opens, receiving, sending_item, ticking};
-ghost use Rattle.rasta_core_link.specs.Clock.{settled};
-ghost use Rattle.rasta_core_link.specs.Opening.{granting, own_opening};
-ghost use Rattle.rasta_core_link.specs.Receiving.{hearing, refusing};
-ghost use Rattle.rasta_core_link.specs.Sending.{entered, silent};
-ghost use Rattle.rasta_core_link.specs.State.{LinkState, confirmed_items, is_client, is_open};
-ghost use Rattle.rasta_core_link.specs.declared.identity.Identity.{Identity};
-ghost use Rattle.rasta_core_link.specs.declared.reason.Reason.{Reason};
-ghost use Rattle.rasta_core_link.specs.declared.verdict.Verdict.{Verdict};
+ghost use Rattle.rasta_core_run.specs.Calls.{answer_to_send, closing_by, created, opening, opens, receiving, sending_item, ticking};
+ghost use Rattle.rasta_core_run.specs.Clock.{settled};
+ghost use Rattle.rasta_core_run.specs.Opening.{granting, own_opening};
+ghost use Rattle.rasta_core_run.specs.Receiving.{hearing, refusing};
+ghost use Rattle.rasta_core_run.specs.Sending.{entered, silent};
+ghost use Rattle.rasta_core_run.specs.State.{LinkState, confirmed_items, is_client, is_open};
+ghost use Rattle.rasta_core_run.specs.identity.Identity.{Identity};
+ghost use Rattle.rasta_core_run.specs.reason.Reason.{Reason};
+ghost use Rattle.rasta_core_run.specs.verdict.Verdict.{Verdict};
 ghost use Rattle.rasta_core_order.specs.Beginning.{Asks, EarlyGoesOn, Grants, HearsOutside, IsEarly, PlaysEarly};
 ghost use Rattle.rasta_core_order.specs.Carried.{carried};
 ghost use Rattle.rasta_core_order.specs.Order.{InOrder, Way};
 ghost use Rattle.rasta_core_order.specs.Part.{IsAt, IsOf, Part};
 ghost use Rattle.rasta_core_order.specs.Playing.{accepted, Plays, ReceiptGoesOn, StepGoesOn};
-ghost use Rattle.rasta_pdu.specs.Reading.{reading};
-ghost use Rattle.rasta_pdu.specs.declared.fault.PduFault.{PduFault};
-ghost use Rattle.rasta_pdu.specs.declared.pdu.Pdu.{Pdu};
+ghost use Rattle.rasta_core_run.specs.Reading.{reading};
+ghost use Rattle.rasta_core_run.specs.pdu_fault.PduFault.{PduFault};
+ghost use Rattle.rasta_core_run.specs.pdu.Pdu.{Pdu};
 
 /// In each direction, what was taken is a beginning of what was given, and what an end holds to be confirmed is
 /// at most what its partner took.

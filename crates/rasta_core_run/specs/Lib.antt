@@ -9,3 +9,28 @@ pub mod Safe
 pub mod Given
 pub mod Newest
 pub mod Steps
+-- What stands below a run: one end of a link, and a PDU.
+pub use Rattle.rasta_core_link.specs.Parameters
+pub use Rattle.rasta_core_link.specs.Sequence
+pub use Rattle.rasta_core_link.specs.State
+pub use Rattle.rasta_core_link.specs.Clock
+pub use Rattle.rasta_core_link.specs.Sending
+pub use Rattle.rasta_core_link.specs.Opening
+pub use Rattle.rasta_core_link.specs.Receiving
+pub use Rattle.rasta_core_link.specs.Verdicts
+pub use Rattle.rasta_core_link.specs.Calls
+pub use Rattle.rasta_core_link.specs.Outbox
+pub use Rattle.rasta_core_link.specs.declared.identity
+pub use Rattle.rasta_core_link.specs.declared.reason
+pub use Rattle.rasta_core_link.specs.declared.verdict
+pub use Rattle.rasta_core_link.specs.declared.fault
+pub use Rattle.rasta_core_link.specs.declared.phase
+pub use Rattle.rasta_pdu.specs.Values
+pub use Rattle.rasta_pdu.specs.SafetyCode
+pub use Rattle.rasta_pdu.specs.Spelling
+pub use Rattle.rasta_pdu.specs.Reading
+pub use Rattle.rasta_pdu.specs.Items
+pub use Rattle.rasta_pdu.specs.declared.body
+pub use Rattle.rasta_pdu.specs.declared.key
+pub use Rattle.rasta_pdu.specs.declared.pdu
+pub use Rattle.rasta_pdu.specs.declared.fault as pdu_fault

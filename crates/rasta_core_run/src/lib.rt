@@ -3,4 +3,8 @@
 
 mod sent;
 
+pub use rasta_core_link::{
+    Identity, Inbox, Link, Millis, Outbox, Reason, Role, SendFault, State, Verdict,
+};
+pub use rasta_pdu::{read_was_written, written_is_read};
 pub use sent::Sent;

@@ -1,15 +1,15 @@
 -- Each call at an end keeps the order of both.
 use Rattle.std.proofs.Common.{◌≡◌, ℕ, ◌≤◌, length, Bool, true, false, ◌&&◌, if◌then◌else◌, List, [], Option, Some, None, refl, ap, subst, ◌∙◌}
 use Rattle.std.specs.Prelude.{is_ok}
-use Rattle.rasta_core_link.specs.State.{LinkState, is_client}
-use Rattle.rasta_core_link.specs.Clock.{state_at}
-use Rattle.rasta_core_link.specs.Sending.{Step, entered}
-use Rattle.rasta_core_link.specs.Opening.{may_open, is_down}
-use Rattle.rasta_core_link.specs.Calls.{answer_to_send, opens, opening, ticking, closing_by, sending_item}
-use Rattle.rasta_core_link.specs.declared.identity.Identity.{Identity}
-use Rattle.rasta_core_link.specs.declared.identity.Role.{Role}
-use Rattle.rasta_core_link.specs.declared.identity.Role.TheVariants as role
-use Rattle.rasta_core_link.specs.declared.reason.Reason.{Reason}
+use Rattle.rasta_core_run.specs.State.{LinkState, is_client}
+use Rattle.rasta_core_run.specs.Clock.{state_at}
+use Rattle.rasta_core_run.specs.Sending.{Step, entered}
+use Rattle.rasta_core_run.specs.Opening.{may_open, is_down}
+use Rattle.rasta_core_run.specs.Calls.{answer_to_send, opens, opening, ticking, closing_by, sending_item}
+use Rattle.rasta_core_run.specs.identity.Identity.{Identity}
+use Rattle.rasta_core_run.specs.identity.Role.{Role}
+use Rattle.rasta_core_run.specs.identity.Role.TheVariants as role
+use Rattle.rasta_core_run.specs.reason.Reason.{Reason}
 use Rattle.rasta_core_run.specs.Ends.{Outcome, Ticks, Opens, Closes, Sends, outcome, reading_of, end_after, newer}
 use Rattle.rasta_core_run.specs.Run.{Ends, end_of, called}
 use Rattle.rasta_core_order.specs.Order.{InOrder}
@@ -29,7 +29,7 @@ use Rattle.rasta_core_theorem.proofs.Outside.{entered_identity}
 use Rattle.rasta_core_theorem.proofs.Few.{none_few, one_few}
 use Rattle.rasta_core_theorem.proofs.Made.{client_together, server_together, client_alone, server_rests, client_asked}
 use Rattle.rasta_core_theorem.proofs.Comes.{deed_pdus, deed_silent, server_out, nothing_yet, server_earlier}
-use Rattle.rasta_pdu.specs.Values.{IsPdu}
+use Rattle.rasta_core_run.specs.Values.{IsPdu}
 
 server_opens_not : (now : ℕ) (link : LinkState) → (entered now link).link.identity.role ≡ role.Server → opens now link ≡ false
 unfolding opens

@@ -1,8 +1,8 @@
 -- What comes to an end is a PDU of its partner's flow, or isn't for it.
 use Rattle.std.proofs.Common.{◌≡◌, ℕ, ◌<◌, inl, inr, Bool, true, false, List, [], Some, Result, Ok, Err, sym, ap, subst, ◌∙◌, arith}
-use Rattle.rasta_core_link.specs.declared.identity.Identity.{Identity}
-use Rattle.rasta_core_link.specs.declared.identity.Role.{Role}
-use Rattle.rasta_core_link.specs.declared.identity.Role.TheVariants as role
+use Rattle.rasta_core_run.specs.identity.Identity.{Identity}
+use Rattle.rasta_core_run.specs.identity.Role.{Role}
+use Rattle.rasta_core_run.specs.identity.Role.TheVariants as role
 use Rattle.rasta_core_run.specs.Ends.{Sent, Receives}
 use Rattle.rasta_core_run.specs.Run.{Ends}
 use Rattle.rasta_core_order.specs.Part.{IsOf}
@@ -19,10 +19,10 @@ use Rattle.rasta_core_time.proofs.Hearing.{read_pdu}
 use Rattle.rasta_core_time.proofs.Called.{ReadIsIntact, among_each}
 use Rattle.rasta_core_time.proofs.Conclusions.{of_datagram}
 use Rattle.rasta_core_theorem.specs.Ordered.{IsSpelledIn, IsAlone}
-use Rattle.rasta_pdu.specs.declared.pdu.Pdu.{Pdu}
-use Rattle.rasta_pdu.specs.declared.fault.PduFault.{PduFault}
-use Rattle.rasta_pdu.specs.Reading.{reading}
-use Rattle.rasta_pdu.specs.Values.{IsPdu}
+use Rattle.rasta_core_run.specs.pdu.Pdu.{Pdu}
+use Rattle.rasta_core_run.specs.pdu_fault.PduFault.{PduFault}
+use Rattle.rasta_core_run.specs.Reading.{reading}
+use Rattle.rasta_core_run.specs.Values.{IsPdu}
 
 -- what a call hands out are PDUs
 pub deed_pdus : (identity : Identity) (now : ℕ) (heard : Heard) (old new : Standing) (enters : Bool) (items : List (List ℕ)) (pdus : List Pdu)

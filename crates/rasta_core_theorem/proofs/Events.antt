@@ -1,12 +1,12 @@
 -- Every event keeps the order of two ends, and so does every run.
 use Rattle.std.proofs.Common.{◌≡◌, ℕ, ◌+◌, ◌≤◌, ◌<◌, ◌^◌, inl, inr, true, List, [], ◌∷◌, ◌++◌, length, Some, None, refl, sym, ap, subst, ◌∙◌, arith}
 use Rattle.std.proofs.lemmas.List.{length-append}
-use Rattle.rasta_core_link.specs.Parameters.{stops_at_greatest}
-use Rattle.rasta_core_link.specs.State.{LinkState, is_open, confirmed_items}
-use Rattle.rasta_core_link.specs.Calls.{created}
-use Rattle.rasta_core_link.specs.declared.identity.Identity.{Identity}
-use Rattle.rasta_core_link.specs.declared.identity.Role.{Role}
-use Rattle.rasta_core_link.specs.declared.identity.Role.TheVariants as role
+use Rattle.rasta_core_run.specs.Parameters.{stops_at_greatest}
+use Rattle.rasta_core_run.specs.State.{LinkState, is_open, confirmed_items}
+use Rattle.rasta_core_run.specs.Calls.{created}
+use Rattle.rasta_core_run.specs.identity.Identity.{Identity}
+use Rattle.rasta_core_run.specs.identity.Role.{Role}
+use Rattle.rasta_core_run.specs.identity.Role.TheVariants as role
 use Rattle.rasta_core_run.specs.Bag.{is_copy, without_oldest}
 use Rattle.rasta_core_run.specs.Ends.{Sent, EndState, Call, Ticks, Opens, Closes, Sends, Receives, reading_of, end_later, end_restarted}
 use Rattle.rasta_core_run.specs.Run.{Ends, called, later, lost, restarted}
@@ -25,7 +25,7 @@ use Rattle.rasta_core_theorem.proofs.Tests.{by_test}
 use Rattle.rasta_core_theorem.proofs.OrderLaws.{Laws, SafeLaws}
 use Rattle.rasta_core_theorem.proofs.Calls.{ticks_client, closes_client, sends_client, opens_client, ticks_server, closes_server, sends_server, opens_server}
 use Rattle.rasta_core_theorem.proofs.Receptions.{receives_client, receives_server}
-use Rattle.rasta_pdu.specs.declared.pdu.Pdu.{Pdu}
+use Rattle.rasta_core_run.specs.pdu.Pdu.{Pdu}
 
 -- ---- time goes on
 

@@ -1,7 +1,7 @@
 -- What was sent spells the PDUs of the flows.
 use Rattle.std.proofs.Common.{◌≡◌, ℕ, zero, suc, List, [], ◌∷◌, ◌++◌, Option, Ok, refl, sym, subst, append_assoc}
-use Rattle.rasta_core_link.specs.declared.identity.Role.{Role}
-use Rattle.rasta_core_link.specs.Outbox.{spellings}
+use Rattle.rasta_core_run.specs.identity.Role.{Role}
+use Rattle.rasta_core_run.specs.Outbox.{spellings}
 use Rattle.rasta_core_run.specs.Ends.{Sent, handed_out}
 use Rattle.rasta_core_order.specs.Part.{IsAt, IsOf}
 use Rattle.rasta_core_run.specs.Each.{Each}
@@ -9,11 +9,11 @@ use Rattle.rasta_core_run.specs.Names.{Names}
 use Rattle.rasta_core_time.proofs.EachLaws.{each_join, each_turned}
 use Rattle.rasta_core_time.proofs.Conversation.{WrittenIsRead}
 use Rattle.rasta_core_theorem.specs.Ordered.{IsSpelledIn}
-use Rattle.rasta_pdu.specs.declared.key.Key.{Key}
-use Rattle.rasta_pdu.specs.declared.pdu.Pdu.{Pdu}
-use Rattle.rasta_pdu.specs.Reading.{reading}
-use Rattle.rasta_pdu.specs.Spelling.{writing}
-use Rattle.rasta_pdu.specs.Values.{IsPdu}
+use Rattle.rasta_core_run.specs.key.Key.{Key}
+use Rattle.rasta_core_run.specs.pdu.Pdu.{Pdu}
+use Rattle.rasta_core_run.specs.Reading.{reading}
+use Rattle.rasta_core_run.specs.Spelling.{writing}
+use Rattle.rasta_core_run.specs.Values.{IsPdu}
 
 at_front : (place : ℕ) (pdu : Pdu) (flow more : List Pdu) → IsAt place pdu flow → IsAt place pdu (flow ++ more)
 at_front place pdu [] more at = elim at [ ]

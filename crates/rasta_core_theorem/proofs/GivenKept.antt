@@ -1,10 +1,10 @@
 -- Every event keeps it that what an end gave is read off the datagrams that it sent.
 use Rattle.std.proofs.Common.{◌≡◌, ℕ, ◌<◌, Bool, true, false, ◌&&◌, not, if◌then◌else◌, List, [], ◌∷◌, Some, None, refl, sym, ap, subst, ◌∙◌, arith}
-use Rattle.rasta_core_link.specs.State.{is_open}
-use Rattle.rasta_core_link.specs.Calls.{opens, opening, ticking, closing_by, sending_item, receiving}
-use Rattle.rasta_core_link.specs.declared.identity.Role.{Role}
-use Rattle.rasta_core_link.specs.declared.identity.Role.TheVariants as role
-use Rattle.rasta_core_link.specs.declared.reason.Reason.{Reason}
+use Rattle.rasta_core_run.specs.State.{is_open}
+use Rattle.rasta_core_run.specs.Calls.{opens, opening, ticking, closing_by, sending_item, receiving}
+use Rattle.rasta_core_run.specs.identity.Role.{Role}
+use Rattle.rasta_core_run.specs.identity.Role.TheVariants as role
+use Rattle.rasta_core_run.specs.reason.Reason.{Reason}
 use Rattle.rasta_core_run.specs.Ends.{Sent, Outcome, Call, Ticks, Opens, Closes, Sends, Receives, outcome, reading_of, end_later, end_restarted, is_taken}
 use Rattle.rasta_core_run.specs.Run.{Ends, end_of, called, later, lost, restarted}
 use Rattle.rasta_core_order.specs.Carried.{carried}
@@ -23,11 +23,11 @@ use Rattle.rasta_core_time.proofs.Hearing.{read_pdu}
 use Rattle.rasta_core_theorem.proofs.OrderLaws.{CarryingLaws, Laws}
 use Rattle.rasta_core_time.proofs.Called.{ReadIsIntact, read_is, bytes_do, bytes_bring}
 use Rattle.rasta_core_time.proofs.Finishing.{made_at}
-use Rattle.rasta_pdu.specs.declared.pdu.Pdu.{Pdu}
-use Rattle.rasta_pdu.specs.Items.{IsItem}
-use Rattle.rasta_pdu.specs.Reading.{reading}
-use Rattle.rasta_pdu.specs.Values.{IsPdu}
-use Rattle.rasta_core_link.specs.declared.identity.Identity.{Identity}
+use Rattle.rasta_core_run.specs.pdu.Pdu.{Pdu}
+use Rattle.rasta_core_run.specs.Items.{IsItem}
+use Rattle.rasta_core_run.specs.Reading.{reading}
+use Rattle.rasta_core_run.specs.Values.{IsPdu}
+use Rattle.rasta_core_run.specs.identity.Identity.{Identity}
 use Rattle.rasta_core_run.specs.Given.{IsGiven}
 use Rattle.rasta_core_theorem.proofs.Comes.{deed_pdus, client_enters_none, Comes, comes, in_newest, IsGranted, deed_grants}
 use Rattle.rasta_core_theorem.proofs.Calls.{client_key, server_key, at_clock, step_pdus}

@@ -2,9 +2,9 @@
 use Rattle.std.proofs.Common.{◌≡◌, ℕ, Bool, true, false, ◌&&◌, if◌then◌else◌, List, [], ◌∷◌, ◌++◌, Option, Some, None, refl, sym, ap, ◌∙◌, append_assoc, append-nil}
 use Rattle.std.specs.Prelude.{◌==◌}
 use Rattle.std.proofs.lemmas.Bool.{eqb-true, eq-eqb}
-use Rattle.rasta_core_link.specs.Outbox.{spellings}
-use Rattle.rasta_core_link.specs.declared.identity.Role.{Role}
-use Rattle.rasta_core_link.specs.declared.identity.Role.TheVariants as role
+use Rattle.rasta_core_run.specs.Outbox.{spellings}
+use Rattle.rasta_core_run.specs.identity.Role.{Role}
+use Rattle.rasta_core_run.specs.identity.Role.TheVariants as role
 use Rattle.rasta_core_run.specs.Bag.{is_copy, without_oldest}
 use Rattle.rasta_core_run.specs.Ends.{Sent, Outcome, end_after, handed_out, newer, kept}
 use Rattle.rasta_core_run.specs.Run.{Ends}
@@ -15,11 +15,11 @@ use Rattle.rasta_core_run.specs.Names.{Names}
 use Rattle.rasta_core_time.proofs.Conversation.{WrittenIsRead}
 use Rattle.rasta_core_time.proofs.Finishing.{made_at}
 use Rattle.rasta_core_theorem.proofs.Tests.{by_test}
-use Rattle.rasta_pdu.specs.declared.key.Key.{Key}
-use Rattle.rasta_pdu.specs.declared.pdu.Pdu.{Pdu}
-use Rattle.rasta_pdu.specs.Reading.{reading}
-use Rattle.rasta_pdu.specs.Spelling.{writing}
-use Rattle.rasta_pdu.specs.Values.{IsPdu}
+use Rattle.rasta_core_run.specs.key.Key.{Key}
+use Rattle.rasta_core_run.specs.pdu.Pdu.{Pdu}
+use Rattle.rasta_core_run.specs.Reading.{reading}
+use Rattle.rasta_core_run.specs.Spelling.{writing}
+use Rattle.rasta_core_run.specs.Values.{IsPdu}
 
 items_given-append : (names : Names) (who : Role) (connection : ℕ) (one other : List Sent)
     → items_given names who connection (one ++ other) ≡ items_given names who connection one ++ items_given names who connection other

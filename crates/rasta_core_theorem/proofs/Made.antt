@@ -1,7 +1,7 @@
 -- From what a call does at one end to the order of both after it.
 use Rattle.std.proofs.Common.{◌≡◌, ℕ, ◌≤◌, List, [], ◌++◌, length, Option, Some, None, sym, ap, ◌∙◌}
-use Rattle.rasta_core_link.specs.Outbox.{spellings}
-use Rattle.rasta_core_link.specs.declared.identity.Role.TheVariants as role
+use Rattle.rasta_core_run.specs.Outbox.{spellings}
+use Rattle.rasta_core_run.specs.identity.Role.TheVariants as role
 use Rattle.rasta_core_run.specs.Ends.{Sent, Outcome, end_after, newer, kept}
 use Rattle.rasta_core_run.specs.Run.{Ends}
 use Rattle.rasta_core_order.specs.Playing.{GoesOn}
@@ -13,7 +13,7 @@ use Rattle.rasta_core_theorem.specs.Ordered.{IsAlone, AreTogether}
 use Rattle.rasta_core_theorem.proofs.OrderLaws.{Laws}
 use Rattle.rasta_core_theorem.proofs.Few.{empty_few, longer_few}
 use Rattle.rasta_core_theorem.proofs.Flows.{flow_longer, flow_kept, flow_new}
-use Rattle.rasta_pdu.specs.Values.{IsPdu}
+use Rattle.rasta_core_run.specs.Values.{IsPdu}
 
 -- an end that enters nothing keeps its connection and its lists
 same_lists : (enters : Option ℕ) (old new more : List (List ℕ)) (part : List (List ℕ)) → enters ≡ None → part ≡ old → new ≡ part ++ more → new ≡ kept enters old ++ more

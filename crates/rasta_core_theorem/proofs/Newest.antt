@@ -1,9 +1,9 @@
 -- An end's last connection is that of the newest datagram that it sent.
 use Rattle.std.proofs.Common.{◌≡◌, ℕ, ◌⊎◌, inl, inr, Bool, true, false, if◌then◌else◌, List, [], ◌∷◌, ◌++◌, Option, Some, None, refl, sym, ap, ◌∙◌, append-nil}
-use Rattle.rasta_core_link.specs.Outbox.{spellings}
-use Rattle.rasta_core_link.specs.State.{is_open}
-use Rattle.rasta_core_link.specs.declared.identity.Role.{Role}
-use Rattle.rasta_core_link.specs.declared.identity.Role.TheVariants as role
+use Rattle.rasta_core_run.specs.Outbox.{spellings}
+use Rattle.rasta_core_run.specs.State.{is_open}
+use Rattle.rasta_core_run.specs.identity.Role.{Role}
+use Rattle.rasta_core_run.specs.identity.Role.TheVariants as role
 use Rattle.rasta_core_run.specs.Bag.{is_copy, without_oldest}
 use Rattle.rasta_core_run.specs.Ends.{Sent, EndState, Call, outcome, end_after, end_later, end_restarted, handed_out, newer}
 use Rattle.rasta_core_run.specs.Events.{Event, Calls, Passes, Loses, Restarts, Elsewhere, MayRun, Start, happened, run, started}
@@ -18,8 +18,8 @@ use Rattle.rasta_core_theorem.proofs.Events.{KeepsTime}
 use Rattle.rasta_core_theorem.proofs.Givings.{same_self}
 use Rattle.rasta_core_theorem.proofs.Outside.{EnteringLaws}
 use Rattle.rasta_core_theorem.proofs.Tests.{by_test}
-use Rattle.rasta_pdu.specs.declared.key.Key.{Key}
-use Rattle.rasta_pdu.specs.declared.pdu.Pdu.{Pdu}
+use Rattle.rasta_core_run.specs.key.Key.{Key}
+use Rattle.rasta_core_run.specs.pdu.Pdu.{Pdu}
 
 -- an end inside is in some connection
 abbrev pub InsideIsSome : Type 0

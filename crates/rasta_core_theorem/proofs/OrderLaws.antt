@@ -1,21 +1,21 @@
 -- The laws that this crate's proofs stand on, handed in by the functions that call them.
 use Rattle.std.proofs.Common.{◌≡◌, ◌≤◌, ◌<◌, ◌^◌, ℕ, true, false, List, [], ◌++◌, length, Ok, Err}
 use Rattle.std.specs.Prelude.{◌==◌, ◌&&◌}
-use Rattle.rasta_core_link.specs.State.{LinkState, confirmed_items, is_client, is_open}
-use Rattle.rasta_core_link.specs.Clock.{settled}
-use Rattle.rasta_core_link.specs.Sending.{entered, silent}
-use Rattle.rasta_core_link.specs.Opening.{granting, own_opening}
-use Rattle.rasta_core_link.specs.Receiving.{hearing, refusing}
-use Rattle.rasta_core_link.specs.Calls.{answer_to_send, closing_by, created, opening, opens, receiving, sending_item, ticking}
-use Rattle.rasta_core_link.specs.declared.identity.Identity.{Identity}
-use Rattle.rasta_core_link.specs.declared.reason.Reason.{Reason}
-use Rattle.rasta_core_link.specs.declared.verdict.Verdict.{Verdict}
+use Rattle.rasta_core_run.specs.State.{LinkState, confirmed_items, is_client, is_open}
+use Rattle.rasta_core_run.specs.Clock.{settled}
+use Rattle.rasta_core_run.specs.Sending.{entered, silent}
+use Rattle.rasta_core_run.specs.Opening.{granting, own_opening}
+use Rattle.rasta_core_run.specs.Receiving.{hearing, refusing}
+use Rattle.rasta_core_run.specs.Calls.{answer_to_send, closing_by, created, opening, opens, receiving, sending_item, ticking}
+use Rattle.rasta_core_run.specs.identity.Identity.{Identity}
+use Rattle.rasta_core_run.specs.reason.Reason.{Reason}
+use Rattle.rasta_core_run.specs.verdict.Verdict.{Verdict}
 use Rattle.rasta_core_order.specs.Beginning.{Asks, EarlyGoesOn, Grants, HearsOutside, IsEarly, PlaysEarly}
 use Rattle.rasta_core_order.specs.Carried.{carried}
 use Rattle.rasta_core_order.specs.Order.{InOrder, Way}
 use Rattle.rasta_core_order.specs.Part.{IsAt, IsOf, Part}
 use Rattle.rasta_core_order.specs.Playing.{accepted, Plays, ReceiptGoesOn, StepGoesOn}
-use Rattle.rasta_core_link.specs.declared.identity.Role.{Role}
+use Rattle.rasta_core_run.specs.identity.Role.{Role}
 use Rattle.rasta_core_run.specs.Ends.{Sent, is_taken}
 use Rattle.rasta_core_run.specs.Run.{Ends}
 use Rattle.rasta_core_run.specs.Events.{IsDelivered}
@@ -23,9 +23,9 @@ use Rattle.rasta_core_run.specs.Names.{AreNames, Names}
 use Rattle.rasta_core_time.specs.Invariant.{Timely}
 use Rattle.rasta_core_run.specs.Sentences.{IsOpening, IsOut, receipt_at}
 use Rattle.rasta_core_time.proofs.Conversation.{WrittenIsRead}
-use Rattle.rasta_pdu.specs.Reading.{reading}
-use Rattle.rasta_pdu.specs.declared.fault.PduFault.{PduFault}
-use Rattle.rasta_pdu.specs.declared.pdu.Pdu.{Pdu}
+use Rattle.rasta_core_run.specs.Reading.{reading}
+use Rattle.rasta_core_run.specs.pdu_fault.PduFault.{PduFault}
+use Rattle.rasta_core_run.specs.pdu.Pdu.{Pdu}
 
 pub record Laws : Type 0 where
   -- an item that is accepted is sent

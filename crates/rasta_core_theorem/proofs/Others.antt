@@ -1,13 +1,13 @@
 -- Bytes that are no PDU, or one of another link, bring nothing to an end.
 use Rattle.std.proofs.Common.{◌≡◌, ℕ, ◌⊎◌, inl, inr, Bool, true, false, ◌&&◌, not, List, Result, Ok, Err, refl, ap, subst, ◌∙◌}
 use Rattle.std.specs.Prelude.{◌==◌}
-use Rattle.rasta_core_link.specs.State.{LinkState}
-use Rattle.rasta_core_link.specs.Sending.{entered}
-use Rattle.rasta_core_link.specs.Receiving.{refusing, hearing}
-use Rattle.rasta_core_link.specs.Calls.{receiving, hearing_bytes}
-use Rattle.rasta_core_link.specs.declared.identity.Identity.{Identity}
-use Rattle.rasta_core_link.specs.declared.identity.Role.{Role}
-use Rattle.rasta_core_link.specs.declared.verdict.Verdict.TheVariants as verdict
+use Rattle.rasta_core_run.specs.State.{LinkState}
+use Rattle.rasta_core_run.specs.Sending.{entered}
+use Rattle.rasta_core_run.specs.Receiving.{refusing, hearing}
+use Rattle.rasta_core_run.specs.Calls.{receiving, hearing_bytes}
+use Rattle.rasta_core_run.specs.identity.Identity.{Identity}
+use Rattle.rasta_core_run.specs.identity.Role.{Role}
+use Rattle.rasta_core_run.specs.verdict.Verdict.TheVariants as verdict
 use Rattle.rasta_core_run.specs.Ends.{reading_of}
 use Rattle.rasta_core_run.specs.Run.{Ends, end_of}
 use Rattle.rasta_core_run.specs.Names.{Names, identity_of}
@@ -20,11 +20,11 @@ use Rattle.rasta_core_theorem.proofs.Outside.{entered_identity}
 use Rattle.rasta_core_theorem.proofs.Tests.{by_test}
 use Rattle.rasta_core_theorem.proofs.Receptions.{for_me}
 use Rattle.rasta_core_run.specs.Safe.{IsIdle}
-use Rattle.rasta_pdu.specs.declared.key.Key.{Key}
-use Rattle.rasta_pdu.specs.declared.pdu.Pdu.{Pdu}
-use Rattle.rasta_pdu.specs.declared.fault.PduFault.{PduFault}
-use Rattle.rasta_pdu.specs.Reading.{reading}
-use Rattle.rasta_pdu.specs.SafetyCode.{IsIntact}
+use Rattle.rasta_core_run.specs.key.Key.{Key}
+use Rattle.rasta_core_run.specs.pdu.Pdu.{Pdu}
+use Rattle.rasta_core_run.specs.pdu_fault.PduFault.{PduFault}
+use Rattle.rasta_core_run.specs.Reading.{reading}
+use Rattle.rasta_core_run.specs.SafetyCode.{IsIntact}
 
 both_not : (one other : Bool) → not one ≡ false → not other ≡ false → (one && other) ≡ true
 both_not true true a b = refl

@@ -2,18 +2,18 @@
 use Rattle.std.proofs.Common.{◌≡◌, ℕ, inl, inr, Bool, true, false, ◌&&◌, not, if◌then◌else◌, List, [], ◌++◌, Some, None, Result, Ok, Err, refl, sym, ap, subst, ◌∙◌, arith}
 use Rattle.std.specs.Prelude.{◌==◌}
 use Rattle.std.proofs.lemmas.Bool.{eqb-true}
-use Rattle.rasta_core_link.specs.State.{LinkState, is_open, is_client}
-use Rattle.rasta_core_link.specs.Clock.{state_at}
-use Rattle.rasta_core_link.specs.Sending.{Step, silent, entered, telling, sending}
-use Rattle.rasta_core_link.specs.Opening.{granting, own_opening}
-use Rattle.rasta_core_link.specs.Receiving.{Receipt, accepting, hearing}
-use Rattle.rasta_core_link.specs.Calls.{receiving, hearing_bytes}
-use Rattle.rasta_core_link.specs.declared.identity.Identity.{Identity}
-use Rattle.rasta_core_link.specs.declared.identity.Role.TheVariants as role
-use Rattle.rasta_core_link.specs.declared.phase.State.TheVariants as state
-use Rattle.rasta_core_link.specs.declared.reason.Reason.TheVariants as reason
-use Rattle.rasta_core_link.specs.declared.verdict.Verdict.{Verdict}
-use Rattle.rasta_core_link.specs.declared.verdict.Verdict.TheVariants as verdict
+use Rattle.rasta_core_run.specs.State.{LinkState, is_open, is_client}
+use Rattle.rasta_core_run.specs.Clock.{state_at}
+use Rattle.rasta_core_run.specs.Sending.{Step, silent, entered, telling, sending}
+use Rattle.rasta_core_run.specs.Opening.{granting, own_opening}
+use Rattle.rasta_core_run.specs.Receiving.{Receipt, accepting, hearing}
+use Rattle.rasta_core_run.specs.Calls.{receiving, hearing_bytes}
+use Rattle.rasta_core_run.specs.identity.Identity.{Identity}
+use Rattle.rasta_core_run.specs.identity.Role.TheVariants as role
+use Rattle.rasta_core_run.specs.phase.State.TheVariants as state
+use Rattle.rasta_core_run.specs.reason.Reason.TheVariants as reason
+use Rattle.rasta_core_run.specs.verdict.Verdict.{Verdict}
+use Rattle.rasta_core_run.specs.verdict.Verdict.TheVariants as verdict
 use Rattle.rasta_core_run.specs.Ends.{Outcome, Receives, outcome, reading_of, entered_by, is_taken}
 use Rattle.rasta_core_run.specs.Run.{Ends, called}
 use Rattle.rasta_core_order.specs.Part.{Part, IsOf, IsAt}
@@ -39,12 +39,12 @@ use Rattle.rasta_core_theorem.proofs.Few.{none_few}
 use Rattle.rasta_core_theorem.proofs.Made.{server_granted}
 use Rattle.rasta_core_theorem.proofs.Comes.{deed_pdus, deed_silent, client_enters_none, items_for, Comes, comes, of_last, in_flow, server_out, nothing_comes, nothing_sent, IsGranted, deed_grants}
 use Rattle.rasta_core_theorem.proofs.Calls.{client_call, server_call, swap, server_key}
-use Rattle.rasta_pdu.specs.declared.pdu.Pdu.{Pdu}
-use Rattle.rasta_pdu.specs.declared.body.Opening.{Opening}
-use Rattle.rasta_pdu.specs.declared.body.Body.TheVariants.{ConnectionRequest}
-use Rattle.rasta_pdu.specs.declared.fault.PduFault.{PduFault}
-use Rattle.rasta_pdu.specs.declared.key.Key.{Key}
-use Rattle.rasta_pdu.specs.Reading.{reading}
+use Rattle.rasta_core_run.specs.pdu.Pdu.{Pdu}
+use Rattle.rasta_core_run.specs.body.Opening.{Opening}
+use Rattle.rasta_core_run.specs.body.Body.TheVariants.{ConnectionRequest}
+use Rattle.rasta_core_run.specs.pdu_fault.PduFault.{PduFault}
+use Rattle.rasta_core_run.specs.key.Key.{Key}
+use Rattle.rasta_core_run.specs.Reading.{reading}
 
 pub both_true : (one other : Bool) → (one && other) ≡ true → (one ≡ true) × (other ≡ true)
 both_true true true e = (refl, refl)

@@ -1,9 +1,9 @@
 -- What a list of calls at one clock does at an end.
 use Rattle.std.proofs.Common.{◌≡◌, ℕ, Bool, true, false, ◌&&◌, not, if◌then◌else◌, List, [], ◌∷◌, ◌++◌, Option, Some, None, append_assoc, append-nil, refl, sym, ap, subst, ◌∙◌}
-use Rattle.rasta_core_link.specs.State.{LinkState, is_open}
-use Rattle.rasta_core_link.specs.Calls.{opens, receiving}
-use Rattle.rasta_core_link.specs.declared.identity.Role.{Role}
-use Rattle.rasta_core_link.specs.declared.identity.Role.TheVariants as role
+use Rattle.rasta_core_run.specs.State.{LinkState, is_open}
+use Rattle.rasta_core_run.specs.Calls.{opens, receiving}
+use Rattle.rasta_core_run.specs.identity.Role.{Role}
+use Rattle.rasta_core_run.specs.identity.Role.TheVariants as role
 use Rattle.rasta_core_run.specs.Ends.{EndState, Call, Ticks, Opens, Closes, Sends, Receives, Outcome, end_after, is_taken, kept, newer, outcome, reading_of}
 use Rattle.rasta_core_run.specs.Events.{Calls, run}
 use Rattle.rasta_core_run.specs.Names.{partner_of}

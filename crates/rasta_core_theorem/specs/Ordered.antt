@@ -1,7 +1,7 @@
 -- The order of items between two ends, joined to what is kept of them: who is in which connection, and what was sent.
 use Rattle.std.specs.Prelude.{◌≡◌, ℕ, ◌≤◌, List, [], length, Some, None, Ok}
-use Rattle.rasta_core_link.specs.declared.identity.Role.{Role}
-use Rattle.rasta_core_link.specs.declared.identity.Role.TheVariants as role
+use Rattle.rasta_core_run.specs.identity.Role.{Role}
+use Rattle.rasta_core_run.specs.identity.Role.TheVariants as role
 use Rattle.rasta_core_run.specs.Ends.{Sent}
 use Rattle.rasta_core_run.specs.Run.{Ends}
 use Rattle.rasta_core_order.specs.Part.{Part, IsOf}
@@ -10,8 +10,8 @@ use Rattle.rasta_core_order.specs.Playing.{Plays}
 use Rattle.rasta_core_order.specs.Beginning.{IsEarly, PlaysEarly}
 use Rattle.rasta_core_run.specs.Each.{Each}
 use Rattle.rasta_core_run.specs.Names.{Names}
-use Rattle.rasta_pdu.specs.declared.pdu.Pdu.{Pdu}
-use Rattle.rasta_pdu.specs.Reading.{reading}
+use Rattle.rasta_core_run.specs.pdu.Pdu.{Pdu}
+use Rattle.rasta_core_run.specs.Reading.{reading}
 
 -- a datagram that this end sent in this connection spells a PDU of this flow
 abbrev pub IsSpelledIn : Names → Role → ℕ → List Pdu → Sent → Type 0

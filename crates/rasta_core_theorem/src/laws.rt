@@ -1,9 +1,9 @@
 //! The theorem of the link, for two ends that were just created and every list of events that may happen to them.
 
 ghost use Rattle.std.specs.Prelude.{◌≡◌, ◌≢◌, ◌⊎◌, ℕ, ◌+◌, ◌<◌, true, false, List, [], ◌∷◌, Some, None};
-ghost use Rattle.rasta_core_link.specs.declared.identity.Role.{Role};
-ghost use Rattle.rasta_core_link.specs.declared.identity.Role.TheVariants as role;
-ghost use Rattle.rasta_core_link.specs.State.{is_open};
+ghost use Rattle.rasta_core_run.specs.identity.Role.{Role};
+ghost use Rattle.rasta_core_run.specs.identity.Role.TheVariants as role;
+ghost use Rattle.rasta_core_run.specs.State.{is_open};
 ghost use Rattle.rasta_core_run.specs.Ends.{Sent, Call, EndState, Receives, is_taken, outcome, reading_of};
 ghost use Rattle.rasta_core_run.specs.Steps.{EnterNone, IsAfter, StaysIn, calls_at};
 ghost use Rattle.rasta_core_run.specs.Run.{Ends, end_of, called};
@@ -13,7 +13,7 @@ ghost use Rattle.rasta_core_time.specs.Invariant.{Timely};
 ghost use Rattle.rasta_core_run.specs.Sentences.{IsOpening, IsOut, freshness, receipt_at};
 ghost use Rattle.rasta_core_run.specs.Given.{IsGiven};
 ghost use Rattle.rasta_core_theorem.specs.Ordered.{Ordered};
-ghost use Rattle.rasta_pdu.specs.SafetyCode.{IsIntact};
+ghost use Rattle.rasta_core_run.specs.SafetyCode.{IsIntact};
 ghost use Rattle.rasta_core_run.specs.Newest.{IsNewest, IsUnused};
 ghost use Rattle.rasta_core_run.specs.Safe.{AreCounted, AreFew, AreSafe, DoesNothing, IsIdle};
 
@@ -21,11 +21,11 @@ use rasta_core_order::{
     calls_carry_what_they_accept, calls_keep_order, client_alone, connection_begins,
     hearing_keeps_order, order_is_safe as parts_are_safe, partner_stays,
 };
+use rasta_core_run::{read_was_written, written_is_read};
 use rasta_core_time::{
     every_event_keeps_time, every_run_keeps_time, items_are_fresh, one_connection, opening_is_new,
     own_connection, starts_in_time,
 };
-use rasta_pdu::{read_was_written, written_is_read};
 
 /// Two ends that were just created are in order, and every event that may happen keeps the order.
 pub fn every_event_keeps_order()

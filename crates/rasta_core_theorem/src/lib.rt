@@ -9,3 +9,4 @@ pub use laws::{
     given_was_sent, items_are_counted, link_is_safe, newest_tells_the_connection,
     nothing_before_a_connection, order_is_safe, outside_until_it_enters, what_is_taken,
 };
+pub use rasta_core_time as time;

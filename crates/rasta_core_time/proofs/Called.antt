@@ -1,18 +1,18 @@
 -- A call that may be made keeps the invariant.
 use Rattle.std.proofs.Common.{◌≡◌, ℕ, ◌⊎◌, inl, inr, Bool, false, if◌then◌else◌, List, [], ◌∷◌, Some, None, Result, Ok, Err, refl, sym, ap, subst}
-use Rattle.rasta_core_link.specs.State.{LinkState}
-use Rattle.rasta_core_link.specs.Calls.{opens, opening, ticking, closing_by, sending_item, receiving}
-use Rattle.rasta_core_link.specs.declared.identity.Identity.{Identity}
-use Rattle.rasta_core_link.specs.declared.identity.Role.{Role}
-use Rattle.rasta_core_link.specs.declared.identity.Role.TheVariants as role
+use Rattle.rasta_core_run.specs.State.{LinkState}
+use Rattle.rasta_core_run.specs.Calls.{opens, opening, ticking, closing_by, sending_item, receiving}
+use Rattle.rasta_core_run.specs.identity.Identity.{Identity}
+use Rattle.rasta_core_run.specs.identity.Role.{Role}
+use Rattle.rasta_core_run.specs.identity.Role.TheVariants as role
 use Rattle.rasta_core_run.specs.Ends.{Sent, Call, Ticks, Opens, Closes, Sends, Receives, outcome, reading_of}
 use Rattle.rasta_core_run.specs.Run.{Ends, end_of, called}
-use Rattle.rasta_pdu.specs.declared.key.Key.{Key}
-use Rattle.rasta_pdu.specs.declared.fault.PduFault.{PduFault}
-use Rattle.rasta_pdu.specs.declared.pdu.Pdu.{Pdu}
-use Rattle.rasta_pdu.specs.Reading.{reading}
-use Rattle.rasta_pdu.specs.SafetyCode.{IsIntact}
-use Rattle.rasta_pdu.specs.Values.{IsPdu}
+use Rattle.rasta_core_run.specs.key.Key.{Key}
+use Rattle.rasta_core_run.specs.pdu_fault.PduFault.{PduFault}
+use Rattle.rasta_core_run.specs.pdu.Pdu.{Pdu}
+use Rattle.rasta_core_run.specs.Reading.{reading}
+use Rattle.rasta_core_run.specs.SafetyCode.{IsIntact}
+use Rattle.rasta_core_run.specs.Values.{IsPdu}
 use Rattle.rasta_core_run.specs.Each.{Each}
 use Rattle.rasta_core_time.specs.Standing.{Times, times_of}
 use Rattle.rasta_core_time.specs.Timely.{IsKnown}

@@ -1,11 +1,11 @@
 -- Each call at an end keeps the invariant.
 use Rattle.std.proofs.Common.{◌≡◌, ℕ, Bool, true, false, List, Option, Some, None, sym, ap, subst, arith}
-use Rattle.rasta_core_link.specs.declared.identity.Identity.{Identity}
-use Rattle.rasta_core_link.specs.declared.identity.Role.{Role}
-use Rattle.rasta_core_link.specs.declared.identity.Role.TheVariants as role
+use Rattle.rasta_core_run.specs.identity.Identity.{Identity}
+use Rattle.rasta_core_run.specs.identity.Role.{Role}
+use Rattle.rasta_core_run.specs.identity.Role.TheVariants as role
 use Rattle.rasta_core_run.specs.Ends.{EndState, Outcome, reading_of}
 use Rattle.rasta_core_run.specs.Run.{Ends, end_of}
-use Rattle.rasta_pdu.specs.declared.pdu.Pdu.{Pdu}
+use Rattle.rasta_core_run.specs.pdu.Pdu.{Pdu}
 use Rattle.rasta_core_time.specs.Standing.{Past, Times, IsInside, own_stamp, standing, timed, times_of}
 use Rattle.rasta_core_time.specs.Timely.{IsTimed}
 use Rattle.rasta_core_run.specs.Names.{Names, AreNames}

@@ -1,12 +1,12 @@
 -- Time, restarts and losses keep the invariant, and it holds at the beginning.
 use Rattle.std.proofs.Common.{◌≡◌, ℕ, ◌∙◌, ◌+◌, ◌*◌, ◌≤◌, ◌<◌, Bool, true, false, ◌&&◌, ◌||◌, not, nat_le, if◌then◌else◌, List, [], ◌∷◌, refl, sym, ap, subst, arith, leb-false}
-use Rattle.rasta_core_link.specs.Parameters.{time_limit}
-use Rattle.rasta_core_link.specs.State.{LinkState, is_open, is_asking}
-use Rattle.rasta_core_link.specs.Clock.{settled, deadline}
-use Rattle.rasta_core_link.specs.Sending.{closed}
-use Rattle.rasta_core_link.specs.Calls.{created}
-use Rattle.rasta_core_link.specs.declared.identity.Role.{Role}
-use Rattle.rasta_core_link.specs.declared.identity.Role.TheVariants as role
+use Rattle.rasta_core_run.specs.Parameters.{time_limit}
+use Rattle.rasta_core_run.specs.State.{LinkState, is_open, is_asking}
+use Rattle.rasta_core_run.specs.Clock.{settled, deadline}
+use Rattle.rasta_core_run.specs.Sending.{closed}
+use Rattle.rasta_core_run.specs.Calls.{created}
+use Rattle.rasta_core_run.specs.identity.Role.{Role}
+use Rattle.rasta_core_run.specs.identity.Role.TheVariants as role
 use Rattle.rasta_core_run.specs.Bag.{without_oldest, is_copy}
 use Rattle.rasta_core_run.specs.Ends.{Sent, EndState, reading_of, end_later, end_restarted}
 use Rattle.rasta_core_run.specs.Run.{Ends, later, lost, restarted}

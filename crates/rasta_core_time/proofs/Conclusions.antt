@@ -1,20 +1,20 @@
 -- What follows from the invariant.
 use Rattle.std.proofs.Common.{◌≡◌, ◌≢◌, ℕ, ◌∙◌, ◌+◌, ◌≤◌, ◌<◌, Bool, true, false, ◌&&◌, not, if◌then◌else◌, List, [], Option, Some, None, Result, Ok, Err, refl, sym, ap, subst, arith}
 use native.Mathlib.Decide.{ℕ_discrete}
-use Rattle.rasta_core_link.specs.Parameters.{quiet_time}
-use Rattle.rasta_core_link.specs.State.{LinkState, is_open, is_up}
-use Rattle.rasta_core_link.specs.Clock.{settled, state_at}
-use Rattle.rasta_core_link.specs.Receiving.{Receipt}
-use Rattle.rasta_core_link.specs.declared.identity.Identity.{Identity}
-use Rattle.rasta_core_link.specs.declared.identity.Role.{Role}
-use Rattle.rasta_core_link.specs.declared.identity.Role.TheVariants as role
-use Rattle.rasta_core_link.specs.declared.phase.State.TheVariants as state
+use Rattle.rasta_core_run.specs.Parameters.{quiet_time}
+use Rattle.rasta_core_run.specs.State.{LinkState, is_open, is_up}
+use Rattle.rasta_core_run.specs.Clock.{settled, state_at}
+use Rattle.rasta_core_run.specs.Receiving.{Receipt}
+use Rattle.rasta_core_run.specs.identity.Identity.{Identity}
+use Rattle.rasta_core_run.specs.identity.Role.{Role}
+use Rattle.rasta_core_run.specs.identity.Role.TheVariants as role
+use Rattle.rasta_core_run.specs.phase.State.TheVariants as state
 use Rattle.rasta_core_run.specs.Bag.{lifetime}
 use Rattle.rasta_core_run.specs.Ends.{Sent, Receives, outcome, end_after, is_taken, reading_of, newer}
 use Rattle.rasta_core_run.specs.Run.{Ends, end_of, called}
-use Rattle.rasta_pdu.specs.declared.pdu.Pdu.{Pdu}
-use Rattle.rasta_pdu.specs.declared.fault.PduFault.{PduFault}
-use Rattle.rasta_pdu.specs.Reading.{reading}
+use Rattle.rasta_core_run.specs.pdu.Pdu.{Pdu}
+use Rattle.rasta_core_run.specs.pdu_fault.PduFault.{PduFault}
+use Rattle.rasta_core_run.specs.Reading.{reading}
 use Rattle.rasta_core_run.specs.Each.{Each}
 use Rattle.rasta_core_time.specs.Standing.{Times, IsInside, IsOutside, HasHeard, own_stamp, closed_at, standing, timed, times_of}
 use Rattle.rasta_core_run.specs.Names.{partner_of, Names, AreNames, name_of, identity_of}

@@ -1,10 +1,10 @@
 -- Each move keeps what is true of each datagram.
 use Rattle.std.proofs.Common.{◌≡◌, ℕ, ◌∙◌, Some, refl, ap, arith}
 use native.Mathlib.Decide.{ℕ_discrete}
-use Rattle.rasta_core_link.specs.Sequence.{stamp}
-use Rattle.rasta_core_link.specs.declared.identity.Role.{Role}
-use Rattle.rasta_core_link.specs.declared.identity.Role.TheVariants as role
-use Rattle.rasta_pdu.specs.declared.pdu.Pdu.{Pdu}
+use Rattle.rasta_core_run.specs.Sequence.{stamp}
+use Rattle.rasta_core_run.specs.identity.Role.{Role}
+use Rattle.rasta_core_run.specs.identity.Role.TheVariants as role
+use Rattle.rasta_core_run.specs.pdu.Pdu.{Pdu}
 use Rattle.rasta_core_time.specs.Standing.{Standing, Inside, Outside, Times, IsInside, IsOutside, HasHeard, heard_stamp, at_role}
 use Rattle.rasta_core_time.specs.Moves.{time_on, sent_on, outside, asking, granting, hearing}
 use Rattle.rasta_core_time.specs.Timely.{WasReadThen, AreTimed, IsAnswering, IsKnown}

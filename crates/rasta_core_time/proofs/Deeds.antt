@@ -1,25 +1,25 @@
 -- What a call does at an end, as far as time goes.
 use Rattle.std.proofs.Common.{◌≡◌, ℕ, inl, inr, ◌-◌, ◌^◌, ◌<◌, Bool, true, false, ◌&&◌, List, [], ◌∷◌, ◌++◌, Result, Ok, Err, length, nat_le, nat_lt, is_ok, if◌then◌else◌, refl, sym, ap, subst, arith}
-use Rattle.rasta_core_link.specs.Parameters.{heartbeat_interval}
-use Rattle.rasta_core_link.specs.Sequence.{stamp}
-use Rattle.rasta_core_link.specs.State.{LinkState, is_open, is_up, is_client}
-use Rattle.rasta_core_link.specs.Clock.{state_at}
-use Rattle.rasta_core_link.specs.Sending.{Step, silent, then_do, sending, telling, closing, beating, giving, entered, header_of, pdu_of}
-use Rattle.rasta_core_link.specs.Opening.{own_opening, is_down, may_open, beginning, requesting}
-use Rattle.rasta_core_link.specs.Calls.{opens, opening, ticking, closing_by, acceptance, sending_item}
-use Rattle.rasta_core_link.specs.declared.phase.State.{State}
-use Rattle.rasta_core_link.specs.declared.phase.State.TheVariants as state
-use Rattle.rasta_core_link.specs.declared.fault.SendFault.{SendFault}
-use Rattle.rasta_core_link.specs.declared.fault.SendFault.TheVariants as fault
-use Rattle.rasta_core_link.specs.declared.reason.Reason.{Reason}
-use Rattle.rasta_core_link.specs.declared.reason.Reason.TheVariants as reason
-use Rattle.rasta_core_link.specs.declared.identity.Identity.{Identity}
-use Rattle.rasta_core_link.specs.declared.identity.Role.{Role}
-use Rattle.rasta_core_link.specs.declared.identity.Role.TheVariants as role
-use Rattle.rasta_pdu.specs.declared.pdu.Pdu.{Pdu}
-use Rattle.rasta_pdu.specs.declared.body.Body.TheVariants.{Heartbeat}
-use Rattle.rasta_pdu.specs.Values.{IsPdu, IsOpening}
-use Rattle.rasta_pdu.specs.Items.{IsItem}
+use Rattle.rasta_core_run.specs.Parameters.{heartbeat_interval}
+use Rattle.rasta_core_run.specs.Sequence.{stamp}
+use Rattle.rasta_core_run.specs.State.{LinkState, is_open, is_up, is_client}
+use Rattle.rasta_core_run.specs.Clock.{state_at}
+use Rattle.rasta_core_run.specs.Sending.{Step, silent, then_do, sending, telling, closing, beating, giving, entered, header_of, pdu_of}
+use Rattle.rasta_core_run.specs.Opening.{own_opening, is_down, may_open, beginning, requesting}
+use Rattle.rasta_core_run.specs.Calls.{opens, opening, ticking, closing_by, acceptance, sending_item}
+use Rattle.rasta_core_run.specs.phase.State.{State}
+use Rattle.rasta_core_run.specs.phase.State.TheVariants as state
+use Rattle.rasta_core_run.specs.fault.SendFault.{SendFault}
+use Rattle.rasta_core_run.specs.fault.SendFault.TheVariants as fault
+use Rattle.rasta_core_run.specs.reason.Reason.{Reason}
+use Rattle.rasta_core_run.specs.reason.Reason.TheVariants as reason
+use Rattle.rasta_core_run.specs.identity.Identity.{Identity}
+use Rattle.rasta_core_run.specs.identity.Role.{Role}
+use Rattle.rasta_core_run.specs.identity.Role.TheVariants as role
+use Rattle.rasta_core_run.specs.pdu.Pdu.{Pdu}
+use Rattle.rasta_core_run.specs.body.Body.TheVariants.{Heartbeat}
+use Rattle.rasta_core_run.specs.Values.{IsPdu, IsOpening}
+use Rattle.rasta_core_run.specs.Items.{IsItem}
 use Rattle.rasta_core_time.specs.Standing.{Standing, Inside, IsInside, own_stamp, standing}
 use Rattle.rasta_core_time.specs.Timely.{IsAnswering}
 use Rattle.rasta_core_run.specs.Sentences.{IsRequest}

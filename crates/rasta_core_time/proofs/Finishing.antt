@@ -1,13 +1,13 @@
 -- From what a call does at one end to what is true of both after it.
 use Rattle.std.proofs.Common.{◌≡◌, ℕ, ◌∙◌, ◌+◌, Bool, true, false, ◌&&◌, ◌||◌, not, if◌then◌else◌, ◌++◌, length, Option, Some, is_some, refl, sym, ap, subst, arith}
-use Rattle.rasta_core_link.specs.State.{LinkState, is_open, is_asking}
-use Rattle.rasta_core_link.specs.Outbox.{spellings}
-use Rattle.rasta_core_link.specs.declared.identity.Identity.{Identity}
-use Rattle.rasta_core_link.specs.declared.identity.Role.{Role}
-use Rattle.rasta_core_link.specs.declared.identity.Role.TheVariants as role
+use Rattle.rasta_core_run.specs.State.{LinkState, is_open, is_asking}
+use Rattle.rasta_core_run.specs.Outbox.{spellings}
+use Rattle.rasta_core_run.specs.identity.Identity.{Identity}
+use Rattle.rasta_core_run.specs.identity.Role.{Role}
+use Rattle.rasta_core_run.specs.identity.Role.TheVariants as role
 use Rattle.rasta_core_run.specs.Ends.{EndState, Outcome, reading_of, end_after, handed_out, newer, leaves}
 use Rattle.rasta_core_run.specs.Run.{Ends, end_of, with_end}
-use Rattle.rasta_pdu.specs.declared.key.Key.{Key}
+use Rattle.rasta_core_run.specs.key.Key.{Key}
 use Rattle.rasta_core_run.specs.Each.{Each}
 use Rattle.rasta_core_time.specs.Standing.{Standing, Inside, Outside, Past, Times, IsInside, IsOutside, closed_at, standing, timed, times_of}
 use Rattle.rasta_core_time.specs.Timely.{AreTimed}

@@ -1,25 +1,25 @@
 -- What any bytes do at an end, as far as time goes.
 use Rattle.std.proofs.Common.{◌≡◌, ℕ, inl, inr, ◌∙◌, ◌<◌, Bool, true, false, ◌&&◌, not, List, [], ◌++◌, Result, Ok, Err, ◌==◌, if◌then◌else◌, refl, sym, ap, subst, eqb-true, append-nil}
-use Rattle.rasta_core_link.specs.State.{LinkState, is_open, is_asking, is_client}
-use Rattle.rasta_core_link.specs.Clock.{state_at}
-use Rattle.rasta_core_link.specs.Sending.{Step, silent, sending, telling, closed}
-use Rattle.rasta_core_link.specs.Opening.{own_opening, beginning, meeting, granting, joining}
-use Rattle.rasta_core_link.specs.Receiving.{Receipt, refusing, accepting, connected, answers_request, asking, resting, by_state, hearing, up}
-use Rattle.rasta_core_link.specs.Calls.{hearing_bytes, receiving}
-use Rattle.rasta_core_link.specs.declared.phase.State.{State}
-use Rattle.rasta_core_link.specs.declared.phase.State.TheVariants as state
-use Rattle.rasta_core_link.specs.declared.reason.Reason.TheVariants as reason
-use Rattle.rasta_core_link.specs.declared.verdict.Verdict.TheVariants as verdict
-use Rattle.rasta_core_link.specs.declared.identity.Role.{Role}
-use Rattle.rasta_core_link.specs.declared.identity.Role.TheVariants as role
+use Rattle.rasta_core_run.specs.State.{LinkState, is_open, is_asking, is_client}
+use Rattle.rasta_core_run.specs.Clock.{state_at}
+use Rattle.rasta_core_run.specs.Sending.{Step, silent, sending, telling, closed}
+use Rattle.rasta_core_run.specs.Opening.{own_opening, beginning, meeting, granting, joining}
+use Rattle.rasta_core_run.specs.Receiving.{Receipt, refusing, accepting, connected, answers_request, asking, resting, by_state, hearing, up}
+use Rattle.rasta_core_run.specs.Calls.{hearing_bytes, receiving}
+use Rattle.rasta_core_run.specs.phase.State.{State}
+use Rattle.rasta_core_run.specs.phase.State.TheVariants as state
+use Rattle.rasta_core_run.specs.reason.Reason.TheVariants as reason
+use Rattle.rasta_core_run.specs.verdict.Verdict.TheVariants as verdict
+use Rattle.rasta_core_run.specs.identity.Role.{Role}
+use Rattle.rasta_core_run.specs.identity.Role.TheVariants as role
 use Rattle.rasta_core_run.specs.Ends.{is_taken}
-use Rattle.rasta_pdu.specs.declared.pdu.Pdu.{Pdu}
-use Rattle.rasta_pdu.specs.declared.fault.PduFault.{PduFault}
-use Rattle.rasta_pdu.specs.declared.body.Opening.{Opening}
-use Rattle.rasta_pdu.specs.declared.body.Body.{Body}
-use Rattle.rasta_pdu.specs.declared.body.Body.TheVariants.{ConnectionRequest, ConnectionResponse, DisconnectionRequest, Heartbeat}
-use Rattle.rasta_pdu.specs.Reading.{reading}
-use Rattle.rasta_pdu.specs.Values.{IsPdu}
+use Rattle.rasta_core_run.specs.pdu.Pdu.{Pdu}
+use Rattle.rasta_core_run.specs.pdu_fault.PduFault.{PduFault}
+use Rattle.rasta_core_run.specs.body.Opening.{Opening}
+use Rattle.rasta_core_run.specs.body.Body.{Body}
+use Rattle.rasta_core_run.specs.body.Body.TheVariants.{ConnectionRequest, ConnectionResponse, DisconnectionRequest, Heartbeat}
+use Rattle.rasta_core_run.specs.Reading.{reading}
+use Rattle.rasta_core_run.specs.Values.{IsPdu}
 use Rattle.rasta_core_time.specs.Standing.{Inside, Outside, own_stamp, standing}
 use Rattle.rasta_core_run.specs.Sentences.{IsRequest}
 use Rattle.rasta_core_time.proofs.Phases.{up_open, up_heard}

@@ -1,7 +1,7 @@
 -- In which connection an end is.
 use Rattle.std.proofs.Common.{◌≡◌, ◌<◌, ℕ, Some, sym, ◌∙◌}
-use Rattle.rasta_core_link.specs.declared.identity.Role.{Role}
-use Rattle.rasta_core_link.specs.declared.identity.Role.TheVariants as role
+use Rattle.rasta_core_run.specs.identity.Role.{Role}
+use Rattle.rasta_core_run.specs.identity.Role.TheVariants as role
 use Rattle.rasta_core_run.specs.Names.{Names}
 use Rattle.rasta_core_run.specs.Run.{Ends, end_of}
 use Rattle.rasta_core_run.specs.Sentences.{IsIn}

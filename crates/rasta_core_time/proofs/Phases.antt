@@ -1,11 +1,11 @@
 -- Phases and admissions, case by case. Their types have no names outside the crate of the link, so they are written
 -- as the type of such a value.
 use Rattle.std.proofs.Common.{◌≡◌, ℕ, ◌⊎◌, List, [], true, false, arith}
-use Rattle.rasta_core_link.specs.State.{LinkState, is_open, is_up, is_asking, is_client}
-use Rattle.rasta_core_link.specs.Clock.{open_state}
-use Rattle.rasta_core_link.specs.Receiving.{up, missing, admission}
-use Rattle.rasta_core_link.specs.declared.phase.State.TheVariants as state
-use Rattle.rasta_pdu.specs.declared.body.Body.TheVariants.{ConnectionResponse, RetransmissionRequest, RetransmissionResponse, DisconnectionRequest, Heartbeat, Data, RetransmittedData}
+use Rattle.rasta_core_run.specs.State.{LinkState, is_open, is_up, is_asking, is_client}
+use Rattle.rasta_core_run.specs.Clock.{open_state}
+use Rattle.rasta_core_run.specs.Receiving.{up, missing, admission}
+use Rattle.rasta_core_run.specs.phase.State.TheVariants as state
+use Rattle.rasta_core_run.specs.body.Body.TheVariants.{ConnectionResponse, RetransmissionRequest, RetransmissionResponse, DisconnectionRequest, Heartbeat, Data, RetransmittedData}
 
 abbrev pub TypeOf : {A : Type 0} → A → Type 0
 TypeOf {A} a = A

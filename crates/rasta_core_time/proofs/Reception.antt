@@ -1,11 +1,11 @@
 -- What reception of a datagram says of the two ends, and that taking it keeps what is true of them.
 use Rattle.std.proofs.Common.{◌≡◌, ℕ, ◌+◌, ◌*◌, ◌≤◌, ◌<◌, Some, refl, arith}
 use native.Mathlib.Decide.{ℕ_discrete, dec_lt}
-use Rattle.rasta_core_link.specs.Parameters.{quiet_time}
-use Rattle.rasta_core_link.specs.declared.identity.Role.{Role}
-use Rattle.rasta_core_link.specs.declared.identity.Role.TheVariants as role
+use Rattle.rasta_core_run.specs.Parameters.{quiet_time}
+use Rattle.rasta_core_run.specs.identity.Role.{Role}
+use Rattle.rasta_core_run.specs.identity.Role.TheVariants as role
 use Rattle.rasta_core_run.specs.Bag.{lifetime}
-use Rattle.rasta_pdu.specs.declared.pdu.Pdu.{Pdu}
+use Rattle.rasta_core_run.specs.pdu.Pdu.{Pdu}
 use Rattle.rasta_core_time.specs.Standing.{Standing, Inside, Outside, Timed, Times, IsInside, IsOutside, HasHeard, closed_at}
 use Rattle.rasta_core_time.specs.Moves.{asking}
 use Rattle.rasta_core_time.specs.Timely.{IsTimed, AreTimed, IsKnown}

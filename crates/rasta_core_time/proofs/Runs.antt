@@ -1,7 +1,7 @@
 -- Every event, and every list of them, keeps the invariant.
 use Rattle.std.proofs.Common.{◌∙◌, ℕ, List, [], ◌∷◌}
 use Rattle.rasta_core_run.specs.Run.{Ends, restarted}
-use Rattle.rasta_core_link.specs.declared.identity.Role.TheVariants as role
+use Rattle.rasta_core_run.specs.identity.Role.TheVariants as role
 use Rattle.rasta_core_run.specs.Sentences.{LeavesClient, IsIn, IsOut}
 use Rattle.rasta_core_time.specs.Invariant.{HasBeenOut, Timely}
 use Rattle.rasta_core_run.specs.Names.{Names, AreNames}

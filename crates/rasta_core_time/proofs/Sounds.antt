@@ -1,14 +1,14 @@
 -- What every link keeps, so that what it hands out are PDUs.
 use Rattle.std.proofs.Common.{◌≡◌, ℕ, zero, suc, ◌∙◌, ◌+◌, ◌<◌, Bool, true, false, List, [], ◌∷◌, nat_le, slice_index_or, if◌then◌else◌, refl, sym, ap, subst, arith}
-use Rattle.rasta_core_link.specs.State.{LinkState, is_open, is_asking}
-use Rattle.rasta_core_link.specs.Sending.{header_of, pdu_of}
-use Rattle.rasta_core_link.specs.Receiving.{still_waiting, repeated, retagged}
-use Rattle.rasta_core_link.specs.declared.identity.Identity.{Identity}
-use Rattle.rasta_pdu.specs.declared.pdu.Pdu.{Pdu}
-use Rattle.rasta_pdu.specs.declared.body.Body.{Body}
-use Rattle.rasta_pdu.specs.declared.body.Body.TheVariants.{RetransmittedData}
-use Rattle.rasta_pdu.specs.Values.{IsPdu, IsBody}
-use Rattle.rasta_pdu.specs.Items.{IsItem, AreItems}
+use Rattle.rasta_core_run.specs.State.{LinkState, is_open, is_asking}
+use Rattle.rasta_core_run.specs.Sending.{header_of, pdu_of}
+use Rattle.rasta_core_run.specs.Receiving.{still_waiting, repeated, retagged}
+use Rattle.rasta_core_run.specs.identity.Identity.{Identity}
+use Rattle.rasta_core_run.specs.pdu.Pdu.{Pdu}
+use Rattle.rasta_core_run.specs.body.Body.{Body}
+use Rattle.rasta_core_run.specs.body.Body.TheVariants.{RetransmittedData}
+use Rattle.rasta_core_run.specs.Values.{IsPdu, IsBody}
+use Rattle.rasta_core_run.specs.Items.{IsItem, AreItems}
 use Rattle.rasta_core_run.specs.Each.{Each}
 use Rattle.rasta_core_time.specs.Invariant.{IsSound}
 use Rattle.rasta_core_time.specs.Standing.{Standing, Inside, Outside, IsInside, HasHeard, heard_stamp, standing}

@@ -1,22 +1,22 @@
 -- What an end inside hands out, and where it stands after it.
 use Rattle.std.proofs.Common.{◌≡◌, ℕ, ◌⊎◌, inl, inr, ◌+◌, ◌^◌, ◌<◌, Bool, true, false, List, [], ◌∷◌, nat_eq, ◌==◌, if◌then◌else◌, refl, arith}
 use Rattle.std.specs.Cmp.Lexicographic.{pointwise}
-use Rattle.rasta_core_link.specs.Parameters.{window_size, own_version}
-use Rattle.rasta_core_link.specs.State.{LinkState, is_open, is_asking, is_client}
-use Rattle.rasta_core_link.specs.Sending.{Step, silent, then_do, sending, telling, closed, closing, reason_number, is_told, giving}
-use Rattle.rasta_core_link.specs.Opening.{judging}
-use Rattle.rasta_core_link.specs.Receiving.{answering, repeating}
-use Rattle.rasta_core_link.specs.declared.reason.Reason.{Reason}
-use Rattle.rasta_core_link.specs.declared.reason.Reason.TheVariants as reason
-use Rattle.rasta_core_link.specs.declared.identity.Identity.{Identity}
-use Rattle.rasta_core_link.specs.declared.identity.Role.{Role}
-use Rattle.rasta_core_link.specs.declared.identity.Role.TheVariants as role
-use Rattle.rasta_pdu.specs.declared.pdu.Pdu.{Pdu}
-use Rattle.rasta_pdu.specs.declared.body.Opening.{Opening}
-use Rattle.rasta_pdu.specs.declared.body.Body.{Body}
-use Rattle.rasta_pdu.specs.declared.body.Body.TheVariants.{RetransmissionResponse, DisconnectionRequest, Heartbeat, Data}
-use Rattle.rasta_pdu.specs.Values.{IsBody}
-use Rattle.rasta_pdu.specs.Items.{IsItem}
+use Rattle.rasta_core_run.specs.Parameters.{window_size, own_version}
+use Rattle.rasta_core_run.specs.State.{LinkState, is_open, is_asking, is_client}
+use Rattle.rasta_core_run.specs.Sending.{Step, silent, then_do, sending, telling, closed, closing, reason_number, is_told, giving}
+use Rattle.rasta_core_run.specs.Opening.{judging}
+use Rattle.rasta_core_run.specs.Receiving.{answering, repeating}
+use Rattle.rasta_core_run.specs.reason.Reason.{Reason}
+use Rattle.rasta_core_run.specs.reason.Reason.TheVariants as reason
+use Rattle.rasta_core_run.specs.identity.Identity.{Identity}
+use Rattle.rasta_core_run.specs.identity.Role.{Role}
+use Rattle.rasta_core_run.specs.identity.Role.TheVariants as role
+use Rattle.rasta_core_run.specs.pdu.Pdu.{Pdu}
+use Rattle.rasta_core_run.specs.body.Opening.{Opening}
+use Rattle.rasta_core_run.specs.body.Body.{Body}
+use Rattle.rasta_core_run.specs.body.Body.TheVariants.{RetransmissionResponse, DisconnectionRequest, Heartbeat, Data}
+use Rattle.rasta_core_run.specs.Values.{IsBody}
+use Rattle.rasta_core_run.specs.Items.{IsItem}
 use Rattle.rasta_core_run.specs.Each.{Each}
 use Rattle.rasta_core_time.specs.Standing.{Standing, Outside, standing}
 use Rattle.rasta_core_time.specs.Timely.{IsAnswering}

@@ -1,8 +1,8 @@
 -- Taking a datagram keeps what is true of the two ends.
 use Rattle.std.proofs.Common.{◌≡◌, ℕ, ◌+◌, ◌-◌, ◌^◌, ◌<◌, ◌≤◌, Some, sym, ap, subst, arith}
-use Rattle.rasta_core_link.specs.Sequence.{distance, stamp}
-use Rattle.rasta_core_link.specs.declared.identity.Role.TheVariants as role
-use Rattle.rasta_pdu.specs.declared.pdu.Pdu.{Pdu}
+use Rattle.rasta_core_run.specs.Sequence.{distance, stamp}
+use Rattle.rasta_core_run.specs.identity.Role.TheVariants as role
+use Rattle.rasta_core_run.specs.pdu.Pdu.{Pdu}
 use Rattle.rasta_core_time.specs.Standing.{Standing, Inside, Outside, Timed, Times, IsInside, HasHeard, own_stamp}
 use Rattle.rasta_core_time.specs.Moves.{asking, granting, hearing}
 use Rattle.rasta_core_time.specs.Timely.{WasRead, WasReadThen, IsTimed, AreTimed, IsAnswering, IsKnown}

@@ -1,14 +1,14 @@
 -- The invariant of two ends of a link and the datagrams between them, as far as time goes.
 use Rattle.std.specs.Prelude.{◌≡◌, ℕ, ◌^◌, ◌<◌, Ok}
-use Rattle.rasta_core_link.specs.State.{LinkState}
-use Rattle.rasta_core_link.specs.declared.identity.Role.{Role}
-use Rattle.rasta_core_link.specs.declared.identity.Role.TheVariants as role
+use Rattle.rasta_core_run.specs.State.{LinkState}
+use Rattle.rasta_core_run.specs.identity.Role.{Role}
+use Rattle.rasta_core_run.specs.identity.Role.TheVariants as role
 use Rattle.rasta_core_run.specs.Ends.{Sent, EndState, reading_of}
 use Rattle.rasta_core_run.specs.Run.{Ends}
-use Rattle.rasta_pdu.specs.declared.pdu.Pdu.{Pdu}
-use Rattle.rasta_pdu.specs.Values.{IsPdu}
-use Rattle.rasta_pdu.specs.Items.{IsItem}
-use Rattle.rasta_pdu.specs.Reading.{reading}
+use Rattle.rasta_core_run.specs.pdu.Pdu.{Pdu}
+use Rattle.rasta_core_run.specs.Values.{IsPdu}
+use Rattle.rasta_core_run.specs.Items.{IsItem}
+use Rattle.rasta_core_run.specs.Reading.{reading}
 use Rattle.rasta_core_run.specs.Each.{Each}
 use Rattle.rasta_core_time.specs.Standing.{Past, Times, times_of}
 use Rattle.rasta_core_run.specs.Names.{Names, identity_of, name_of, partner_of}

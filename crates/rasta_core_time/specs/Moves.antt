@@ -1,7 +1,7 @@
 -- What can happen to two ends, as far as time goes: each event is one of these, or some of them one after another.
 use Rattle.std.specs.Prelude.{ℕ, ◌+◌, true, false, Some}
-use Rattle.rasta_core_link.specs.declared.identity.Role.{Role}
-use Rattle.rasta_core_link.specs.declared.identity.Role.TheVariants as role
+use Rattle.rasta_core_run.specs.identity.Role.{Role}
+use Rattle.rasta_core_run.specs.identity.Role.TheVariants as role
 use Rattle.rasta_core_time.specs.Standing.{Inside, Outside, Timed, Times}
 
 abbrev pub with_timed : Role → Timed → Times → Times

@@ -1,9 +1,9 @@
 -- Two ends as far as time goes: clocks, stamps, and when what was sent that they heard.
 -- All times but stamps are in microseconds; a stamp is an end's clock in milliseconds, modulo 2^32.
 use Rattle.std.specs.Prelude.{ℕ, Bool, true, false, Option, if◌then◌else◌}
-use Rattle.rasta_core_link.specs.State.{LinkState, is_open, is_asking}
-use Rattle.rasta_core_link.specs.declared.identity.Role.{Role}
-use Rattle.rasta_core_link.specs.declared.identity.Role.TheVariants as role
+use Rattle.rasta_core_run.specs.State.{LinkState, is_open, is_asking}
+use Rattle.rasta_core_run.specs.identity.Role.{Role}
+use Rattle.rasta_core_run.specs.identity.Role.TheVariants as role
 use Rattle.rasta_core_run.specs.Ends.{EndState}
 use Rattle.rasta_core_run.specs.Run.{Ends}
 

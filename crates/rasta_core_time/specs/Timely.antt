@@ -1,13 +1,13 @@
 -- The invariant of time: which stamps are how old, and which datagrams can still be delivered.
 use Rattle.std.specs.Prelude.{◌≡◌, ◌≢◌, ℕ, ◌+◌, ◌*◌, ◌≤◌, ◌<◌, Some}
-use Rattle.rasta_core_link.specs.Parameters.{time_limit}
-use Rattle.rasta_core_link.specs.Sequence.{stamp}
-use Rattle.rasta_core_link.specs.declared.identity.Role.{Role}
-use Rattle.rasta_core_link.specs.declared.identity.Role.TheVariants as role
+use Rattle.rasta_core_run.specs.Parameters.{time_limit}
+use Rattle.rasta_core_run.specs.Sequence.{stamp}
+use Rattle.rasta_core_run.specs.identity.Role.{Role}
+use Rattle.rasta_core_run.specs.identity.Role.TheVariants as role
 use Rattle.rasta_core_run.specs.Bag.{lifetime}
-use Rattle.rasta_pdu.specs.declared.pdu.Pdu.{Pdu}
-use Rattle.rasta_pdu.specs.declared.body.Body.{Body}
-use Rattle.rasta_pdu.specs.declared.body.Body.TheVariants.{ConnectionRequest, DisconnectionRequest}
+use Rattle.rasta_core_run.specs.pdu.Pdu.{Pdu}
+use Rattle.rasta_core_run.specs.body.Body.{Body}
+use Rattle.rasta_core_run.specs.body.Body.TheVariants.{ConnectionRequest, DisconnectionRequest}
 use Rattle.rasta_core_time.specs.Standing.{Timed, Times, IsInside, IsOutside, HasHeard, own_stamp, heard_stamp, closed_at, at_role}
 use Rattle.rasta_core_run.specs.Names.{partner_of}
 use Rattle.rasta_core_run.specs.Sentences.{IsRequest}

@@ -2,11 +2,11 @@
 //! of what was sent at most 2000 ms before or isn't intact, losses and restarts.
 
 ghost use Rattle.std.specs.Prelude.{◌≡◌, ◌≢◌, ℕ, ◌+◌, ◌<◌, ◌≤◌, true, List, [], ◌∷◌, Option, Some, Ok};
-ghost use Rattle.rasta_core_link.specs.Clock.{settled};
-ghost use Rattle.rasta_core_link.specs.Parameters.{quiet_time};
-ghost use Rattle.rasta_core_link.specs.State.{is_up};
-ghost use Rattle.rasta_core_link.specs.declared.identity.Role.{Role};
-ghost use Rattle.rasta_core_link.specs.declared.identity.Role.TheVariants as role;
+ghost use Rattle.rasta_core_run.specs.Clock.{settled};
+ghost use Rattle.rasta_core_run.specs.Parameters.{quiet_time};
+ghost use Rattle.rasta_core_run.specs.State.{is_up};
+ghost use Rattle.rasta_core_run.specs.identity.Role.{Role};
+ghost use Rattle.rasta_core_run.specs.identity.Role.TheVariants as role;
 ghost use Rattle.rasta_core_run.specs.Bag.{lifetime, newest_copy};
 ghost use Rattle.rasta_core_run.specs.Ends.{Sent, Receives, is_taken, reading_of};
 ghost use Rattle.rasta_core_run.specs.Run.{Ends, end_of, called};
@@ -16,7 +16,7 @@ ghost use Rattle.rasta_core_run.specs.Names.{AreNames, Names};
 ghost use Rattle.rasta_core_time.specs.Invariant.{Timely, HasBeenOut};
 ghost use Rattle.rasta_core_run.specs.Sentences.{IsDownNow, LeavesClient, IsIn, IsOpening, IsOut, freshness, receipt_at};
 
-use rasta_pdu::{read_was_written, written_is_read};
+use rasta_core_run::{read_was_written, written_is_read};
 
 /// Two ends that were just created keep time, whatever their clocks and first sequence numbers.
 pub fn starts_in_time()

@@ -1,4 +1,4 @@
-use Rattle.rasta_core_link.specs.declared.identity.Role.TheVariants as role
+use Rattle.rasta_core_run.specs.identity.Role.TheVariants as role
 use Rattle.rasta_core_run.specs.Events.{run, started}
 use Rattle.rasta_core_theorem.proofs.OrderLaws.{CarryingLaws, Laws}
 use Rattle.rasta_core_theorem.proofs.GivenKept.{run_gives, starts_given, given_of}
