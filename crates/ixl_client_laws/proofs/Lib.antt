@@ -1,0 +1,5 @@
+pub mod Closing
+pub mod Deviating
+pub mod Opening
+pub mod Picking
+pub mod Saying

@@ -1,0 +1,4 @@
+pub mod Closing
+pub mod Expecting
+pub mod Opening
+pub mod Saying
