@@ -1,7 +1,6 @@
 -- What happens to the parts of a world is what happens to the world.
-use Rattle.std.proofs.Common.{◌≡◌, refl, sym, ap, ◌∙◌, subst, ℕ, ◌+◌, ◌≤◌, ◌<◌, List, length, ◌++◌, arith, Option, Some, None}
+use Rattle.std.proofs.Common.{◌≡◌, refl, sym, ap, ◌∙◌, subst, ℕ, List, arith, Option, Some, None}
 use Rattle.layout.specs.Entries.{Plan}
-use Rattle.ixl_rules.specs.Part.{Part}
 use Rattle.ixl_rules.specs.Step as ixl
 use Rattle.ixl_rules.specs.Table.{Table}
 use Rattle.ixl_table.specs.Table.{PlannedTable}
@@ -22,7 +21,6 @@ use Rattle.point_ctl.specs.Drive.{PointState}
 use Rattle.tds_ctl.specs.declared.section.Section.{Section}
 use Rattle.std.specs.Prelude.{slice_get}
 use Rattle.simulator_world_run.specs.State.{ServerState, StationState, WorldState}
-use Rattle.simulator_world_run.specs.Station.{station_step}
 use Rattle.simulator_world_station.specs.Station.{HasStepped, StationView, done_by, sending_after}
 use Rattle.simulator_world.specs.inside.Parts.{Goes, IsWhole, plan_of, room_of, seen, table_of}
 use Rattle.simulator_world.specs.declared.parts.Parts.{Parts}

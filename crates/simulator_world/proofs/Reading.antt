@@ -1,7 +1,5 @@
 -- What is read off the controllers.
-use Rattle.std.proofs.Common.{◌≡◌, refl, sym, ap, ◌∙◌, ℕ, zero, suc, ◌<◌, List, [], ◌∷◌, length, get_or, arith}
-use Rattle.std.specs.Prelude.{Option}
-use Rattle.sci_telegram.specs.declared.message.Side.{Side}
+use Rattle.std.proofs.Common.{◌≡◌, sym, ap, ℕ, zero, suc, ◌<◌, List, [], ◌∷◌, length, get_or, arith}
 use Rattle.point_ctl.specs.Drive.{PointState}
 use Rattle.simulator_world_run.specs.Refusals.{driven_at, driven_by}
 use Rattle.simulator_world_run.specs.State.{ServerState}

@@ -4,7 +4,7 @@ ghost use Rattle.std.specs.Prelude.{◌≡◌, ◌≤◌, ◌<◌, ◌+◌, ◌�
 ghost use Rattle.simulator_event.specs.declared.refused.Refused.TheVariants.{OutOfMemory};
 ghost use Rattle.simulator_world_run.specs.Happens.{happens, is_restart, reply_to};
 ghost use Rattle.simulator_world_run.specs.Refusals.{refusal};
-ghost use Rattle.simulator_world.specs.inside.Parts.{IsWhole, plan_of, room_of, seen, steps_of, table_of};
+ghost use Rattle.simulator_world.specs.inside.Parts.{IsWhole, plan_of, seen, steps_of, table_of};
 
 use crate::parts::Parts;
 use simulator_event::{Event, Refused, Reply};

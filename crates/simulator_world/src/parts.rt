@@ -9,7 +9,7 @@ ghost use Rattle.simulator_world_run.specs.First.{first_world};
 ghost use Rattle.simulator_world_run.specs.Refusals.{driven_at};
 ghost use Rattle.simulator_world_run.specs.Seen.{shown_by};
 ghost use Rattle.simulator_world_run.specs.Station.{held_of};
-ghost use Rattle.simulator_world.specs.inside.Parts.{IsWhole, plan_of, room_of, seen, table_of};
+ghost use Rattle.simulator_world.specs.inside.Parts.{IsWhole, plan_of, seen, table_of};
 
 use arrayvec::ArrayVec;
 use control_table::Checked;

@@ -1,11 +1,10 @@
 //! Nodes that are made anew.
 
-ghost use Rattle.std.specs.Prelude.{◌≡◌, ◌≤◌, ◌*◌, OnErr, OnOk};
+ghost use Rattle.std.specs.Prelude.{◌≡◌, ◌≤◌, ◌*◌, OnErr, OnOk, Some};
 ghost use Rattle.simulator_world_run.specs.Happens.{made_anew};
 ghost use Rattle.simulator_world_run.specs.Nodes.{Station, node_at};
 ghost use Rattle.simulator_world_run.specs.Refusals.{clock_limit};
-ghost use Rattle.simulator_world.specs.inside.Parts.{Restarts, IsWhole, plan_of, table_of};
-ghost use Rattle.std.specs.Prelude.{Some};
+ghost use Rattle.simulator_world.specs.inside.Parts.{IsWhole, Restarts, plan_of, table_of};
 
 use crate::nodes::{Node, node_at};
 use crate::parts::Parts;

@@ -5,7 +5,7 @@ ghost use Rattle.ixl.specs.Interlocking.{meant, told};
 ghost use Rattle.ixl_rules.specs.Step.{Commands};
 ghost use Rattle.object_host.specs.declared.input.Input.TheVariants as inputs;
 ghost use Rattle.object_host.specs.declared.sense.Sense.TheVariants as sense;
-ghost use Rattle.simulator_world_run.specs.Happens.{answered_by, coming, delivered_to, detector_stepped, point_stepped, sensed_by, signal_stepped, station_stepped, ticked_at};
+ghost use Rattle.simulator_world_run.specs.Happens.{answered_by, delivered_to, detector_stepped, point_stepped, sensed_by, signal_stepped, station_stepped, ticked_at};
 ghost use Rattle.simulator_world_run.specs.Nodes.{node_at};
 ghost use Rattle.simulator_world_run.specs.State.{WorldState};
 ghost use Rattle.simulator_world_run.specs.Station.{station_reply};

@@ -2,9 +2,10 @@
 
 ghost use Rattle.std.specs.Prelude.{◌≡◌, ◌≤◌, ◌<◌, ◌+◌, ◌↔◌, ◌⊎◌, Err, IfErr, IfOk, IsTrue, None, OnErr, OnOk, Some, length, slice_get};
 ghost use Rattle.std.specs.Option.{option_map};
-ghost use Rattle.control_table.specs.Table.{Sound};
 ghost use Rattle.ixl_rules.specs.View.{is_set};
+ghost use Rattle.ixl_table.specs.Table.{IsTableOf};
 ghost use Rattle.simulator_event.specs.declared.refused.Refused.TheVariants.{OutOfMemory};
+ghost use Rattle.simulator_headline.specs.Reached.{HasSafeLinks};
 ghost use Rattle.simulator_world_bag.specs.Bag.{in_bag, not_lost};
 ghost use Rattle.simulator_world_run.specs.First.{first_world};
 ghost use Rattle.simulator_world_run.specs.Happens.{happens, is_restart, reply_to};
@@ -56,10 +57,15 @@ impl World {
     pub fn new(alloc: Global, checked: Checked) -> Result<World, AllocError>
         ensures plan { IfOk result (λ world. world.planned.plan ≡ checked) }
         ensures run { IfOk result (λ world. world.run ≡ first_world world.planned.plan world.planned.table) }
+        ensures table { IfOk result (λ world. IsTableOf world.planned.plan world.planned.table) }
+        ensures safe { IfOk result IsSafeWorld }
+        ensures links { IfOk result (λ world. HasSafeLinks world.planned.plan world.run) }
     {
         reached_worlds_are_safe();
         let parts = Parts::new(alloc, checked)?;
-        Ok(World { parts })
+        let world = World { parts };
+        world.facts();
+        Ok(world)
     }
 
     /// Applies an event and tells of it, or says why it can't happen; then nothing has changed but that the room may have
@@ -75,6 +81,7 @@ impl World {
         ensures room { self.old.room ≤ self.new.room + 1 }
         ensures kept { OnErr result (self.old.room ≤ self.new.room) }
         ensures safe { IsSafeWorld self.new }
+        ensures links { HasSafeLinks self.new.planned.plan self.new.run }
     {
         reached_worlds_are_safe();
         self.parts.facts();
@@ -84,7 +91,9 @@ impl World {
     /// Applies events one after another, goes on after those that are refused, and answers how many were accepted.
     pub fn run(&mut self, events: &[Event]) -> usize
         ensures run { Runs events.now self.old result self.new }
+        ensures planned { self.new.planned ≡ self.old.planned }
         ensures safe { IsSafeWorld self.new }
+        ensures links { HasSafeLinks self.new.planned.plan self.new.run }
     {
         let mut accepted = 0;
         for event in events {
@@ -92,7 +101,7 @@ impl World {
                 accepted += 1;
             }
         }
-        self.is_safe();
+        self.facts();
         accepted
     }
 
@@ -207,9 +216,11 @@ impl World {
         self.parts.snapshot()
     }
 
-    /// Whatever is seen of a world is safe.
-    fn is_safe(&self)
-        ensures { IsSafeWorld self.now }
+    /// What is true of every world: whatever is seen of it is safe, and so is each of its links.
+    fn facts(&self)
+        ensures table { IsTableOf self.now.planned.plan self.now.planned.table }
+        ensures safe { IsSafeWorld self.now }
+        ensures links { HasSafeLinks self.now.planned.plan self.now.run }
     {
         reached_worlds_are_safe();
         self.parts.facts();
@@ -220,7 +231,7 @@ impl World {
         ensures always { IsTrue result }
         ensures seen { (seen : Snapshot) × IsSnapshotOf self.now.planned.table self.now.run seen × (IsTrue result ↔ Safe self.now.planned.plan seen) }
     {
-        self.is_safe();
+        self.facts();
         self.snapshot().safe(self.table())
     }
 }

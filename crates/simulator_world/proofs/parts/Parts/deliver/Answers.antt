@@ -1,4 +1,4 @@
-use Rattle.std.proofs.Common.{◌≡◌, sym, ap, ◌∙◌, Some}
+use Rattle.std.proofs.Common.{sym, ap, ◌∙◌, Some}
 use Rattle.std.specs.Option.{option_map}
 use Rattle.object_host.specs.declared.input.Input.TheVariants as inputs
 use Rattle.simulator_world_run.specs.Happens.{delivered_to, detector_stepped, point_stepped, signal_stepped}

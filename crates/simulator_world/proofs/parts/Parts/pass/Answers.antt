@@ -1,4 +1,4 @@
-use Rattle.std.proofs.Common.{◌≡◌, ◌≤◌, ◌+◌, length, ap, slice_index_or, arith}
+use Rattle.std.proofs.Common.{◌≡◌, ◌+◌, length, ap, slice_index_or, arith}
 use Rattle.simulator_world_controllers.specs.Controllers.{world_of}
 use Rattle.simulator_world.specs.inside.Parts.{plan_of, seen}
 use Rattle.simulator_world.proofs.Within.{each_within, first_then, may_go_on}

@@ -1,4 +1,4 @@
-use Rattle.std.proofs.Common.{◌≡◌, sym, subst}
+use Rattle.std.proofs.Common.{sym, subst}
 use Rattle.simulator_event.specs.declared.event.Event.{Event}
 use Rattle.simulator_world.specs.inside.Finding.{Tells}
 use Rattle.simulator_world.specs.inside.Parts.{plan_of, seen}

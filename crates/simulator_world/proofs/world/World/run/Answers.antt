@@ -1,4 +1,4 @@
-use Rattle.std.proofs.Common.{◌≡◌, ◌+◌, ◌++◌, [], ◌∷◌, ap, sym, ◌∙◌, subst, take, arith, List}
+use Rattle.std.proofs.Common.{◌≡◌, refl, ◌+◌, ◌++◌, [], ◌∷◌, ap, sym, ◌∙◌, subst, take, arith, List}
 use Rattle.std.specs.Prelude.{is_ok, if◌then◌else◌, ℕ}
 use Rattle.std.proofs.lemmas.List.{take_more}
 use Rattle.simulator_event.specs.declared.event.Event.{Event}
@@ -8,7 +8,7 @@ use Rattle.simulator_world.proofs.world.World.run.Goals as goal
 use Rattle.simulator_world.proofs.world.World.run.Goals.{then-is_ok, else-is_ok}
 
 pub loop-event-init : goal.loop-event-init
-loop-event-init c = (stops, omega arith)
+loop-event-init c = record { ran = stops; few = omega arith; planned = refl }
 
 pub loop-event-preserved : goal.loop-event-preserved
 loop-event-preserved c =
@@ -22,10 +22,11 @@ loop-event-preserved c =
       | then-is_ok w ↦ w.accepted-is ∙ ap (λ b. if b then loop.accepted + 1 else loop.accepted) (sym w.if-is_ok.true ∙ c.is_ok.ensures.value)
       | else-is_ok w ↦ w.accepted-is ∙ ap (λ b. if b then loop.accepted + 1 else loop.accepted) (sym w.if-is_ok.false ∙ c.is_ok.ensures.value)
     ]
-    in let ran = run_step _ one _ _ _ _ c.apply.result loop.invariant.0 applied.step applied.allowed applied.refused applied.same applied.planned applied.memory applied.room applied.kept
+    in let ran = run_step _ one _ _ _ _ c.apply.result loop.invariant.ran applied.step applied.allowed applied.refused applied.same applied.planned applied.memory applied.room applied.kept
     in let Counted : ℕ → Type 0 = λ n. Runs (take loop.event-index events ++ one ∷ []) c.args.self.now n c.apply.new.self
     in let Grown : List Event → Type 0 = λ es. Runs es c.args.self.now c.if-is_ok.accepted c.apply.new.self
-    in (
-      subst Grown (sym grown) (subst Counted (sym counted) ran),
-      elim c.if-is_ok.branch [ then-is_ok w ↦ omega (arith, loop.invariant.1, w.accepted-is) | else-is_ok w ↦ omega (arith, loop.invariant.1, w.accepted-is) ],
-    )
+    in record {
+      ran = subst Grown (sym grown) (subst Counted (sym counted) ran);
+      few = elim c.if-is_ok.branch [ then-is_ok w ↦ omega (arith, loop.invariant.few, w.accepted-is) | else-is_ok w ↦ omega (arith, loop.invariant.few, w.accepted-is) ];
+      planned = applied.planned ∙ loop.invariant.planned;
+    }

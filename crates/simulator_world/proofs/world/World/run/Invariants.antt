@@ -1,7 +1,10 @@
-use Rattle.std.proofs.Common.{◌≤◌, take}
+use Rattle.std.proofs.Common.{◌≡◌, ◌≤◌, take}
 use Rattle.simulator_world.specs.Runs.{Runs}
 use Rattle.simulator_world.proofs.world.World.run.Given as goal
 
 abbrev pub invariant-loop-event : goal.invariant-loop-event
-invariant-loop-event l =
-    Runs (take l.event-index l.events) l.initial.self l.accepted l.self × (l.accepted ≤ l.event-index)
+invariant-loop-event l = record {
+  ran : Runs (take l.event-index l.events) l.initial.self l.accepted l.self;
+  few : l.accepted ≤ l.event-index;
+  planned : l.self.planned ≡ l.initial.self.planned;
+}
