@@ -1,0 +1,5 @@
+pub mod Apart
+pub mod Cancels
+pub mod Links
+pub mod Onward
+pub mod Refused

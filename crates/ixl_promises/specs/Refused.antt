@@ -1,0 +1,17 @@
+-- A step that nothing came in.
+use Rattle.std.specs.Prelude.{◌≡◌, ℕ}
+use Rattle.ixl_rules.specs.Part.{Part, begun_with, over}
+use Rattle.ixl_rules.specs.Rules.{count, ruled}
+use Rattle.ixl_rules.specs.State.{IxlState}
+use Rattle.ixl_rules.specs.Step.{all_clocked, watching}
+use Rattle.ixl_rules.specs.Table.{Table}
+use Rattle.ixl.specs.Interlocking.{InterlockingState, empty_outbox}
+
+-- the clock, what is seen of routes with authority, and the six rules
+abbrev pub step_without_input : ℕ → Table → IxlState → Part
+step_without_input now table ixl = ruled now table (over (watching table) (count table) (begun_with (all_clocked now ixl) empty_outbox))
+
+-- An interlocking is as it would be without an input, and has handed out the same.
+pub record IsWithoutInput (now : ℕ) (old new : InterlockingState) : Type 0 where
+  pub ixl : new.state.ixl ≡ (step_without_input now old.state.planned.table old.state.ixl).ixl
+  pub outbox : new.outbox ≡ (step_without_input now old.state.planned.table old.state.ixl).outbox

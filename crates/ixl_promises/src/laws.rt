@@ -1,0 +1,79 @@
+//! Laws over every step of an interlocking.
+
+ghost use Rattle.std.specs.Prelude.{◌≡◌, ◌<◌, ◌↔◌, ℕ, true, List, None, Err, Some, slice_get};
+ghost use Rattle.std.specs.List.{Contains};
+ghost use Rattle.rasta_pdu.specs.Reading.{reading};
+ghost use Rattle.rasta_pdu.specs.declared.key.Key.{Key};
+ghost use Rattle.layout.specs.Entries.{Plan};
+ghost use Rattle.layout.specs.declared.ids.RouteId.{RouteId};
+ghost use Rattle.ixl_rules.specs.Due.{HoldsPoint, HoldsSection};
+ghost use Rattle.ixl_rules.specs.State.{IxlState, RouteState};
+ghost use Rattle.ixl_rules.specs.Step.{Accepted, Commands, Datagram, Input, Refused, Reply, Tick, all_clocked, addressed};
+ghost use Rattle.ixl_rules.specs.Table.{Need, Row, Table};
+ghost use Rattle.ixl_rules.specs.View.{freed_sections, has_authority};
+ghost use Rattle.ixl_rules.specs.declared.command.Command.TheVariants as commands;
+ghost use Rattle.ixl_rules.specs.declared.command.Command.{Command};
+ghost use Rattle.ixl_rules.specs.declared.command.Refusal.{Refusal};
+ghost use Rattle.ixl_rules.specs.declared.phase.Phase.{Phase};
+ghost use Rattle.ixl_state.specs.First.{Beginning, key_of, new_ixl};
+ghost use Rattle.ixl.specs.Interlocking.{HasStepped, InterlockingState};
+ghost use Rattle.ixl_promises.specs.Apart.{AllApart};
+ghost use Rattle.ixl_promises.specs.Cancels.{IsCancelRefused, MayCancel};
+ghost use Rattle.ixl_promises.specs.Links.{NoneDown};
+ghost use Rattle.ixl_promises.specs.Onward.{GoesOn};
+ghost use Rattle.ixl_promises.specs.Refused.{IsWithoutInput};
+
+use ixl::requests_are_accepted_where_admissible;
+use ixl_client_laws::ticks_open_links_that_are_down;
+
+/// In a step each route goes on in its order, or is freed, and never back: it waits, its aspect was given, it was
+/// withdrawn, its authority ended, and its sections are freed one after another. It is set only by a request that is
+/// accepted, where it wasn't set. So its aspect is given once in a setting, since it is given only where the route waits.
+#[tactic(auto, using(crate::proofs::Going::steps_go_on))]
+pub fn routes_go_on_in_their_order()
+    ensures { (now : ℕ) (input : Input) (old new : InterlockingState) (answer : Reply) (number : ℕ) (before after : RouteState) → HasStepped now input old new answer
+        → slice_get old.state.ixl.routes number ≡ Some before → slice_get new.state.ixl.routes number ≡ Some after → GoesOn input answer number before.phase after.phase }
+{}
+
+/// No two set routes stand against each other, at first and behind every step: they begin at different signals, neither
+/// lists the other, they hold no section in common, and each point that both hold at one side. So two set routes of which
+/// nothing is freed don't conflict.
+pub fn set_routes_stand_apart()
+    ensures first { (plan : Plan) (table : Table) (begins : Beginning) → AllApart table (new_ixl plan table begins) }
+    ensures kept { (now : ℕ) (input : Input) (old new : InterlockingState) (answer : Reply) → HasStepped now input old new answer
+        → AllApart old.state.planned.table old.state.ixl → AllApart new.state.planned.table new.state.ixl }
+{
+    requests_are_accepted_where_admissible();
+}
+
+/// A command that is refused, and a datagram that can't be read or comes from no controller, leave what a step without
+/// them leaves, and hand out what it hands out.
+pub fn refused_inputs_change_nothing()
+    ensures command { (now : ℕ) (command : Command) (old new : InterlockingState) (cause : Refusal) → HasStepped now (Commands command) old new (Refused cause) → IsWithoutInput now old new }
+    ensures datagram { (now : ℕ) (bytes : List ℕ) (old new : InterlockingState) (answer : Reply) → HasStepped now (Datagram bytes) old new answer
+        → addressed (reading (key_of old.state.planned.plan) bytes) (all_clocked now old.state.ixl) ≡ None → IsWithoutInput now old new }
+{}
+
+/// A cancel is accepted exactly where the hold is over, the interlocking was told to resume, and the route is set; and it is
+/// refused for the first cause that is given.
+pub fn cancels_are_accepted_where_a_route_is_set()
+    ensures accepted { (now : ℕ) (route : RouteId) (old new : InterlockingState) (answer : Reply) → HasStepped now (Commands (commands.Cancel route)) old new answer
+        → answer ≡ Accepted ↔ MayCancel now old.state.ixl route.0 }
+    ensures refused { (now : ℕ) (route : RouteId) (old new : InterlockingState) (answer : Reply) (cause : Refusal) → HasStepped now (Commands (commands.Cancel route)) old new answer
+        → answer ≡ Refused cause → IsCancelRefused now old.state.ixl route.0 cause }
+{}
+
+/// Behind a tick the link of no controller is down: each is in a connection, or in its quiet time.
+pub fn ticks_leave_no_link_down()
+    ensures { (now : ℕ) (old new : InterlockingState) (answer : Reply) → HasStepped now Tick old new answer → NoneDown now new.state.ixl }
+{
+    ticks_open_links_that_are_down();
+}
+
+/// Of a route with authority nothing is freed: it holds all its sections, and each point that it requires.
+#[tactic(auto, using(crate::proofs::Holding::nothing_freed, crate::proofs::Holding::all_sections, crate::proofs::Holding::all_points))]
+pub fn routes_with_authority_hold_all()
+    ensures nothing { (phase : Phase) → has_authority phase ≡ true → freed_sections phase ≡ 0 }
+    ensures sections { (row : Row) (phase : Phase) (section : ℕ) → has_authority phase ≡ true → Contains row.sections section → HoldsSection row phase section }
+    ensures points { (row : Row) (phase : Phase) (need : Need) → has_authority phase ≡ true → Contains row.needs need → 0 < need.until → HoldsPoint row phase need.point need.side }
+{}

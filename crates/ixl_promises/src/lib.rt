@@ -1,0 +1,10 @@
+//! What the steps of an interlocking come to, over all its parts, in the words of the field. There is no code here but laws.
+#![tactic(auto)]
+
+mod laws;
+
+pub use laws::{
+    cancels_are_accepted_where_a_route_is_set, refused_inputs_change_nothing,
+    routes_go_on_in_their_order, routes_with_authority_hold_all, set_routes_stand_apart,
+    ticks_leave_no_link_down,
+};
