@@ -1,0 +1,4 @@
+pub mod Applying
+pub mod Lines
+pub mod Safety
+pub mod Whole

@@ -1,0 +1,35 @@
+use Rattle.std.proofs.Common.{◌≡◌, ◌∙◌, ◌++◌, ◌<◌, ◌≤◌, ap, sym, subst, List, ℕ, get_or, length, string_bytes}
+use Rattle.layout.specs.Entries.{Plan}
+use Rattle.layout.specs.declared.entries.Signal.{Signal}
+use Rattle.simulator_world_snapshot.specs.declared.snapshot.Held.{Held}
+use Rattle.simulator_world_run.specs.Picture.{authority_text}
+use Rattle.simulator_world_run.specs.Station.{held_of}
+use Rattle.station_sim.specs.inside.Lines.{signal_line}
+use Rattle.station_sim.proofs.Lines.{signals-add, signals-all}
+use Rattle.station_sim.proofs.picture.push_signals.Goals as goal
+
+pub loop-place-preserved : goal.loop-place-preserved
+loop-place-preserved c =
+    let world = c.args.world.now
+    in let plan = world.planned.plan
+    in let held = held_of world.planned.table world.run.station world.run.frozen
+    in let place = c.loop-place.place
+    in let signal = c.index-signals-place.result
+    in let old = string_bytes c.loop-place.text
+    in let layout_is : c.layout-layout.result.now ≡ plan = c.layout-layout.ensures.entries ∙ c.table.ensures
+    in let all : c.signals-signals.result.now ≡ plan.signals = c.signals-signals.ensures ∙ ap (λ (p : Plan). p.signals) layout_is
+    in let within : place < length plan.signals = subst (λ (l : List Signal). place < length l) all c.loop-place-test.true
+    in let at : signal ≡ get_or plan.signals place signal = subst (λ (l : List Signal). signal ≡ get_or l place signal) all c.index-signals-place.is
+    in let route : c.authority-route.result.now ≡ authority_text plan place held =
+    c.authority-route.ensures ∙ ap (λ (p : Plan). authority_text p place c.deref.result.now) layout_is ∙ ap (λ (h : List Held). authority_text plan place h) (c.deref.ensures.0 ∙ c.held-held.ensures)
+    in signals-add plan held place plan.signals world.run.signals signal c.shown.result old (string_bytes c.push_signal.new.text) _ within at c.shown.ensures
+    (c.in_ok-push_signal.ensures ∙ ap (λ (s : Signal). old ++ signal_line s.name c.shown.result c.authority-route.result.now) (sym c.index-signals-place.is) ∙ ap (λ (r : List ℕ). old ++ signal_line signal.name c.shown.result r) route) c.loop-place.invariant
+
+pub returns : goal.returns
+returns c =
+    let world = c.args.world.now
+    in let plan = world.planned.plan
+    in let layout_is : c.layout-layout.result.now ≡ plan = c.layout-layout.ensures.entries ∙ c.table.ensures
+    in let all : c.signals-signals.result.now ≡ plan.signals = c.signals-signals.ensures ∙ ap (λ (p : Plan). p.signals) layout_is
+    in let past : length plan.signals ≤ c.loop-place.place = subst (λ (l : List Signal). length l ≤ c.loop-place.place) all c.loop-place-test.false
+    in signals-all plan (held_of world.planned.table world.run.station world.run.frozen) c.loop-place.place plan.signals world.run.signals (string_bytes c.loop-place.text) _ past c.loop-place.invariant

@@ -1,0 +1,78 @@
+//! A world as lines play it.
+
+ghost use Rattle.std.specs.Prelude.{◌≡◌, None, slice_get};
+ghost use Rattle.std.specs.Option.{option_map};
+ghost use Rattle.simulator_world_bag.specs.declared.sent_on.SentOn.{SentOn};
+ghost use Rattle.station_sim.specs.World.{receiver};
+
+use crate::picture::picture_text;
+use control_table::Checked;
+use layout::{Layout, PointId};
+use rasta_core::Role;
+use sci_telegram::Side;
+use simulator_event::{Event, NodeId, Refused, Reply};
+use simulator_world::World;
+use station_play::Playable;
+use std::alloc::{AllocError, Global};
+
+/// A world as lines play it.
+#[derive(Drop)]
+pub struct Simulated(World);
+
+/// The node at the other end of a link: the station is 0, and the controller of a link stands behind it at the link's place.
+pub fn receiver(sender: Role, link: usize) -> NodeId
+    ensures { result ≡ receiver sender link }
+{
+    match sender {
+        Role::Client => NodeId(link.saturating_add(1)),
+        Role::Server => NodeId(0),
+    }
+}
+
+impl Playable for Simulated {
+    ghost use Rattle.station_sim.specs.World.{Played, sight_of_worlds};
+
+    ghost Picture = { Played };
+
+    ghost picture = { λ s. record { planned = s.0.planned; run = s.0.run } };
+
+    ghost sight = { sight_of_worlds };
+
+    fn new(alloc: Global, table: Checked) -> Result<Simulated, AllocError> {
+        // Every checked layout is a station, in which no name stands twice.
+        table.layout();
+        Ok(Simulated(World::new(alloc, table)?))
+    }
+
+    fn apply(&mut self, event: &Event) -> Result<Reply, Refused> {
+        self.0.apply(event)
+    }
+
+    fn layout(&self) -> &Layout {
+        self.0.table().layout()
+    }
+
+    fn sent(&self) -> usize {
+        self.0.network().len()
+    }
+
+    fn arrival(&self, place: usize) -> Option<(NodeId, &[u8])> {
+        let one = self.0.network().get(place)?;
+        if one.is_lost {
+            return None;
+        }
+        Some((receiver(one.sender, one.link), one.bytes))
+    }
+
+    fn driven(&self, point: PointId) -> Option<Side> {
+        if point.0 < self.layout().points().len() {
+            self.0.driven(point)
+        } else {
+            None
+        }
+    }
+
+    fn picture_text(&self, alloc: Global) -> Result<String, AllocError> {
+        picture_text(alloc, &self.0)
+    }
+}
