@@ -1,5 +1,6 @@
-//! The program `station`. `station check FILE` tells whether the layout in FILE is sound. Its status is 0
-//! where it is, 1 at a fault, 2 where the command line is wrong.
+//! The program `station`. `station check FILE` tells whether the layout in FILE is sound; `station sim FILE EVENTS` applies
+//! lines of events to a station of it, and `station replay FILE RECORD` a recorded session. The status is 0 where this was
+//! done, 1 at a fault, 2 where the command line is wrong, and 3 where a session answers otherwise than it was recorded.
 #![tactic(auto)]
 
 #[cfg(test)]
@@ -9,6 +10,7 @@ mod words;
 use crate::words::words;
 use station_check::check_text;
 use station_command::{Asked, Error, is_memory, read_words};
+use station_sim::{replay_text, sim_text};
 use std::io::BufWriter;
 use std::process::ExitCode;
 use std::{fs, io};
@@ -39,6 +41,8 @@ fn main(rt: HostRuntime) -> ExitCode {
     let status = match words(&rt, rt.alloc()) {
         Ok(words) => match read_words(rt.alloc(), words.as_slice()) {
             Ok(Asked::Check(file)) => check_file(&rt, file),
+            Ok(Asked::Sim { layout, events }) => sim_files(&rt, layout, events),
+            Ok(Asked::Replay { layout, recording }) => replay_files(&rt, layout, recording),
             Err(error) => refuse(&rt, &error),
         },
         Err(failure) => fail(&rt, &failure),
@@ -72,6 +76,29 @@ fn check_file(rt: &HostRuntime, file: &str) -> u8 {
     }
 }
 
+/// `sim FILE EVENTS`.
+fn sim_files(rt: &HostRuntime, layout: &str, events: &str) -> u8 {
+    match texts_of(rt, layout, events) {
+        Ok((layout, events)) => sim(rt, layout.as_str(), events.as_str()),
+        Err(failure) => fail(rt, &failure),
+    }
+}
+
+/// `replay FILE RECORD`.
+fn replay_files(rt: &HostRuntime, layout: &str, record: &str) -> u8 {
+    match texts_of(rt, layout, record) {
+        Ok((layout, record)) => replay(rt, layout.as_str(), record.as_str()),
+        Err(failure) => fail(rt, &failure),
+    }
+}
+
+/// The texts of two files, of which the first is read first.
+fn texts_of(rt: &HostRuntime, first: &str, second: &str) -> Result<(String, String), Failure> {
+    let first = text_of(rt, first)?;
+    let second = text_of(rt, second)?;
+    Ok((first, second))
+}
+
 /// The text of a file.
 fn text_of(rt: &HostRuntime, file: &str) -> Result<String, Failure> {
     match fs::read_to_string(rt, file) {
@@ -88,6 +115,22 @@ fn text_of(rt: &HostRuntime, file: &str) -> Result<String, Failure> {
 fn check(rt: &HostRuntime, text: &str) -> u8 {
     match BufWriter::new(rt.alloc(), rt.stdout()) {
         Ok(mut out) => check_text(rt.alloc(), text, &mut out, &mut rt.stderr()),
+        Err(_) => fail(rt, &Failure::OutOfMemory),
+    }
+}
+
+/// Applies lines of events, and writes each answer to standard output.
+fn sim(rt: &HostRuntime, layout: &str, events: &str) -> u8 {
+    match BufWriter::new(rt.alloc(), rt.stdout()) {
+        Ok(mut out) => sim_text(rt.alloc(), layout, events, &mut out, &mut rt.stderr()),
+        Err(_) => fail(rt, &Failure::OutOfMemory),
+    }
+}
+
+/// Applies a recorded session, and writes to standard output whether it answers the same.
+fn replay(rt: &HostRuntime, layout: &str, record: &str) -> u8 {
+    match BufWriter::new(rt.alloc(), rt.stdout()) {
+        Ok(mut out) => replay_text(rt.alloc(), layout, record, &mut out, &mut rt.stderr()),
         Err(_) => fail(rt, &Failure::OutOfMemory),
     }
 }

@@ -1,14 +1,17 @@
 //! The words of a command line.
 
-ghost use Rattle.std.specs.Prelude.{◌≡◌, ◌↔◌, ◌⊎◌, IsTrue, IfOk, IfErr, None, false, map};
-ghost use Rattle.clap.specs.Words.{FailsBy, app_of, fault_of, kind_of};
+ghost use Rattle.std.specs.Prelude.{◌≡◌, ◌↔◌, ◌⊎◌, IsTrue, IfOk, IfErr, None, codes, false, map};
+ghost use Rattle.std.specs.Option.{option_map};
+ghost use Rattle.clap.specs.Words.{FailsBy, app_of, fault_of, first_of, found_of, kind_of, rows_of, subcommand_rows_of};
 ghost use Rattle.clap.specs.declared.builder.command.Command.TheViews.{out-Command};
-ghost use Rattle.station_command.specs.Asking.{Asks, file_asked};
-ghost use Rattle.station_command.specs.Line.{check_line, station_line};
+ghost use Rattle.station_command.specs.Asking.{Asks, request_in, request_of};
+ghost use Rattle.station_command.specs.Line.{alone_line, check_line, replay_line, sim_line, station_line};
+ghost use Rattle.station_command.specs.inside.Rows.{files_of, request_of_rows};
 ghost use Rattle.clap.specs.declared.error.kind.ErrorKind.TheVariants as kind;
 
+use crate::texts;
 use clap::error::ErrorKind;
-use clap::{Arg, Command, Error};
+use clap::{Arg, ArgMatches, Command, Error};
 use std::alloc::{AllocError, Global};
 use std::convert::AsStr;
 
@@ -17,51 +20,129 @@ use std::convert::AsStr;
 pub enum Asked<'a> {
     /// `check FILE`: whether the layout in a file is sound.
     Check(&'a str),
+    /// `sim FILE EVENTS`: what the lines of a file of events do to a station of the layout in another.
+    Sim { layout: &'a str, events: &'a str },
+    /// `replay FILE RECORD`: whether a recorded session on the layout in a file answers the same again.
+    Replay { layout: &'a str, recording: &'a str },
 }
 
-/// The subcommand and its word.
+/// The subcommands by their words.
 const CHECK: &str = "check";
 
+const SIM: &str = "sim";
+
+const REPLAY: &str = "replay";
+
+/// The file of the layout, and the one that is applied to it.
 const FILE: &str = "FILE";
 
-const ABOUT: &str = "The interlocking of a railway station";
+const SECOND: &str = "SECOND";
 
-const CHECK_ABOUT: &str = "Checks the layout of a station and its table of routes";
-
-const CHECK_DETAILS: &str = "Checks the layout of a station and its table of routes.
-
-A layout is a TOML file that says what lies where (tracks, points, signals, detection sections) and
-which routes there are. It is sound where each route has an unbroken path, names exactly the points
-that it needs on its path and at its flanks, and has its signals at the right places.
-
-For a sound layout it prints how many signals, points, sections and routes the station has, and each
-pair of routes that can't be set at the same time. Otherwise it prints the first fault, and ends with
-status 1. docs/INTERLOCKING.md has the keys of the file and all faults, examples/ has stations.";
+/// The command line of `station`, without its subcommands.
+fn alone<'a>(alloc: Global) -> Result<Command<'a>, AllocError>
+    ensures { IfOk result (λ line. app_of line ≡ alone_line) }
+{
+    let line = Command::new(alloc, "station")
+        .bin_name("station")?
+        .version("1.0.0")
+        .about(texts::ABOUT)
+        .subcommand_required(true)
+        .arg_required_else_help(true);
+    Ok(line)
+}
 
 /// The command line of `station`.
+#[tactic(auto, using(crate::proofs::Reading::line_is))]
 fn station<'a>(alloc: Global) -> Result<Command<'a>, AllocError>
     ensures { IfOk result (λ line. app_of line ≡ station_line) }
 {
-    Command::new(alloc, "station")
-        .bin_name("station")?
-        .version("1.0.0")
-        .about(ABOUT)
-        .subcommand_required(true)
-        .arg_required_else_help(true)
-        .subcommand(check(alloc)?)
+    let line = alone(alloc)?.subcommand(check(alloc)?)?;
+    let line = line.subcommand(sim(alloc)?)?;
+    line.subcommand(replay(alloc)?)
 }
 
 /// `check FILE`.
 fn check<'a>(alloc: Global) -> Result<Command<'a>, AllocError>
     ensures { IfOk result (λ line. (app_of line ≡ check_line) × ((out-Command line).has_globals ≡ false)) }
 {
-    let file = Arg::new(alloc, FILE)
-        .required(true)
-        .help("The layout, a TOML file");
+    let file = Arg::new(alloc, FILE).required(true).help(texts::FILE);
     Command::new(alloc, CHECK)
-        .about(CHECK_ABOUT)
-        .long_about(CHECK_DETAILS)
+        .about(texts::CHECK)
+        .long_about(texts::CHECK_DETAILS)
         .arg(file)
+}
+
+/// `sim FILE EVENTS`.
+fn sim<'a>(alloc: Global) -> Result<Command<'a>, AllocError>
+    ensures { IfOk result (λ line. (app_of line ≡ sim_line) × ((out-Command line).has_globals ≡ false)) }
+{
+    let file = Arg::new(alloc, FILE).required(true).help(texts::FILE);
+    let events = Arg::new(alloc, SECOND)
+        .value_name("EVENTS")
+        .required(true)
+        .help(texts::EVENTS);
+    Command::new(alloc, SIM)
+        .about(texts::SIM)
+        .long_about(texts::SIM_DETAILS)
+        .arg(file)?
+        .arg(events)
+}
+
+/// `replay FILE RECORD`.
+fn replay<'a>(alloc: Global) -> Result<Command<'a>, AllocError>
+    ensures { IfOk result (λ line. (app_of line ≡ replay_line) × ((out-Command line).has_globals ≡ false)) }
+{
+    let file = Arg::new(alloc, FILE).required(true).help(texts::FILE);
+    let record = Arg::new(alloc, SECOND)
+        .value_name("RECORD")
+        .required(true)
+        .help(texts::RECORD);
+    Command::new(alloc, REPLAY)
+        .about(texts::REPLAY)
+        .long_about(texts::REPLAY_DETAILS)
+        .arg(file)?
+        .arg(record)
+}
+
+/// The file of a subcommand's layout.
+#[tactic(auto, using(crate::proofs::Reading::file_found))]
+fn file<'a>(matches: &ArgMatches<'a>) -> Option<&'a str>
+    ensures { option_map (λ file. file.now) result ≡ first_of (codes "FILE") (rows_of (found_of matches.now)) }
+{
+    matches.get_str(FILE)
+}
+
+/// The two files of a subcommand.
+#[tactic(auto, using(crate::proofs::Reading::both_found, crate::proofs::Reading::first_missing, crate::proofs::Reading::second_missing))]
+fn files<'a>(matches: &ArgMatches<'a>) -> Option<(&'a str, &'a str)>
+    ensures { option_map (λ files. (files.0.now, files.1.now)) result ≡ files_of (rows_of (found_of matches.now)) }
+{
+    match matches.get_str(FILE) {
+        Some(layout) => match matches.get_str(SECOND) {
+            Some(second) => Some((layout, second)),
+            None => None,
+        },
+        None => None,
+    }
+}
+
+/// What was found on a command line asks for, if for anything.
+fn asked_by<'a>(matches: &ArgMatches<'a>) -> Option<Asked<'a>>
+    ensures { option_map request_of result ≡ request_of_rows (subcommand_rows_of matches.now) }
+{
+    let (name, matches) = matches.subcommand()?;
+    match name {
+        CHECK => Some(Asked::Check(file(matches)?)),
+        SIM => {
+            let (layout, events) = files(matches)?;
+            Some(Asked::Sim { layout, events })
+        }
+        REPLAY => {
+            let (layout, recording) = files(matches)?;
+            Some(Asked::Replay { layout, recording })
+        }
+        _ => None,
+    }
 }
 
 /// What the words of a command line ask for, the first of which is the program's name.
@@ -69,16 +150,13 @@ fn check<'a>(alloc: Global) -> Result<Command<'a>, AllocError>
 /// An `Err` has the text to print (help, the version, or what is wrong), and the status to end with.
 pub fn read_words<'a, S: AsStr>(alloc: Global, words: &'a [S]) -> Result<Asked<'a>, Error>
     ensures asked { IfOk result (Asks (map S.text words.entry.now)) }
-    ensures refused { IfErr result (λ error. (kind_of error ≡ kind.OutOfMemory) ⊎ (file_asked (map S.text words.entry.now) ≡ None)) }
+    ensures refused { IfErr result (λ error. (kind_of error ≡ kind.OutOfMemory) ⊎ (request_in (map S.text words.entry.now) ≡ None)) }
     ensures kinds { FailsBy (fault_of station_line (map S.text words.entry.now)) result }
 {
     let mut command = station(alloc)?;
     let matches = command.try_get_matches_from_mut(words)?;
-    match matches.subcommand_matches(CHECK) {
-        Some(check) => match check.get_str(FILE) {
-            Some(file) => Ok(Asked::Check(file)),
-            None => Err(command.error(ErrorKind::MissingRequiredArgument, "no FILE was given")?),
-        },
+    match asked_by(&matches) {
+        Some(asked) => Ok(asked),
         None => Err(command.error(ErrorKind::MissingSubcommand, "no subcommand was given")?),
     }
 }

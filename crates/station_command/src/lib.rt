@@ -2,6 +2,7 @@
 #![tactic(auto)]
 
 mod command;
+mod texts;
 
 pub use clap::Error;
 pub use command::{Asked, is_memory, read_words};

@@ -1,0 +1,25 @@
+-- What is asked for by what was found on a command line.
+use Rattle.std.specs.Prelude.{List, Option, Some, None, if◌then◌else◌, codes}
+use Rattle.std.specs.Option.{option_map}
+use Rattle.std.specs.Str.{bytes_eq}
+use Rattle.clap.specs.Words.{Row, Text, first_of}
+use Rattle.station_command.specs.Asking.{Request, Check, Sim, Replay}
+
+abbrev pub both_of : Option Text → Option Text → Option (Text × Text)
+both_of (Some first) (Some second) = Some (first, second)
+both_of _ _ = None
+
+-- the two files of a subcommand
+abbrev pub files_of : List Row → Option (Text × Text)
+files_of rows = both_of (first_of (codes "FILE") rows) (first_of (codes "SECOND") rows)
+
+-- what a subcommand of this name asks for
+abbrev pub request_by : Text → List Row → Option Request
+request_by name rows =
+    if bytes_eq name (codes "check") then option_map Check (first_of (codes "FILE") rows) else
+    (if bytes_eq name (codes "sim") then option_map (λ files. Sim files.0 files.1) (files_of rows) else
+    (if bytes_eq name (codes "replay") then option_map (λ files. Replay files.0 files.1) (files_of rows) else None))
+
+abbrev pub request_of_rows : Option (Text × List Row) → Option Request
+request_of_rows None = None
+request_of_rows (Some found) = request_by found.0 found.1

@@ -1,0 +1,55 @@
+//! The texts of the help.
+
+pub(crate) const ABOUT: &str = "The interlocking of a railway station";
+
+pub(crate) const FILE: &str = "The layout, a TOML file";
+
+pub(crate) const EVENTS: &str = "The lines of events";
+
+pub(crate) const RECORD: &str = "The recorded session";
+
+pub(crate) const CHECK: &str = "Checks the layout of a station and its table of routes";
+
+pub(crate) const CHECK_DETAILS: &str = "Checks the layout of a station and its table of routes.
+
+A layout is a TOML file that says what lies where (tracks, points, signals, detection sections) and
+which routes there are. It is sound where each route has an unbroken path, names exactly the points
+that it needs on its path and at its flanks, and has its signals at the right places.
+
+For a sound layout it prints how many signals, points, sections and routes the station has, and each
+pair of routes that can't be set at the same time. Otherwise it prints the first fault, and ends with
+status 1. docs/INTERLOCKING.md has the keys of the file and all faults, examples/ has stations.
+
+Example: station check examples/junction.toml";
+
+pub(crate) const SIM: &str = "Applies lines of events to a station of a layout";
+
+pub(crate) const SIM_DETAILS: &str = "Applies lines of events to a station of a layout.
+
+The station runs in this process: the interlocking, a controller for each signal, point and detector,
+a clock for each, and the network between them. Each line is an event, or asks for something:
+
+  set R, cancel R, resume     a command to the interlocking
+  occupy S, clear S           a section is occupied, or clear
+  tick NODE                   the timer of a node calls it
+  time D NODE=E ..            D microseconds pass, and E on the clock of a node that is named
+  deliver NODE HEX            the network delivers bytes to a node (a hyphen for none)
+  lose HEX                    the network loses the oldest copy of a datagram
+  reach P left|right|none     a point that is driven comes to lie somewhere
+  restart NODE CLOCK SN       a node is made anew
+  flow MS                     so much time flows in rounds of 10 ms, and all datagrams are delivered
+  picture                     what is seen of the station
+
+All lines are judged before the first event. Each is then answered on a line of its own: `ok`,
+`accepted`, `refused N` by the interlocking, or `no N` for an event that can't happen.
+
+Example: station sim examples/small.toml examples/proceed.events";
+
+pub(crate) const REPLAY: &str = "Applies a recorded session to a station of a layout again";
+
+pub(crate) const REPLAY_DETAILS: &str = "Applies a recorded session to a station of a layout again.
+
+Each line of a session is an event and what it answered, as EVENT = ANSWER. Where each event answers
+the same, it prints `same`. Otherwise it prints the first line that differs, and ends with status 3.
+
+Example: station replay examples/small.toml examples/commands.session";
