@@ -1,5 +1,6 @@
-// Refuses one call of the C allocator, the one of the number REFUSED_CALL, counted from 1. At the end of the program
-// the number of its calls stands in the file COUNTED_CALLS, if that is set. To be loaded by LD_PRELOAD.
+// Refuses one call of the C allocator, the one of the number REFUSED_CALL, counted from 1; or all from the one of the number
+// REFUSED_FROM on. At the end of the program the number of its calls stands in the file COUNTED_CALLS, if that is set. To be
+// loaded by LD_PRELOAD.
 #define _GNU_SOURCE
 #include <dlfcn.h>
 #include <stdio.h>
@@ -7,13 +8,19 @@
 
 static long calls;
 
+static long number_of(const char *name) {
+    const char *number = getenv(name);
+    return number ? atol(number) : 0;
+}
+
 static int is_refused(void) {
-    static long refused = -1;
-    if (refused < 0) {
-        const char *number = getenv("REFUSED_CALL");
-        refused = number ? atol(number) : 0;
+    static long one = -1, first;
+    if (one < 0) {
+        one = number_of("REFUSED_CALL");
+        first = number_of("REFUSED_FROM");
     }
-    return ++calls == refused;
+    calls++;
+    return calls == one || (first > 0 && calls >= first);
 }
 
 void *malloc(size_t size) {

@@ -1,0 +1,3 @@
+mod Below
+mod Telegrams
+mod Written

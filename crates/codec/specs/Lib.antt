@@ -1,0 +1,3 @@
+pub mod LayoutText
+pub mod Pdu
+pub mod Telegram
