@@ -1,0 +1,67 @@
+#!/usr/bin/env bash
+# Measures `station sim` in long flows of the small station and of one at every limit, as LLVM builds it: an event against
+# writing and reading one PDU of 99 bytes, and ten times as long a flow; and `station replay` of a million lines. usage:
+# bench/sim.sh [ROUNDS]. The best of all rounds counts.
+set -eu
+rounds=${1:-3}
+here=$(cd "$(dirname "$0")/.." && pwd)
+(cd "$here/crates/rasta_pdu_speed" && rt run -- both 1 3 >/dev/null 2>&1)       # proves it where it isn't yet
+(cd "$here/crates/station" && rt run -- check data/small.toml >/dev/null 2>&1) # likewise out/station
+exec python3 - "$here" "$rounds" <<'PY'
+import os, platform, resource, subprocess, sys, tempfile
+
+here, rounds = sys.argv[1], int(sys.argv[2])
+station, pdu = f"{here}/crates/station/out/station", f"{here}/crates/rasta_pdu_speed/out/rasta_pdu_speed"
+SHORT, LONG = 60_000, 600_000
+ROUND = 10
+
+
+def used():
+    usage = resource.getrusage(resource.RUSAGE_CHILDREN)
+    return usage.ru_utime + usage.ru_stime
+
+
+def best(command, times=1):
+    took = []
+    for _ in range(rounds):
+        before = used()
+        for _ in range(times):
+            subprocess.run(command, check=True, stdout=subprocess.DEVNULL)
+        took.append((used() - before) / times)
+    return min(took)
+
+
+def events(path, millis):
+    with open(path, "w") as text:
+        text.write(f"flow 8000\nresume\nset R1\nflow {millis}\n")
+    return path
+
+
+def tell(name, layout, nodes, room, a_pdu):
+    short = best([station, "sim", layout, events(f"{room}/short", SHORT)], 10)
+    long = best([station, "sim", layout, events(f"{room}/long", LONG)])
+    # each round is a step of time and a tick of every node; datagrams come on top of that, and aren't counted
+    count = (LONG + 8000) // ROUND * (nodes + 1)
+    each = long / count * 1e9
+    print(f"{name}: {count} events: {long:.2f} s, {each:.0f} ns an event, {each / a_pdu:.2f} of writing and reading a PDU of 99 bytes ({a_pdu:.0f} ns)")
+    print(f"{name}: a flow of {LONG} ms takes {long / short:.1f} times as long as one of {SHORT} ms")
+
+
+def tell_replay(layout, room):
+    with open(f"{room}/session", "w") as text:
+        text.write("tick S1 = ok\n" * 1_000_000)
+    took = best([station, "replay", layout, f"{room}/session"])
+    most = resource.getrusage(resource.RUSAGE_CHILDREN).ru_maxrss // 1024
+    print(f"a session of a million lines is read and replayed in {took:.2f} s; the most memory of all runs is {most} MB")
+
+
+names = (line.split(":", 1)[1].strip() for line in open("/proc/cpuinfo") if line.startswith("model name"))
+print(f"{next(names, platform.machine())}, {os.cpu_count()} processors, load {os.getloadavg()[0]:.1f}, best of {rounds}")
+a_pdu = best([pdu, "both", "1", "1000000"]) / 1e6 * 1e9
+with tempfile.TemporaryDirectory() as room:
+    subprocess.run([f"{here}/bench/station_check.sh", "--write", room], check=True, stdout=subprocess.DEVNULL)
+    largest = max((f"{room}/{name}" for name in os.listdir(room)), key=os.path.getsize)
+    tell("the small station", f"{here}/examples/small.toml", 6, room, a_pdu)
+    tell("a station at every limit", largest, 81, room, a_pdu)
+    tell_replay(f"{here}/examples/small.toml", room)
+PY
