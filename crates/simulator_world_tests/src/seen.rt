@@ -1,0 +1,46 @@
+//! What is seen of a station whose signals show more than stop, and what would be unsafe there.
+
+use crate::bench::Bench;
+use layout::{RouteId, SignalId};
+use sci_telegram::{Aspect, Position, Side};
+use simulator_world_snapshot::{Held, Stands};
+
+#[test]
+fn a_signal_shows_proceed_for_its_route_over_the_point_at_the_right(rt: HostRuntime) {
+    let bench = Bench::at_proceed(&rt, rt.alloc());
+    bench.shows(&rt, Aspect::Proceed, Some(0));
+    bench.lies(&rt, Position::Right, None);
+    assert!(rt; bench.is_set(0));
+}
+
+#[test]
+fn a_snapshot_is_safe_with_the_point_where_the_route_needs_it_alone(rt: HostRuntime) {
+    let bench = Bench::at_proceed(&rt, rt.alloc());
+    let table = bench.world.table();
+    let mut seen = bench.world.snapshot();
+    assert!(rt; seen.safe(table));
+    seen.position.clear();
+    seen.position.push(Stands(Position::Left));
+    assert!(rt; !seen.safe(table));
+    seen.position.clear();
+    seen.position.push(Stands(Position::Right));
+    assert!(rt; seen.safe(table));
+    seen.driven.clear();
+    seen.driven.push(Some(Side::Right));
+    assert!(rt; !seen.safe(table));
+}
+
+#[test]
+fn a_snapshot_is_safe_with_exactly_one_route_for_its_signal(rt: HostRuntime) {
+    let bench = Bench::at_proceed(&rt, rt.alloc());
+    let table = bench.world.table();
+    let mut seen = bench.world.snapshot();
+    seen.held.clear();
+    assert!(rt; !seen.safe(table));
+    let signal = SignalId(0);
+    for route in 0..2 {
+        let route = RouteId(route);
+        let _ = seen.held.try_push(Held { signal, route });
+        assert_eq!(rt; seen.safe(table), route.0 == 0);
+    }
+}
