@@ -79,7 +79,7 @@ fn changed_texts_are_layouts_or_have_a_fault(rt: HostRuntime) {
             *count = count.saturating_add(1);
         }
     }
-    // No change that was drawn joins a port twice, or passes a limit.
+    // Changes that join a port twice or pass a limit are rare, and none is asked for.
     for place in [SOUND, 1, 2, 3, 4, 5, NO_TEXT, OF_TABLE] {
         let count = counts.as_slice().get(place);
         assert!(rt; matches!(count, Some(count) if *count > 0), "{counts:?}");
