@@ -51,6 +51,23 @@ pub(crate) struct Chance {
     words: Pcg32,
 }
 
+/// A text in three parts: the middle one begins with a bracket, and the last one with the bracket that closes it.
+#[derive(Clone, Copy)]
+struct Part<'a> {
+    front: &'a [u8],
+    inner: &'a [u8],
+    back: &'a [u8],
+}
+
+/// Parts one after another.
+fn joined(alloc: Global, parts: &[&[u8]]) -> Result<Vec<u8>, AllocError> {
+    let mut whole = Vec::new(alloc);
+    for part in parts {
+        whole.extend_from_slice(part)?;
+    }
+    Ok(whole)
+}
+
 impl Chance {
     pub(crate) fn seeded(seed: u64) -> Chance {
         Chance {
@@ -71,14 +88,51 @@ impl Chance {
         byte
     }
 
-    /// A text with up to two changes: some bytes are left out, and a word, or bytes from elsewhere, stand in their place.
+    /// A text with up to two changes. Some bytes are left out, and a word, or bytes from elsewhere, stand in their place; or a
+    /// list or an entry is emptied, or stands twice.
     pub(crate) fn changed(&mut self, alloc: Global, text: &str) -> Result<Vec<u8>, AllocError> {
         let mut bytes = Vec::from_slice(alloc, text.as_bytes())?;
         let changes = 1 + self.below(2);
         for _ in 0..changes {
-            bytes = self.with_change(alloc, &bytes)?;
+            bytes = match self.below(8) {
+                0 => self.with_part_emptied(alloc, &bytes)?,
+                1 => self.with_part_twice(alloc, &bytes)?,
+                _ => self.with_change(alloc, &bytes)?,
+            };
         }
         Ok(bytes)
+    }
+
+    /// A text without what stands between two brackets: so a detector has no sections, or an entry no fields.
+    fn with_part_emptied(&mut self, alloc: Global, bytes: &[u8]) -> Result<Vec<u8>, AllocError> {
+        let part = self.part(bytes);
+        let (bracket, _) = part.inner.split_at(part.inner.len().min(1));
+        joined(alloc, &[part.front, bracket, part.back])
+    }
+
+    /// A text in which what stands between two brackets stands twice: so a port is joined twice, or a name given twice.
+    fn with_part_twice(&mut self, alloc: Global, bytes: &[u8]) -> Result<Vec<u8>, AllocError> {
+        let part = self.part(bytes);
+        let (bracket, _) = part.back.split_at(part.back.len().min(1));
+        joined(
+            alloc,
+            &[part.front, part.inner, bracket, b",", part.inner, part.back],
+        )
+    }
+
+    /// Some list or entry of a text that has no further one in it, as a rule.
+    fn part<'a>(&mut self, bytes: &'a [u8]) -> Part<'a> {
+        let (open, close) = if self.below(2) == 0 {
+            (b'[', b']')
+        } else {
+            (b'{', b'}')
+        };
+        let (before, _) = self.parted(bytes);
+        let start = before.iter().rposition(|byte| *byte == open).unwrap_or(0);
+        let (front, rest) = bytes.split_at(start.min(bytes.len()));
+        let length = rest.iter().position(|byte| *byte == close).unwrap_or(0);
+        let (inner, back) = rest.split_at(length.min(rest.len()));
+        Part { front, inner, back }
     }
 
     fn with_change(&mut self, alloc: Global, bytes: &[u8]) -> Result<Vec<u8>, AllocError> {

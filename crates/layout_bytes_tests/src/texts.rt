@@ -27,7 +27,8 @@ name = "IXL1"
 id = 1
 "#;
 
-/// What becomes of a text, beside the numbers 1 to 7 of a layout's faults.
+/// What becomes of a text, beside the numbers 1 to 7 of a layout's faults. A text is a table, or isn't UTF-8, or its table has a
+/// fault.
 const SOUND: usize = 0;
 
 const NO_TEXT: usize = 8;
@@ -79,9 +80,7 @@ fn changed_texts_are_layouts_or_have_a_fault(rt: HostRuntime) {
             *count = count.saturating_add(1);
         }
     }
-    // Changes that join a port twice or pass a limit are rare, and none is asked for.
-    for place in [SOUND, 1, 2, 3, 4, 5, NO_TEXT, OF_TABLE] {
-        let count = counts.as_slice().get(place);
-        assert!(rt; matches!(count, Some(count) if *count > 0), "{counts:?}");
+    for count in &counts {
+        assert!(rt; *count > 0, "{counts:?}");
     }
 }
