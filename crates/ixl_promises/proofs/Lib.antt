@@ -1,6 +1,10 @@
+pub mod Answered
+pub mod Answering
 pub mod Apart
 pub mod Cancelling
+pub mod Courses
 pub mod Going
+pub mod Hears
 pub mod Holding
 pub mod Onward
 pub mod Picking

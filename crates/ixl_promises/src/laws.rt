@@ -1,13 +1,15 @@
 //! Laws over every step of an interlocking.
 
-ghost use Rattle.std.specs.Prelude.{◌≡◌, ◌<◌, ◌↔◌, ℕ, true, List, None, Err, Some, slice_get};
+ghost use Rattle.std.specs.Prelude.{◌≡◌, ◌+◌, ◌<◌, ◌↔◌, ℕ, [], true, length, List, None, Err, Some, slice_get};
 ghost use Rattle.std.specs.List.{Contains};
 ghost use Rattle.rasta_pdu.specs.Reading.{reading};
 ghost use Rattle.rasta_pdu.specs.declared.key.Key.{Key};
 ghost use Rattle.layout.specs.Entries.{Plan};
 ghost use Rattle.layout.specs.declared.ids.RouteId.{RouteId};
-ghost use Rattle.ixl_rules.specs.Due.{HoldsPoint, HoldsSection};
-ghost use Rattle.ixl_rules.specs.State.{IxlState, RouteState};
+ghost use Rattle.ixl_client.specs.declared.indication.ObjectState.{ObjectState};
+ghost use Rattle.sci_telegram.specs.declared.message.Side.{Side};
+ghost use Rattle.ixl_rules.specs.Due.{HoldsPoint, HoldsSection, Known};
+ghost use Rattle.ixl_rules.specs.State.{IxlState, RouteState, SwitchState};
 ghost use Rattle.ixl_rules.specs.Step.{Accepted, Commands, Datagram, Input, Refused, Reply, Tick, all_clocked, addressed};
 ghost use Rattle.ixl_rules.specs.Table.{Need, Row, Table};
 ghost use Rattle.ixl_rules.specs.View.{freed_sections, has_authority};
@@ -17,6 +19,7 @@ ghost use Rattle.ixl_rules.specs.declared.command.Refusal.{Refusal};
 ghost use Rattle.ixl_rules.specs.declared.phase.Phase.{Phase};
 ghost use Rattle.ixl_state.specs.First.{Beginning, key_of, new_ixl};
 ghost use Rattle.ixl.specs.Interlocking.{HasStepped, InterlockingState};
+ghost use Rattle.ixl_promises.specs.Answered.{GoesOnAnswered, IsAnswered, last_told};
 ghost use Rattle.ixl_promises.specs.Apart.{AllApart};
 ghost use Rattle.ixl_promises.specs.Cancels.{IsCancelRefused, MayCancel};
 ghost use Rattle.ixl_promises.specs.Links.{NoneDown};
@@ -24,7 +27,8 @@ ghost use Rattle.ixl_promises.specs.Onward.{GoesOn};
 ghost use Rattle.ixl_promises.specs.Refused.{IsWithoutInput};
 
 use ixl::requests_are_accepted_where_admissible;
-use ixl_client_laws::ticks_open_links_that_are_down;
+use ixl_client::step_hears_what_was_taken;
+use ixl_client_laws::{initialisations_go_out_in_order, ticks_open_links_that_are_down};
 
 /// In a step each route goes on in its order, or is freed, and never back: it waits, its aspect was given, it was
 /// withdrawn, its authority ended, and its sections are freed one after another. It is set only by a request that is
@@ -77,3 +81,19 @@ pub fn routes_with_authority_hold_all()
     ensures sections { (row : Row) (phase : Phase) (section : ℕ) → has_authority phase ≡ true → Contains row.sections section → HoldsSection row phase section }
     ensures points { (row : Row) (phase : Phase) (need : Need) → has_authority phase ≡ true → Contains row.needs need → 0 < need.until → HoldsPoint row phase need.point need.side }
 {}
+
+/// In its present connection each move that a point is given is answered by one report. Behind the initial status so many
+/// reports were heard as moves were given, or one fewer while the last move is unanswered; and the side that is kept of the
+/// point is what the last report told. So it is at first, and through every step. Where a point is known at a side, the last
+/// report answers the last move and tells this side.
+pub fn the_last_report_answers_the_last_move()
+    ensures first { (plan : Plan) (table : Table) (begins : Beginning) (place : ℕ) (switch : SwitchState) → slice_get (new_ixl plan table begins).switches place ≡ Some switch → IsAnswered [] [] switch }
+    ensures kept { (now : ℕ) (input : Input) (old new : InterlockingState) (answer : Reply) (place : ℕ) (before after : SwitchState) (moves : List Side) (told : List ObjectState) → HasStepped now input old new answer
+        → slice_get old.state.ixl.switches place ≡ Some before → slice_get new.state.ixl.switches place ≡ Some after
+        → IsAnswered moves told before → GoesOnAnswered now input old place before after moves told }
+    ensures known { (ixl : IxlState) (place : ℕ) (side : Side) (switch : SwitchState) (moves : List Side) (told : List ObjectState) → slice_get ixl.switches place ≡ Some switch → Known ixl place side
+        → IsAnswered moves told switch → (length told ≡ length moves + 1) × (last_told None told ≡ Some side) }
+{
+    initialisations_go_out_in_order();
+    step_hears_what_was_taken();
+}
