@@ -1,12 +1,15 @@
 pub mod Answered
 pub mod Answering
 pub mod Apart
+pub mod Blind
 pub mod Cancelling
 pub mod Courses
 pub mod Going
 pub mod Hears
 pub mod Holding
+pub mod LinkRefusing
 pub mod Onward
 pub mod Picking
 pub mod Refusing
 pub mod Tending
+pub mod Unheard

@@ -1,5 +1,7 @@
 -- A step that nothing came in.
-use Rattle.std.specs.Prelude.{◌≡◌, ℕ}
+use Rattle.std.specs.Prelude.{◌≡◌, ◌<◌, ℕ}
+use Rattle.rasta_core.specs.Parameters.{connection_limit}
+use Rattle.ixl_client.specs.Client.{ClientState, IsClient}
 use Rattle.ixl_rules.specs.Part.{Part, begun_with, over}
 use Rattle.ixl_rules.specs.Rules.{count, ruled}
 use Rattle.ixl_rules.specs.State.{IxlState}
@@ -15,3 +17,9 @@ step_without_input now table ixl = ruled now table (over (watching table) (count
 pub record IsWithoutInput (now : ℕ) (old new : InterlockingState) : Type 0 where
   pub ixl : new.state.ixl ≡ (step_without_input now old.state.planned.table old.state.ixl).ixl
   pub outbox : new.outbox ≡ (step_without_input now old.state.planned.table old.state.ixl).outbox
+
+-- Every client is steady: it is outside exactly where its link isn't up. This one's link has numbers left for its
+-- connection; at the last one any call would close it.
+pub record MayHear (client : ClientState) : Type 0 where
+  pub steady : IsClient client
+  pub numbered : client.link.sent < connection_limit

@@ -10,7 +10,7 @@ ghost use Rattle.ixl_client.specs.declared.indication.ObjectState.{ObjectState};
 ghost use Rattle.sci_telegram.specs.declared.message.Side.{Side};
 ghost use Rattle.ixl_rules.specs.Due.{HoldsPoint, HoldsSection, Known};
 ghost use Rattle.ixl_rules.specs.State.{IxlState, RouteState, SwitchState};
-ghost use Rattle.ixl_rules.specs.Step.{Accepted, Commands, Datagram, Input, Refused, Reply, Tick, all_clocked, addressed};
+ghost use Rattle.ixl_rules.specs.Step.{Accepted, Commands, Datagram, Input, Received, Refused, Reply, Tick, all_clocked, addressed, client_of};
 ghost use Rattle.ixl_rules.specs.Table.{Need, Row, Table};
 ghost use Rattle.ixl_rules.specs.View.{freed_sections, has_authority};
 ghost use Rattle.ixl_rules.specs.declared.command.Command.TheVariants as commands;
@@ -24,7 +24,11 @@ ghost use Rattle.ixl_promises.specs.Apart.{AllApart};
 ghost use Rattle.ixl_promises.specs.Cancels.{IsCancelRefused, MayCancel};
 ghost use Rattle.ixl_promises.specs.Links.{NoneDown};
 ghost use Rattle.ixl_promises.specs.Onward.{GoesOn};
-ghost use Rattle.ixl_promises.specs.Refused.{IsWithoutInput};
+ghost use Rattle.ixl_promises.specs.Refused.{IsWithoutInput, MayHear};
+ghost use Rattle.ixl_client.specs.Client.{ClientState};
+ghost use Rattle.rasta_core.specs.Verdicts.{is_refusal};
+ghost use Rattle.rasta_core.specs.verdict.Verdict.TheVariants as verdicts;
+ghost use Rattle.rasta_core.specs.verdict.Verdict.{Verdict};
 
 use ixl::requests_are_accepted_where_admissible;
 use ixl_client::step_hears_what_was_taken;
@@ -50,12 +54,16 @@ pub fn set_routes_stand_apart()
     requests_are_accepted_where_admissible();
 }
 
-/// A command that is refused, and a datagram that can't be read or comes from no controller, leave what a step without
-/// them leaves, and hand out what it hands out.
+/// What is refused leaves what a step without it leaves, and hands out what it hands out: a command; a datagram that can't be
+/// read or comes from no controller; and a datagram that the link of its sender refuses, but for one that doesn't belong
+/// into the connection, which closes it.
 pub fn refused_inputs_change_nothing()
     ensures command { (now : ℕ) (command : Command) (old new : InterlockingState) (cause : Refusal) → HasStepped now (Commands command) old new (Refused cause) → IsWithoutInput now old new }
     ensures datagram { (now : ℕ) (bytes : List ℕ) (old new : InterlockingState) (answer : Reply) → HasStepped now (Datagram bytes) old new answer
         → addressed (reading (key_of old.state.planned.plan) bytes) (all_clocked now old.state.ixl) ≡ None → IsWithoutInput now old new }
+    ensures link { (now : ℕ) (bytes : List ℕ) (old new : InterlockingState) (why : Verdict) (client : ClientState) → HasStepped now (Datagram bytes) old new (Received why)
+        → client_of (addressed (reading (key_of old.state.planned.plan) bytes) (all_clocked now old.state.ixl)) (all_clocked now old.state.ixl) ≡ Some client → MayHear client
+        → is_refusal why ≡ true → (why ≡ verdicts.WrongState → ⊥) → IsWithoutInput now old new }
 {}
 
 /// A cancel is accepted exactly where the hold is over, the interlocking was told to resume, and the route is set; and it is
