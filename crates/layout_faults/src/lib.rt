@@ -1,0 +1,6 @@
+//! What the faults of a layout mean in words of its text. There is no code here but laws.
+#![tactic(auto)]
+
+mod laws;
+
+pub use laws::limit_is_the_first_entry_too_many;
