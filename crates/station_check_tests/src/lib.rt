@@ -1,17 +1,8 @@
-//! Tests of layouts, tables and reports, in one crate above them.
+//! Tests of what no stored run of `station_check_files` shows: writers that don't take what is written, and the texts of
+//! want of memory.
 #![tactic(auto)]
 
 #[cfg(test)]
-mod bench;
+mod memory;
 #[cfg(test)]
-mod large;
-#[cfg(test)]
-mod layouts;
-#[cfg(test)]
-mod limits;
-#[cfg(test)]
-mod reports;
-#[cfg(test)]
-mod tables;
-#[cfg(test)]
-mod texts;
+mod writers;
