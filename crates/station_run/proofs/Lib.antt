@@ -1,0 +1,3 @@
+pub mod Applying
+pub mod Ending
+pub mod Sending

@@ -1,0 +1,4 @@
+pub mod Worlds
+pub mod Failures
+pub mod Runs
+pub mod Inside

@@ -1,0 +1,13 @@
+//! A station that runs in one process: its layout and its script are judged, each node gets a socket, and the station is driven
+//! for some time, while every event is recorded. At the end its picture is told. This is what `station run` does.
+#![tactic(auto)]
+
+mod failure;
+mod machine;
+mod prepared;
+mod running;
+mod watched;
+
+pub use failure::RunFailure;
+pub use machine::{Asked, run};
+pub use prepared::{Prepared, prepare};
