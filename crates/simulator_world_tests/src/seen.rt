@@ -3,14 +3,22 @@
 use crate::bench::Bench;
 use layout::{RouteId, SignalId};
 use sci_telegram::{Aspect, Position, Side};
-use simulator_world_snapshot::{Held, Stands};
+use simulator_world_snapshot::{Held, Shown, Stands};
 
 #[test]
-fn a_signal_shows_proceed_for_its_route_over_the_point_at_the_right(rt: HostRuntime) {
+fn a_signal_shows_the_aspect_of_its_route_over_the_point_at_the_right(rt: HostRuntime) {
     let bench = Bench::at_proceed(&rt, rt.alloc());
     bench.shows(&rt, Aspect::Proceed, Some(0));
     bench.lies(&rt, Position::Right, None);
     assert!(rt; bench.is_set(0));
+    let mut seen = bench.world.snapshot();
+    for (aspect, is_safe) in [(Aspect::Slow, false), (Aspect::Proceed, true)] {
+        seen.shows.clear();
+        seen.shows.push(Shown(aspect));
+        seen.shows.push(Shown(Aspect::Stop));
+        seen.shows.push(Shown(Aspect::Stop));
+        assert_eq!(rt; seen.safe(bench.world.table()), is_safe);
+    }
 }
 
 #[test]
