@@ -1,6 +1,7 @@
 //! The program `station`. `station check FILE` tells whether the layout in FILE is sound; `station sim FILE EVENTS` applies
-//! lines of events to a station of it, and `station replay FILE RECORD` a recorded session. The status is 0 where this was
-//! done, 1 at a fault, 2 where the command line is wrong, and 3 where a session answers otherwise than it was recorded.
+//! lines of events to a station of it, `station run FILE --script S --record R --for MS` runs one over sockets, and
+//! `station replay FILE RECORD` applies a recorded session. The status is 0 where this was done, 1 at a fault, 2 where the
+//! command line is wrong, and 3 where a session answers otherwise than it was recorded.
 #![tactic(auto)]
 
 #[cfg(test)]
@@ -10,8 +11,9 @@ mod words;
 use crate::words::words;
 use station_check::check_text;
 use station_command::{Asked, Error, is_memory, read_words};
+use station_run::Asked as Run;
 use station_sim::{replay_text, sim_text};
-use std::io::BufWriter;
+use std::io::{BufWriter, IsTerminal};
 use std::process::ExitCode;
 use std::{fs, io};
 use thiserror::Error as Told;
@@ -43,6 +45,14 @@ fn main(rt: HostRuntime) -> ExitCode {
             Ok(Asked::Check(file)) => check_file(&rt, file),
             Ok(Asked::Sim { layout, events }) => sim_files(&rt, layout, events),
             Ok(Asked::Replay { layout, recording }) => replay_files(&rt, layout, recording),
+            Ok(
+                Asked::Run {
+                    layout,
+                    script,
+                    record,
+                    for_ms,
+                },
+            ) => run_files(&rt, layout, script, record, for_ms),
             Err(error) => refuse(&rt, &error),
         },
         Err(failure) => fail(&rt, &failure),
@@ -92,6 +102,23 @@ fn replay_files(rt: &HostRuntime, layout: &str, record: &str) -> u8 {
     }
 }
 
+/// `run FILE --script S --record R --for MS`.
+fn run_files(rt: &HostRuntime, layout: &str, script: &str, record: &str, for_ms: u64) -> u8 {
+    match texts_of(rt, layout, script) {
+        Ok((layout, script)) => {
+            let (layout, script) = (layout.as_str(), script.as_str());
+            let asked = Run {
+                layout,
+                script,
+                record,
+                for_ms,
+            };
+            run(rt, &asked)
+        }
+        Err(failure) => fail(rt, &failure),
+    }
+}
+
 /// The texts of two files, of which the first is read first.
 fn texts_of(rt: &HostRuntime, first: &str, second: &str) -> Result<(String, String), Failure> {
     let first = text_of(rt, first)?;
@@ -131,6 +158,16 @@ fn sim(rt: &HostRuntime, layout: &str, events: &str) -> u8 {
 fn replay(rt: &HostRuntime, layout: &str, record: &str) -> u8 {
     match BufWriter::new(rt.alloc(), rt.stdout()) {
         Ok(mut out) => replay_text(rt.alloc(), layout, record, &mut out, &mut rt.stderr()),
+        Err(_) => fail(rt, &Failure::OutOfMemory),
+    }
+}
+
+/// Runs a station over sockets, and writes to standard output what is seen of it at the end. How far it has come is shown
+/// where standard error is a terminal.
+fn run(rt: &HostRuntime, asked: &Run<'_>) -> u8 {
+    let progress = rt.stderr().is_terminal();
+    match BufWriter::new(rt.alloc(), rt.stdout()) {
+        Ok(mut out) => station_run::run(rt, asked, &mut out, &mut rt.stderr(), progress),
         Err(_) => fail(rt, &Failure::OutOfMemory),
     }
 }

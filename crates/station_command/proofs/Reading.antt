@@ -1,51 +1,28 @@
 -- How a command line of `station` is read: which words are taken, and as what.
-use Rattle.std.proofs.Common.{◌≡◌, ℕ, zero, suc, ◌&&◌, ◌==◌, Bool, true, false, not, List, [], ◌∷◌, ◌++◌, length, Option, Some, None, Result, is_some, if◌then◌else◌, refl, inl, inr, ◌⊎◌, sym, ap, subst, ◌∙◌, codes, slice_get, nat_eq, drop, fold, rules}
-use Rattle.std.proofs.lemmas.Bool.{eqb-true, false≢true, true≢false}
+use Rattle.std.proofs.Common.{◌≡◌, ℕ, Bool, true, false, List, [], ◌∷◌, ◌++◌, Option, Some, None, Result, is_some, refl, inl, inr, ◌⊎◌, sym, ap, subst, ◌∙◌, codes, nat_eq, fold, rules}
 use Rattle.std.proofs.lemmas.Slice.Eq.{bytes_eq-Decides}
-use Rattle.std.specs.Str.{bytes_eq, chars}
-use Rattle.std.specs.Char.{encode_utf8}
+use Rattle.std.specs.Str.{bytes_eq}
 use Rattle.std.specs.Option.{option_map}
-use Rattle.clap.specs.Words.{FailsBy, HasMatchesOf, with_subcommand, first_value, found_of, is_simple, is_simple_and_free, kind_of, subcommand_rows_of}
+use Rattle.std.specs.Prelude.{option_and_then}
+use Rattle.clap.specs.Words.{FailsBy, HasMatchesOf, new_app, with_rule, with_subcommand, first_value, found_of, is_simple, is_simple_and_free, kind_of, subcommand_rows_of}
 use Rattle.clap.specs.declared.parser.matches.ArgMatches.{ArgMatches}
+use Rattle.clap.specs.declared.builder.arg.Arg.{Arg}
+use Rattle.clap.specs.declared.builder.value_parser.ValueParser.{ValueParser}
+use Rattle.clap.specs.declared.builder.value_parser.ValueParser.TheVariants as parsers
 use Rattle.clap.specs.declared.error.Error.{Error}
 use Rattle.clap.specs.declared.error.kind.ErrorKind.TheVariants as kind
 use Rattle.clap.proofs.WalkLemmas.{first_value-rows, walk_stopped}
 use Rattle.clap.proofs.OnLiterals.{clap_on_literals}
 use Rattle.clap.specs.Kinds.{HasKind, Kinds, or_else}
-use Rattle.clap.specs.Faults.{bundle_step_fault, flag_word_fault, flags_fault, long_fault, short_fault, turn_fault, walk_fault, level_fault, entered_fault, fault_of, step_fault, settle_fault, defaults_fault, check_fault}
-use Rattle.std.specs.List.{before_first, after_first}
-use Rattle.clap.specs.Lexer.{has_byte, long_of}
+use Rattle.clap.specs.Faults.{flag_word_fault, long_fault, short_fault, turn_fault, walk_fault, level_fault, entered_fault, fault_of, step_fault, settle_fault, defaults_fault, check_fault}
+use Rattle.clap.specs.Lexer.{long_of}
 use Rattle.clap.specs.Simple.{Shape, App, built, entered, names_of, subcommand_of}
-use Rattle.clap.specs.Walk.{bundle_met, finished, settled, Held, Rule, Row, first_of, rows_after, rows_of, Text, Walk, arg_by_long, arg_by_short, idle, long_or_other, nothing_held, value, walked}
-use Rattle.station_command.specs.Asking.{is_flag, ends_flags, file_in, files_in, Request, Check, Sim, Replay, request_in}
-use Rattle.station_command.specs.Line.{alone_line, check_line, replay_line, sim_line, station_line}
-use Rattle.station_command.specs.inside.Rows.{both_of, files_of, request_of_rows}
-
--- there is a fault
-abbrev pub Fails : Kinds → Type 0
-Fails [] = ⊥
-Fails (k ∷ ks) = Unit {0}
-
-first_fails : (a b : Kinds) → Fails a → Fails (or_else a b)
-first_fails [] b h = absurd h
-first_fails (k ∷ ks) b h = h
-
-next_fails : (a b : Kinds) → Fails b → Fails (or_else a b)
-next_fails [] b h = h
-next_fails (k ∷ ks) b h = tt
-
-both : (a b : Bool) → (a && b) ≡ true → (a ≡ true) × (b ≡ true)
-both true b e = (refl, e)
-both false b e = absurd (true≢false (sym e))
-
-abbrev top : Shape
-top = (built station_line).top
-
--- a subcommand by its place
-abbrev nth_or : Shape → ℕ → List Shape → Shape
-nth_or s n [] = s
-nth_or s zero (x ∷ xs) = x
-nth_or s (suc n) (x ∷ xs) = nth_or s n xs
+use Rattle.clap.specs.Walk.{finished, settled, Held, Rule, Row, first_of, rows_after, rows_of, rule_of, Text, Walk, arg_by_long, arg_by_short, idle, nothing_held, value, walked}
+use Rattle.station_command.proofs.Run.{RunReads, run, run_fault, run_reads}
+use Rattle.station_command.proofs.Words.{Fails, top, nth_or, Pending, held, at, word_fails, word_passes, is_ends, fails_within, ends_is_flag}
+use Rattle.station_command.specs.Asking.{is_flag, ends_flags, file_in, files_in, Request, Check, Sim, Replay, Run, request_in, run_of}
+use Rattle.station_command.specs.Line.{alone_line, check_line, file_rule, files_line, option_rule, reading_line, replay_line, run_line, sim_line, station_line, time_rule}
+use Rattle.station_command.specs.inside.Rows.{both_of, files_of, number_of, request_of_rows, run_of_rows}
 
 -- a subcommand with one file, and those with two
 abbrev sub : Shape
@@ -56,17 +33,6 @@ two = nth_or top 1 (built station_line).subs
 
 abbrev two_again : Shape
 two_again = nth_or top 2 (built station_line).subs
-
--- what is held at a level: the rows so far, and the argument whose values are read
-abbrev Pending : Type 0
-Pending = Option (Text × List Text)
-
-abbrev held : List Row → Pending → Held
-held rows pending = record { rows = rows; pending = pending; skip = 0 }
-
--- where a level stands between two words
-abbrev at : List Row → Pending → ℕ → Walk
-at rows pending place = record { held = held rows pending; waiting = idle; position = place; is_trailing = false; stopped = None }
 
 -- a file was read, or two
 abbrev file_pending : Text → Pending
@@ -148,73 +114,7 @@ short_fails_two_both : (a b : Text) → ShortFails two (file_rows a) (second_pen
 short_fails_two_both a b true x rest next e = rw e tt
 short_fails_two_both a b false x rest next e = rw e tt
 
-no_character : (cs : Text) → not (length cs == 0) ≡ false → cs ≡ []
-no_character [] e = refl
-no_character (c ∷ cs) e = search rules
-
-abbrev has_some : Text → Bool
-has_some [] = false
-has_some (c ∷ cs) = true
-
--- a hyphen is a character
-no_hyphen : (ys : Text) → chars (45 ∷ ys) ≡ [] → ⊥
-unfolding chars
-no_hyphen [] e = false≢true (sym (ap has_some e))
-no_hyphen (y ∷ ys) e = false≢true (sym (ap has_some e))
-
-module _ (rows : List Row) (pending : Pending) (rules : List Rule) where
-  -- a word that is no flag passes, and is left for a value
-  abbrev IsValue : Text → Type 0
-  IsValue word = (flag_word_fault rules false (long_of word) word (held rows pending) ≡ [])
-      × (long_or_other rules idle word (long_of word) (held rows pending) ≡ (held rows pending, value))
-
-  -- a flag fails, by the two facts of the level's flags
-  module _ (long_fails : (name : Text) (v : Option Text) → Fails (long_fault rules false (arg_by_long rules name) v (held rows pending)))
-      (short_fails : (x : ℕ) (rest : Text) (next : Held → Kinds) → Fails (short_fault rules false (arg_by_short rules x) rest (held rows pending) next)) where
-    bundle_fails : (flags cs : Text) → not (length cs == 0) ≡ true → (next : Text → ℕ → Held → Kinds) → Fails (bundle_step_fault rules false (slice_get cs 0) flags 0 (held rows pending) next)
-    bundle_fails flags [] some next = absurd (false≢true some)
-    bundle_fails flags (x ∷ cs) some next = short_fails x (drop (length (encode_utf8 x)) flags) (next (drop (length (encode_utf8 x)) flags) 0)
-
-    hyphen_fails : (y : ℕ) (ys : Text) (is_hyphen : Bool) → nat_eq y 45 ≡ is_hyphen → bytes_eq (45 ∷ y ∷ ys) (codes "--") ≡ false → not (length (chars (y ∷ ys)) == 0) ≡ true
-        → Fails (flag_word_fault rules false (long_of (45 ∷ y ∷ ys)) (45 ∷ y ∷ ys) (held rows pending))
-    unfolding flags_fault
-    hyphen_fails y [] true e ends some = absurd (true≢false (rw e at ends))
-    hyphen_fails y (z ∷ zs) true e ends some = rw e (long_fails (before_first (λ x. x == 61) (z ∷ zs)) (if has_byte 61 (z ∷ zs) then Some (after_first (λ x. x == 61) (z ∷ zs)) else None))
-    hyphen_fails y ys false e ends some = rw e (rw e (bundle_fails (y ∷ ys) (chars (y ∷ ys)) some (flags_fault rules false (length ys))))
-
-    flag_fails : (xs : Text) → ends_flags (45 ∷ xs) ≡ false → not (length (chars xs) == 0) ≡ true → Fails (flag_word_fault rules false (long_of (45 ∷ xs)) (45 ∷ xs) (held rows pending))
-    unfolding chars
-    flag_fails [] ends some = absurd (false≢true some)
-    flag_fails (y ∷ ys) ends some = hyphen_fails y ys (nat_eq y 45) refl ends some
-
-    word_fails : (word : Text) → ends_flags word ≡ false → is_flag word ≡ true → Fails (flag_word_fault rules false (long_of word) word (held rows pending))
-    word_fails [] ends flag = absurd (false≢true flag)
-    word_fails (x ∷ xs) ends flag =
-        let parts = both (x == 45) (not (length (chars xs) == 0)) flag in
-        subst (λ b. ends_flags (b ∷ xs) ≡ false → Fails (flag_word_fault rules false (long_of (b ∷ xs)) (b ∷ xs) (held rows pending))) (sym (eqb-true x 45 parts.0)) (λ e. flag_fails xs e parts.1) ends
-
-  hyphen_passes : (y : ℕ) (ys : Text) (is_hyphen : Bool) → nat_eq y 45 ≡ is_hyphen → chars (y ∷ ys) ≡ [] → IsValue (45 ∷ y ∷ ys)
-  unfolding flags_fault bundle_met
-  hyphen_passes y ys true e none = absurd (no_hyphen ys (subst (λ b. chars (b ∷ ys) ≡ []) (eqb-true y 45 e) none))
-  hyphen_passes y ys false e none = (rw e (rw e (rw none refl)), rw e (rw e (rw none refl)))
-
-  other_passes : (x : ℕ) (xs : Text) → nat_eq x 45 ≡ false → IsValue (x ∷ xs)
-  other_passes x xs e = (rw e (rw e refl), rw e (rw e refl))
-
-  word_passes : (word : Text) → is_flag word ≡ false → IsValue word
-  word_passes [] flag = (refl, refl)
-  word_passes (x ∷ xs) flag = by_first x xs (nat_eq x 45) refl flag
-    where
-      by_first : (x : ℕ) (xs : Text) (is_hyphen : Bool) → nat_eq x 45 ≡ is_hyphen → is_flag (x ∷ xs) ≡ false → IsValue (x ∷ xs)
-      by_first x xs false e flag = other_passes x xs e
-      by_first x [] true e flag = subst (λ b. IsValue (b ∷ [])) (sym (eqb-true x 45 e)) (refl, refl)
-      by_first x (y ∷ ys) true e flag = subst (λ b. IsValue (b ∷ y ∷ ys)) (sym (eqb-true x 45 e))
-          (hyphen_passes y ys (nat_eq y 45) refl (no_character (chars (y ∷ ys)) (rw e at flag)))
-
 -- ---- whole lines
-
-is_ends : (word : Text) → ends_flags word ≡ true → word ≡ codes "--"
-is_ends word ends = (bytes_eq-Decides word (codes "--")).0 ends
 
 abbrev sub_fault : List Text → Kinds
 sub_fault words = level_fault sub [] nothing_held words false []
@@ -243,14 +143,10 @@ too_many_behind_ends file c more = tt
 
 -- ---- a first word that is a flag, or a value
 
-fails_within : (k x y z : Kinds) → Fails k → Fails (or_else (or_else (or_else k x) y) z)
-fails_within [] x y z h = absurd h
-fails_within (k ∷ ks) x y z h = tt
-
 sub_flag_fails : (s : Shape) (rows : List Row) (pending : Pending) → LongFails s rows pending → ShortFails s rows pending
     → (word : Text) → ends_flags word ≡ false → is_flag word ≡ true → Fails (flag_word_fault s.rules false (long_of word) word (held rows pending))
 sub_flag_fails s rows pending long short =
-    word_fails rows pending s.rules (λ name v. long (bytes_eq (codes "help") name) name v refl) (λ x rest next. short (nat_eq 104 x) x rest next refl)
+    word_fails rows pending s.rules (λ x rest next. short (nat_eq 104 x) x rest next refl) (λ name v. long (bytes_eq (codes "help") name) name v refl)
 
 flag_first : (word : Text) (more : List Text) → ends_flags word ≡ false → is_flag word ≡ true → Fails (sub_fault (word ∷ more))
 unfolding walk_fault
@@ -259,13 +155,13 @@ flag_first word more e h = rw e (fails_within (flag_word_fault sub.rules false (
 value_turn : (s : Shape) (rows : List Row) (pending : Pending) (place : ℕ) (word : Text) → ends_flags word ≡ false → is_flag word ≡ false
     → s.args_override_self ≡ false → turn_fault s [] (at rows pending place) word ≡ step_fault s place (held rows pending) value
 value_turn s rows pending place word e h plain =
-    let value_is = word_passes rows pending s.rules word h in
+    let value_is = word_passes rows pending s.rules idle word h in
     rw plain (rw e (rw value_is.0 (rw value_is.1 refl)))
 
 value_first : (word : Text) → ends_flags word ≡ false → is_flag word ≡ false → walked sub.rules [] (at [] None 1) word ≡ at [] (file_pending word) 2
 unfolding walked
 value_first word e h =
-    let value_is = word_passes [] None sub.rules word h in
+    let value_is = word_passes [] None sub.rules idle word h in
     rw e (rw value_is.1 refl)
 
 -- ---- the words behind `check`
@@ -393,7 +289,7 @@ first_passes a e h = value_turn two [] None 1 a e h refl
 first_steps : (a : Text) → ends_flags a ≡ false → is_flag a ≡ false → walked two.rules [] none_read a ≡ one_read a
 unfolding walked
 first_steps a e h =
-    let value_is = word_passes [] None two.rules a h in
+    let value_is = word_passes [] None two.rules idle a h in
     rw e (rw value_is.1 refl)
 
 second_passes : (a b : Text) → ends_flags b ≡ false → is_flag b ≡ false → turn_fault two [] (one_read a) b ≡ []
@@ -402,7 +298,7 @@ second_passes a b e h = value_turn two [] (file_pending a) 2 b e h refl
 second_steps : (a b : Text) → ends_flags b ≡ false → is_flag b ≡ false → walked two.rules [] (one_read a) b ≡ both_read a b
 unfolding walked
 second_steps a b e h =
-    let value_is = word_passes [] (file_pending a) two.rules b h in
+    let value_is = word_passes [] (file_pending a) two.rules idle b h in
     rw e (rw value_is.1 refl)
 
 -- ---- from where both files were read
@@ -521,11 +417,6 @@ alone_fails a true flag e h = subst (λ w. Fails (two_from none_read (w ∷ []))
 alone_fails a false true e h = none_flag a [] e h
 alone_fails a false false e h = behind_first a [] e h (one_end a)
 
--- `--` is a flag by its letters
-ends_is_flag : (a : Text) → ends_flags a ≡ true → is_flag a ≡ true
-unfolding chars
-ends_is_flag a e = subst (λ w. is_flag w ≡ true) (sym (is_ends a e)) refl
-
 two_read : (a b : Text) (ends flag then_ends then_flag : Bool) → ends_flags a ≡ ends → is_flag a ≡ flag → ends_flags b ≡ then_ends → is_flag b ≡ then_flag → TwoReads (a ∷ b ∷ [])
 two_read a b true flag then_ends then_flag e h k m =
     inr (rw (ends_is_flag a e) refl, subst (λ w. Fails (two_from none_read (w ∷ b ∷ []))) (sym (is_ends a e)) (none_ends_one b))
@@ -630,6 +521,16 @@ module _ (words : List Text) where
   unfolding walked
   replay_rows_are name = ap (λ w. entered line w.stopped) (sym (all_left (codes "replay")))
 
+  run_fault_is : (name : Text) → fault_of station_line (name ∷ codes "run" ∷ words) ≡ run_fault words
+  unfolding walk_fault walked defaults_fault
+  run_fault_is name =
+      ap (λ k. top_fault k (fold (walked top.rules (names_of line)) (met (codes "run") []) words)) (left_to_sub (at [] None 1) (codes "run", []) words)
+      ∙ (ap (top_fault []) (sym (all_left (codes "run"))) ∙ or_else-nil (run_fault words))
+
+  run_rows_are : (name : Text) → subcommand_of station_line (name ∷ codes "run" ∷ words) ≡ Some (codes "run", rows_after run.rules [] words)
+  unfolding walked
+  run_rows_are name = ap (λ w. entered line w.stopped) (sym (all_left (codes "run")))
+
   check_reads : (name : Text) → SubReads words → Reads (name ∷ codes "check" ∷ words)
   check_reads name (inl r) = inl (Check r.0, ap (option_map Check) r.1, check_fault_is name ∙ r.2, ap request_of_rows (check_rows_are name) ∙ ap (option_map Check) r.3)
   check_reads name (inr r) = inr (ap (option_map Check) r.0, subst Fails (sym (check_fault_is name)) r.1)
@@ -649,23 +550,28 @@ module _ (words : List Text) where
       in inl (Replay r.0 r.1, ap ask r.2, replay_fault_is name ∙ r.3.0, ap request_of_rows (replay_rows_are name) ∙ ap ask (files_found r.0 r.1 r.3))
   replay_reads name (inr r) = inr (ap (option_map (λ (files : Text × Text). Replay files.0 files.1)) r.0, subst Fails (sym (replay_fault_is name)) r.1)
 
+  run_reads_all : (name : Text) → RunReads words → Reads (name ∷ codes "run" ∷ words)
+  run_reads_all name (inl r) = inl (r.0, r.1, run_fault_is name ∙ r.2, ap request_of_rows (run_rows_are name) ∙ r.3)
+  run_reads_all name (inr r) = inr (r.0, subst Fails (sym (run_fault_is name)) r.1)
+
 -- a word that names no subcommand
 abbrev NamesNone : Text → Type 0
-NamesNone word = (bytes_eq (codes "check") word ≡ false) × ((bytes_eq (codes "sim") word ≡ false) × ((bytes_eq (codes "replay") word ≡ false) × (bytes_eq (codes "help") word ≡ false)))
+NamesNone word = (bytes_eq (codes "check") word ≡ false) × ((bytes_eq (codes "sim") word ≡ false) × ((bytes_eq (codes "replay") word ≡ false)
+    × ((bytes_eq (codes "run") word ≡ false) × (bytes_eq (codes "help") word ≡ false))))
 
 top_flag : (name word : Text) (more : List Text) → NamesNone word → ends_flags word ≡ false → is_flag word ≡ true
     → Fails (fault_of station_line (name ∷ word ∷ more))
 unfolding walk_fault
 top_flag name word more other e h =
-    rw other.0 (rw other.1.0 (rw other.1.1.0 (rw other.1.1.1 (rw e (fails_within (flag_word_fault top.rules false (long_of word) word nothing_held) _ _ _
-    (word_fails [] None top.rules (λ name v. long_fails_top (bytes_eq (codes "help") name) (bytes_eq (codes "version") name) name v refl refl) (λ x rest next. short_fails_top (nat_eq 104 x) (nat_eq 86 x) x rest next refl refl) word e h))))))
+    rw other.0 (rw other.1.0 (rw other.1.1.0 (rw other.1.1.1.0 (rw other.1.1.1.1 (rw e (fails_within (flag_word_fault top.rules false (long_of word) word nothing_held) _ _ _
+    (word_fails [] None top.rules (λ x rest next. short_fails_top (nat_eq 104 x) (nat_eq 86 x) x rest next refl refl) (λ name v. long_fails_top (bytes_eq (codes "help") name) (bytes_eq (codes "version") name) name v refl refl) word e h)))))))
 
 top_value : (name word : Text) (more : List Text) → NamesNone word → ends_flags word ≡ false → is_flag word ≡ false
     → Fails (fault_of station_line (name ∷ word ∷ more))
 unfolding walk_fault
 top_value name word more other e h =
-    let value_is = word_passes [] None top.rules word h in
-    rw other.0 (rw other.1.0 (rw other.1.1.0 (rw other.1.1.1 (rw e (rw value_is.0 (rw value_is.1 tt))))))
+    let value_is = word_passes [] None top.rules idle word h in
+    rw other.0 (rw other.1.0 (rw other.1.1.0 (rw other.1.1.1.0 (rw other.1.1.1.1 (rw e (rw value_is.0 (rw value_is.1 tt)))))))
 
 top_help : (name : Text) (more : List Text) → Fails (fault_of station_line (name ∷ codes "help" ∷ more))
 unfolding clap_on_literals
@@ -678,24 +584,26 @@ top_ends name (word ∷ more) = tt
 
 -- a word that names no subcommand, `help` or none
 by_other : (name word : Text) (more : List Text) (is_help ends flag : Bool) → bytes_eq (codes "check") word ≡ false → bytes_eq (codes "sim") word ≡ false → bytes_eq (codes "replay") word ≡ false
-    → bytes_eq (codes "help") word ≡ is_help → ends_flags word ≡ ends → is_flag word ≡ flag → Fails (fault_of station_line (name ∷ word ∷ more))
-by_other name word more true ends flag k s r m e h = subst (λ w. Fails (fault_of station_line (name ∷ w ∷ more))) ((bytes_eq-Decides (codes "help") word).0 m) (top_help name more)
-by_other name word more false true flag k s r m e h = subst (λ w. Fails (fault_of station_line (name ∷ w ∷ more))) (sym (is_ends word e)) (top_ends name more)
-by_other name word more false false true k s r m e h = top_flag name word more (k, (s, (r, m))) e h
-by_other name word more false false false k s r m e h = top_value name word more (k, (s, (r, m))) e h
+    → bytes_eq (codes "run") word ≡ false → bytes_eq (codes "help") word ≡ is_help → ends_flags word ≡ ends → is_flag word ≡ flag → Fails (fault_of station_line (name ∷ word ∷ more))
+by_other name word more true ends flag k s r u m e h = subst (λ w. Fails (fault_of station_line (name ∷ w ∷ more))) ((bytes_eq-Decides (codes "help") word).0 m) (top_help name more)
+by_other name word more false true flag k s r u m e h = subst (λ w. Fails (fault_of station_line (name ∷ w ∷ more))) (sym (is_ends word e)) (top_ends name more)
+by_other name word more false false true k s r u m e h = top_flag name word more (k, (s, (r, (u, m)))) e h
+by_other name word more false false false k s r u m e h = top_value name word more (k, (s, (r, (u, m)))) e h
 
-by_word : (name word : Text) (more : List Text) (is_check is_sim is_replay : Bool)
-    → bytes_eq (codes "check") word ≡ is_check → bytes_eq (codes "sim") word ≡ is_sim → bytes_eq (codes "replay") word ≡ is_replay → Reads (name ∷ word ∷ more)
-by_word name word more true is_sim is_replay k s r = subst (λ w. Reads (name ∷ w ∷ more)) ((bytes_eq-Decides (codes "check") word).0 k) (check_reads more name (sub_reads more))
-by_word name word more false true is_replay k s r = subst (λ w. Reads (name ∷ w ∷ more)) ((bytes_eq-Decides (codes "sim") word).0 s) (sim_reads more name (two_reads more))
-by_word name word more false false true k s r = subst (λ w. Reads (name ∷ w ∷ more)) ((bytes_eq-Decides (codes "replay") word).0 r) (replay_reads more name (two_reads more))
-by_word name word more false false false k s r =
-    inr (rw (k, s, r) refl, by_other name word more (bytes_eq (codes "help") word) (ends_flags word) (is_flag word) k s r refl refl refl)
+by_word : (name word : Text) (more : List Text) (is_check is_sim is_replay is_run : Bool)
+    → bytes_eq (codes "check") word ≡ is_check → bytes_eq (codes "sim") word ≡ is_sim → bytes_eq (codes "replay") word ≡ is_replay → bytes_eq (codes "run") word ≡ is_run
+    → Reads (name ∷ word ∷ more)
+by_word name word more true is_sim is_replay is_run k s r u = subst (λ w. Reads (name ∷ w ∷ more)) ((bytes_eq-Decides (codes "check") word).0 k) (check_reads more name (sub_reads more))
+by_word name word more false true is_replay is_run k s r u = subst (λ w. Reads (name ∷ w ∷ more)) ((bytes_eq-Decides (codes "sim") word).0 s) (sim_reads more name (two_reads more))
+by_word name word more false false true is_run k s r u = subst (λ w. Reads (name ∷ w ∷ more)) ((bytes_eq-Decides (codes "replay") word).0 r) (replay_reads more name (two_reads more))
+by_word name word more false false false true k s r u = subst (λ w. Reads (name ∷ w ∷ more)) ((bytes_eq-Decides (codes "run") word).0 u) (run_reads_all more name (run_reads more))
+by_word name word more false false false false k s r u =
+    inr (rw (k, s, r, u) refl, by_other name word more (bytes_eq (codes "help") word) (ends_flags word) (is_flag word) k s r u refl refl refl)
 
 pub reads : (words : List Text) → Reads words
 reads [] = no_name
 reads (name ∷ []) = name_alone name
-reads (name ∷ word ∷ more) = by_word name word more (bytes_eq (codes "check") word) (bytes_eq (codes "sim") word) (bytes_eq (codes "replay") word) refl refl refl
+reads (name ∷ word ∷ more) = by_word name word more (bytes_eq (codes "check") word) (bytes_eq (codes "sim") word) (bytes_eq (codes "replay") word) (bytes_eq (codes "run") word) refl refl refl refl
 
 -- ---- what a parse answers
 
@@ -718,12 +626,29 @@ refuses words e has = elim (reads words) [
 ]
 
 -- the command line, made of its subcommands one after another
-pub line_is : (a b c d check sim replay : App) → a ≡ alone_line → check ≡ check_line → sim ≡ sim_line → replay ≡ replay_line
-    → b ≡ with_subcommand a check.top → c ≡ with_subcommand b sim.top → d ≡ with_subcommand c replay.top → d ≡ station_line
-line_is a b c d check sim replay alone e f g first second third =
-    third ∙ ap (λ s. with_subcommand c s.top) g ∙ ap (λ l. with_subcommand l replay_line.top)
+pub files_are : (a b c d check sim replay : App) → a ≡ alone_line → check ≡ check_line → sim ≡ sim_line → replay ≡ replay_line
+    → b ≡ with_subcommand a check.top → c ≡ with_subcommand b sim.top → d ≡ with_subcommand c replay.top → d ≡ files_line
+files_are a b c d check sim replay alone e f g first second last =
+    last ∙ ap (λ s. with_subcommand c s.top) g ∙ ap (λ l. with_subcommand l replay_line.top)
     (second ∙ ap (λ s. with_subcommand b s.top) f ∙ ap (λ l. with_subcommand l sim_line.top)
     (first ∙ ap (λ s. with_subcommand a s.top) e ∙ ap (λ l. with_subcommand l check_line.top) alone))
+
+pub line_is : (files whole last : App) → files ≡ files_line → last ≡ run_line → whole ≡ with_subcommand files last.top → whole ≡ station_line
+line_is files whole last e f is = is ∙ ap (λ s. with_subcommand files s.top) f ∙ ap (λ l. with_subcommand l run_line.top) e
+
+-- `run`, made of its arguments one after another
+pub reading_is : (a b c : App) (file script : Rule) → a ≡ new_app (codes "run") → file ≡ file_rule → script ≡ option_rule (codes "script")
+    → b ≡ with_rule a file → c ≡ with_rule b script → c ≡ reading_line
+reading_is a b c file script new f s first last = last ∙ (λ i. with_rule ((first ∙ (λ j. with_rule (new j) (f j))) i) (s i))
+
+pub run_is : (a b c : App) (recording time : Rule) → a ≡ reading_line → recording ≡ option_rule (codes "record") → time ≡ time_rule
+    → b ≡ with_rule a recording → c ≡ with_rule b time → c ≡ run_line
+run_is a b c recording time reads r t first last = last ∙ (λ i. with_rule ((first ∙ (λ j. with_rule (reads j) (r j))) i) (t i))
+
+-- the time among the options, by the parser of its value
+pub time_is : (before after : Arg) (parser : ValueParser) → after ≡ record before { value_parser = after.value_parser } → after.value_parser ≡ Some parser
+    → parser ≡ parsers.Unsigned 1000 600000 → rule_of before ≡ option_rule (codes "for") → rule_of after ≡ time_rule
+time_is before after parser others given is rule = ap rule_of others ∙ (λ i. record (rule i) { parser = (given ∙ ap Some is) i })
 
 -- what the parse of a command that is read as this line answers
 module _ (a : App) (words : List Text) (is : a ≡ station_line) where
@@ -740,7 +665,7 @@ module _ (a : App) (words : List Text) (is : a ≡ station_line) where
       let asked = was_asked words none
       in (asked.0, asked.1, ap request_of_rows (parse_rows m has) ∙ asked.2)
 
--- ---- the files that were found
+-- ---- what was found
 
 module _ (m : ArgMatches) where
   pub file_found : (id : Text) (file : Option Text) → file ≡ first_value (found_of m) id → file ≡ first_of id (rows_of (found_of m))
@@ -760,6 +685,58 @@ module _ (m : ArgMatches) where
       let first = file_found (codes "FILE") (Some a) e
       in let second = file_found (codes "SECOND") None f
       in ap (λ o. both_of o None) first ∙ ap (both_of (first_of (codes "FILE") (rows_of (found_of m)))) second
+
+-- ---- the run that was found
+
+module _ (m : ArgMatches) where
+  abbrev FirstOf : Text → Option Text
+  FirstOf id = first_of id (rows_of (found_of m))
+
+  -- the four that were found, as the request
+  four_found : (a b c t : Text) (n : Option ℕ) → Some a ≡ first_value (found_of m) (codes "FILE") → Some b ≡ first_value (found_of m) (codes "script")
+      → Some c ≡ first_value (found_of m) (codes "record") → Some t ≡ first_value (found_of m) (codes "for") → n ≡ number_of t
+      → run_of (Some a) (Some b) (Some c) n ≡ run_of_rows (rows_of (found_of m))
+  four_found a b c t n e f g h is =
+      let first = file_found m (codes "FILE") (Some a) e in
+      let second = file_found m (codes "script") (Some b) f in
+      let third = file_found m (codes "record") (Some c) g in
+      let time = is ∙ ap (option_and_then number_of) (file_found m (codes "for") (Some t) h) in
+      λ i. run_of (first i) (second i) (third i) (time i)
+
+  pub run_found : (a b c t : Text) (n : ℕ) → Some a ≡ first_value (found_of m) (codes "FILE") → Some b ≡ first_value (found_of m) (codes "script")
+      → Some c ≡ first_value (found_of m) (codes "record") → Some t ≡ first_value (found_of m) (codes "for") → Some n ≡ number_of t
+      → Some (Run a b c n) ≡ run_of_rows (rows_of (found_of m))
+  run_found a b c t n e f g h is = four_found a b c t (Some n) e f g h is
+
+  pub no_file : None ≡ first_value (found_of m) (codes "FILE") → None ≡ run_of_rows (rows_of (found_of m))
+  no_file e = ap (λ o. run_of o (FirstOf (codes "script")) (FirstOf (codes "record")) (option_and_then number_of (FirstOf (codes "for")))) (file_found m (codes "FILE") None e)
+
+  pub no_script : (a : Text) → Some a ≡ first_value (found_of m) (codes "FILE") → None ≡ first_value (found_of m) (codes "script") → None ≡ run_of_rows (rows_of (found_of m))
+  no_script a e f =
+      let first = file_found m (codes "FILE") (Some a) e in
+      let second = file_found m (codes "script") None f in
+      λ i. run_of (first i) (second i) (FirstOf (codes "record")) (option_and_then number_of (FirstOf (codes "for")))
+
+  pub no_record : (a b : Text) → Some a ≡ first_value (found_of m) (codes "FILE") → Some b ≡ first_value (found_of m) (codes "script")
+      → None ≡ first_value (found_of m) (codes "record") → None ≡ run_of_rows (rows_of (found_of m))
+  no_record a b e f g =
+      let first = file_found m (codes "FILE") (Some a) e in
+      let second = file_found m (codes "script") (Some b) f in
+      let third = file_found m (codes "record") None g in
+      λ i. run_of (first i) (second i) (third i) (option_and_then number_of (FirstOf (codes "for")))
+
+  pub no_time : (a b c : Text) → Some a ≡ first_value (found_of m) (codes "FILE") → Some b ≡ first_value (found_of m) (codes "script")
+      → Some c ≡ first_value (found_of m) (codes "record") → None ≡ first_value (found_of m) (codes "for") → None ≡ run_of_rows (rows_of (found_of m))
+  no_time a b c e f g h =
+      let first = file_found m (codes "FILE") (Some a) e in
+      let second = file_found m (codes "script") (Some b) f in
+      let third = file_found m (codes "record") (Some c) g in
+      let time = ap (option_and_then number_of) (file_found m (codes "for") None h) in
+      λ i. run_of (first i) (second i) (third i) (time i)
+
+  pub no_number : (a b c t : Text) → Some a ≡ first_value (found_of m) (codes "FILE") → Some b ≡ first_value (found_of m) (codes "script")
+      → Some c ≡ first_value (found_of m) (codes "record") → Some t ≡ first_value (found_of m) (codes "for") → None ≡ number_of t → None ≡ run_of_rows (rows_of (found_of m))
+  no_number a b c t e f g h is = four_found a b c t None e f g h is
 
 pub none≢some : {A : Type 0} (a : A) (o : Option A) → None ≡ o → o ≡ Some a → ⊥
 none≢some a o none some = search rules

@@ -14,6 +14,7 @@ Commands:
   check   Checks the layout of a station and its table of routes
   sim     Applies lines of events to a station of a layout
   replay  Applies a recorded session to a station of a layout again
+  run     Runs a station of a layout over loopback sockets
   help    Print this message or the help of the given subcommand(s)
 
 Options:
@@ -111,6 +112,38 @@ Options:
           Print help (see a summary with '-h')
 ";
 
+const RUN_HELP: &str = "Runs a station of a layout over loopback sockets.
+
+Each node has a UDP socket of its own. About every 10 ms time passes, each datagram that has come is
+delivered, the lines of the script that are due are applied, and every node ticks. Each line of a
+script is `at MS EVENT`, with the events set, cancel, resume, occupy, clear and restart, in rising
+order of MS.
+
+Each event is recorded with what it answered; the record of a run that was stopped is good as far as
+it goes. At the end it prints what is seen of the station.
+
+Example: station run examples/small.toml --script examples/proceed.script --record run.session --for 12000
+
+Usage: station run --script <S> --record <R> --for <MS> <FILE>
+
+Arguments:
+  <FILE>
+          The layout, a TOML file
+
+Options:
+      --script <S>
+          The lines that are applied, each at its time
+
+      --record <R>
+          The file to which the session is written
+
+      --for <MS>
+          How long the station runs, from 1000 to 600000 milliseconds
+
+  -h, --help
+          Print help (see a summary with '-h')
+";
+
 const NO_FILE: &str = "error: the following required arguments were not provided:
   <FILE>
 
@@ -144,6 +177,38 @@ For more information, try '--help'.
 const A_RECORD_TOO_MANY: &str = "error: unexpected argument 'c' found
 
 Usage: station replay <FILE> <RECORD>
+
+For more information, try '--help'.
+";
+
+const NO_RECORD_AND_NO_TIME: &str = "error: the following required arguments were not provided:
+  --record <R>
+  --for <MS>
+
+Usage: station run --script <S> --record <R> --for <MS> <FILE>
+
+For more information, try '--help'.
+";
+
+const TOO_SHORT: &str = "error: invalid value '999' for '--for <MS>': 999 is not in 1000..=600000
+
+For more information, try '--help'.
+";
+
+const TOO_LONG: &str =
+    "error: invalid value '600001' for '--for <MS>': 600001 is not in 1000..=600000
+
+For more information, try '--help'.
+";
+
+const NO_TIME: &str = "error: invalid value '1s' for '--for <MS>': invalid digit found in string
+
+For more information, try '--help'.
+";
+
+const A_SECOND_SCRIPT: &str = "error: the argument '--script <S>' cannot be used multiple times
+
+Usage: station run --script <S> --record <R> --for <MS> <FILE>
 
 For more information, try '--help'.
 ";
@@ -185,85 +250,123 @@ fn expect_text(
 }
 
 #[test]
-fn help_is_printed_where_it_is_asked_for(rt: HostRuntime) -> Result<(), Fail> {
-    let alloc = rt.alloc();
-    expect_text(&rt, alloc, &["station", "--help"], 0, HELP)?;
-    expect_text(&rt, alloc, &["station", "help"], 0, HELP)?;
-    expect_text(&rt, alloc, &["station", "check", "--help"], 0, CHECK_HELP)?;
-    expect_text(&rt, alloc, &["station", "check", "-h"], 0, SHORT_CHECK_HELP)?;
-    expect_text(&rt, alloc, &["station", "sim", "--help"], 0, SIM_HELP)?;
-    expect_text(&rt, alloc, &["station", "help", "replay"], 0, REPLAY_HELP)
-}
-
-#[test]
-fn the_version_is_printed_where_it_is_asked_for(rt: HostRuntime) -> Result<(), Fail> {
-    let alloc = rt.alloc();
-    expect_text(&rt, alloc, &["station", "--version"], 0, "station 1.0.0\n")?;
-    expect_text(&rt, alloc, &["station", "-V"], 0, "station 1.0.0\n")
+fn help_and_the_version_are_printed_where_they_are_asked_for(rt: HostRuntime) -> Result<(), Fail> {
+    for (words, text) in [
+        (["station", "--help"].as_slice(), HELP),
+        (["station", "help"].as_slice(), HELP),
+        (["station", "check", "--help"].as_slice(), CHECK_HELP),
+        (["station", "check", "-h"].as_slice(), SHORT_CHECK_HELP),
+        (["station", "sim", "--help"].as_slice(), SIM_HELP),
+        (["station", "help", "replay"].as_slice(), REPLAY_HELP),
+        (["station", "run", "--help"].as_slice(), RUN_HELP),
+        (["station", "--version"].as_slice(), "station 1.0.0\n"),
+        (["station", "-V"].as_slice(), "station 1.0.0\n"),
+    ] {
+        expect_text(&rt, rt.alloc(), words, 0, text)?;
+    }
+    Ok(())
 }
 
 #[test]
 fn a_wrong_command_line_has_status_2(rt: HostRuntime) -> Result<(), Fail> {
-    let alloc = rt.alloc();
-    expect_text(&rt, alloc, &["station"], 2, HELP)?;
-    expect_text(&rt, alloc, &["station", "check"], 2, NO_FILE)?;
-    expect_text(&rt, alloc, &["station", "frobnicate"], 2, NO_SUCH_COMMAND)?;
-    expect_text(
-        &rt,
-        alloc,
-        &["station", "check", "a.toml", "b.toml"],
-        2,
-        A_WORD_TOO_MANY,
-    )?;
-    expect_text(&rt, alloc, &["station", "sim", "a.toml"], 2, NO_EVENTS)?;
-    expect_text(
-        &rt,
-        alloc,
-        &["station", "replay", "a", "b", "c"],
-        2,
-        A_RECORD_TOO_MANY,
-    )
-}
-
-#[test]
-fn a_check_names_its_file(rt: HostRuntime) {
-    for (words, file) in [
-        (["station", "check", "small.toml"].as_slice(), "small.toml"),
-        (["/usr/bin/other", "check", "a b/c"].as_slice(), "a b/c"),
-        (["station", "check", "--", "--help"].as_slice(), "--help"),
+    let run = ["station", "run", "f", "--script", "s", "--for", "999"];
+    for (words, text) in [
+        (["station"].as_slice(), HELP),
+        (["station", "check"].as_slice(), NO_FILE),
+        (["station", "frobnicate"].as_slice(), NO_SUCH_COMMAND),
+        (
+            ["station", "check", "a.toml", "b.toml"].as_slice(),
+            A_WORD_TOO_MANY,
+        ),
+        (["station", "sim", "a.toml"].as_slice(), NO_EVENTS),
+        (
+            ["station", "replay", "a", "b", "c"].as_slice(),
+            A_RECORD_TOO_MANY,
+        ),
+        (&run[..5], NO_RECORD_AND_NO_TIME),
+        (run.as_slice(), TOO_SHORT),
+        (["station", "run", "--for=600001"].as_slice(), TOO_LONG),
+        (["station", "run", "--for=1s"].as_slice(), NO_TIME),
+        (
+            ["station", "run", "--script=a", "--script=b"].as_slice(),
+            A_SECOND_SCRIPT,
+        ),
     ] {
-        match read(rt.alloc(), words) {
-            Ok(asked) => assert_eq!(rt; asked, Asked::Check(file)),
-            Err(error) => assert!(rt; false, "{error}"),
-        }
+        expect_text(&rt, rt.alloc(), words, 2, text)?;
     }
+    Ok(())
 }
 
 #[test]
-fn a_simulation_names_its_two_files(rt: HostRuntime) {
-    let (layout, events) = ("small.toml", "-");
-    for words in [
-        ["station", "sim", "small.toml", "-"].as_slice(),
-        ["station", "sim", "--", "small.toml", "-"].as_slice(),
-        ["station", "sim", "small.toml", "--", "-"].as_slice(),
-        ["station", "sim", "small.toml", "-", "--"].as_slice(),
+fn words_are_read(rt: HostRuntime) {
+    let (layout, script, record) = ("a b", "s", "-");
+    let sim = Asked::Sim {
+        layout,
+        events: "-",
+    };
+    let replay = Asked::Replay {
+        layout,
+        recording: "--help",
+    };
+    let short = [
+        "station", "run", "a b", "--script", "s", "--record", "-", "--for", "1000",
+    ];
+    let long = [
+        "station",
+        "run",
+        "--for=+600000",
+        "--record=-",
+        "--script",
+        "s",
+        "--",
+        "a b",
+    ];
+    for (words, asked) in [
+        (
+            ["station", "check", "small.toml"].as_slice(),
+            Asked::Check("small.toml"),
+        ),
+        (
+            ["/usr/bin/other", "check", "a b/c"].as_slice(),
+            Asked::Check("a b/c"),
+        ),
+        (
+            ["station", "check", "--", "--help"].as_slice(),
+            Asked::Check("--help"),
+        ),
+        (["station", "sim", "a b", "-"].as_slice(), sim),
+        (["station", "sim", "--", "a b", "-"].as_slice(), sim),
+        (["station", "sim", "a b", "--", "-"].as_slice(), sim),
+        (["station", "sim", "a b", "-", "--"].as_slice(), sim),
+        (
+            ["station", "replay", "--", "a b", "--help"].as_slice(),
+            replay,
+        ),
+        (
+            ["station", "replay", "a b", "--", "--help"].as_slice(),
+            replay,
+        ),
+        (
+            short.as_slice(),
+            Asked::Run {
+                layout,
+                script,
+                record,
+                for_ms: 1000,
+            },
+        ),
+        (
+            long.as_slice(),
+            Asked::Run {
+                layout,
+                script,
+                record,
+                for_ms: 600_000,
+            },
+        ),
     ] {
         match read(rt.alloc(), words) {
-            Ok(asked) => assert_eq!(rt; asked, Asked::Sim { layout, events }),
-            Err(error) => assert!(rt; false, "{error}"),
-        }
-    }
-}
-
-#[test]
-fn a_replay_names_its_two_files(rt: HostRuntime) {
-    let (layout, recording) = ("a b", "--help");
-    for words in [
-        ["station", "replay", "--", "a b", "--help"].as_slice(),
-        ["station", "replay", "a b", "--", "--help"].as_slice(),
-    ] {
-        match read(rt.alloc(), words) {
-            Ok(asked) => assert_eq!(rt; asked, Asked::Replay { layout, recording }),
+            Ok(read) => assert_eq!(rt; read, asked),
             Err(error) => assert!(rt; false, "{error}"),
         }
     }

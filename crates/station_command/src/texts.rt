@@ -53,3 +53,23 @@ Each line of a session is an event and what it answered, as EVENT = ANSWER. Wher
 the same, it prints `same`. Otherwise it prints the first line that differs, and ends with status 3.
 
 Example: station replay examples/small.toml examples/commands.session";
+
+pub(crate) const SCRIPT: &str = "The lines that are applied, each at its time";
+
+pub(crate) const RECORD_OF_RUN: &str = "The file to which the session is written";
+
+pub(crate) const FOR: &str = "How long the station runs, from 1000 to 600000 milliseconds";
+
+pub(crate) const RUN: &str = "Runs a station of a layout over loopback sockets";
+
+pub(crate) const RUN_DETAILS: &str = "Runs a station of a layout over loopback sockets.
+
+Each node has a UDP socket of its own. About every 10 ms time passes, each datagram that has come is
+delivered, the lines of the script that are due are applied, and every node ticks. Each line of a
+script is `at MS EVENT`, with the events set, cancel, resume, occupy, clear and restart, in rising
+order of MS.
+
+Each event is recorded with what it answered; the record of a run that was stopped is good as far as
+it goes. At the end it prints what is seen of the station.
+
+Example: station run examples/small.toml --script examples/proceed.script --record run.session --for 12000";
