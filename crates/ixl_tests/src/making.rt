@@ -26,9 +26,9 @@ id = 1
 ";
 
 /// When all nodes are made: links can be opened 6000 ms later.
-const MADE_AT: Millis = 94000;
+pub(crate) const MADE_AT: Millis = 94000;
 
-const OPENED_AT: Millis = 100000;
+pub(crate) const OPENED_AT: Millis = 100000;
 
 /// The table of the station. No other fault is told than that memory is lacking.
 fn table_once(rt: &impl Abort, alloc: Global) -> Option<Checked> {
@@ -57,7 +57,7 @@ fn table(rt: &impl Abort, alloc: Global) -> Checked {
 }
 
 /// The interlocking of the station.
-fn interlocking(rt: &impl Abort, alloc: Global) -> Interlocking {
+pub(crate) fn interlocking(rt: &impl Abort, alloc: Global) -> Interlocking {
     match Interlocking::new(alloc, table(rt, alloc), 0, MADE_AT) {
         Ok(ixl) => ixl,
         Err(_) => {
