@@ -59,10 +59,10 @@ fn a_run_over_memory_is_recorded(rt: HostRuntime) -> Result<(), Fail> {
 #[test]
 fn a_record_is_replayed_where_a_call_failed(rt: HostRuntime) -> Result<(), Fail> {
     let alloc = rt.alloc();
-    for failing in (1..=300).step_by(7) {
+    for failing in 1..=300 {
         let drive = Drive {
             failing,
-            for_ms: 2000,
+            for_ms: 600,
             ..WHOLE
         };
         let left = run_small(alloc, drive).ok_or("a fault")?;
