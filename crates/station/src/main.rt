@@ -5,6 +5,8 @@
 #![tactic(auto)]
 
 #[cfg(test)]
+mod memory;
+#[cfg(test)]
 mod tests;
 mod words;
 
