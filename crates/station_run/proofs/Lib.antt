@@ -1,3 +1,2 @@
 pub mod Applying
 pub mod Ending
-pub mod Sending
