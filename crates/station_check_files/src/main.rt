@@ -5,8 +5,8 @@
 //! - `commented CASES`: the same of the text behind many lines of comment;
 //! - `contents CASES`: what the layout reads from the text, and what the control table says of each route.
 //!
-//! An empty line parts two cases. The first line of a case names a file with a layout, and behind a colon what is told of.
-//! Each `-OLD` at the beginning of a line behind it, with a `+NEW`, puts NEW in place of the first OLD in that text.
+//! An empty line parts two cases. The first line of a case names a file with a layout, and says behind a colon what is so
+//! in it. Each line `-OLD` behind it, with a line `+NEW`, puts NEW in place of the first OLD in its text.
 #![tactic(auto)]
 
 mod cases;
