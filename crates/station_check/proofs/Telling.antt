@@ -1,8 +1,7 @@
 -- A report grows with each pair of routes and with each route.
-use Rattle.std.proofs.Common.{◌≡◌, ℕ, suc, ◌+◌, ◌-◌, ◌≤◌, ◌<◌, get_or, append_assoc, ap, subst, Bool, true, false, List, [], ◌++◌, length, take, drop, Option, inl, inr, IsTrue, ◌↔◌, refl, sym, ◌∙◌, arith}
+use Rattle.std.proofs.Common.{◌≡◌, ℕ, suc, ◌+◌, ◌-◌, ◌≤◌, ◌<◌, get_or, append_assoc, ap, subst, Bool, true, false, List, [], ◌++◌, length, drop, Option, inl, inr, IsTrue, ◌↔◌, refl, sym, ◌∙◌, arith}
 use Rattle.std.proofs.lemmas.Bool.{false≢true}
 use Rattle.std.proofs.KnownBytes.{Appends-nil, Appends-trans, Appends-kept}
-use Rattle.std.proofs.Math.Seq.{take-add}
 use Rattle.std.specs.Io.KnownBytes.{Appends, Keeps}
 use Rattle.std.proofs.lemmas.List.{append-nil, drop_more, drop_all}
 use Rattle.layout.specs.Entries.{RouteEntry, Plan}
@@ -65,10 +64,3 @@ slow_ends routes i c d le told =
 pub reported : (l : Plan) (c d e f : Option (List ℕ)) → ToldRoutes l (length l.routes) c d → ToldSlow l.routes d e → Keeps e f → Reported l c f
 reported l c d e f pairs slow kept =
     (pairs.0 ++ slow_lines l.routes, (pairs.0, pairs.1, refl), Appends-kept c e f (pairs.0 ++ slow_lines l.routes) (Appends-trans c d e pairs.0 (slow_lines l.routes) pairs.2 slow) kept)
-
--- A text that a writer takes in parts.
-pub more_taken : (text : List ℕ) (n m : ℕ) (c d e : Option (List ℕ)) → Appends c d (take n text) → Appends d e (take m (drop n text)) → Appends c e (take (n + m) text)
-more_taken text n m c d e first then = rw (take-add n m text) (Appends-trans c d e (take n text) (take m (drop n text)) first then)
-
-pub none_taken : (text : List ℕ) (c d e : Option (List ℕ)) → Appends c d text → Keeps d e → Appends c e text
-none_taken text c d e taken kept = Appends-kept c d e text taken kept

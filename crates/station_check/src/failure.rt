@@ -1,13 +1,13 @@
 //! Why there is no report on a text, and how that is told.
 
-ghost use Rattle.std.specs.Prelude.{◌≡◌, ◌≤◌, length, take, IfOk, Some};
-ghost use Rattle.std.specs.Io.KnownBytes.{Appends};
+ghost use Rattle.std.specs.Prelude.{◌≡◌, IfOk, Some};
 ghost use Rattle.station_check.specs.Report.{Tells, told_line};
 
 use arrayvec::ArrayString;
 use control_table::TableFault;
 use layout::LayoutFault;
-use std::io::{ErrorKind, Write};
+use line_writer::write_as_taken;
+use std::io::Write;
 use std::{fmt, io};
 
 /// More bytes than any line of a failure has: the longest one tells the name of a route, and has 61.
@@ -83,26 +83,4 @@ pub(crate) fn tell<E: Write>(failure: &Failure, err: &mut E)
     if let Ok(line) = line(failure) {
         write_as_taken(line.as_str().as_bytes(), err);
     }
-}
-
-/// Writes a text to its end, or as far as the writer takes it, and answers how far that is.
-#[tactic(auto, using(crate::proofs::Telling::more_taken, crate::proofs::Telling::none_taken))]
-fn write_as_taken<E: Write>(text: &[u8], err: &mut E) -> usize
-    ensures bound { result ≤ length text.now }
-    ensures bytes { Appends (E.contents err.old) (E.contents err.new) (take result text.now) }
-{
-    let mut taken = 0;
-    for _ in 0..u64::MAX {
-        let (_, rest) = text.split_at(taken);
-        if rest.is_empty() {
-            break;
-        }
-        match err.write(rest) {
-            Ok(0) => break,
-            Ok(more) => taken += more,
-            Err(error) if error.kind() == ErrorKind::Interrupted => {}
-            Err(_) => break,
-        }
-    }
-    taken
 }
