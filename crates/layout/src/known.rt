@@ -10,7 +10,7 @@ use std::hash::Hash;
 
 /// Which fault a second use is.
 #[derive(Clone, Copy, Debug)]
-pub(crate) enum Double {
+pub enum Double {
     /// A name or an identity is used twice, or a section reported twice.
     Name,
     /// A port is joined twice, or two signals stand at it.

@@ -3,4 +3,4 @@
 
 mod laws;
 
-pub use laws::limit_is_the_first_entry_too_many;
+pub use laws::{limit_is_the_first_entry_too_many, unknown_name_is_the_first_that_no_entry_has};
