@@ -4,3 +4,4 @@ pub mod Turning
 pub mod Settling
 pub mod FieldGoing
 pub mod Known
+pub mod Alike

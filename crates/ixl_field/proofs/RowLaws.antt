@@ -93,7 +93,7 @@ pub says_occupied : Option Bool → Bool
 says_occupied None = false
 says_occupied (Some occupied) = occupied
 
-clear_by : (place : ℕ) (found : Option DetectorState) → passes (λ (detector : DetectorState). is_ready detector.client.stage && not (contains detector.occupied place)) found ≡ says_clear (told_by place found)
+pub clear_by : (place : ℕ) (found : Option DetectorState) → passes (λ (detector : DetectorState). is_ready detector.client.stage && not (contains detector.occupied place)) found ≡ says_clear (told_by place found)
 unfolding says_clear
 clear_by place None = refl
 clear_by place (Some detector) = cases (is_ready detector.client.stage) where
@@ -101,7 +101,7 @@ clear_by place (Some detector) = cases (is_ready detector.client.stage) where
   cases true = refl
   cases false = refl
 
-occupied_by : (place : ℕ) (found : Option DetectorState) → passes (λ (detector : DetectorState). is_ready detector.client.stage && contains detector.occupied place) found ≡ says_occupied (told_by place found)
+pub occupied_by : (place : ℕ) (found : Option DetectorState) → passes (λ (detector : DetectorState). is_ready detector.client.stage && contains detector.occupied place) found ≡ says_occupied (told_by place found)
 unfolding says_occupied
 occupied_by place None = refl
 occupied_by place (Some detector) = cases (is_ready detector.client.stage) where

@@ -74,10 +74,10 @@ clocked_at now client = ap (λ (l : LinkState). l.clock) (fallen_link _) ∙ set
 abbrev lamp_of : ClientState → Option Aspect → ℕ → LampState
 lamp_of client aspect number = record { client = client; aspect = aspect; number = number }
 
-abbrev switch_of : ClientState → Option Side → Places → SwitchState
+abbrev pub switch_of : ClientState → Option Side → Places → SwitchState
 switch_of client side moved = record { client = client; side = side; moved = moved }
 
-abbrev detector_of : ClientState → Places → DetectorState
+abbrev pub detector_of : ClientState → Places → DetectorState
 detector_of client occupied = record { client = client; occupied = occupied }
 
 lamp_client : (aspect : Option Aspect) (number : ℕ) (client : ClientState) → (lamp_after aspect number client).client ≡ client
@@ -87,14 +87,14 @@ lamp_client aspect number client = cases (is_outside client.stage) where
   cases true = refl
   cases false = refl
 
-switch_client : (side : Option Side) (moved : Places) (client : ClientState) → (switch_after side moved client).client ≡ client
+pub switch_client : (side : Option Side) (moved : Places) (client : ClientState) → (switch_after side moved client).client ≡ client
 unfolding switch_after
 switch_client side moved client = cases (is_outside client.stage) where
   cases : (b : Bool) → (if b then switch_of client None empty else switch_of client side moved).client ≡ client
   cases true = refl
   cases false = refl
 
-detector_client : (occupied : Places) (client : ClientState) → (detector_after occupied client).client ≡ client
+pub detector_client : (occupied : Places) (client : ClientState) → (detector_after occupied client).client ≡ client
 unfolding detector_after
 detector_client occupied client = cases (is_outside client.stage) where
   cases : (b : Bool) → (if b then detector_of client empty else detector_of client occupied).client ≡ client

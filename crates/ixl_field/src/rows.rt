@@ -1,6 +1,6 @@
 //! What is known of sections and points, as rows of bits.
 
-ghost use Rattle.std.specs.Prelude.{◌≡◌, ◌==◌, ◌&&◌, ◌||◌, ◌<◌, ◌≤◌, ℕ, length};
+ghost use Rattle.std.specs.Prelude.{◌≡◌, ◌==◌, ◌&&◌, ◌||◌, ◌<◌, ◌≤◌, ℕ, length, IsTrue};
 ghost use Rattle.std.specs.FinSet.{contains};
 ghost use Rattle.ixl_field.specs.inside.Rows.{ArePointRows, AreSectionRows, told_as};
 
@@ -51,6 +51,24 @@ impl SectionRows {
         }
         SectionRows { clear, occupied }
     }
+
+    /// The rows as they are where the detectors tell the same as before, else made anew.
+    pub(crate) fn kept_or_made(
+        self,
+        alike: bool,
+        reporters: &[(usize, usize)],
+        detectors: &[Detector],
+    ) -> SectionRows
+        requires few { length reporters.now ≤ 64 }
+        requires kept { IsTrue alike → AreSectionRows reporters.now detectors.now self }
+        ensures { AreSectionRows reporters.now detectors.now result }
+    {
+        if alike {
+            self
+        } else {
+            SectionRows::of(reporters, detectors)
+        }
+    }
 }
 
 /// A row that also has a place, where a test of it passes.
@@ -80,5 +98,14 @@ impl PointRows {
             right,
             left,
         }
+    }
+
+    /// The rows as they are where all points are known as before, else made anew.
+    pub(crate) fn kept_or_made(self, alike: bool, switches: &[Switch]) -> PointRows
+        requires few { length switches.now ≤ 64 }
+        requires kept { IsTrue alike → ArePointRows switches.now self }
+        ensures { ArePointRows switches.now result }
+    {
+        if alike { self } else { PointRows::of(switches) }
     }
 }
