@@ -1,10 +1,9 @@
 -- What a step answers.
-use Rattle.std.proofs.Common.{◌≡◌, ◌∙◌, ℕ, ◌≤◌, arith, refl, ap, sym, subst}
-use Rattle.std.specs.Prelude.{◌↔◌, Option, Some, None}
-use Rattle.layout.specs.declared.ids.RouteId.{RouteId}
+use Rattle.std.proofs.Common.{◌≡◌, ◌∙◌, ℕ, ◌≤◌, arith, refl, ap, sym}
+use Rattle.std.specs.Prelude.{Option, Some, None}
 use Rattle.rasta_pdu.specs.declared.key.Key.{Key}
 use Rattle.ixl_rules.specs.Commands.{refusal}
-use Rattle.ixl_rules.specs.State.{DetectorState, IxlState, LampState, SwitchState}
+use Rattle.ixl_rules.specs.State.{IxlState}
 use Rattle.ixl_rules.specs.Step.{Accepted, Commands, Refused, Reply, all_clocked, answer_by, reply}
 use Rattle.ixl_rules.specs.Table.{Table}
 use Rattle.ixl_rules.specs.declared.command.Command.{Command}

@@ -1,9 +1,8 @@
 -- Parts of a step, one after another.
-use Rattle.std.proofs.Common.{◌≡◌, ℕ, zero, suc, ◌+◌, ◌≤◌, List, [], ◌∷◌, ◌++◌, length, arith, add-one, refl, ap, sym, ◌∙◌, subst}
-use Rattle.std.specs.Prelude.{Some, None, slice_get}
+use Rattle.std.proofs.Common.{◌≡◌, ℕ, ◌+◌, ◌≤◌, List, [], ◌∷◌, ◌++◌, arith, add-one, refl, sym, ◌∙◌, subst}
 use Rattle.rasta_core.specs.Outbox.{OutboxState}
 use Rattle.ixl_client.specs.Part.{LinkCall}
-use Rattle.ixl_rules.specs.Part.{Leads, Node, Part, along, at_route, over, with_one, with_route}
+use Rattle.ixl_rules.specs.Part.{Leads, Node, Part, along, at_route, over, with_route}
 use Rattle.ixl_rules.specs.State.{IxlState, RouteState, changed}
 use Rattle.ixl_rules.specs.Table.{Row, Table}
 use Rattle.ixl_table.specs.Locks.{IsKeptRoute}

@@ -1,13 +1,12 @@
 -- What each kind of input does.
-use Rattle.std.proofs.Common.{◌≡◌, ℕ, List, arith, refl, ap, sym, subst}
-use Rattle.std.specs.Prelude.{Result, Ok, Err}
+use Rattle.std.proofs.Common.{◌≡◌, ℕ, List, arith, refl, sym, subst}
+use Rattle.std.specs.Prelude.{Ok, Err}
 use Rattle.rasta_core.specs.Outbox.{OutboxState}
 use Rattle.rasta_pdu.specs.Reading.{reading}
 use Rattle.rasta_pdu.specs.declared.fault.PduFault.{PduFault}
 use Rattle.rasta_pdu.specs.declared.key.Key.{Key}
 use Rattle.rasta_pdu.specs.declared.pdu.Pdu.{Pdu}
-use Rattle.ixl_rules.specs.Part.{Part}
-use Rattle.ixl_rules.specs.Step.{Commands, Datagram, Input, Tick, given, ticked}
+use Rattle.ixl_rules.specs.Step.{Commands, Datagram, Tick, given, ticked}
 use Rattle.ixl_rules.specs.Table.{Table}
 use Rattle.ixl_rules.specs.declared.command.Command.{Command}
 use Rattle.ixl.specs.Interlocking.{meant}

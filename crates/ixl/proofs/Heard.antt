@@ -1,7 +1,7 @@
 -- What becomes of a datagram.
-use Rattle.std.proofs.Common.{◌≡◌, ℕ, zero, suc, ◌+◌, ◌<◌, ◌≤◌, Bool, true, false, not, if◌then◌else◌, List, [], ◌∷◌, ◌++◌, length, get_or, drop, arith, refl, ap, sym, ◌∙◌, subst}
+use Rattle.std.proofs.Common.{◌≡◌, ℕ, zero, suc, ◌<◌, Bool, true, false, not, if◌then◌else◌, List, [], ◌∷◌, ◌++◌, length, arith, refl, ap, sym, ◌∙◌, subst}
 use Rattle.std.specs.Prelude.{Option, Some, None, slice_get, IfSome}
-use Rattle.std.specs.FinSet.{contains, empty}
+use Rattle.std.specs.FinSet.{empty}
 use Rattle.std.specs.List.{position}
 use Rattle.std.proofs.lemmas.List.Quantifiers.{position-Some}
 use Rattle.bit_row.specs.Places.{Places}
@@ -14,7 +14,7 @@ use Rattle.ixl_client.specs.Part.{begun}
 use Rattle.ixl_client.specs.Part as client
 use Rattle.ixl_client.specs.Step.{hearing}
 use Rattle.ixl_client.specs.declared.indication.Indication.{Indication}
-use Rattle.ixl_rules.specs.Part.{Node, Signal, Point, Detector, Leads, Part, along, detector_after}
+use Rattle.ixl_rules.specs.Part.{Node, Signal, Point, Detector, Part, along, detector_after}
 use Rattle.ixl_rules.specs.State.{DetectorState, IxlState, LampState, SwitchState, changed}
 use Rattle.ixl_rules.specs.Step.{client_of, detector_hearing, lamp_hearing, looking, looks, node_hearing, node_of, occupied_heard, partner_at, switch_hearing, told_before, told_now, verdict_at}
 use Rattle.ixl_rules.specs.Table.{Table}

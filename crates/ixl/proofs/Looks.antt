@@ -8,7 +8,7 @@ use Rattle.bit_row.specs.Places.{Places}
 use Rattle.ixl_client.specs.declared.indication.Indication.{Indication}
 use Rattle.ixl_rules.specs.Part.{Part, along, with_route}
 use Rattle.ixl_rules.specs.Rules.{is_proceeding, is_withdrawn}
-use Rattle.ixl_rules.specs.State.{RouteState}
+use Rattle.ixl_rules.specs.State.{RouteState, changed}
 use Rattle.ixl_rules.specs.Step.{is_told_occupied, looking, looking_by, route_looks, told_before, told_now, watching}
 use Rattle.ixl_rules.specs.Table.{Row, Table}
 use Rattle.ixl_rules.specs.View.{has_authority, is_approach_clear, was_authorised}
@@ -137,6 +137,26 @@ route_watched now number is_clear old new row route at kept has clear made =
   where
     old_table : Table
     old_table = old.planned.table
+
+-- watching a clear approach changes nothing
+
+same_approach : (route : RouteState) → sees_approach true route ≡ route
+same_approach route = cases route.approached where
+  cases : (b : Bool) → record route { approached = b || false } ≡ record route { approached = b }
+  cases true = refl
+  cases false = refl
+
+unchanged : {A : Type 0} (change : A → A) → ((one : A) → change one ≡ one) → (place : ℕ) (list : List A) → changed change place list ≡ list
+unchanged change same place [] = refl
+unchanged change same zero (one ∷ others) = ap (λ first. first ∷ others) (same one)
+unchanged change same (suc place) (one ∷ others) = ap (λ rest. one ∷ rest) (unchanged change same place others)
+
+pub route_watched_clear : (now number : ℕ) (old : StateView) (row : Row) (route : RouteState) → AllAt now old →
+    IsKeptRoute old.planned.table old.ixl.routes number row route → has_authority route.phase ≡ true → true ≡ is_approach_clear old.planned.table old.ixl row →
+    Passes now (watching old.planned.table number) old old
+route_watched_clear now number old row route at kept has clear =
+    route_watched now number true old old row route at kept has clear
+    (ap (λ routes. record old { ixl = record old.ixl { routes = routes } }) (sym (unchanged (sees_approach true) same_approach number old.ixl.routes)))
 
 pub route_not_watched : (now number : ℕ) (old : StateView) (row : Row) (route : RouteState) → AllAt now old →
     IsKeptRoute old.planned.table old.ixl.routes number row route → has_authority route.phase ≡ false → Passes now (watching old.planned.table number) old old

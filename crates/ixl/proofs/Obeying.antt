@@ -1,11 +1,9 @@
 -- What a command leaves.
-use Rattle.std.proofs.Common.{◌≡◌, false, ℕ, ◌<◌, List, [], ◌∷◌, length, get_or, arith, refl, ap, sym, ◌∙◌, subst}
-use Rattle.std.specs.Prelude.{Some, None, slice_get, map}
-use Rattle.std.specs.List.{All}
+use Rattle.std.proofs.Common.{◌≡◌, false, ℕ, ◌<◌, length, arith, refl, sym, subst}
+use Rattle.std.specs.Prelude.{Some, None, slice_get}
 use Rattle.std.proofs.lemmas.List.Elements.{All-map}
 use Rattle.rasta_pdu.specs.declared.key.Key.{Key}
-use Rattle.rasta_core.specs.Outbox.{OutboxState}
-use Rattle.ixl_rules.specs.Commands.{cancel_refusal, commanded_by, obeyed, refusal, request_refusal, unmoved_for}
+use Rattle.ixl_rules.specs.Commands.{obeyed, refusal, unmoved_for}
 use Rattle.ixl_rules.specs.State.{RouteState, SwitchState}
 use Rattle.ixl_rules.specs.Step.{Commands, given}
 use Rattle.ixl_rules.specs.Table.{Row, Table}
@@ -17,7 +15,7 @@ use Rattle.ixl_rules.specs.View.{first_blocking, is_set}
 use Rattle.ixl_state.specs.State.{AllAt, AtRoute, Goes, StateView}
 use Rattle.ixl.specs.inside.Parts.{Passes}
 use Rattle.ixl.proofs.Causes.{MaySet, cancel_passed, get_inside, request_passed, same_route, same_row}
-use Rattle.ixl.proofs.Chaining.{Comes, leads_at, part_at, goes_nowhere}
+use Rattle.ixl.proofs.Chaining.{leads_at, goes_nowhere}
 
 abbrev pub obeying : Command → StateView → StateView
 obeying command state = record state { ixl = obeyed command state.ixl }

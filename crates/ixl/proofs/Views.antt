@@ -1,6 +1,6 @@
 -- What the controllers tell, as facts of all that is kept.
 use Rattle.std.proofs.Common.{◌≡◌, ◌∙◌, ℕ, zero, suc, ◌<◌, Bool, true, false, not, List, [], ◌∷◌, length, get_or, refl, ap, sym, subst, arith}
-use Rattle.std.specs.Prelude.{◌&&◌, ◌||◌, Some, slice_get}
+use Rattle.std.specs.Prelude.{◌&&◌, Some, slice_get}
 use Rattle.ixl_rules.specs.State.{IxlState}
 use Rattle.ixl_rules.specs.Table.{Row, Table}
 use Rattle.ixl_table.specs.Table.{PlannedTable}

@@ -18,9 +18,9 @@ fn watch_by(state: &mut State, now: Millis, number: usize)
     ensures { Passes now (watching state.old.planned.table number) state.old state.new }
 {
     state.table();
-    if state.route(number).has_authority() {
-        let is_clear = is_approach_clear(state, number);
-        state.watch(number, is_clear);
+    // Watching a clear approach changes nothing.
+    if state.route(number).has_authority() && !is_approach_clear(state, number) {
+        state.watch(number, false);
     }
 }
 

@@ -1,16 +1,15 @@
 -- The parts of a step, one after another.
-use Rattle.std.specs.Prelude.{◌≡◌, ℕ, Bool, true, false, List, [], ◌∷◌, ◌++◌, Option, Some, None, if◌then◌else◌}
+use Rattle.std.specs.Prelude.{◌≡◌, ℕ, Bool, List, [], ◌∷◌, ◌++◌, Option, Some, None, if◌then◌else◌}
 use Rattle.rasta_pdu.specs.Reading.{reading}
 use Rattle.rasta_pdu.specs.declared.key.Key.{Key}
 use Rattle.rasta_core.specs.Outbox.{OutboxState}
-use Rattle.ixl_rules.specs.Part.{Leads, Node, Part, with_one}
+use Rattle.ixl_rules.specs.Part.{Leads, Part, with_one}
 use Rattle.ixl_rules.specs.State.{IxlState}
 use Rattle.ixl_rules.specs.Table.{Table}
 use Rattle.ixl_rules.specs.Commands.{refusal}
 use Rattle.ixl_rules.specs.Step.{Input, Reply, Tick, Datagram, Commands, Ticked, Received, answer_by, node_hearing, node_of, told_before, told_now, verdict_of}
 use Rattle.ixl_client.specs.declared.indication.Indication.{Indication}
 use Rattle.bit_row.specs.Places.{Places}
-use Rattle.ixl_rules.specs.declared.command.Refusal.{Refusal}
 use Rattle.ixl_state.specs.State.{AllAt, Goes, StateView}
 
 -- a part of a step that hands out nothing

@@ -1,4 +1,4 @@
-use Rattle.std.proofs.Common.{◌≡◌, ◌<◌, ◌∙◌, List, length, sym, subst, arith}
+use Rattle.std.proofs.Common.{◌≡◌, ◌<◌, List, length, sym, subst, arith}
 use Rattle.std.specs.Prelude.{IfSome, slice_get}
 use Rattle.ixl_client.specs.Client.{is_ready}
 use Rattle.ixl_client.specs.declared.indication.Indication.{Indication}
@@ -8,7 +8,7 @@ use Rattle.ixl_rules.specs.Step.{looking}
 use Rattle.ixl.specs.inside.Parts.{Passes, told_since}
 use Rattle.ixl_table.specs.Table.{PlannedTable}
 use Rattle.ixl_field.specs.Field.{FieldState}
-use Rattle.ixl.proofs.Heard.{IsHeard, ready_heard, still_there, unready_heard}
+use Rattle.ixl.proofs.Heard.{ready_heard, still_there, unready_heard}
 use Rattle.ixl.proofs.hearing.hear_detector.Goals as goal
 
 pub is_detector_ready-requires : goal.is_detector_ready-requires

@@ -1,4 +1,4 @@
-use Rattle.std.proofs.Common.{◌≡◌, ◌<◌, ◌∙◌, List, ℕ, [], ◌∷◌, Some, length, ap, refl, sym, subst, arith}
+use Rattle.std.proofs.Common.{◌≡◌, List, ℕ, [], ◌∷◌, Some, length, ap, subst, arith}
 use Rattle.std.specs.Prelude.{slice_get, slice_index_or}
 use Rattle.std.proofs.lemmas.Option.{slice_get_past}
 use Rattle.ixl_rules.specs.Part.{along}

@@ -1,4 +1,4 @@
-use Rattle.std.proofs.Common.{◌≡◌, ◌<◌, ◌∙◌, List, [], ◌∷◌, ℕ, Some, length, get_or, ap, refl, sym, subst, arith}
+use Rattle.std.proofs.Common.{◌<◌, List, [], ◌∷◌, ℕ, length, get_or, refl, sym, subst, arith}
 use Rattle.std.specs.Prelude.{slice_get}
 use Rattle.sci_telegram.specs.declared.message.Aspect.TheVariants as aspects
 use Rattle.ixl_client.specs.declared.indication.Indication.{Indication}

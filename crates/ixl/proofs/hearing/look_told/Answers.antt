@@ -1,4 +1,4 @@
-use Rattle.std.proofs.Common.{◌<◌, ◌∙◌, Bool, List, ℕ, Some, length, ap, sym, subst}
+use Rattle.std.proofs.Common.{◌<◌, ◌∙◌, Bool, length, ap, sym, subst}
 use Rattle.std.specs.Prelude.{IfSome, slice_get}
 use Rattle.ixl_rules.specs.Part.{along}
 use Rattle.ixl_rules.specs.Step.{looking, told_before, told_now}

@@ -1,6 +1,5 @@
 use Rattle.ixl_rules.specs.Step.{all_clocked}
 use Rattle.ixl_state.specs.First.{key_of}
-use Rattle.ixl_rules.specs.Step.{Accepted, Commands}
 use Rattle.ixl_rules.specs.declared.command.Command.TheVariants as commands
 use Rattle.ixl.proofs.Answering.{accepted_is, accepted_so, refused_is}
 use Rattle.ixl.proofs.laws.requests_are_accepted_where_admissible.Goals as goal

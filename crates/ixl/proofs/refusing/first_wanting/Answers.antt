@@ -1,4 +1,4 @@
-use Rattle.std.proofs.Common.{◌∙◌, sym, refl, arith}
+use Rattle.std.proofs.Common.{◌∙◌, sym, arith}
 use Rattle.ixl_rules.specs.Commands.{is_point_wanting}
 use Rattle.ixl.proofs.Causes.{is_next}
 use Rattle.ixl.proofs.refusing.first_wanting.Goals as goal
