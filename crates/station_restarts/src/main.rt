@@ -1,7 +1,7 @@
 //! Makes each node of a station anew after the events of recorded runs, and looks at a picture after every event from
 //! there on. The file `runs` names in each line a list, its layout, its events, what follows behind them, at every how
-//! manieth line of the list a node is made anew, and behind a colon the nodes, the interlocking first. It is every line of
-//! the recorded sessions, every second one at the junction, and every fourth one where stamps wrap.
+//! manieth line of the list a node is made anew, and behind a colon the nodes, the interlocking first. A line of a recorded
+//! session is one event; `flow 10` is some 17 events at the junction, and some 9 at the small station.
 //!
 //! For each place of a list from the first request of a route on, and for each node, a new station is told the list up to
 //! there. Then the node is made anew, and the rest of the list and what follows are told. A node gets clock and number 0,
