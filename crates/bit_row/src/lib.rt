@@ -4,6 +4,3 @@
 mod row;
 
 pub use row::BitRow;
-
-#[cfg(test)]
-mod tests;

@@ -14,6 +14,3 @@ pub use laws::{
     joined_words_are_read_again,
 };
 pub use read::{Bytes, LONGEST, decimal, hex_word, hexadecimal, hexadecimal_or_none};
-
-#[cfg(test)]
-mod tests;

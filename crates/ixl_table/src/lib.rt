@@ -15,6 +15,3 @@ pub use laws::{
 pub use need::Need;
 pub use row::Row;
 pub use table::Table;
-
-#[cfg(test)]
-mod tests;

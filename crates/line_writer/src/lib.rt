@@ -27,6 +27,3 @@ pub fn write_as_taken<E: Write>(text: &[u8], err: &mut E) -> usize
     }
     taken
 }
-
-#[cfg(test)]
-mod tests;

@@ -6,7 +6,5 @@
 
 mod block;
 mod message;
-#[cfg(test)]
-mod tests;
 
 pub use message::{STANDARD, digest_from};

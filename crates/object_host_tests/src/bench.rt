@@ -260,7 +260,7 @@ impl<C: Controller> Bench<C> {
             receiver: name(rt, "IXL1"),
             message,
         };
-        assert_eq!(rt; telegram, expected);
+        assert!(rt; telegram == expected);
     }
 
     /// What the station heard so far isn't looked at.
@@ -283,7 +283,7 @@ impl<C: Controller> Bench<C> {
 
     /// The last step handed out one datagram, and it closes the link with this reason.
     pub(crate) fn closes(&mut self, rt: &impl Abort, now: Millis, reason: u16) {
-        assert_eq!(rt; self.sent.len(), 1);
+        assert!(rt; self.sent.len() == 1);
         let datagram = self.sent.remove(0);
         let pdu = read(&KEY, &datagram).expect(rt, "a PDU");
         assert!(rt; pdu.body == Body::DisconnectionRequest { detail: 0, reason });

@@ -45,8 +45,8 @@ fn sixteen_sections_are_initialised_in_nineteen_items_with_none_confirmed(
     let rt = &rt;
     let mut bench = Bench::new(rt, rt.alloc(), sixteen(rt))?;
     asked_at_once(rt, &mut bench)?;
-    assert_eq!(rt; bench.hosted.link().given(), 19);
-    assert_eq!(rt; bench.hosted.link().confirmed(), 0);
+    assert!(rt; bench.hosted.link().given() == 19);
+    assert!(rt; bench.hosted.link().confirmed() == 0);
     bench.to_station(rt, OPENED_AT)?;
     bench.hears_of_one_version(rt);
     bench.hears(
@@ -75,10 +75,10 @@ fn a_section_that_changes_twice_while_the_window_is_full_sends_one_status_the_la
     let mut bench = Bench::new(rt, rt.alloc(), sixteen(rt))?;
     asked_at_once(rt, &mut bench)?;
     bench.sense(rt, OPENED_AT, Sense::Section(5, Occupancy::Occupied))?;
-    assert_eq!(rt; bench.hosted.link().given(), 20);
+    assert!(rt; bench.hosted.link().given() == 20);
     bench.sense(rt, 100001, Sense::Section(3, Occupancy::Occupied))?;
     bench.sense(rt, 100002, Sense::Section(3, Occupancy::Clear))?;
-    assert_eq!(rt; bench.hosted.link().given(), 20);
+    assert!(rt; bench.hosted.link().given() == 20);
     bench.to_station(rt, 100002)?;
     bench.forget();
     bench.keep_up(rt, 100002, 3)?;
@@ -97,11 +97,11 @@ fn a_step_sends_every_report_that_it_owes(rt: HostRuntime) -> Result<(), Fail> {
     for place in [15, 0, 7] {
         bench.sense(rt, 100001, Sense::Section(place, Occupancy::Occupied))?;
     }
-    assert_eq!(rt; bench.hosted.link().given(), 20);
+    assert!(rt; bench.hosted.link().given() == 20);
     bench.to_station(rt, 100001)?;
     bench.forget();
     bench.confirm(rt, 100400)?;
-    assert_eq!(rt; bench.handed_out(), 3);
+    assert!(rt; bench.handed_out() == 3);
     bench.to_station(rt, 100400)?;
     for text in ["GA", "GH", "GP"] {
         bench.hears(rt, text, status(Occupancy::Occupied));

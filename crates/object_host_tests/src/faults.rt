@@ -17,12 +17,12 @@ fn faults_of_telegrams_have_their_numbers_and_texts(rt: HostRuntime) -> Result<(
         (SciFault::Name, 5, "a name field holds no name"),
         (SciFault::Value, 6, "the payload has no value of its type"),
     ] {
-        assert_eq!(rt; fault as u8, number);
+        assert!(rt; (fault as u8) == number);
         let told = match format!(in rt.alloc(); "{fault}") {
             Ok(told) => told,
             Err(_) => format!(in rt.alloc(); "{fault}")?,
         };
-        assert_eq!(rt; told.as_str(), text);
+        assert!(rt; told.as_str() == text);
     }
     Ok(())
 }

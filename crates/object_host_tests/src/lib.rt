@@ -1,4 +1,4 @@
-//! Tests of the object controllers, each through a link that commands it.
+//! Tests of the object controllers, each by itself and through a link that commands it.
 #![tactic(auto)]
 
 #[cfg(test)]
@@ -6,8 +6,14 @@ mod bench;
 #[cfg(test)]
 mod detection;
 #[cfg(test)]
+mod detection_alone;
+#[cfg(test)]
 mod faults;
 #[cfg(test)]
+mod lamp;
+#[cfg(test)]
 mod point;
+#[cfg(test)]
+mod point_alone;
 #[cfg(test)]
 mod signal;

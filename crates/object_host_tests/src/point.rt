@@ -63,12 +63,12 @@ fn a_drive_ends_at_its_limit_with_no_step_between_and_the_next_step_sends_one_ti
     bench.say(rt, OPENED_AT, to(Side::Right))?;
     bench.exchange(rt, OPENED_AT)?;
     let last = bench.keep_up(rt, OPENED_AT, 33)?;
-    assert_eq!(rt; last, 109900);
-    assert_eq!(rt; bench.hosted.object().drives(109999), Some(Side::Right));
-    assert_eq!(rt; bench.hosted.object().drives(110000), None);
+    assert!(rt; last == 109900);
+    assert!(rt; bench.hosted.object().drives(109999) == Some(Side::Right));
+    assert!(rt; bench.hosted.object().drives(110000) == None);
     bench.hears_no_more(rt);
     bench.step(rt, 110100, Input::Tick)?;
-    assert_eq!(rt; bench.handed_out(), 1);
+    assert!(rt; bench.handed_out() == 1);
     bench.to_station(rt, 110100)?;
     bench.hears(rt, "OC1", Message::Point(PointMessage::Timeout));
     bench.keep_up(rt, 110100, 3)?;
@@ -82,8 +82,8 @@ fn a_move_to_the_sensed_side_is_answered_in_its_step(rt: HostRuntime) -> Result<
     let mut bench = left(rt, rt.alloc())?;
     bench.say(rt, OPENED_AT, to(Side::Left))?;
     bench.to_controller(rt, OPENED_AT)?;
-    assert_eq!(rt; bench.hosted.object().drives(OPENED_AT), None);
-    assert_eq!(rt; bench.handed_out(), 1);
+    assert!(rt; bench.hosted.object().drives(OPENED_AT) == None);
+    assert!(rt; bench.handed_out() == 1);
     bench.exchange(rt, OPENED_AT)?;
     bench.hears(rt, "OC1", at(Position::Left));
     bench.hears_no_more(rt);
@@ -98,11 +98,11 @@ fn a_second_move_before_an_answer_closes_the_link_and_nothing_is_reported(
     let mut bench = left(rt, rt.alloc())?;
     bench.say(rt, OPENED_AT, to(Side::Right))?;
     bench.to_controller(rt, OPENED_AT)?;
-    assert_eq!(rt; bench.hosted.object().drives(OPENED_AT), Some(Side::Right));
+    assert!(rt; bench.hosted.object().drives(OPENED_AT) == Some(Side::Right));
     bench.say(rt, OPENED_AT, to(Side::Left))?;
     bench.to_controller(rt, OPENED_AT)?;
     bench.closes(rt, OPENED_AT, 1);
-    assert_eq!(rt; bench.hosted.object().drives(OPENED_AT), None);
+    assert!(rt; bench.hosted.object().drives(OPENED_AT) == None);
     Ok(())
 }
 
@@ -115,10 +115,10 @@ fn a_drive_ends_where_it_was_commanded_and_the_position_is_reported_once(
     bench.say(rt, OPENED_AT, to(Side::Right))?;
     bench.exchange(rt, OPENED_AT)?;
     bench.sense(rt, 100100, Sense::Position(Position::NoEndPosition))?;
-    assert_eq!(rt; bench.handed_out(), 0);
-    assert_eq!(rt; bench.hosted.object().drives(100100), Some(Side::Right));
+    assert!(rt; bench.handed_out() == 0);
+    assert!(rt; bench.hosted.object().drives(100100) == Some(Side::Right));
     bench.sense(rt, 100200, Sense::Position(Position::Right))?;
-    assert_eq!(rt; bench.hosted.object().drives(100200), None);
+    assert!(rt; bench.hosted.object().drives(100200) == None);
     bench.exchange(rt, 100200)?;
     bench.hears(rt, "OC1", at(Position::Right));
     bench.sense(rt, 100300, Sense::Position(Position::Right))?;
@@ -136,10 +136,10 @@ fn a_drive_ends_with_its_link_with_no_step_between_and_nothing_is_reported(
     let mut bench = left(rt, rt.alloc())?;
     bench.say(rt, OPENED_AT, to(Side::Right))?;
     bench.exchange(rt, OPENED_AT)?;
-    assert_eq!(rt; bench.hosted.object().drives(101799), Some(Side::Right));
-    assert_eq!(rt; bench.hosted.object().drives(101800), None);
+    assert!(rt; bench.hosted.object().drives(101799) == Some(Side::Right));
+    assert!(rt; bench.hosted.object().drives(101800) == None);
     bench.sense(rt, 102000, Sense::Position(Position::Right))?;
-    assert_eq!(rt; bench.handed_out(), 0);
-    assert_eq!(rt; bench.hosted.object().drives(102000), None);
+    assert!(rt; bench.handed_out() == 0);
+    assert!(rt; bench.hosted.object().drives(102000) == None);
     Ok(())
 }

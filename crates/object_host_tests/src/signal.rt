@@ -30,8 +30,8 @@ fn indicated(aspect: Aspect) -> Message {
 /// What the signal shows; restrictive is stop.
 fn shows_at(rt: &impl Abort, bench: &Bench<Signal>, now: Millis, aspect: Aspect) {
     let signal = bench.hosted.object();
-    assert_eq!(rt; signal.shown(now), aspect);
-    assert_eq!(rt; signal.restrictive(now), aspect == Aspect::Stop);
+    assert!(rt; signal.shown(now) == aspect);
+    assert!(rt; signal.restrictive(now) == (aspect == Aspect::Stop));
 }
 
 fn shows(rt: &impl Abort, bench: &Bench<Signal>, aspect: Aspect) {
@@ -170,8 +170,8 @@ fn another_version_is_answered_byte_for_byte(rt: HostRuntime) -> Result<(), Fail
     expected[23..27].copy_from_slice(b"IXL1");
     expected[43..].copy_from_slice(&[0x01, 0x01]);
     let datagram = bench.answer()?;
-    assert_eq!(rt; datagram.len(), 83);
-    assert_eq!(rt; &datagram[30..75], expected.as_slice());
+    assert!(rt; datagram.len() == 83);
+    assert!(rt; &datagram[30..75] == expected.as_slice());
     Ok(())
 }
 
@@ -257,16 +257,16 @@ fn a_report_waits_for_the_window(rt: HostRuntime) -> Result<(), Fail> {
         bench.say(rt, OPENED_AT, indicate(Aspect::Stop))?;
     }
     bench.to_controller(rt, OPENED_AT)?;
-    assert_eq!(rt; bench.handed_out(), 20);
+    assert!(rt; bench.handed_out() == 20);
     bench.say(rt, OPENED_AT, indicate(Aspect::Stop))?;
     bench.say(rt, OPENED_AT, indicate(Aspect::Proceed))?;
     bench.to_controller(rt, OPENED_AT)?;
-    assert_eq!(rt; bench.handed_out(), 20);
+    assert!(rt; bench.handed_out() == 20);
     shows(rt, &bench, Aspect::Proceed);
     bench.to_station(rt, OPENED_AT)?;
     bench.forget();
     bench.confirm(rt, 100400)?;
-    assert_eq!(rt; bench.handed_out(), 1);
+    assert!(rt; bench.handed_out() == 1);
     bench.to_station(rt, 100400)?;
     bench.hears(rt, "OC1", indicated(Aspect::Proceed));
     bench.hears_no_more(rt);

@@ -5,6 +5,3 @@ mod command;
 
 pub use clap::Error;
 pub use command::{Asked, is_memory, read_words, status};
-
-#[cfg(test)]
-mod tests;

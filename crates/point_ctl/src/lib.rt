@@ -11,6 +11,3 @@ pub use laws::{
     stands_still,
 };
 pub use point::Point;
-
-#[cfg(test)]
-mod tests;

@@ -27,6 +27,3 @@ pub use pdu::Pdu;
 pub use reading::read;
 pub use safety_code::is_intact;
 pub use writing::{Datagram, write};
-
-#[cfg(test)]
-mod tests;

@@ -6,6 +6,3 @@ mod passage;
 
 pub use approach::{APPROACH_TIME, Approach};
 pub use passage::Passage;
-
-#[cfg(test)]
-mod tests;

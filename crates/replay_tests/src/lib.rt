@@ -1,4 +1,4 @@
-//! Tests of event lines, recorded sessions and scripts, in one crate above them.
+//! Tests of event lines and their words, recorded sessions and scripts, in one crate above them.
 #![tactic(auto)]
 
 #[cfg(test)]
@@ -7,3 +7,7 @@ mod bench;
 mod lines;
 #[cfg(test)]
 mod sessions;
+#[cfg(test)]
+mod words;
+#[cfg(test)]
+mod writing;

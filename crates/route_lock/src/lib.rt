@@ -7,6 +7,3 @@ mod rows;
 
 pub use laws::{whole_routes_do_not_conflict, whole_routes_hold_what_they_require};
 pub use locks::{LockFault, Locks};
-
-#[cfg(test)]
-mod tests;

@@ -23,6 +23,3 @@ pub use name::Name;
 pub use reading::read;
 pub use telegram::Telegram;
 pub use writing::write;
-
-#[cfg(test)]
-mod tests;

@@ -6,6 +6,3 @@ mod texts;
 
 pub use clap::Error;
 pub use command::{Asked, is_memory, read_words};
-
-#[cfg(test)]
-mod tests;

@@ -11,8 +11,3 @@ mod waiting;
 pub use clock::SteppingClock;
 pub use log::NetCall;
 pub use network::MemoryNetwork;
-
-#[cfg(test)]
-mod bell;
-#[cfg(test)]
-mod tests;

@@ -8,6 +8,3 @@ mod sockets;
 
 pub use clock::RoundClock;
 pub use sockets::{OpenFault, Sockets};
-
-#[cfg(test)]
-mod tests;

@@ -11,6 +11,3 @@ pub use laws::{
     owes_each_change_until_it_is_sent, owes_nothing_but_changes, tells_every_state,
     tells_present_states,
 };
-
-#[cfg(test)]
-mod tests;

@@ -5,7 +5,8 @@ use rasta_pdu::{Body, Item, Items, Key, Pdu, PduFault, read, write};
 use sci_telegram::{Aspect, Message, Name, SignalMessage, Telegram};
 use std::test::Fail;
 
-const KEY: Key = Key(md4::STANDARD);
+/// The key of the network.
+pub(crate) const KEY: Key = Key(md4::STANDARD);
 
 /// The telegram by which an interlocking has a signal show proceed.
 pub(crate) fn proceed() -> Result<Telegram, Fail> {

@@ -1,12 +1,10 @@
 //! PDUs that are changed and given their length and code anew.
 
 use crate::chance::{Bytes, Chance, Tally, copied};
-use crate::one_byte::{data, pdu, proceed};
-use rasta_pdu::{Body, Datagram, Item, Key, Opening, PduFault, read, write};
+use crate::one_byte::{KEY, data, pdu, proceed};
+use rasta_pdu::{Body, Datagram, Item, Opening, PduFault, read, write};
 use std::process::Abort;
 use std::test::Fail;
-
-const KEY: Key = Key(md4::STANDARD);
 
 /// How many changes are tried.
 const CHANGES: usize = 200_000;

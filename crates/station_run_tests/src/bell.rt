@@ -15,7 +15,7 @@ pub(crate) struct Bell {
 
 impl Station for Bell {
     ghost use Rattle.std.specs.Prelude.{Bool};
-    ghost use Rattle.station_memory.specs.Bell.{bell};
+    ghost use Rattle.station_run_tests.specs.Bell.{bell};
 
     ghost Picture = { Bool };
 

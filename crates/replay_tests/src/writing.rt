@@ -1,6 +1,6 @@
 //! A writer that takes a byte at a time, and one that is interrupted or full.
 
-use super::write_as_taken;
+use line_writer::write_as_taken;
 use std::io;
 use std::io::Write;
 

@@ -1,6 +1,10 @@
-//! What takes memory is done again where it is lacking, so the tests also hold with any one allocation refused.
+//! Lines, words, numbers and bytes. What takes memory is done again where it is lacking, so the tests also hold with any one
+//! allocation refused.
 
-use super::*;
+use event_words::{
+    Fault, Lines, Words, both, decimal, event_and_answer, hex_word, hexadecimal,
+    hexadecimal_or_none, is_passed_over, name_and_number,
+};
 use std::alloc::{AllocError, Global};
 use std::test::Fail;
 

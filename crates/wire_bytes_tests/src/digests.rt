@@ -1,4 +1,6 @@
-use crate::{STANDARD, digest_from};
+//! Digests, against those of other programs.
+
+use md4::{STANDARD, digest_from};
 
 // A start that is not the standard's, and the digests from it: of an implementation in Python that
 // was written from RFC 1320 alone.

@@ -1,8 +1,9 @@
 //! The texts for command lines, which no contract says. What takes memory is done again where it is lacking, so that
 //! the answers also hold with any one allocation refused.
 
-use super::{Asked, Error, is_memory, read_words};
-use std::alloc::{AllocError, Global};
+use crate::bench::expect_printed;
+use station_command::{Asked, Error, is_memory, read_words};
+use std::alloc::Global;
 use std::process::Abort;
 use std::test::Fail;
 
@@ -221,14 +222,6 @@ fn read<'a>(alloc: Global, words: &'a [&str]) -> Result<Asked<'a>, Error> {
     }
 }
 
-/// What is printed for an error; where memory is lacking it is made once more.
-fn printed(alloc: Global, error: &Error) -> Result<String, AllocError> {
-    match format!(in alloc; "{error}") {
-        Ok(text) => Ok(text),
-        Err(_) => format!(in alloc; "{error}"),
-    }
-}
-
 // What is printed for a command line, to the standard error where the status is 2.
 fn expect_text(
     rt: &impl Abort,
@@ -240,10 +233,8 @@ fn expect_text(
     match read(alloc, words) {
         Ok(asked) => assert!(rt; false, "{asked:?} was asked"),
         Err(error) => {
-            let printed = printed(alloc, &error)?;
-            assert_eq!(rt; printed.as_str(), text);
             assert_eq!(rt; error.exit_code(), status);
-            assert_eq!(rt; error.use_stderr(), status == 2);
+            expect_printed(rt, alloc, &error, status == 2, text)?;
         }
     }
     Ok(())

@@ -1,12 +1,12 @@
 //! A station driven over memory: what is recorded, what a call that fails changes, and a record that can't be written.
 
 use crate::bell::Bell;
-use crate::{MemoryNetwork, SteppingClock};
 use control_table::check;
 use ixl_rules::Command;
 use layout::Layout;
 use simulator_event::{Event, NodeId};
 use station_drive::{Datagrams, DriveFault, drive};
+use station_memory::{MemoryNetwork, SteppingClock};
 use std::alloc::Global;
 use std::io;
 use std::io::Write;

@@ -1,8 +1,8 @@
 //! Sockets of the machine, and its clock.
 
-use crate::{RoundClock, Sockets};
 use simulator_event::NodeId;
 use station_drive::{Clock, Datagrams, NetFault, Received};
+use station_sockets::{RoundClock, Sockets};
 use std::cell::Cell;
 use std::io;
 use std::test::Fail;

@@ -1,10 +1,10 @@
 //! Bytes from outside: the codes are those of another program's MD4.
 
-use super::*;
+use crate::one_byte::{KEY, pdu};
+use crate::telegram_rows::PROCEED as ASPECT;
 use arrayvec::ArrayVec;
+use rasta_pdu::{Body, Item, Items, Key, Opening, PduFault, is_intact, read, write};
 use std::test::Fail;
-
-const KEY: Key = Key(md4::STANDARD);
 
 /// A heartbeat to 2 from 1, with the numbers 7 and 5 and the stamps 10000 and 9900.
 const HEARTBEAT: [u8; 36] = [
@@ -13,28 +13,8 @@ const HEARTBEAT: [u8; 36] = [
     0x3F, 0x7B, 0x6D, 0x0D,
 ];
 
-/// The telegram that makes signal S1 show proceed.
-const ASPECT: [u8; 61] = [
-    0x30, 0x01, 0x00, 0x49, 0x58, 0x4C, 0x31, 0x5F, 0x5F, 0x5F, 0x5F, 0x5F, 0x5F, 0x5F, 0x5F, 0x5F,
-    0x5F, 0x5F, 0x5F, 0x5F, 0x5F, 0x5F, 0x5F, 0x53, 0x31, 0x5F, 0x5F, 0x5F, 0x5F, 0x5F, 0x5F, 0x5F,
-    0x5F, 0x5F, 0x5F, 0x5F, 0x5F, 0x5F, 0x5F, 0x5F, 0x5F, 0x5F, 0x5F, 0x04, 0xFF, 0xFF, 0xFF, 0xFF,
-    0xFF, 0xFF, 0xFF, 0xFF, 0xFF, 0xFF, 0xFF, 0xFF, 0xFF, 0xFF, 0xFF, 0xFF, 0xFF,
-];
-
 /// The length of one item of 61 bytes.
 const ASPECT_LENGTH: [u8; 2] = [61, 0];
-
-fn pdu(body: Body) -> Pdu {
-    Pdu {
-        receiver: 2,
-        sender: 1,
-        sequence_number: 7,
-        confirmed_sequence_number: 5,
-        time_stamp: 10000,
-        confirmed_time_stamp: 9900,
-        body,
-    }
-}
 
 fn fault_of(bytes: &[u8]) -> Option<PduFault> {
     read(&KEY, bytes).err()
@@ -256,43 +236,4 @@ fn intact_bytes_that_are_no_pdu_are_refused(rt: HostRuntime) {
         assert!(rt; is_intact(&KEY, &bytes));
         assert_eq!(rt; fault_of(&bytes), Some(fault));
     }
-}
-
-#[test]
-fn every_beginning_of_a_pdu_is_refused(rt: HostRuntime) {
-    let bytes = one_aspect();
-    for length in 0..99 {
-        let fault = if length < 36 {
-            PduFault::TooShort
-        } else {
-            PduFault::Length
-        };
-        assert!(rt; length <= bytes.len());
-        let (front, _) = bytes.split_at(length);
-        assert_eq!(rt; fault_of(front), Some(fault), "{length} bytes");
-    }
-}
-
-#[test]
-fn every_change_of_one_byte_is_refused(rt: HostRuntime) {
-    let bytes = one_aspect();
-    let mut of_length = 0u32;
-    let mut of_code = 0u32;
-    for place in 0..99 {
-        for change in 1..=255 {
-            assert!(rt; place < bytes.len());
-            let mut changed = spelled([0; 4], &[], [0; 8]);
-            changed.clear();
-            let _ = changed.try_extend_from_slice(&bytes);
-            assert!(rt; place < changed.len());
-            changed[place] ^= change;
-            match fault_of(&changed) {
-                Some(PduFault::Length) => of_length = of_length.saturating_add(1),
-                Some(PduFault::Code) => of_code = of_code.saturating_add(1),
-                _ => {}
-            }
-        }
-    }
-    assert_eq!(rt; of_length, 510);
-    assert_eq!(rt; of_code, 24735);
 }

@@ -1,7 +1,7 @@
 //! The table of three routes, of which two need one flank point at different sides.
 
-use crate::{Row, Table};
 use control_table::check;
+use ixl_table::{Row, Table};
 use layout::Layout;
 use sci_telegram::Side;
 use std::alloc::Global;

@@ -1,9 +1,11 @@
-use crate::Detection;
+//! A detector by itself.
+
 use object_host::{Controller, Report, Sense};
 use sci_telegram::{
     DetectionMessage, Message, Name, Occupancy, PointMessage, Position, Side, Telegram,
 };
 use std::process::Abort;
+use tds_ctl::Detection;
 
 /// The names of sixteen sections, in the order of a detector's list.
 const NAMES: [&[u8]; 16] = [
@@ -35,11 +37,11 @@ fn status(rt: &impl Abort, place: usize, occupancy: Occupancy) -> Option<Report>
 #[test]
 fn tells_every_section_in_order(rt: HostRuntime) {
     let detection = three(&rt);
-    assert_eq!(rt; detection.owed(), None);
-    assert_eq!(rt; detection.status(0), status(&rt, 0, Occupancy::Clear));
-    assert_eq!(rt; detection.status(1), status(&rt, 1, Occupancy::Occupied));
-    assert_eq!(rt; detection.status(2), status(&rt, 2, Occupancy::Clear));
-    assert_eq!(rt; detection.status(3), None);
+    assert!(rt; detection.owed() == None);
+    assert!(rt; detection.status(0) == status(&rt, 0, Occupancy::Clear));
+    assert!(rt; detection.status(1) == status(&rt, 1, Occupancy::Occupied));
+    assert!(rt; detection.status(2) == status(&rt, 2, Occupancy::Clear));
+    assert!(rt; detection.status(3) == None);
 }
 
 #[test]
@@ -47,13 +49,13 @@ fn owes_changes_in_the_order_of_the_sections(rt: HostRuntime) {
     let mut detection = three(&rt);
     detection.sense(1000, Sense::Section(2, Occupancy::Occupied));
     detection.sense(1001, Sense::Section(0, Occupancy::Occupied));
-    assert_eq!(rt; detection.owed(), status(&rt, 0, Occupancy::Occupied));
+    assert!(rt; detection.owed() == status(&rt, 0, Occupancy::Occupied));
     detection.paid();
-    assert_eq!(rt; detection.owed(), status(&rt, 2, Occupancy::Occupied));
+    assert!(rt; detection.owed() == status(&rt, 2, Occupancy::Occupied));
     detection.paid();
-    assert_eq!(rt; detection.owed(), None);
+    assert!(rt; detection.owed() == None);
     detection.paid();
-    assert_eq!(rt; detection.status(0), status(&rt, 0, Occupancy::Occupied));
+    assert!(rt; detection.status(0) == status(&rt, 0, Occupancy::Occupied));
 }
 
 #[test]
@@ -61,9 +63,9 @@ fn owes_one_status_for_a_change_and_back(rt: HostRuntime) {
     let mut detection = three(&rt);
     detection.sense(1000, Sense::Section(1, Occupancy::Clear));
     detection.sense(1001, Sense::Section(1, Occupancy::Occupied));
-    assert_eq!(rt; detection.owed(), status(&rt, 1, Occupancy::Occupied));
+    assert!(rt; detection.owed() == status(&rt, 1, Occupancy::Occupied));
     detection.paid();
-    assert_eq!(rt; detection.owed(), None);
+    assert!(rt; detection.owed() == None);
 }
 
 #[test]
@@ -73,8 +75,8 @@ fn owes_nothing_where_nothing_changed(rt: HostRuntime) {
     detection.sense(1000, Sense::Section(3, Occupancy::Occupied));
     detection.sense(1000, Sense::Position(Position::Right));
     detection.tick(1000);
-    assert_eq!(rt; detection.owed(), None);
-    assert_eq!(rt; detection.status(3), None);
+    assert!(rt; detection.owed() == None);
+    assert!(rt; detection.status(3) == None);
 }
 
 #[test]
@@ -83,8 +85,8 @@ fn drops_what_it_owes_with_its_link_and_keeps_the_states(rt: HostRuntime) {
     detection.sense(1000, Sense::Section(0, Occupancy::Occupied));
     detection.sense(1000, Sense::Section(2, Occupancy::Occupied));
     detection.lost();
-    assert_eq!(rt; detection.owed(), None);
-    assert_eq!(rt; detection.status(2), status(&rt, 2, Occupancy::Occupied));
+    assert!(rt; detection.owed() == None);
+    assert!(rt; detection.status(2) == status(&rt, 2, Occupancy::Occupied));
 }
 
 #[test]

@@ -1,8 +1,8 @@
 //! Two routes that need one point at different sides, and a third that holds it too.
 
-use crate::{LockFault, Locks};
 use control_table::check;
 use layout::{Layout, PointId, RouteId};
+use route_lock::{LockFault, Locks};
 use sci_telegram::Side;
 use std::test::Fail;
 
