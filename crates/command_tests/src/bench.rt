@@ -22,7 +22,7 @@ pub(crate) fn expect_printed(
     text: &str,
 ) -> Result<(), Fail> {
     let printed = printed(alloc, error)?;
-    assert_eq!(rt; printed.as_str(), text);
-    assert_eq!(rt; error.use_stderr(), is_wrong);
+    assert!(rt; printed.as_str() == text);
+    assert!(rt; error.use_stderr() == is_wrong);
     Ok(())
 }

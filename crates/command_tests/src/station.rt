@@ -233,7 +233,7 @@ fn expect_text(
     match read(alloc, words) {
         Ok(asked) => assert!(rt; false, "{asked:?} was asked"),
         Err(error) => {
-            assert_eq!(rt; error.exit_code(), status);
+            assert!(rt; error.exit_code() == status);
             expect_printed(rt, alloc, &error, status == 2, text)?;
         }
     }
@@ -357,7 +357,7 @@ fn words_are_read(rt: HostRuntime) {
         ),
     ] {
         match read(rt.alloc(), words) {
-            Ok(read) => assert_eq!(rt; read, asked),
+            Ok(read) => assert!(rt; read == asked),
             Err(error) => assert!(rt; false, "{error}"),
         }
     }

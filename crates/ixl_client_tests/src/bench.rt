@@ -25,7 +25,7 @@ pub(crate) const OPENED_AT: Millis = 100000;
 const MANY: usize = 64;
 
 /// The names by which a controller tells of its objects, and the versions of both ends.
-#[derive(Clone, Copy, Debug)]
+#[derive(Clone, Copy)]
 pub(crate) struct Setting<'a> {
     pub(crate) protocol: Protocol,
     pub(crate) objects: &'a [&'a str],

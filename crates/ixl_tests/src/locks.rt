@@ -42,15 +42,15 @@ fn a_point_stays_held_while_another_route_holds_it(rt: HostRuntime) -> Result<()
     let alloc = rt.alloc();
     let table = check(alloc, Layout::read(alloc, BETWEEN)?)?;
     let mut locks = Locks::new(alloc, &table)?;
-    assert_eq!(rt; set(&mut locks, 0), Some(Ok(())));
-    assert_eq!(rt; set(&mut locks, 2), Some(Ok(())));
+    assert!(rt; set(&mut locks, 0) == Some(Ok(())));
+    assert!(rt; set(&mut locks, 2) == Some(Ok(())));
     let held = Some(Err(LockFault::PointHeld(RouteId(0), PointId(2))));
-    assert_eq!(rt; set(&mut locks, 1), held);
+    assert!(rt; set(&mut locks, 1) == held);
     free(&mut locks, 2);
-    assert_eq!(rt; locks.point(PointId(2)), Some(Side::Right));
-    assert_eq!(rt; set(&mut locks, 1), held);
+    assert!(rt; locks.point(PointId(2)) == Some(Side::Right));
+    assert!(rt; set(&mut locks, 1) == held);
     free(&mut locks, 0);
-    assert_eq!(rt; locks.point(PointId(2)), None);
-    assert_eq!(rt; set(&mut locks, 1), Some(Ok(())));
+    assert!(rt; locks.point(PointId(2)) == None);
+    assert!(rt; set(&mut locks, 1) == Some(Ok(())));
     Ok(())
 }

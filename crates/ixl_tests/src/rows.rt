@@ -36,11 +36,11 @@ fn has(row: &Row, sections: &[usize], approach: &[usize], extra: &[usize]) -> bo
 fn a_table_has_the_rows_of_its_routes(rt: HostRuntime) -> Result<(), Fail> {
     let table = table(rt.alloc())?;
     let rows = table.rows();
-    assert_eq!(rt; rows.len(), 3);
+    assert!(rt; rows.len() == 3);
     assert!(rt; has(&rows[0], &[1], &[0], &[]));
     assert!(rt; has(&rows[1], &[3], &[], &[2]));
     assert!(rt; has(&rows[2], &[4], &[], &[1]));
-    assert_eq!(rt; rows[1].entry(), 1);
+    assert!(rt; rows[1].entry() == 1);
     assert!(rt; rows[1].section_row().contains(3));
     assert!(rt; rows[0].approach_row().contains(0));
     Ok(())
@@ -52,14 +52,11 @@ fn a_flank_point_is_held_until_the_point_that_it_protects_is_freed(
 ) -> Result<(), Fail> {
     let table = table(rt.alloc())?;
     let rows = table.rows();
-    assert_eq!(rt; rows.len(), 3);
+    assert!(rt; rows.len() == 3);
     let needs = rows[1].needs();
-    assert_eq!(rt; needs.len(), 2);
+    assert!(rt; needs.len() == 2);
     let flank = needs[1];
-    assert_eq!(rt;
-        (flank.point(), flank.side(), flank.until()),
-        (2, Side::Left, 1)
-    );
+    assert!(rt; (flank.point(), flank.side(), flank.until()) == (2, Side::Left, 1));
     assert!(rt; rows[1].left_row().contains(2));
     assert!(rt; !rows[1].right_row().contains(2));
     Ok(())
@@ -68,9 +65,9 @@ fn a_flank_point_is_held_until_the_point_that_it_protects_is_freed(
 #[test]
 fn each_section_is_reported_at_its_place(rt: HostRuntime) -> Result<(), Fail> {
     let table = table(rt.alloc())?;
-    assert_eq!(rt; table.reporters().get(1).copied(), Some((0, 2)));
-    assert_eq!(rt; table.reporters().get(4).copied(), Some((1, 1)));
-    assert_eq!(rt; table.detectors(), 2);
-    assert_eq!(rt; table.point_sections().get(2).copied(), Some(4));
+    assert!(rt; table.reporters().get(1).copied() == Some((0, 2)));
+    assert!(rt; table.reporters().get(4).copied() == Some((1, 1)));
+    assert!(rt; table.detectors() == 2);
+    assert!(rt; table.point_sections().get(2).copied() == Some(4));
     Ok(())
 }

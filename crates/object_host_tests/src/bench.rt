@@ -100,6 +100,16 @@ impl<C: Controller> Bench<C> {
         Ok(bench)
     }
 
+    /// How many items the controller has given in its connection.
+    pub(crate) fn given(&self) -> u64 {
+        self.hosted.link().given()
+    }
+
+    /// How many of them it knows as taken.
+    pub(crate) fn confirmed(&self) -> u64 {
+        self.hosted.link().confirmed()
+    }
+
     pub(crate) fn initialisation(&self, what: Initialisation) -> Message {
         Message::Initialisation(self.protocol, what)
     }

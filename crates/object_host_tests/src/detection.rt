@@ -8,13 +8,19 @@ use std::test::Fail;
 use tds_ctl::Detection;
 
 /// The names of sixteen sections.
-const NAMES: [&str; 16] = [
-    "GA", "GB", "GC", "GD", "GE", "GF", "GG", "GH", "GI", "GJ", "GK", "GL", "GM", "GN", "GO", "GP",
-];
+fn names() -> [&'static str; 16] {
+    [
+        "GA", "GB", "GC", "GD", "GE", "GF", "GG", "GH", "GI", "GJ", "GK", "GL", "GM", "GN", "GO",
+        "GP",
+    ]
+}
 
 /// Sixteen sections that are clear.
 fn sixteen(rt: &impl Abort) -> Detection {
-    let sections = NAMES.map(|text| (name(rt, text), Occupancy::Clear));
+    let mut sections = [(name(rt, "GA"), Occupancy::Clear); 16];
+    for (section, text) in sections.iter_mut().zip(names()) {
+        section.0 = name(rt, text);
+    }
     Detection::new(&sections)
 }
 
@@ -45,8 +51,8 @@ fn sixteen_sections_are_initialised_in_nineteen_items_with_none_confirmed(
     let rt = &rt;
     let mut bench = Bench::new(rt, rt.alloc(), sixteen(rt))?;
     asked_at_once(rt, &mut bench)?;
-    assert!(rt; bench.hosted.link().given() == 19);
-    assert!(rt; bench.hosted.link().confirmed() == 0);
+    assert!(rt; bench.given() == 19);
+    assert!(rt; bench.confirmed() == 0);
     bench.to_station(rt, OPENED_AT)?;
     bench.hears_of_one_version(rt);
     bench.hears(
@@ -54,7 +60,7 @@ fn sixteen_sections_are_initialised_in_nineteen_items_with_none_confirmed(
         "OC1",
         bench.initialisation(Initialisation::StartInitialisation),
     );
-    for text in NAMES {
+    for text in names() {
         bench.hears(rt, text, status(Occupancy::Clear));
     }
     bench.hears(
@@ -75,10 +81,10 @@ fn a_section_that_changes_twice_while_the_window_is_full_sends_one_status_the_la
     let mut bench = Bench::new(rt, rt.alloc(), sixteen(rt))?;
     asked_at_once(rt, &mut bench)?;
     bench.sense(rt, OPENED_AT, Sense::Section(5, Occupancy::Occupied))?;
-    assert!(rt; bench.hosted.link().given() == 20);
+    assert!(rt; bench.given() == 20);
     bench.sense(rt, 100001, Sense::Section(3, Occupancy::Occupied))?;
     bench.sense(rt, 100002, Sense::Section(3, Occupancy::Clear))?;
-    assert!(rt; bench.hosted.link().given() == 20);
+    assert!(rt; bench.given() == 20);
     bench.to_station(rt, 100002)?;
     bench.forget();
     bench.keep_up(rt, 100002, 3)?;
@@ -97,7 +103,7 @@ fn a_step_sends_every_report_that_it_owes(rt: HostRuntime) -> Result<(), Fail> {
     for place in [15, 0, 7] {
         bench.sense(rt, 100001, Sense::Section(place, Occupancy::Occupied))?;
     }
-    assert!(rt; bench.hosted.link().given() == 20);
+    assert!(rt; bench.given() == 20);
     bench.to_station(rt, 100001)?;
     bench.forget();
     bench.confirm(rt, 100400)?;

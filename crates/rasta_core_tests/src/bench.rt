@@ -76,7 +76,7 @@ impl Bench {
 
     /// A PDU of the partner comes, and this becomes of it.
     pub(crate) fn hear(&mut self, rt: &impl Abort, now: Millis, pdu: &Pdu, verdict: Verdict) {
-        assert_eq!(rt; self.receive(rt, now, pdu), verdict);
+        assert!(rt; self.receive(rt, now, pdu) == verdict);
     }
 
     /// The oldest datagram that it handed out and that wasn't looked at yet is a PDU of this body.
@@ -95,12 +95,12 @@ impl Bench {
     }
 
     pub(crate) fn is_in(&self, rt: &impl Abort, now: Millis, state: State) {
-        assert_eq!(rt; self.link.state(now), state);
+        assert!(rt; self.link.state(now) == state);
     }
 
     /// The last datagram brought this item alone.
     pub(crate) fn brought(&self, rt: &impl Abort, item: &Item) {
-        assert_eq!(rt; self.inbox.len(), 1);
+        assert!(rt; self.inbox.len() == 1);
         assert!(rt; self.inbox[0].bytes() == item.bytes());
     }
 }

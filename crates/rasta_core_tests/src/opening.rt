@@ -13,10 +13,10 @@ fn a_request_of_another_version_closes_with_reason_4(rt: HostRuntime) -> Result<
     let other = pdu((5, 0), (500, 0), Body::ConnectionRequest(opening(*b"0302")));
     bench.is_in(&rt, 10000, State::Down);
     bench.hear(&rt, 10000, &other, Verdict::Taken);
-    assert_eq!(rt; bench.outbox.len(), 1);
+    assert!(rt; bench.outbox.len() == 1);
     let told = bench.told(&rt, &disconnection(4));
-    assert_eq!(rt; told.confirmed_sequence_number, 5);
-    assert_eq!(rt; write(&KEY, &told).len(), 40);
+    assert!(rt; told.confirmed_sequence_number == 5);
+    assert!(rt; write(&KEY, &told).len() == 40);
     bench.is_in(&rt, 15999, State::Quiet);
     bench.is_in(&rt, 16000, State::Down);
     Ok(())
@@ -43,7 +43,7 @@ fn a_client_opens_once_it_is_down_and_is_up_by_the_response_to_its_request(
     assert!(rt; !bench.open(&rt, 5999));
     assert!(rt; bench.open(&rt, 6000));
     let sent = bench.told(&rt, &Body::ConnectionRequest(opening(*b"0303")));
-    assert_eq!(rt; sent.sequence_number, greatest);
+    assert!(rt; sent.sequence_number == greatest);
     for (returned, verdict) in [
         (greatest - 1, Verdict::BadConfirm),
         (greatest, Verdict::Taken),
@@ -58,8 +58,8 @@ fn a_client_opens_once_it_is_down_and_is_up_by_the_response_to_its_request(
     }
     bench.is_in(&rt, 6010, State::Up);
     let heartbeat = bench.told(&rt, &Body::Heartbeat);
-    assert_eq!(rt; heartbeat.sequence_number, 0);
-    assert_eq!(rt; heartbeat.confirmed_sequence_number, 70);
+    assert!(rt; heartbeat.sequence_number == 0);
+    assert!(rt; heartbeat.confirmed_sequence_number == 70);
     Ok(())
 }
 
@@ -70,12 +70,12 @@ fn a_link_made_anew_is_quiet_and_keeps_its_identity(rt: HostRuntime) -> Result<(
         Ok(anew) => anew,
         Err(_) => bench.link.anew(rt.alloc(), 7, 10020)?,
     };
-    assert_eq!(rt; anew.identity().own, 2);
-    assert_eq!(rt; anew.identity().partner, 1);
-    assert_eq!(rt; anew.state(10020), State::Quiet);
-    assert_eq!(rt; anew.state(16019), State::Quiet);
-    assert_eq!(rt; anew.state(16020), State::Down);
-    assert_eq!(rt; anew.given(), 0);
+    assert!(rt; anew.identity().own == 2);
+    assert!(rt; anew.identity().partner == 1);
+    assert!(rt; anew.state(10020) == State::Quiet);
+    assert!(rt; anew.state(16019) == State::Quiet);
+    assert!(rt; anew.state(16020) == State::Down);
+    assert!(rt; anew.given() == 0);
     Ok(())
 }
 

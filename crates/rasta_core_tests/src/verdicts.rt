@@ -9,7 +9,7 @@ use std::test::Fail;
 fn the_first_test_that_fails_is_the_verdict(rt: HostRuntime) -> Result<(), Fail> {
     let mut bench = up(&rt, rt.alloc())?;
     let short = Verdict::Unreadable(PduFault::TooShort);
-    assert_eq!(rt; bench.receive_bytes(&rt, 10020, &[0; 35]), short);
+    assert!(rt; bench.receive_bytes(&rt, 10020, &[0; 35]) == short);
     for (receiver, sender, numbers, returned, verdict) in [
         (3, 9, (208, 99), 9999, Verdict::NotForMe),
         (2, 9, (208, 99), 9999, Verdict::WrongSender),

@@ -88,8 +88,8 @@ fn a_session_has_an_event_and_its_answer_in_each_line(rt: HostRuntime) -> Result
     let table = small(rt.alloc())?;
     for (text, answer) in &SESSIONS {
         match entries(rt.alloc(), &table, *text) {
-            Ok(entries) => assert_eq!(rt; Ok(entries.len()), *answer, "at {text:?}"),
-            Err(fault) => assert_eq!(rt; Err(place(fault)), *answer, "at {text:?}"),
+            Ok(entries) => assert!(rt; Ok(entries.len()) == *answer, "at {text:?}"),
+            Err(fault) => assert!(rt; Err(place(fault)) == *answer, "at {text:?}"),
         }
     }
     Ok(())
@@ -100,8 +100,8 @@ fn the_times_of_a_script_do_not_fall(rt: HostRuntime) -> Result<(), Fail> {
     let table = small(rt.alloc())?;
     for (text, answer) in &SCRIPTS {
         match scripted(rt.alloc(), &table, *text) {
-            Ok(count) => assert_eq!(rt; Ok(count), *answer, "at {text:?}"),
-            Err(fault) => assert_eq!(rt; Err(place(fault)), *answer, "at {text:?}"),
+            Ok(count) => assert!(rt; Ok(count) == *answer, "at {text:?}"),
+            Err(fault) => assert!(rt; Err(place(fault)) == *answer, "at {text:?}"),
         }
     }
     Ok(())
@@ -156,7 +156,7 @@ fn the_first_line_that_differs_is_told(rt: HostRuntime) -> Result<(), Fail> {
         ),
     ] {
         let entries = entries(rt.alloc(), &table, text)?;
-        assert_eq!(rt; verdict(&entries)?, answer, "at {text:?}");
+        assert!(rt; verdict(&entries)? == answer, "at {text:?}");
     }
     Ok(())
 }

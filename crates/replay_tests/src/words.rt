@@ -64,7 +64,7 @@ fn a_second_space_makes_an_empty_word(rt: HostRuntime) -> Result<(), Fail> {
             Ok(told) => told,
             Err(_) => barred(rt.alloc(), line)?,
         };
-        assert_eq!(rt; told.as_str(), words, "in {line:?}");
+        assert!(rt; told.as_str() == words, "in {line:?}");
     }
     Ok(())
 }
@@ -81,7 +81,7 @@ fn every_line_counts_and_the_last_may_lack_its_line_feed(rt: HostRuntime) -> Res
             Ok(told) => told,
             Err(_) => numbered(rt.alloc(), text)?,
         };
-        assert_eq!(rt; told.as_str(), lines, "in {text:?}");
+        assert!(rt; told.as_str() == lines, "in {text:?}");
     }
     assert!(rt; is_passed_over(""));
     assert!(rt; is_passed_over("# tick C"));
@@ -110,17 +110,14 @@ fn a_number_is_decimal_digits_below_two_to_the_64(rt: HostRuntime) {
         ("1a", Err(Fault::Number)),
         ("1\r", Err(Fault::Number)),
     ] {
-        assert_eq!(rt; decimal(word), number, "at {word:?}");
+        assert!(rt; decimal(word) == number, "at {word:?}");
     }
 }
 
 #[test]
 fn bytes_are_pairs_of_digits_in_either_case(rt: HostRuntime) -> Result<(), Fail> {
-    assert_eq!(rt;
-        hexadecimal("00fFA9")?.as_slice(),
-        [0x00, 0xff, 0xa9].as_slice()
-    );
-    assert_eq!(rt; hexadecimal_or_none("-")?.len(), 0);
+    assert!(rt; hexadecimal("00fFA9")?.as_slice() == [0x00, 0xff, 0xa9].as_slice());
+    assert!(rt; hexadecimal_or_none("-")?.len() == 0);
     for word in ["", "-", "0", "0g", "000", "--"] {
         assert!(rt;
             matches!(hexadecimal(word), Err(Fault::Hexadecimal)),
@@ -128,8 +125,8 @@ fn bytes_are_pairs_of_digits_in_either_case(rt: HostRuntime) -> Result<(), Fail>
         );
     }
     assert!(rt; matches!(hexadecimal_or_none(""), Err(Fault::Hexadecimal)));
-    assert_eq!(rt; written(rt.alloc(), &[])?.as_str(), "-");
-    assert_eq!(rt; written(rt.alloc(), &[0x0a, 0xbc])?.as_str(), "0abc");
+    assert!(rt; written(rt.alloc(), &[])?.as_str() == "-");
+    assert!(rt; written(rt.alloc(), &[0x0a, 0xbc])?.as_str() == "0abc");
     Ok(())
 }
 
@@ -141,8 +138,8 @@ fn bytes_are_at_most_512(rt: HostRuntime) -> Result<(), Fail> {
             Err(_) => digits(rt.alloc(), count)?,
         };
         match hexadecimal(word.as_str()) {
-            Ok(bytes) => assert_eq!(rt; (is_read, bytes.len()), (true, count)),
-            Err(fault) => assert_eq!(rt; (is_read, fault), (false, Fault::Hexadecimal)),
+            Ok(bytes) => assert!(rt; (is_read, bytes.len()) == (true, count)),
+            Err(fault) => assert!(rt; (is_read, fault) == (false, Fault::Hexadecimal)),
         }
     }
     Ok(())
@@ -150,20 +147,11 @@ fn bytes_are_at_most_512(rt: HostRuntime) -> Result<(), Fail> {
 
 #[test]
 fn the_lower_of_two_faults_is_told(rt: HostRuntime) {
-    assert_eq!(rt; both::<u8, u8>(Ok(1), Ok(2)), Ok((1, 2)));
-    assert_eq!(rt;
-        both::<u8, u8>(Err(Fault::Number), Err(Fault::Name)),
-        Err(Fault::Name)
-    );
-    assert_eq!(rt;
-        both::<u8, u8>(Err(Fault::Name), Err(Fault::Number)),
-        Err(Fault::Name)
-    );
-    assert_eq!(rt;
-        both::<u8, u8>(Ok(1), Err(Fault::Hexadecimal)),
-        Err(Fault::Hexadecimal)
-    );
-    assert_eq!(rt; Fault::Memory.number(), 7);
+    assert!(rt; both::<u8, u8>(Ok(1), Ok(2)) == Ok((1, 2)));
+    assert!(rt; both::<u8, u8>(Err(Fault::Number), Err(Fault::Name)) == Err(Fault::Name));
+    assert!(rt; both::<u8, u8>(Err(Fault::Name), Err(Fault::Number)) == Err(Fault::Name));
+    assert!(rt; both::<u8, u8>(Ok(1), Err(Fault::Hexadecimal)) == Err(Fault::Hexadecimal));
+    assert!(rt; Fault::Memory.number() == 7);
 }
 
 #[test]
@@ -181,12 +169,12 @@ fn an_event_and_its_answer_are_parted_by_the_first_equals_sign(
             Ok(told) => told,
             Err(_) => barred_words(rt.alloc(), of_event)?,
         };
-        assert_eq!(rt; told.as_str(), event, "in {line:?}");
+        assert!(rt; told.as_str() == event, "in {line:?}");
         let told = match barred_words(rt.alloc(), of_answer.clone().unwrap()) {
             Ok(told) => told,
             Err(_) => barred_words(rt.alloc(), of_answer)?,
         };
-        assert_eq!(rt; told.as_str(), answer, "in {line:?}");
+        assert!(rt; told.as_str() == answer, "in {line:?}");
     }
     assert!(rt; matches!(event_and_answer("tick C"), Err(Fault::Words)));
     assert!(rt; matches!(event_and_answer("tick C =ok"), Err(Fault::Words)));

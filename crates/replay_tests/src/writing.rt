@@ -42,7 +42,7 @@ fn a_text_is_written_as_far_as_it_is_taken(rt: HostRuntime) {
             is_interrupted: false,
             last: 0,
         };
-        assert_eq!(rt; write_as_taken(b"out\n", &mut slow), taken);
-        assert_eq!(rt; slow.last, last);
+        assert!(rt; write_as_taken(b"out\n", &mut slow) == taken);
+        assert!(rt; slow.last == last);
     }
 }

@@ -25,7 +25,7 @@ const REQUEST: [u8; 2] = [0x38, 0x18];
 const ANSWER: [u8; 2] = [0x45, 0x18];
 
 /// What was seen of an end.
-#[derive(Clone, Copy, Debug)]
+#[derive(Clone, Copy)]
 struct EndSeen {
     /// The connection that it entered last.
     connection: Option<usize>,
@@ -36,7 +36,7 @@ struct EndSeen {
 }
 
 /// What was seen of a pair.
-#[derive(Clone, Copy, Debug)]
+#[derive(Clone, Copy)]
 pub(crate) struct Watch {
     client: EndSeen,
     server: EndSeen,
@@ -242,15 +242,14 @@ impl Watch {
 
     fn is_unchanged(&self, rt: &impl Abort, now: &Watch) {
         for (one, other) in [(self.client, now.client), (self.server, now.server)] {
-            assert_eq!(rt; one.connection, other.connection);
-            assert_eq!(rt; one.is_up, other.is_up);
-            assert_eq!(rt;
-                (one.given, one.taken, one.confirmed),
-                (other.given, other.taken, other.confirmed)
+            assert!(rt; one.connection == other.connection);
+            assert!(rt; one.is_up == other.is_up);
+            assert!(rt;
+                (one.given, one.taken, one.confirmed) == (other.given, other.taken, other.confirmed)
             );
         }
-        assert_eq!(rt; (self.sent, self.time), (now.sent, now.time));
-        assert_eq!(rt; self.lamp, now.lamp);
+        assert!(rt; (self.sent, self.time) == (now.sent, now.time));
+        assert!(rt; self.lamp == now.lamp);
     }
 
     fn happened(
@@ -267,12 +266,12 @@ impl Watch {
                 self.takes_nothing(rt, now, end);
             }
         }
-        assert_eq!(rt; Some(now.sent), self.sent.checked_add(reply.added));
+        assert!(rt; Some(now.sent) == self.sent.checked_add(reply.added));
         match (event, reply.answer) {
             (PairEvent::Deliver(end, bytes), _) => self.takes_rightly(rt, now, pair, *end, bytes),
             (PairEvent::Give(end, _), PairAnswer::Given(answer)) => {
                 let more = now.of(*end).given.checked_sub(self.of(*end).given);
-                assert_eq!(rt; more, Some(usize::from(answer.is_ok())));
+                assert!(rt; more == Some(usize::from(answer.is_ok())));
             }
             _ => {}
         }
@@ -282,10 +281,10 @@ impl Watch {
     fn takes_nothing(&self, rt: &impl Abort, now: &Watch, end: Role) {
         let (old, new) = (self.of(end), now.of(end));
         if old.connection == new.connection {
-            assert_eq!(rt; old.taken, new.taken);
+            assert!(rt; old.taken == new.taken);
         } else {
             assert!(rt; is_client(end));
-            assert_eq!(rt; (new.given, new.taken), (0, 0));
+            assert!(rt; (new.given, new.taken) == (0, 0));
         }
         assert!(rt; new.confirmed <= old.confirmed);
         assert!(rt; old.is_up || !new.is_up);
@@ -306,7 +305,7 @@ impl Watch {
             return;
         }
         let copy = delivered(pair, bytes).expect(rt, "it takes only what was sent");
-        assert_eq!(rt; Some(copy.connection()), new.connection);
+        assert!(rt; Some(copy.connection()) == new.connection);
         assert!(rt; !is_same(copy.sender(), end));
         assert!(rt; !items || pair.time().saturating_sub(copy.at()) < FRESHNESS);
         if enters {
@@ -464,7 +463,7 @@ fn lamp_is_due(rt: &impl Abort, now: &Watch, pair: &Pair) {
     } else {
         Aspect::Stop
     };
-    assert_eq!(rt; now.lamp, due);
+    assert!(rt; now.lamp == due);
     if due == Aspect::Proceed {
         assert!(rt; is_lately_heard(pair, now.server.connection));
     }

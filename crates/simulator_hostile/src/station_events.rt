@@ -34,7 +34,7 @@ const LONGEST_STEP: u32 = 30_000;
 const TRAINS: usize = 4;
 
 /// How often what was drawn of the network's mischief.
-#[derive(Clone, Copy, Debug)]
+#[derive(Clone, Copy)]
 pub(crate) struct Drawn {
     pub(crate) repeated: usize,
     pub(crate) passed_over: usize,

@@ -104,20 +104,14 @@ impl Watch {
         once_more(&mut tally.events);
         match answer {
             Ok(reply) => {
-                assert_eq!(rt;
-                    Some(world.network().len()),
-                    self.sent.checked_add(reply.added)
-                );
+                assert!(rt; Some(world.network().len()) == self.sent.checked_add(reply.added));
                 self.count(world, &seen, event, reply.answer, tally);
             }
             Err(why) => {
                 assert!(rt; why != Refused::OutOfMemory);
                 assert!(rt; are_alike(&self.seen, &seen), "changed by a refused event");
-                assert_eq!(rt;
-                    (self.sent, self.time),
-                    (world.network().len(), world.time())
-                );
-                assert_eq!(rt; self.set, set_routes(world));
+                assert!(rt; (self.sent, self.time) == (world.network().len(), world.time()));
+                assert!(rt; self.set == set_routes(world));
                 once_more_at(&mut tally.impossible, usize::from(why.number()));
             }
         }

@@ -5,7 +5,7 @@ use layout::{RouteId, SectionId};
 use sci_telegram::Occupancy;
 
 /// A train on a route: how many of its moves it has made.
-#[derive(Clone, Copy, Debug)]
+#[derive(Clone, Copy)]
 pub(crate) struct Train {
     pub(crate) route: RouteId,
     pub(crate) moves: usize,

@@ -69,19 +69,16 @@ impl Bench {
         let before = self.stored();
         let mut reply = self.pair.apply(event);
         if let Err(Refused::OutOfMemory) = reply {
-            assert_eq!(rt; self.stored(), before);
+            assert!(rt; self.stored() == before);
             reply = self.pair.apply(event);
         }
         match reply {
             Ok(reply) => {
-                assert_eq!(rt;
-                    Some(self.pair.sent().len()),
-                    before.1.checked_add(reply.added)
-                );
+                assert!(rt; Some(self.pair.sent().len()) == before.1.checked_add(reply.added));
                 Ok(reply.answer)
             }
             Err(why) => {
-                assert_eq!(rt; self.stored(), before);
+                assert!(rt; self.stored() == before);
                 Err(why)
             }
         }
@@ -124,7 +121,7 @@ impl Bench {
 
     fn refuses(&mut self, rt: &impl Abort, event: &PairEvent, why: Refused) {
         let answer = self.apply(rt, event);
-        assert_eq!(rt; answer.err(), Some(why));
+        assert!(rt; answer.err() == Some(why));
     }
 
     fn gives(&mut self, rt: &impl Abort, end: Role, byte: u8) {
@@ -178,14 +175,14 @@ impl Bench {
 
     /// The picture at this true time in milliseconds.
     fn shows(&self, rt: &impl Abort, millis: u32, lamp: Aspect) {
-        assert_eq!(rt; self.pair.time(), u64::from(millis) * 1000);
+        assert!(rt; self.pair.time() == u64::from(millis) * 1000);
         assert!(rt; self.pair.shown() == lamp);
     }
 
     fn end_is(&self, rt: &impl Abort, end: Role, is_up: bool, given: usize, taken: usize) {
-        assert_eq!(rt; self.pair.is_up(end), is_up);
-        assert_eq!(rt; self.pair.given(end).len(), given);
-        assert_eq!(rt; self.pair.taken(end).len(), taken);
+        assert!(rt; self.pair.is_up(end) == is_up);
+        assert!(rt; self.pair.given(end).len() == given);
+        assert!(rt; self.pair.taken(end).len() == taken);
     }
 }
 
@@ -212,21 +209,18 @@ fn a_lost_item_is_asked_for_and_comes_again_before_the_later_one(rt: HostRuntime
     let mut bench = Bench::up(&rt, rt.alloc());
     bench.gives(&rt, Role::Client, 0x04);
     bench.gives(&rt, Role::Client, 0x01);
-    assert_eq!(rt; bench.pair.sent().len(), 5);
-    assert_eq!(rt; bench.pdu(&rt, 3).sequence_number, 2);
-    assert_eq!(rt; bench.pdu(&rt, 4).sequence_number, 3);
+    assert!(rt; bench.pair.sent().len() == 5);
+    assert!(rt; bench.pdu(&rt, 3).sequence_number == 2);
+    assert!(rt; bench.pdu(&rt, 4).sequence_number == 3);
     let first = bench.datagram(&rt, 3);
     bench.does(&rt, &PairEvent::Lose(first));
     bench.deliver(&rt, Role::Server, 4);
     let asked = bench.pdu(&rt, 5);
     assert!(rt; asked.body == Body::RetransmissionRequest);
-    assert_eq!(rt;
-        (asked.sequence_number, asked.confirmed_sequence_number),
-        (1, 1)
-    );
+    assert!(rt; (asked.sequence_number, asked.confirmed_sequence_number) == (1, 1));
     bench.end_is(&rt, Role::Server, true, 0, 0);
     bench.deliver(&rt, Role::Client, 5);
-    assert_eq!(rt; bench.pair.sent().len(), 10);
+    assert!(rt; bench.pair.sent().len() == 10);
     assert!(rt; bench.pdu(&rt, 6).body == Body::RetransmissionResponse);
     assert!(rt; matches!(bench.pdu(&rt, 7).body, Body::RetransmittedData(_)));
     assert!(rt; matches!(bench.pdu(&rt, 8).body, Body::RetransmittedData(_)));
@@ -237,16 +231,16 @@ fn a_lost_item_is_asked_for_and_comes_again_before_the_later_one(rt: HostRuntime
         (8, 6, Aspect::Stop),
         (9, 7, Aspect::Stop),
     ] {
-        assert_eq!(rt; bench.pdu(&rt, index).sequence_number, number);
+        assert!(rt; bench.pdu(&rt, index).sequence_number == number);
         bench.deliver(&rt, Role::Server, index);
         assert!(rt; bench.pair.shown() == lamp, "after {number}");
     }
     bench.end_is(&rt, Role::Server, true, 0, 2);
-    assert_eq!(rt; bench.pair.confirmed(Role::Client), 0);
+    assert!(rt; bench.pair.confirmed(Role::Client) == 0);
     bench.gives(&rt, Role::Server, 0x09);
-    assert_eq!(rt; bench.pdu(&rt, 10).confirmed_sequence_number, 7);
+    assert!(rt; bench.pdu(&rt, 10).confirmed_sequence_number == 7);
     bench.deliver(&rt, Role::Client, 10);
-    assert_eq!(rt; bench.pair.confirmed(Role::Client), 2);
+    assert!(rt; bench.pair.confirmed(Role::Client) == 2);
 }
 
 #[test]
@@ -274,7 +268,7 @@ fn old_datagrams_change_nothing_at_a_signal_that_restarted(rt: HostRuntime) {
         bench.deliver(&rt, Role::Server, index);
         bench.shows(&rt, 8000, Aspect::Stop);
         bench.end_is(&rt, Role::Server, false, 0, 1);
-        assert_eq!(rt; bench.pair.sent().len(), sent);
+        assert!(rt; bench.pair.sent().len() == sent);
     }
 }
 
@@ -300,7 +294,7 @@ fn a_clock_keeps_within_one_in_a_thousand(rt: HostRuntime) {
             bench.refuses(&rt, &event, Refused::Drift);
         }
     }
-    assert_eq!(rt; bench.pair.time(), 2000);
+    assert!(rt; bench.pair.time() == 2000);
 }
 
 #[test]
@@ -309,14 +303,14 @@ fn no_clock_passes_its_limit(rt: HostRuntime) {
     bench.does(&rt, &time(LIMIT));
     bench.does(&rt, &time(0));
     bench.refuses(&rt, &time(1), Refused::ClockLimit);
-    assert_eq!(rt; bench.pair.time(), LIMIT);
+    assert!(rt; bench.pair.time() == LIMIT);
     for end in [Role::Client, Role::Server] {
         let mut bench = Bench::new(&rt, rt.alloc());
         bench.refuses(&rt, &restart(end, LIMIT / 1000 + 1, 0), Refused::ClockLimit);
         bench.does(&rt, &time(1));
         bench.does(&rt, &restart(end, LIMIT / 1000, 0));
         bench.refuses(&rt, &time(1), Refused::ClockLimit);
-        assert_eq!(rt; bench.pair.time(), 1);
+        assert!(rt; bench.pair.time() == 1);
     }
 }
 
@@ -324,10 +318,10 @@ fn no_clock_passes_its_limit(rt: HostRuntime) {
 fn a_datagram_is_delivered_until_it_is_2000_ms_old(rt: HostRuntime) {
     let mut bench = Bench::new(&rt, rt.alloc());
     bench.flow(&rt, 6000);
-    assert_eq!(rt; bench.pair.sent().len(), 1);
+    assert!(rt; bench.pair.sent().len() == 1);
     bench.does(&rt, &time(2_000_000));
     bench.deliver(&rt, Role::Server, 0);
-    assert_eq!(rt; bench.pair.sent().len(), 2);
+    assert!(rt; bench.pair.sent().len() == 2);
     bench.does(&rt, &time(1));
     let request = bench.datagram(&rt, 0);
     bench.refuses(
@@ -335,7 +329,7 @@ fn a_datagram_is_delivered_until_it_is_2000_ms_old(rt: HostRuntime) {
         &PairEvent::Deliver(Role::Server, request),
         Refused::NeverSent,
     );
-    assert_eq!(rt; bench.pair.sent().len(), 2);
+    assert!(rt; bench.pair.sent().len() == 2);
 }
 
 #[test]
@@ -354,7 +348,7 @@ fn bytes_that_are_not_for_an_end_or_damaged_change_nothing(rt: HostRuntime) {
         }
         bench.end_is(&rt, end, false, 0, 0);
     }
-    assert_eq!(rt; bench.pair.sent().len(), 1);
+    assert!(rt; bench.pair.sent().len() == 1);
     bench.shows(&rt, 6000, Aspect::Stop);
 }
 
@@ -377,7 +371,7 @@ fn the_oldest_copy_is_lost_first(rt: HostRuntime) {
             [first, second] => (first.is_lost(), second.is_lost()),
             _ => (false, false),
         };
-        assert_eq!(rt; are_lost, lost);
+        assert!(rt; are_lost == lost);
     }
     bench.refuses(&rt, &lose, Refused::NeverSent);
     let again = bench.datagram(&rt, 1);
@@ -392,11 +386,11 @@ fn the_oldest_copy_is_lost_first(rt: HostRuntime) {
 fn the_bag_has_what_is_not_lost(rt: HostRuntime) {
     let mut bench = Bench::up(&rt, rt.alloc());
     let count = bench.pair.sent().len();
-    assert_eq!(rt; bench.in_bag(), count);
+    assert!(rt; bench.in_bag() == count);
     let lost = bench.datagram(&rt, 2);
     bench.does(&rt, &PairEvent::Lose(lost));
-    assert_eq!(rt; bench.pair.sent().len(), count);
-    assert_eq!(rt; bench.in_bag().checked_add(1), Some(count));
+    assert!(rt; bench.pair.sent().len() == count);
+    assert!(rt; bench.in_bag().checked_add(1) == Some(count));
     assert!(rt; bench.pair.bag().all(|sent| !sent.is_lost()));
 }
 
@@ -419,8 +413,8 @@ fn a_run_goes_on_after_refusals_and_counts_what_was_accepted(rt: HostRuntime) {
     if bench.pair.reserve(events.len()).is_err() {
         assert!(rt; bench.pair.reserve(events.len()).is_ok());
     }
-    assert_eq!(rt; bench.pair.run(&events), 3);
-    assert_eq!(rt; bench.pair.sent().len(), 1);
+    assert!(rt; bench.pair.run(&events) == 3);
+    assert!(rt; bench.pair.sent().len() == 1);
     bench.shows(&rt, 6000, Aspect::Stop);
 }
 
@@ -439,15 +433,15 @@ fn a_run_goes_on_where_memory_is_lacking(rt: HostRuntime) {
     let passed = bench.pair.time();
     assert!(rt; matches!((accepted, passed), (10, 6000) | (9, 5000 | 6000)));
     bench.does(&rt, &time(7000 - passed));
-    assert_eq!(rt; bench.pair.time(), 7000);
+    assert!(rt; bench.pair.time() == 7000);
 }
 
 #[test]
 fn events_use_the_room_that_was_reserved(rt: HostRuntime) {
     let mut bench = Bench::new(&rt, rt.alloc());
-    assert_eq!(rt; bench.pair.room(), 0);
+    assert!(rt; bench.pair.room() == 0);
     if bench.pair.reserve(3).is_err() {
-        assert_eq!(rt; bench.pair.room(), 0);
+        assert!(rt; bench.pair.room() == 0);
         assert!(rt; bench.pair.reserve(3).is_ok());
     }
     assert!(rt; bench.pair.room() >= 3);
@@ -463,11 +457,11 @@ fn refusals_have_their_numbers_and_texts(rt: HostRuntime) {
         (Refused::ClockLimit, 5, "the clock is at its limit"),
         (Refused::OutOfMemory, 6, "out of memory"),
     ] {
-        assert_eq!(rt; why.number(), number);
+        assert!(rt; why.number() == number);
         let told = match format!(in rt.alloc(); "{why}") {
             Ok(told) => told,
             Err(_) => format!(in rt.alloc(); "{why}").expect(&rt, "there is memory"),
         };
-        assert_eq!(rt; told.as_str(), text);
+        assert!(rt; told.as_str() == text);
     }
 }

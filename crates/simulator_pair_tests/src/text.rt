@@ -74,7 +74,7 @@ fn expect_run(rt: &impl Abort, alloc: Global, text: &str, status: u8, answers: &
     if lacks_memory(&run) {
         run = run_once(alloc, text);
     }
-    assert_eq!(rt; run.status, status, "of {text:?}");
+    assert!(rt; run.status == status, "of {text:?}");
     assert!(rt;
         run.out.as_slice() == answers.as_bytes(),
         "answers of {text:?}"
@@ -267,14 +267,13 @@ fn a_failed_write_ends_the_run_with_status_1(rt: HostRuntime) {
         let ends = ends_with(alloc, left, status) || ends_with(alloc, left, status);
         assert!(rt; ends, "status {status} after {left} bytes");
     }
-    assert_eq!(rt;
+    assert!(rt;
         pair_text(
             rt.alloc(),
             "tick",
             &mut Failing { left: 0 },
             &mut Failing { left: 0 }
-        ),
-        1
+        ) == 1
     );
 }
 
@@ -314,10 +313,7 @@ fn answers_that_are_not_passed_on_have_status_1(rt: HostRuntime) {
 fn a_fault_is_told_as_far_as_it_is_taken(rt: HostRuntime) {
     for left in [0, 1, 10, 100] {
         let mut out = Vec::new(rt.alloc());
-        assert_eq!(rt;
-            pair_text(rt.alloc(), "tick", &mut out, &mut Failing { left }),
-            1
-        );
+        assert!(rt; pair_text(rt.alloc(), "tick", &mut out, &mut Failing { left }) == 1);
         assert!(rt; out.is_empty());
     }
 }
@@ -455,13 +451,13 @@ fn faults_have_their_numbers_and_texts(rt: HostRuntime) -> Result<(), Fail> {
             "session fault 7 at line 18446744073709551615",
         ),
     ] {
-        assert_eq!(rt; fault.number(), number);
+        assert!(rt; fault.number() == number);
         let told = LineFault { line, fault };
         let printed = match format!(in rt.alloc(); "{told}") {
             Ok(printed) => printed,
             Err(_) => format!(in rt.alloc(); "{told}")?,
         };
-        assert_eq!(rt; printed.as_str(), text);
+        assert!(rt; printed.as_str() == text);
     }
     Ok(())
 }

@@ -43,7 +43,7 @@ pub(crate) struct Bench {
 }
 
 /// What can be seen of a station of one point.
-#[derive(Clone, Copy, Debug, PartialEq, Eq)]
+#[derive(Clone, Copy, PartialEq, Eq)]
 pub(crate) struct Seen {
     pub(crate) time: u64,
     /// How many datagrams were sent, and how many the network still has.
@@ -187,18 +187,18 @@ impl Bench {
         let before = self.seen();
         let mut reply = self.world.apply(event);
         if let Err(Refused::OutOfMemory) = reply {
-            assert_eq!(rt; self.seen(), before);
+            assert!(rt; self.seen() == before);
             reply = self.world.apply(event);
         }
         assert!(rt; self.world.safe());
         match reply {
             Ok(reply) => {
                 let sent = before.sent.0.checked_add(reply.added);
-                assert_eq!(rt; Some(self.world.network().len()), sent);
+                assert!(rt; Some(self.world.network().len()) == sent);
                 Ok(reply.answer)
             }
             Err(why) => {
-                assert_eq!(rt; self.seen(), before);
+                assert!(rt; self.seen() == before);
                 Err(why)
             }
         }
@@ -206,12 +206,12 @@ impl Bench {
 
     pub(crate) fn does(&mut self, rt: &impl Abort, event: &Event) {
         let answer = self.apply(rt, event);
-        assert_eq!(rt; answer, Ok(Answer::Done));
+        assert!(rt; answer == Ok(Answer::Done));
     }
 
     pub(crate) fn accepts(&mut self, rt: &impl Abort, command: Command) {
         let answer = self.apply(rt, &Event::Request(command));
-        assert_eq!(rt; answer, Ok(Answer::Accepted));
+        assert!(rt; answer == Ok(Answer::Accepted));
     }
 
     /// Bytes come to each node that they aren't meant for, and nothing changes.
@@ -246,7 +246,7 @@ impl Bench {
 
     pub(crate) fn refuses(&mut self, rt: &impl Abort, event: &Event, why: Refused) {
         let answer = self.apply(rt, event);
-        assert_eq!(rt; answer, Err(why));
+        assert!(rt; answer == Err(why));
     }
 
     /// All clocks go on as true time does, in microseconds.

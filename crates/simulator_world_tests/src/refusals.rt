@@ -55,8 +55,8 @@ fn a_command_is_refused_by_the_interlocking(rt: HostRuntime) {
     let mut bench = Bench::new(&rt, rt.alloc(), SMALL);
     let command = Event::Request(Command::Request(RouteId(0)));
     let answer = bench.apply(&rt, &command);
-    assert_eq!(rt; answer, Ok(Answer::Refused(Refusal::Holding)));
+    assert!(rt; answer == Ok(Answer::Refused(Refusal::Holding)));
     let command = Event::Request(Command::Cancel(RouteId(3)));
     let answer = bench.apply(&rt, &command);
-    assert_eq!(rt; answer, Ok(Answer::Refused(Refusal::UnknownRoute)));
+    assert!(rt; answer == Ok(Answer::Refused(Refusal::UnknownRoute)));
 }

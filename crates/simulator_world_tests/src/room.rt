@@ -20,7 +20,7 @@ fn memory_that_no_machine_has_is_refused(rt: HostRuntime) {
     let mut bench = Bench::new(&rt, rt.alloc(), SMALL);
     let room = bench.world.room();
     assert!(rt; bench.world.reserve(usize::MAX).is_err());
-    assert_eq!(rt; bench.world.room(), room);
+    assert!(rt; bench.world.room() == room);
 }
 
 #[test]
@@ -34,5 +34,5 @@ fn a_list_of_events_counts_those_that_happen(rt: HostRuntime) {
         Event::Tick(NodeId(6)),
         Event::Tick(NodeId(5)),
     ];
-    assert_eq!(rt; bench.world.run(&events), 2);
+    assert!(rt; bench.world.run(&events) == 2);
 }

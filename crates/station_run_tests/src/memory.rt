@@ -66,8 +66,8 @@ fn expect_record(
     );
     assert!(rt; ended.is_ok());
     assert!(rt; written.as_slice() == record.as_bytes());
-    assert_eq!(rt; net.faults(), faults);
-    assert_eq!(rt; clock.readings().len(), 5);
+    assert!(rt; net.faults() == faults);
+    assert!(rt; clock.readings().len() == 5);
     Ok(())
 }
 
@@ -114,9 +114,9 @@ fn what_comes_for_a_node_is_heard_there_once(rt: HostRuntime) -> Result<(), Fail
     let Ok(Some(second)) = net.receive(NodeId(2)) else {
         return Err("nothing came".into());
     };
-    assert_eq!(rt; second.len(), 512);
+    assert!(rt; second.len() == 512);
     assert!(rt; net.receive(NodeId(2)) == Ok(None));
-    assert_eq!(rt; net.calls().len(), 4);
+    assert!(rt; net.calls().len() == 4);
     Ok(())
 }
 

@@ -40,13 +40,13 @@ const WHOLE: Drive<'static> = Drive {
 fn a_run_over_memory_is_recorded(rt: HostRuntime) -> Result<(), Fail> {
     let alloc = rt.alloc();
     let whole = run_small(alloc, WHOLE).ok_or("a fault")?;
-    assert_eq!(rt; whole.status, 0);
+    assert!(rt; whole.status == 0);
     assert!(rt; whole.out.as_slice() == PICTURE.as_bytes());
     assert!(rt; whole.err.is_empty());
     assert!(rt; is_same(alloc, &whole.record));
     for room in [0, 1, 3000, 100_007] {
         let left = run_small(alloc, Drive { room, ..WHOLE }).ok_or("a fault")?;
-        assert_eq!(rt; left.status, 1);
+        assert!(rt; left.status == 1);
         assert!(rt; left.out.is_empty());
         assert!(rt; left.err.as_slice() == b"cannot run\n".as_slice());
         assert!(rt; left.record.len() == room && whole.record.starts_with(&left.record));
@@ -66,7 +66,7 @@ fn a_record_is_replayed_where_a_call_failed(rt: HostRuntime) -> Result<(), Fail>
             ..WHOLE
         };
         let left = run_small(alloc, drive).ok_or("a fault")?;
-        assert_eq!(rt; (left.status, left.faults), (0, 1));
+        assert!(rt; (left.status, left.faults) == (0, 1));
         assert!(rt; is_same(alloc, &left.record));
     }
     Ok(())

@@ -46,8 +46,8 @@ fn one_aspect() -> ArrayVec<u8, 512> {
 #[test]
 fn a_heartbeat_has_36_bytes_and_is_read_again(rt: HostRuntime) {
     let heartbeat = pdu(Body::Heartbeat);
-    assert_eq!(rt; write(&KEY, &heartbeat).as_slice(), HEARTBEAT.as_slice());
-    assert_eq!(rt; read(&KEY, &HEARTBEAT).ok(), Some(heartbeat));
+    assert!(rt; write(&KEY, &heartbeat).as_slice() == HEARTBEAT.as_slice());
+    assert!(rt; read(&KEY, &HEARTBEAT).ok() == Some(heartbeat));
     assert!(rt; is_intact(&KEY, &HEARTBEAT));
 }
 
@@ -56,12 +56,12 @@ fn a_heartbeat_with_other_bytes_is_refused(rt: HostRuntime) {
     let mut longer: ArrayVec<u8, 37> = ArrayVec::new();
     let _ = longer.try_extend_from_slice(&HEARTBEAT);
     longer.push(0);
-    assert_eq!(rt; fault_of(&longer), Some(PduFault::Length));
+    assert!(rt; fault_of(&longer) == Some(PduFault::Length));
     let (shorter, _) = HEARTBEAT.split_at(35);
-    assert_eq!(rt; fault_of(shorter), Some(PduFault::TooShort));
+    assert!(rt; fault_of(shorter) == Some(PduFault::TooShort));
     let mut changed = HEARTBEAT;
     changed[35] ^= 1;
-    assert_eq!(rt; fault_of(&changed), Some(PduFault::Code));
+    assert!(rt; fault_of(&changed) == Some(PduFault::Code));
     assert!(rt; !is_intact(&KEY, &changed));
 }
 
@@ -70,8 +70,8 @@ fn under_another_key_the_code_is_another(rt: HostRuntime) {
     let code = [0x6A, 0xED, 0x72, 0x4B, 0xA9, 0x1E, 0x86, 0x86];
     let bytes = write(&Key([1, 2, 3, 4]), &pdu(Body::Heartbeat));
     let wanted = spelled([0x24, 0x00, 0x4C, 0x18], &[], code);
-    assert_eq!(rt; bytes.as_slice(), wanted.as_slice());
-    assert_eq!(rt; fault_of(&bytes), Some(PduFault::Code));
+    assert!(rt; bytes.as_slice() == wanted.as_slice());
+    assert!(rt; fault_of(&bytes) == Some(PduFault::Code));
 }
 
 #[test]
@@ -80,9 +80,9 @@ fn one_aspect_takes_99_bytes(rt: HostRuntime) -> Result<(), Fail> {
     let items = Items::of(&[item]).ok_or("one item can be sent")?;
     let sent = pdu(Body::Data(items));
     let bytes = one_aspect();
-    assert_eq!(rt; bytes.len(), 99);
-    assert_eq!(rt; write(&KEY, &sent).as_slice(), bytes.as_slice());
-    assert_eq!(rt; read(&KEY, &bytes).ok(), Some(sent));
+    assert!(rt; bytes.len() == 99);
+    assert!(rt; write(&KEY, &sent).as_slice() == bytes.as_slice());
+    assert!(rt; read(&KEY, &bytes).ok() == Some(sent));
     Ok(())
 }
 
@@ -91,7 +91,7 @@ fn three_aspects_take_225_bytes_and_four_are_refused(rt: HostRuntime) -> Result<
     let aspect = Item::of(&ASPECT).ok_or("61 bytes are an item")?;
     let three = [aspect.copy(), aspect.copy(), aspect.copy()];
     let items = Items::of(&three).ok_or("three items can be sent")?;
-    assert_eq!(rt; items.as_slice().len(), 3);
+    assert!(rt; items.as_slice().len() == 3);
     let bytes = write(&KEY, &pdu(Body::Data(items)));
     let wanted = spelled(
         [0xE1, 0x00, 0x60, 0x18],
@@ -105,8 +105,8 @@ fn three_aspects_take_225_bytes_and_four_are_refused(rt: HostRuntime) -> Result<
         ],
         [0x8F, 0x98, 0x50, 0x2C, 0x31, 0x89, 0x28, 0x8E],
     );
-    assert_eq!(rt; bytes.len(), 225);
-    assert_eq!(rt; bytes.as_slice(), wanted.as_slice());
+    assert!(rt; bytes.len() == 225);
+    assert!(rt; bytes.as_slice() == wanted.as_slice());
     let four = spelled(
         [0x20, 0x01, 0x60, 0x18],
         &[
@@ -121,8 +121,8 @@ fn three_aspects_take_225_bytes_and_four_are_refused(rt: HostRuntime) -> Result<
         ],
         [0x36, 0x62, 0x01, 0x58, 0x17, 0x5C, 0x5D, 0x2F],
     );
-    assert_eq!(rt; four.len(), 288);
-    assert_eq!(rt; fault_of(&four), Some(PduFault::Items));
+    assert!(rt; four.len() == 288);
+    assert!(rt; fault_of(&four) == Some(PduFault::Items));
     Ok(())
 }
 
@@ -139,9 +139,9 @@ fn a_connection_request_keeps_its_reserved_bytes(rt: HostRuntime) {
         [0xBF, 0x98, 0x3F, 0xFD, 0x1F, 0x9A, 0x2D, 0x22],
     );
     let request = pdu(Body::ConnectionRequest(opening));
-    assert_eq!(rt; bytes.len(), 50);
-    assert_eq!(rt; write(&KEY, &request).as_slice(), bytes.as_slice());
-    assert_eq!(rt; read(&KEY, &bytes).ok(), Some(request));
+    assert!(rt; bytes.len() == 50);
+    assert!(rt; write(&KEY, &request).as_slice() == bytes.as_slice());
+    assert!(rt; read(&KEY, &bytes).ok() == Some(request));
 }
 
 /// Whether a PDU with this body is written as these bytes and read from them.
@@ -191,8 +191,8 @@ fn two_retransmitted_items_are_spelled_as_elsewhere(rt: HostRuntime) -> Result<(
 fn an_item_has_1_to_61_bytes(rt: HostRuntime) {
     let bytes = [7; 62];
     let (most, _) = bytes.split_at(61);
-    assert_eq!(rt; Item::of(&[]), None);
-    assert_eq!(rt; Item::of(&bytes), None);
+    assert!(rt; Item::of(&[]) == None);
+    assert!(rt; Item::of(&bytes) == None);
     assert!(rt; Item::of(&[7]).is_some());
     assert!(rt; Item::of(most).is_some());
 }
@@ -206,8 +206,8 @@ fn a_pdu_has_1_to_3_items(rt: HostRuntime) {
         Item::default(),
     ];
     let (three, _) = four.split_at(3);
-    assert_eq!(rt; Items::of(&[]), None);
-    assert_eq!(rt; Items::of(&four), None);
+    assert!(rt; Items::of(&[]) == None);
+    assert!(rt; Items::of(&four) == None);
     assert!(rt; Items::of(three).is_some());
 }
 
@@ -234,6 +234,6 @@ fn intact_bytes_that_are_no_pdu_are_refused(rt: HostRuntime) {
         (empty_item, PduFault::Items),
     ] {
         assert!(rt; is_intact(&KEY, &bytes));
-        assert_eq!(rt; fault_of(&bytes), Some(fault));
+        assert!(rt; fault_of(&bytes) == Some(fault));
     }
 }

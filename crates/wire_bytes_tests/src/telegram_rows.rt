@@ -36,8 +36,8 @@ fn changed(place: usize, byte: u8) -> Result<Telegram, SciFault> {
 fn example_both_ways(rt: HostRuntime) -> Result<(), Fail> {
     let message = Message::Signal(SignalMessage::IndicateAspect(Aspect::Proceed));
     let proceed = telegram("IXL1", "S1", message)?;
-    assert_eq!(rt; write(&proceed).bytes(), PROCEED.as_slice());
-    assert_eq!(rt; read(&PROCEED), Ok(proceed));
+    assert!(rt; write(&proceed).bytes() == PROCEED.as_slice());
+    assert!(rt; read(&PROCEED) == Ok(proceed));
     Ok(())
 }
 
@@ -48,13 +48,13 @@ fn slow_both_ways(rt: HostRuntime) -> Result<(), Fail> {
     bytes[43] = 0x06;
     let slow = SignalMessage::IndicateAspect(Aspect::Slow);
     let command = telegram("IXL1", "S1", Message::Signal(slow))?;
-    assert_eq!(rt; write(&command).bytes(), bytes.as_slice());
-    assert_eq!(rt; read(&bytes), Ok(command));
+    assert!(rt; write(&command).bytes() == bytes.as_slice());
+    assert!(rt; read(&bytes) == Ok(command));
     bytes[1] = 0x03;
     let slow = SignalMessage::IndicatedAspect(Aspect::Slow);
     let report = telegram("IXL1", "S1", Message::Signal(slow))?;
-    assert_eq!(rt; write(&report).bytes(), bytes.as_slice());
-    assert_eq!(rt; read(&bytes), Ok(report));
+    assert!(rt; write(&report).bytes() == bytes.as_slice());
+    assert!(rt; read(&bytes) == Ok(report));
     Ok(())
 }
 
@@ -73,7 +73,7 @@ fn faults_of_changed_bytes(rt: HostRuntime) {
         (43, 0x07, SciFault::Value),
         (60, 0xFE, SciFault::Value),
     ] {
-        assert_eq!(rt; changed(place, byte), Err(fault), "{byte} at {place}");
+        assert!(rt; changed(place, byte) == Err(fault), "{byte} at {place}");
     }
 }
 
@@ -85,7 +85,7 @@ fn faults_of_shorter_bytes(rt: HostRuntime) {
         (43, SciFault::Length),
         (60, SciFault::Length),
     ] {
-        assert_eq!(rt; read(&PROCEED[..length]), Err(fault), "{length} bytes");
+        assert!(rt; read(&PROCEED[..length]) == Err(fault), "{length} bytes");
     }
 }
 
@@ -94,7 +94,7 @@ fn name_comes_before_value(rt: HostRuntime) {
     let mut bytes = PROCEED;
     bytes[42] = b'x';
     bytes[43] = 0x05;
-    assert_eq!(rt; read(&bytes), Err(SciFault::Name));
+    assert!(rt; read(&bytes) == Err(SciFault::Name));
 }
 
 #[test]
@@ -109,10 +109,7 @@ fn another_version_is_answered(rt: HostRuntime) -> Result<(), Fail> {
     expected[3..5].copy_from_slice(b"S1");
     expected[23..27].copy_from_slice(b"IXL1");
     expected[43..].copy_from_slice(&[0x01, 0x01]);
-    assert_eq!(rt;
-        write(&telegram("S1", "IXL1", message)?).bytes(),
-        expected.as_slice()
-    );
+    assert!(rt; write(&telegram("S1", "IXL1", message)?).bytes() == expected.as_slice());
     Ok(())
 }
 
@@ -127,11 +124,11 @@ fn check_row(
     let item = write(&telegram);
     let bytes = item.bytes();
     assert!(rt; bytes.len() >= 43);
-    assert_eq!(rt; &bytes[..3], front.as_slice());
-    assert_eq!(rt; &bytes[3..23], b"Node-7______________".as_slice());
-    assert_eq!(rt; &bytes[23..43], b"abcdefghij-KLMNOP-19".as_slice());
-    assert_eq!(rt; &bytes[43..], payload);
-    assert_eq!(rt; read(bytes), Ok(telegram));
+    assert!(rt; &bytes[..3] == front.as_slice());
+    assert!(rt; &bytes[3..23] == b"Node-7______________".as_slice());
+    assert!(rt; &bytes[23..43] == b"abcdefghij-KLMNOP-19".as_slice());
+    assert!(rt; &bytes[43..] == payload);
+    assert!(rt; read(bytes) == Ok(telegram));
     Ok(())
 }
 
@@ -235,7 +232,7 @@ fn rows_of_one_protocol(rt: HostRuntime) -> Result<(), Fail> {
 #[test]
 fn which_bytes_are_names(rt: HostRuntime) -> Result<(), Fail> {
     for bytes in ["", "a_b", "S 1", "\u{e4}", "abcdefghijklmnopqrstu"] {
-        assert_eq!(rt; Name::of(bytes.as_bytes()), None, "{bytes}");
+        assert!(rt; Name::of(bytes.as_bytes()) == None, "{bytes}");
     }
     for text in [
         "S",
@@ -245,8 +242,8 @@ fn which_bytes_are_names(rt: HostRuntime) -> Result<(), Fail> {
         "ABCXYZabcxyz0189-",
     ] {
         let name = Name::of(text.as_bytes()).ok_or("it is a name")?;
-        assert_eq!(rt; name.as_str(), text);
-        assert_eq!(rt; name.bytes(), text.as_bytes());
+        assert!(rt; name.as_str() == text);
+        assert!(rt; name.bytes() == text.as_bytes());
     }
     Ok(())
 }
