@@ -81,7 +81,7 @@ def main(names):
         os.chmod(prover, 0o755)
         open(notes, "w").close()
         rt.rtlib.RATTLE = prover
-        status = rt.edits_alone(names) if names else rt.ci()
+        status = rt.edits_alone(names) if names else rt.ci(anew=False)
         with open(notes) as it:
             table(it)
     return status
