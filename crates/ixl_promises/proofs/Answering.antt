@@ -145,7 +145,7 @@ ticking_leaves now a =
     in record { peer = fallen_peer done.client; acted = refl; stage = λ inside. inside_stays done.client inside }
 
 -- what is done with the switch that stands at a place
-moved_by : ℕ → ℕ → Side → SwitchState → Part → Part
+unfoldable pub moved_by : ℕ → ℕ → Side → SwitchState → Part → Part
 moved_by now point side switch part =
     let done = commanding now (commands.Move side) (begun switch.client part.outbox)
     in with_switch point (switch_after switch.side (all_below (length part.ixl.routes)) done.client) (noted (Point point) done part)

@@ -39,7 +39,7 @@ from_later (suc less) zero list one fewer is = absurd (omega (arith, fewer))
 from_later (suc less) (suc more) [] one fewer is = is
 from_later (suc less) (suc more) (first ∷ others) one fewer is = from_later less more others one (omega (arith, fewer)) is
 
-set_back : (old new : Phase) → IsOnward old new → is_set new ≡ true → is_set old ≡ true
+pub set_back : (old new : Phase) → IsOnward old new → is_set new ≡ true → is_set old ≡ true
 set_back phase.Waiting new onward set = refl
 set_back phase.Proceeding new onward set = refl
 set_back phase.Withdrawn new onward set = refl

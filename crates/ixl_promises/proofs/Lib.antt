@@ -8,8 +8,11 @@ pub mod Going
 pub mod Hears
 pub mod Holding
 pub mod LinkRefusing
+pub mod Once
 pub mod Onward
 pub mod Picking
 pub mod Refusing
 pub mod Tending
 pub mod Unheard
+pub mod Unset
+pub mod Whole

@@ -1,6 +1,7 @@
 //! Laws over every step of an interlocking.
 
-ghost use Rattle.std.specs.Prelude.{◌≡◌, ◌+◌, ◌<◌, ◌↔◌, ℕ, [], true, length, List, None, Err, Some, slice_get};
+ghost use Rattle.std.specs.Prelude.{◌≡◌, ◌+◌, ◌<◌, ◌↔◌, ℕ, [], false, true, length, List, None, Err, Some, slice_get};
+ghost use Rattle.std.specs.FinSet.{contains};
 ghost use Rattle.std.specs.List.{Contains};
 ghost use Rattle.rasta_pdu.specs.Reading.{reading};
 ghost use Rattle.rasta_pdu.specs.declared.key.Key.{Key};
@@ -8,11 +9,12 @@ ghost use Rattle.layout.specs.Entries.{Plan};
 ghost use Rattle.layout.specs.declared.ids.RouteId.{RouteId};
 ghost use Rattle.ixl_client.specs.declared.indication.ObjectState.{ObjectState};
 ghost use Rattle.sci_telegram.specs.declared.message.Side.{Side};
-ghost use Rattle.ixl_rules.specs.Due.{HoldsPoint, HoldsSection, Known};
+ghost use Rattle.ixl_rules.specs.Due.{HoldsPoint, HoldsSection, Known, MoveDue};
+ghost use Rattle.ixl_rules.specs.Part.{Part, giving_move};
 ghost use Rattle.ixl_rules.specs.State.{IxlState, RouteState, SwitchState};
 ghost use Rattle.ixl_rules.specs.Step.{Accepted, Commands, Datagram, Input, Received, Refused, Reply, Tick, all_clocked, addressed, client_of};
 ghost use Rattle.ixl_rules.specs.Table.{Need, Row, Table};
-ghost use Rattle.ixl_rules.specs.View.{freed_sections, has_authority};
+ghost use Rattle.ixl_rules.specs.View.{freed_sections, has_authority, is_holding, is_set};
 ghost use Rattle.ixl_rules.specs.declared.command.Command.TheVariants as commands;
 ghost use Rattle.ixl_rules.specs.declared.command.Command.{Command};
 ghost use Rattle.ixl_rules.specs.declared.command.Refusal.{Refusal};
@@ -20,12 +22,12 @@ ghost use Rattle.ixl_rules.specs.declared.phase.Phase.{Phase};
 ghost use Rattle.ixl_state.specs.First.{Beginning, key_of, new_ixl};
 ghost use Rattle.ixl.specs.Interlocking.{HasStepped, InterlockingState};
 ghost use Rattle.ixl_promises.specs.Answered.{GoesOnAnswered, IsAnswered, last_told};
-ghost use Rattle.ixl_promises.specs.Apart.{AllApart};
+ghost use Rattle.ixl_promises.specs.Apart.{AllApart, DoNotConflict, IsWhole, StandApart};
 ghost use Rattle.ixl_promises.specs.Cancels.{IsCancelRefused, MayCancel};
 ghost use Rattle.ixl_promises.specs.Links.{NoneDown};
 ghost use Rattle.ixl_promises.specs.Onward.{GoesOn};
 ghost use Rattle.ixl_promises.specs.Refused.{IsWithoutInput, MayHear};
-ghost use Rattle.ixl_client.specs.Client.{ClientState};
+ghost use Rattle.ixl_client.specs.Client.{ClientState, is_outside};
 ghost use Rattle.rasta_core.specs.Verdicts.{is_refusal};
 ghost use Rattle.rasta_core.specs.verdict.Verdict.TheVariants as verdicts;
 ghost use Rattle.rasta_core.specs.verdict.Verdict.{Verdict};
@@ -46,13 +48,35 @@ pub fn routes_go_on_in_their_order()
 /// No two set routes stand against each other, at first and behind every step: they begin at different signals, neither
 /// lists the other, they hold no section in common, and each point that both hold at one side. So two set routes of which
 /// nothing is freed don't conflict.
+#[tactic(auto, using(crate::proofs::Whole::whole_routes_apart))]
 pub fn set_routes_stand_apart()
     ensures first { (plan : Plan) (table : Table) (begins : Beginning) → AllApart table (new_ixl plan table begins) }
     ensures kept { (now : ℕ) (input : Input) (old new : InterlockingState) (answer : Reply) → HasStepped now input old new answer
         → AllApart old.state.planned.table old.state.ixl → AllApart new.state.planned.table new.state.ixl }
+    ensures whole { (number other : ℕ) (row other_row : Row) (phase other_phase : Phase) → StandApart number other row other_row phase other_phase
+        → IsWhole row phase → IsWhole other_row other_phase → DoNotConflict number other row other_row }
 {
     requests_are_accepted_where_admissible();
 }
+
+/// In the hold no route is set that wasn't.
+pub fn nothing_is_set_in_the_hold()
+    ensures { (now : ℕ) (input : Input) (old new : InterlockingState) (answer : Reply) (number : ℕ) (before after : RouteState) → HasStepped now input old new answer
+        → slice_get old.state.ixl.routes number ≡ Some before → slice_get new.state.ixl.routes number ≡ Some after
+        → is_holding now old.state.ixl ≡ true → is_set before.phase ≡ false → is_set after.phase ≡ false }
+{
+    requests_are_accepted_where_admissible();
+}
+
+/// A move that is given to a point for a route counts for that route while the connection lasts. So it is due no more, and is
+/// given once.
+#[tactic(auto, using(crate::proofs::Once::moves_count, crate::proofs::Once::moves_once))]
+pub fn moves_are_given_once()
+    ensures counts { (now point : ℕ) (side : Side) (part : Part) (number : ℕ) (route : RouteState) (after : SwitchState) → slice_get part.ixl.routes number ≡ Some route
+        → slice_get (giving_move now point side part).ixl.switches point ≡ Some after → is_outside after.client.stage ≡ false → contains after.moved number ≡ true }
+    ensures once { (now : ℕ) (table : Table) (need : Need) (part : Part) (number : ℕ) (route later : RouteState) → slice_get part.ixl.routes number ≡ Some route
+        → MoveDue table (giving_move now need.point need.side part).ixl number later need → ⊥ }
+{}
 
 /// What is refused leaves what a step without it leaves, and hands out what it hands out: a command; a datagram that can't be
 /// read or comes from no controller; and a datagram that the link of its sender refuses, but for one that doesn't belong
