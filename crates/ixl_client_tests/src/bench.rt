@@ -7,7 +7,6 @@ use rasta_pdu::{Body, Datagram, Key, read};
 use sci_telegram::{Name, Protocol};
 use std::alloc::Global;
 use std::process::Abort;
-use std::test::Fail;
 
 const KEY: Key = Key([1, 2, 3, 4]);
 
@@ -52,16 +51,11 @@ pub(crate) fn name(rt: &impl Abort, text: &str) -> Name {
 }
 
 impl<C: Controller> Bench<C> {
-    pub(crate) fn new(
-        rt: &impl Abort,
-        alloc: Global,
-        setting: Setting,
-        object: C,
-    ) -> Result<Bench<C>, Fail> {
+    pub(crate) fn new(rt: &impl Abort, alloc: Global, setting: Setting, object: C) -> Bench<C> {
         let own_name = name(rt, "IXL1");
         let mut objects = Vec::new(alloc);
         for object in setting.objects {
-            objects.push(name(rt, object))?;
+            assert!(rt; objects.push(name(rt, object)).is_ok());
         }
         let peer = Peer {
             protocol: setting.protocol,
@@ -70,7 +64,9 @@ impl<C: Controller> Bench<C> {
             name: name(rt, "OC1"),
             objects,
         };
-        let client = Client::new(alloc, STATION, CONTROLLER, KEY, peer, 0, MADE_AT)?;
+        let client = Client::new(alloc, STATION, CONTROLLER, KEY, peer, 0, MADE_AT).expect(
+            rt, "memory",
+        );
         let hosted = Hosted::new(
             alloc,
             CONTROLLER,
@@ -82,8 +78,9 @@ impl<C: Controller> Bench<C> {
             MADE_AT,
             object,
             setting.controller_version,
-        )?;
-        Ok(Bench {
+        )
+        .expect(rt, "memory");
+        Bench {
             alloc,
             client,
             said: Vec::new(alloc),
@@ -91,110 +88,100 @@ impl<C: Controller> Bench<C> {
             hosted,
             sent: Vec::new(alloc),
             heard: Vec::new(alloc),
-        })
+        }
     }
 
     /// What a step of the client handed out is on its way.
-    fn send(&mut self, outbox: Outbox) -> Result<(), Fail> {
+    fn send(&mut self, rt: &impl Abort, outbox: Outbox) {
         let mut outbox = outbox;
         for _ in 0..MANY {
             let Some(datagram) = outbox.take_first() else {
                 break;
             };
-            self.said.push(datagram)?;
+            assert!(rt; self.said.push(datagram).is_ok());
         }
-        Ok(())
     }
 
     /// A tick of the client.
-    pub(crate) fn tick(&mut self, rt: &impl Abort, now: Millis) -> Result<(), Fail> {
+    pub(crate) fn tick(&mut self, rt: &impl Abort, now: Millis) {
         assert!(rt; self.client.may_step(now));
-        let mut outbox = Outbox::for_links(self.alloc, 1)?;
+        let mut outbox = Outbox::for_links(self.alloc, 1).expect(rt, "memory");
         self.client.settle(now);
         self.client.tick(now, &mut outbox);
-        self.send(outbox)
+        self.send(rt, outbox)
     }
 
     /// A command of the client.
-    pub(crate) fn command(
-        &mut self,
-        rt: &impl Abort,
-        now: Millis,
-        command: Command,
-    ) -> Result<(), Fail> {
+    pub(crate) fn command(&mut self, rt: &impl Abort, now: Millis, command: Command) {
         assert!(rt; self.client.may_step(now));
-        let mut outbox = Outbox::for_links(self.alloc, 1)?;
+        let mut outbox = Outbox::for_links(self.alloc, 1).expect(rt, "memory");
         self.client.settle(now);
         self.client.command(now, command, &mut outbox);
-        self.send(outbox)
+        self.send(rt, outbox)
     }
 
     /// A datagram reaches the client.
-    fn receive(&mut self, rt: &impl Abort, now: Millis, datagram: &[u8]) -> Result<(), Fail> {
+    fn receive(&mut self, rt: &impl Abort, now: Millis, datagram: &[u8]) {
         assert!(rt; self.client.may_step(now));
-        let mut outbox = Outbox::for_links(self.alloc, 1)?;
+        let mut outbox = Outbox::for_links(self.alloc, 1).expect(rt, "memory");
         self.client.settle(now);
         self.client
             .receive(now, datagram, &mut outbox, &mut self.indications);
         for indication in self.indications.as_slice() {
-            self.heard.push(*indication)?;
+            assert!(rt; self.heard.push(*indication).is_ok());
         }
-        self.send(outbox)
+        self.send(rt, outbox)
     }
 
     /// A step of the controller.
-    fn step(&mut self, rt: &impl Abort, now: Millis, input: Input) -> Result<(), Fail> {
+    fn step(&mut self, rt: &impl Abort, now: Millis, input: Input) {
         assert!(rt; self.hosted.may_step(now));
         self.hosted.step(now, input);
         for _ in 0..MANY {
             let Some(datagram) = self.hosted.take_first() else {
                 break;
             };
-            self.sent.push(datagram)?;
+            assert!(rt; self.sent.push(datagram).is_ok());
         }
-        Ok(())
     }
 
-    pub(crate) fn sense(&mut self, rt: &impl Abort, now: Millis, sense: Sense) -> Result<(), Fail> {
+    pub(crate) fn sense(&mut self, rt: &impl Abort, now: Millis, sense: Sense) {
         self.step(rt, now, Input::Sense(sense))
     }
 
     /// What the client said reaches the controller.
-    pub(crate) fn to_controller(&mut self, rt: &impl Abort, now: Millis) -> Result<(), Fail> {
+    pub(crate) fn to_controller(&mut self, rt: &impl Abort, now: Millis) {
         for _ in 0..MANY {
             if self.said.is_empty() {
                 break;
             }
             let datagram = self.said.remove(0);
-            self.step(rt, now, Input::Datagram(&datagram))?;
+            self.step(rt, now, Input::Datagram(&datagram));
         }
-        Ok(())
     }
 
     /// What the controller said reaches the client.
-    pub(crate) fn to_client(&mut self, rt: &impl Abort, now: Millis) -> Result<(), Fail> {
+    pub(crate) fn to_client(&mut self, rt: &impl Abort, now: Millis) {
         for _ in 0..MANY {
             if self.sent.is_empty() {
                 break;
             }
             let datagram = self.sent.remove(0);
-            self.receive(rt, now, &datagram)?;
+            self.receive(rt, now, &datagram);
         }
-        Ok(())
     }
 
     /// What either said reaches the other, to and fro, until nothing is on its way.
-    pub(crate) fn exchange(&mut self, rt: &impl Abort, now: Millis) -> Result<(), Fail> {
+    pub(crate) fn exchange(&mut self, rt: &impl Abort, now: Millis) {
         for _ in 0..8 {
-            self.to_controller(rt, now)?;
-            self.to_client(rt, now)?;
+            self.to_controller(rt, now);
+            self.to_client(rt, now);
         }
-        Ok(())
     }
 
     /// The client opens a connection at 100000, and the initialisation runs.
-    pub(crate) fn connect(&mut self, rt: &impl Abort) -> Result<(), Fail> {
-        self.tick(rt, OPENED_AT)?;
+    pub(crate) fn connect(&mut self, rt: &impl Abort) {
+        self.tick(rt, OPENED_AT);
         self.exchange(rt, OPENED_AT)
     }
 

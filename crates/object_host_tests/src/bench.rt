@@ -6,7 +6,6 @@ use rasta_pdu::{Body, Datagram, Item, Key, read};
 use sci_telegram::{Agreement, Initialisation, Message, Name, Protocol, Telegram, write};
 use std::alloc::Global;
 use std::process::Abort;
-use std::test::Fail;
 
 const KEY: Key = Key([1, 2, 3, 4]);
 
@@ -44,35 +43,31 @@ pub(crate) fn name(rt: &impl Abort, text: &str) -> Name {
 
 impl<C: Controller> Bench<C> {
     /// Both ends, with the first version of the telegrams.
-    pub(crate) fn new(rt: &impl Abort, alloc: Global, object: C) -> Result<Bench<C>, Fail> {
+    pub(crate) fn new(rt: &impl Abort, alloc: Global, object: C) -> Bench<C> {
         Bench::of_version(rt, alloc, object, 1)
     }
 
-    pub(crate) fn of_version(
-        rt: &impl Abort,
-        alloc: Global,
-        object: C,
-        version: u8,
-    ) -> Result<Bench<C>, Fail> {
+    pub(crate) fn of_version(rt: &impl Abort, alloc: Global, object: C, version: u8) -> Bench<C> {
         let protocol = object.protocol();
         let own = name(rt, "OC1");
         let peer = name(rt, "IXL1");
-        Ok(Bench {
+        Bench {
             protocol,
             version,
-            station: Link::client(alloc, STATION, CONTROLLER, KEY, 0, MADE_AT)?,
-            outbox: Outbox::for_links(alloc, 1)?,
+            station: Link::client(alloc, STATION, CONTROLLER, KEY, 0, MADE_AT).expect(rt, "memory"),
+            outbox: Outbox::for_links(alloc, 1).expect(rt, "memory"),
             inbox: Inbox::new(),
             hosted: Hosted::new(
                 alloc, CONTROLLER, STATION, own, peer, KEY, 0, MADE_AT, object, version,
-            )?,
+            )
+            .expect(rt, "memory"),
             sent: Vec::new(alloc),
             heard: Vec::new(alloc),
-        })
+        }
     }
 
     /// A controller whose initialisation was completed at 100000, and of which the station heard all.
-    pub(crate) fn ready(rt: &impl Abort, alloc: Global, object: C) -> Result<Bench<C>, Fail> {
+    pub(crate) fn ready(rt: &impl Abort, alloc: Global, object: C) -> Bench<C> {
         Bench::ready_in_version(rt, alloc, object, 1)
     }
 
@@ -81,23 +76,23 @@ impl<C: Controller> Bench<C> {
         alloc: Global,
         object: C,
         version: u8,
-    ) -> Result<Bench<C>, Fail> {
-        let mut bench = Bench::of_version(rt, alloc, object, version)?;
-        bench.connect(rt)?;
+    ) -> Bench<C> {
+        let mut bench = Bench::of_version(rt, alloc, object, version);
+        bench.connect(rt);
         bench.say(
             rt,
             OPENED_AT,
             bench.initialisation(Initialisation::VersionCheck { version }),
-        )?;
-        bench.exchange(rt, OPENED_AT)?;
+        );
+        bench.exchange(rt, OPENED_AT);
         bench.say(
             rt,
             OPENED_AT,
             bench.initialisation(Initialisation::InitialisationRequest),
-        )?;
-        bench.exchange(rt, OPENED_AT)?;
+        );
+        bench.exchange(rt, OPENED_AT);
         bench.heard.clear();
-        Ok(bench)
+        bench
     }
 
     /// How many items the controller has given in its connection.
@@ -115,22 +110,16 @@ impl<C: Controller> Bench<C> {
     }
 
     /// The station opens a connection at 100000.
-    pub(crate) fn connect(&mut self, rt: &impl Abort) -> Result<(), Fail> {
+    pub(crate) fn connect(&mut self, rt: &impl Abort) {
         assert!(rt; self.station.may_step(OPENED_AT));
         assert!(rt; self.outbox.has_room());
         assert!(rt; self.station.open(OPENED_AT, &mut self.outbox));
-        self.exchange(rt, OPENED_AT)?;
+        self.exchange(rt, OPENED_AT);
         assert!(rt; self.hosted.link().is_up(OPENED_AT));
-        Ok(())
     }
 
     /// The station sends a telegram.
-    pub(crate) fn say(
-        &mut self,
-        rt: &impl Abort,
-        now: Millis,
-        message: Message,
-    ) -> Result<(), Fail> {
+    pub(crate) fn say(&mut self, rt: &impl Abort, now: Millis, message: Message) {
         let telegram = Telegram {
             sender: name(rt, "IXL1"),
             receiver: name(rt, "OC1"),
@@ -139,16 +128,15 @@ impl<C: Controller> Bench<C> {
         self.send(rt, now, &write(&telegram))
     }
 
-    fn send(&mut self, rt: &impl Abort, now: Millis, item: &Item) -> Result<(), Fail> {
+    fn send(&mut self, rt: &impl Abort, now: Millis, item: &Item) {
         assert!(rt; self.station.may_step(now));
         assert!(rt; self.outbox.has_room());
         assert!(rt; self.station.send(now, item, &mut self.outbox).is_ok());
-        Ok(())
     }
 
     /// The station sends an item of these bytes.
-    pub(crate) fn say_bytes(&mut self, rt: &impl Abort, bytes: &[u8]) -> Result<(), Fail> {
-        let item = Item::of(bytes).ok_or("an item")?;
+    pub(crate) fn say_bytes(&mut self, rt: &impl Abort, bytes: &[u8]) {
+        let item = Item::of(bytes).expect(rt, "an item");
         self.send(rt, OPENED_AT, &item)
     }
 
@@ -159,7 +147,7 @@ impl<C: Controller> Bench<C> {
         sender: &str,
         receiver: &str,
         message: Message,
-    ) -> Result<(), Fail> {
+    ) {
         let telegram = Telegram {
             sender: name(rt, sender),
             receiver: name(rt, receiver),
@@ -169,7 +157,7 @@ impl<C: Controller> Bench<C> {
     }
 
     /// The station's heartbeat, which confirms what it has heard, reaches the controller.
-    pub(crate) fn confirm(&mut self, rt: &impl Abort, now: Millis) -> Result<(), Fail> {
+    pub(crate) fn confirm(&mut self, rt: &impl Abort, now: Millis) {
         assert!(rt; self.station.may_step(now));
         assert!(rt; self.outbox.has_room());
         self.station.tick(now, &mut self.outbox);
@@ -177,35 +165,33 @@ impl<C: Controller> Bench<C> {
     }
 
     /// A step of the controller.
-    pub(crate) fn step(&mut self, rt: &impl Abort, now: Millis, input: Input) -> Result<(), Fail> {
+    pub(crate) fn step(&mut self, rt: &impl Abort, now: Millis, input: Input) {
         assert!(rt; self.hosted.may_step(now));
         self.hosted.step(now, input);
         for _ in 0..MANY {
             let Some(datagram) = self.hosted.take_first() else {
                 break;
             };
-            self.sent.push(datagram)?;
+            assert!(rt; self.sent.push(datagram).is_ok());
         }
-        Ok(())
     }
 
-    pub(crate) fn sense(&mut self, rt: &impl Abort, now: Millis, sense: Sense) -> Result<(), Fail> {
+    pub(crate) fn sense(&mut self, rt: &impl Abort, now: Millis, sense: Sense) {
         self.step(rt, now, Input::Sense(sense))
     }
 
     /// What the station said reaches the controller.
-    pub(crate) fn to_controller(&mut self, rt: &impl Abort, now: Millis) -> Result<(), Fail> {
+    pub(crate) fn to_controller(&mut self, rt: &impl Abort, now: Millis) {
         for _ in 0..MANY {
             let Some(datagram) = self.outbox.take_first() else {
                 break;
             };
-            self.step(rt, now, Input::Datagram(&datagram))?;
+            self.step(rt, now, Input::Datagram(&datagram));
         }
-        Ok(())
     }
 
     /// What the controller said reaches the station.
-    pub(crate) fn to_station(&mut self, rt: &impl Abort, now: Millis) -> Result<(), Fail> {
+    pub(crate) fn to_station(&mut self, rt: &impl Abort, now: Millis) {
         for _ in 0..MANY {
             if self.sent.is_empty() {
                 break;
@@ -215,50 +201,43 @@ impl<C: Controller> Bench<C> {
             assert!(rt; self.outbox.has_room());
             self.station
                 .receive(now, &datagram, &mut self.outbox, &mut self.inbox);
-            self.note(rt)?;
+            self.note(rt);
         }
-        Ok(())
     }
 
     /// The items that the last datagram brought are heard.
-    fn note(&mut self, rt: &impl Abort) -> Result<(), Fail> {
+    fn note(&mut self, rt: &impl Abort) {
         for item in self.inbox.as_slice() {
             let telegram = sci_telegram::read(item.bytes()).expect(rt, "a telegram");
-            self.heard.push(telegram)?;
+            assert!(rt; self.heard.push(telegram).is_ok());
         }
-        Ok(())
     }
 
     /// What either said reaches the other, and what that says in answer.
-    pub(crate) fn exchange(&mut self, rt: &impl Abort, now: Millis) -> Result<(), Fail> {
-        self.to_controller(rt, now)?;
-        self.to_station(rt, now)?;
+    pub(crate) fn exchange(&mut self, rt: &impl Abort, now: Millis) {
+        self.to_controller(rt, now);
+        self.to_station(rt, now);
         self.to_controller(rt, now)
     }
 
     /// Both tick, and what they say arrives.
-    pub(crate) fn tick(&mut self, rt: &impl Abort, now: Millis) -> Result<(), Fail> {
+    pub(crate) fn tick(&mut self, rt: &impl Abort, now: Millis) {
         assert!(rt; self.station.may_step(now));
         assert!(rt; self.outbox.has_room());
         self.station.tick(now, &mut self.outbox);
-        self.to_controller(rt, now)?;
-        self.step(rt, now, Input::Tick)?;
+        self.to_controller(rt, now);
+        self.step(rt, now, Input::Tick);
         self.to_station(rt, now)
     }
 
     /// So many ticks, 300 ms apart, keep the link up; the last clock reading is answered.
-    pub(crate) fn keep_up(
-        &mut self,
-        rt: &impl Abort,
-        from: Millis,
-        turns: u64,
-    ) -> Result<Millis, Fail> {
+    pub(crate) fn keep_up(&mut self, rt: &impl Abort, from: Millis, turns: u64) -> Millis {
         let mut now = from;
         for _ in 0..turns {
             now = now.saturating_add(300);
-            self.tick(rt, now)?;
+            self.tick(rt, now);
         }
-        Ok(now)
+        now
     }
 
     /// The oldest telegram that the station heard and that wasn't looked at yet is this one of this sender.
@@ -301,9 +280,9 @@ impl<C: Controller> Bench<C> {
     }
 
     /// The only datagram of the last step.
-    pub(crate) fn answer(&self) -> Result<&[u8], Fail> {
-        let datagram = self.sent.first().ok_or("it answered")?;
-        Ok(datagram.as_slice())
+    pub(crate) fn answer(&self, rt: &impl Abort) -> &[u8] {
+        let datagram = self.sent.first().expect(rt, "it answered");
+        datagram.as_slice()
     }
 
     /// How many datagrams the controller handed out that the station hasn't received.

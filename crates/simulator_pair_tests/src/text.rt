@@ -1,8 +1,9 @@
 //! A run is made again where memory is lacking, so the tests also hold with any one allocation refused: it then ends
 //! with status 1 and says so, or answers `no 6` to a line and goes on.
 
+use arrayvec::ArrayVec;
 use event_words::Fault;
-use simulator_pair_text::{LineFault, judge, pair_text};
+use simulator_pair_text::{Failure, LineFault, judge, pair_text, tell};
 use std::alloc::{AllocError, Global};
 use std::io;
 use std::io::Write;
@@ -460,4 +461,13 @@ fn faults_have_their_numbers_and_texts(rt: HostRuntime) -> Result<(), Fail> {
         assert!(rt; printed.as_str() == text);
     }
     Ok(())
+}
+
+#[test]
+fn want_of_memory_has_a_line_of_its_own_and_a_failed_write_none(rt: HostRuntime) {
+    let mut told: ArrayVec<u8, 64> = ArrayVec::new();
+    tell(&Failure::NotWritten, &mut told);
+    assert!(rt; told.is_empty());
+    tell(&Failure::OutOfMemory, &mut told);
+    assert!(rt; told.as_slice() == b"out of memory\n".as_slice());
 }

@@ -15,7 +15,7 @@ const LINE_LENGTH: usize = 64;
 
 /// Why a text wasn't run to its end.
 #[derive(Debug, Drop)]
-pub(crate) enum Failure {
+pub enum Failure {
     /// A line is faulty.
     Faulty(LineFault),
     /// A new pair takes memory.
@@ -77,7 +77,7 @@ fn line(failure: &Failure) -> Result<ArrayString<LINE_LENGTH>, fmt::Error>
 }
 
 /// Writes the line of a failure, or as much of it as the writer takes.
-pub(crate) fn tell<E: Write>(failure: &Failure, err: &mut E)
+pub fn tell<E: Write>(failure: &Failure, err: &mut E)
     ensures { Tells failure.now (E.contents err.old) (E.contents err.new) }
 {
     if let Ok(line) = line(failure) {

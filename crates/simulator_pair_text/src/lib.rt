@@ -10,6 +10,7 @@ mod print;
 mod run;
 mod text;
 
+pub use failure::{Failure, tell};
 pub use line::{PairLine, read_line};
 pub use print::pair_text;
 pub use text::{LineFault, judge};
