@@ -134,7 +134,7 @@ def cases():
         lines = [it.split(" = ")[0] for it in open(f"{DATA}/{name}.session").read().splitlines()]
         yield {"name": name, "layout": small, "nodes": SMALL, "lines": lines, "route": "R1", "next": "R2"}
     begun = ["flow 8000", "resume"]
-    wrap = ["restart IXL1 4294960000 0", "restart S1 4294961000 7"]
+    wrap = ["restart IXL1 4294959000 0", "restart S1 4294958796 7"]
     for name, before, layout, nodes, route, after, sections in (
         ("small, stamps that wrap", wrap, small, SMALL, "R1", "R2", ["GP", "G2"]),
         ("junction", [], junction, JUNCTION, "R2", "R4", ["GP1", "GP2", "GB2"]),
