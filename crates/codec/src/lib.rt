@@ -4,11 +4,11 @@
 
 mod bytes;
 mod key;
-mod layout_text;
+mod layouts;
 mod pdu;
 mod telegram;
 
 pub use key::KeyRegisters;
-pub use layout_text::zendurai_layout_read;
+pub use layouts::zendurai_layout_read;
 pub use pdu::{PduFields, zendurai_pdu_read, zendurai_pdu_write};
 pub use telegram::{TelegramFields, zendurai_telegram_read, zendurai_telegram_write};

@@ -17,8 +17,8 @@ use Rattle.layout.specs.declared.ids.RouteId.{RouteId}
 use Rattle.layout.specs.declared.port.Port.{Port}
 use Rattle.layout.specs.declared.port.Element.{Element}
 use Rattle.layout.specs.declared.port.Element.TheVariants as of
-use Rattle.layout.specs.declared.port.End.{End}
-use Rattle.layout.specs.declared.port.End.TheVariants as end
+use Rattle.layout_text.specs.declared.entries.End.{End}
+use Rattle.layout_text.specs.declared.entries.End.TheVariants as end
 use Rattle.layout.specs.Entries.{RouteEntry, Plan}
 use Rattle.layout.specs.Resolving.{has_port}
 use Rattle.layout.specs.Station.{HasSection, HasPoint, HasElement, HasPort, IsRouteOf, IsStation}

@@ -13,8 +13,8 @@ use Rattle.layout.specs.declared.ids.BorderId.{BorderId}
 use Rattle.layout.specs.declared.port.Port.{Port}
 use Rattle.layout.specs.declared.port.Element.{Element}
 use Rattle.layout.specs.declared.port.Element.TheVariants as element
-use Rattle.layout.specs.declared.port.End.{End}
-use Rattle.layout.specs.declared.port.End.TheVariants as end
+use Rattle.layout_text.specs.declared.entries.End.{End}
+use Rattle.layout_text.specs.declared.entries.End.TheVariants as end
 use Rattle.layout.specs.declared.entries.Joint.{Joint}
 use Rattle.layout.specs.declared.entries.Signal.{Signal}
 use Rattle.layout.specs.declared.entries.Exit.{Exit}

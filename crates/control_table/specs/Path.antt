@@ -7,7 +7,7 @@ use Rattle.layout.specs.declared.ids.SignalId.{SignalId}
 use Rattle.layout.specs.declared.port.Port.{Port}
 use Rattle.layout.specs.declared.port.Element.{Element}
 use Rattle.layout.specs.declared.port.Element.TheVariants as of
-use Rattle.layout.specs.declared.port.End.TheVariants as end
+use Rattle.layout_text.specs.declared.entries.End.TheVariants as end
 use Rattle.layout.specs.declared.entries.Exit.{Exit}
 use Rattle.layout.specs.declared.entries.Exit.TheVariants as exit
 use Rattle.layout.specs.Entries.{RouteEntry, Plan}

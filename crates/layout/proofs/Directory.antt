@@ -4,13 +4,13 @@ use Rattle.std.proofs.lemmas.Bool.Decides.{Decides-eqb}
 use Rattle.std.proofs.lemmas.Option.{slice_get_within}
 use Rattle.std.proofs.lemmas.List.Elements.{All-nil, All-head, All-tail, All-same, All-push}
 use Rattle.std.specs.Map.{lookup}
-use Rattle.layout.specs.declared.fault.LayoutFault.TheVariants.{UnknownName}
-use Rattle.layout.specs.declared.fault.Place.{Place}
-use Rattle.layout.specs.declared.fault.TableName.{TableName}
-use Rattle.layout.specs.declared.fault.TableName.TheVariants as named
+use Rattle.layout_text.specs.declared.fault.LayoutFault.TheVariants.{UnknownName}
+use Rattle.layout_text.specs.declared.fault.Place.{Place}
+use Rattle.layout_text.specs.declared.fault.TableName.{TableName}
+use Rattle.layout_text.specs.declared.fault.TableName.TheVariants as named
 use Rattle.layout.specs.declared.known.Double.TheVariants as double
-use Rattle.layout.specs.Written.{LayoutText}
-use Rattle.layout.specs.Reading.{◌>>=◌}
+use Rattle.layout_text.specs.Written.{LayoutText}
+use Rattle.layout_text.specs.Reading.{◌>>=◌}
 use Rattle.layout.specs.Known.{same_name, note_key, note_each}
 use Rattle.layout.specs.Doubles.{ground_of, directory_of}
 use Rattle.layout.specs.Resolving.{table_number, entry_named, number_in, number_named}

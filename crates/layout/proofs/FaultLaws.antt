@@ -3,17 +3,17 @@ use Rattle.std.proofs.Common.{◌≡◌, ◌⊎◌, ℕ, suc, Bool, true, false,
 use Rattle.std.proofs.lemmas.List.{append-nil}
 use Rattle.std.specs.Map.{lookup, keys_of}
 use Rattle.toml.specs.Parse.{parse_document}
-use Rattle.layout.specs.declared.fault.LayoutFault.{LayoutFault}
-use Rattle.layout.specs.declared.fault.LayoutFault.TheVariants.{Toml, MissingKey, WrongKind, UnknownName, DoubleName, DoubleJoint, Limit, OutOfMemory}
-use Rattle.layout.specs.declared.fault.Place.{Place}
-use Rattle.layout.specs.declared.fault.TableName.{TableName}
-use Rattle.layout.specs.declared.fault.TableName.TheVariants as named
+use Rattle.layout_text.specs.declared.fault.LayoutFault.{LayoutFault}
+use Rattle.layout_text.specs.declared.fault.LayoutFault.TheVariants.{Toml, MissingKey, WrongKind, UnknownName, DoubleName, DoubleJoint, Limit, OutOfMemory}
+use Rattle.layout_text.specs.declared.fault.Place.{Place}
+use Rattle.layout_text.specs.declared.fault.TableName.{TableName}
+use Rattle.layout_text.specs.declared.fault.TableName.TheVariants as named
 use Rattle.layout.specs.declared.known.Double.{Double}
 use Rattle.layout.specs.declared.known.Double.TheVariants as double
 use Rattle.layout.specs.Entries.{Plan}
-use Rattle.layout.specs.Written.{LayoutText}
-use Rattle.layout.specs.Reading.{◌>>=◌, Fails, Gives}
-use Rattle.layout.specs.Text.{text_of, document_of}
+use Rattle.layout_text.specs.Written.{LayoutText}
+use Rattle.layout_text.specs.Reading.{◌>>=◌, Fails, Gives}
+use Rattle.layout_text.specs.Text.{text_of, document_of}
 use Rattle.layout.specs.Limits.{limits_of, all_within}
 use Rattle.layout.specs.Known.{same_name, same_port, double_fault, note_key, note_each, note_all, note_lists}
 use Rattle.layout.specs.Doubles.{same_id, sections_reported, ports_joined, ground_of, directory_of, ids_of, reported_of, joined_of, signalled_of}

@@ -3,18 +3,29 @@ use Rattle.std.proofs.Common.{◌≡◌, ℕ, zero, suc, ◌+◌, ◌≤◌, ◌
 use Rattle.std.proofs.lemmas.Bool.{false≢true}
 use Rattle.std.proofs.lemmas.List.{drop_more, drop_all}
 use Rattle.std.specs.Map.{lookup}
-use Rattle.layout.specs.declared.fault.LayoutFault.{LayoutFault}
-use Rattle.layout.specs.declared.fault.Place.{Place}
-use Rattle.layout.specs.declared.fault.TableName.{TableName}
+use Rattle.layout_text.specs.declared.fault.LayoutFault.{LayoutFault}
+use Rattle.layout_text.specs.declared.fault.LayoutFault.TheVariants.{Toml, MissingKey, WrongKind, UnknownName, DoubleName, DoubleJoint, Limit, OutOfMemory}
+use Rattle.layout_text.specs.declared.fault.Place.{Place}
+use Rattle.layout_text.specs.declared.fault.TableName.{TableName}
 use Rattle.layout.specs.declared.known.Double.{Double}
 use Rattle.layout.specs.declared.entries.Joint.{Joint}
 use Rattle.layout.specs.declared.port.Port.{Port}
 use Rattle.layout.specs.declared.port.Element.TheVariants.{Track}
-use Rattle.layout.specs.declared.port.End.TheVariants as end
-use Rattle.layout.specs.Reading.{◌>>=◌, Fails, each_of}
+use Rattle.layout_text.specs.declared.entries.End.TheVariants as end
+use Rattle.layout_text.specs.Reading.{◌>>=◌, Fails, each_of}
 use Rattle.layout.specs.contracts.port.PortPartialEq.TheImpl as PortEq
 use Rattle.layout.specs.Known.{same_port, note_key, note_each, note_all, note_lists}
-use Rattle.layout.proofs.Loops.{failed}
+
+-- where one part fails, the whole does
+failed : {A B : Type 0} (f : LayoutFault) (read : Result A LayoutFault) (total : Result B LayoutFault) → Fails f read → (read ≡ Err f → total ≡ Err f) → Fails f total
+failed OutOfMemory read total h then = tt
+failed Toml read total h then = then h
+failed (MissingKey p) read total h then = then h
+failed (WrongKind p) read total h then = then h
+failed (UnknownName p) read total h then = then h
+failed (DoubleName p) read total h then = then h
+failed (DoubleJoint p) read total h then = then h
+failed (Limit p) read total h then = then h
 
 nothing : {A : Type 0} (o : Option A) → is_some o ≡ false → o ≡ None
 nothing None h = refl

@@ -8,15 +8,15 @@ use Rattle.std.proofs.lemmas.List.Quantifiers.{all_pairs_push}
 use Rattle.std.proofs.lemmas.Map.{NonePasses, none_passes_from_lookup}
 use Rattle.std.specs.Map.{lookup, keys_of}
 use Rattle.sci_telegram.specs.Names.{name_field}
-use Rattle.layout.specs.declared.fault.LayoutFault.{LayoutFault}
-use Rattle.layout.specs.declared.fault.Place.{Place}
-use Rattle.layout.specs.declared.fault.TableName.{TableName}
+use Rattle.layout_text.specs.declared.fault.LayoutFault.{LayoutFault}
+use Rattle.layout_text.specs.declared.fault.Place.{Place}
+use Rattle.layout_text.specs.declared.fault.TableName.{TableName}
 use Rattle.layout.specs.declared.known.Double.{Double}
 use Rattle.layout.specs.declared.port.Port.{Port}
 use Rattle.layout.specs.declared.port.Element.{Element}
 use Rattle.layout.specs.declared.port.Element.TheVariants.{Track, Point, Border}
 use Rattle.layout.specs.declared.entries.Joint.{Joint}
-use Rattle.layout.specs.Reading.{◌>>=◌, each_of}
+use Rattle.layout_text.specs.Reading.{◌>>=◌, each_of}
 use Rattle.layout.specs.Known.{same_name, same_element, same_port, note_key, note_each, note_all, note_lists}
 use Rattle.layout.specs.Doubles.{same_id, ports_joined}
 use Rattle.layout.specs.Once.{Distinct, joined_ports}

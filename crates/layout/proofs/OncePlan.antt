@@ -1,18 +1,18 @@
 -- A layout that passed the tests has nothing twice.
 use Rattle.std.proofs.Common.{◌≡◌, ℕ, List, [], ◌∷◌, ◌++◌, map, Ok, refl, sym, ap, ◌∙◌, append_assoc}
 use Rattle.std.specs.Map.{keys_of}
-use Rattle.layout.specs.declared.fault.Place.{Place}
-use Rattle.layout.specs.declared.fault.TableName.TheVariants as named
+use Rattle.layout_text.specs.declared.fault.Place.{Place}
+use Rattle.layout_text.specs.declared.fault.TableName.TheVariants as named
 use Rattle.layout.specs.declared.known.Double.TheVariants as double
 use Rattle.layout.specs.declared.entries.Track.{Track}
 use Rattle.layout.specs.declared.entries.Point.{Point}
 use Rattle.layout.specs.declared.entries.Signal.{Signal}
-use Rattle.layout.specs.declared.written.WrittenTrack.{WrittenTrack}
-use Rattle.layout.specs.declared.written.WrittenPoint.{WrittenPoint}
-use Rattle.layout.specs.declared.written.WrittenSignal.{WrittenSignal}
+use Rattle.layout_text.specs.declared.entries.WrittenTrack.{WrittenTrack}
+use Rattle.layout_text.specs.declared.entries.WrittenPoint.{WrittenPoint}
+use Rattle.layout_text.specs.declared.entries.WrittenSignal.{WrittenSignal}
 use Rattle.layout.specs.Entries.{DetectorEntry, RouteEntry, Plan}
-use Rattle.layout.specs.Written.{DetectorText, RouteText, LayoutText}
-use Rattle.layout.specs.Reading.{◌>>=◌, each_of, all_of}
+use Rattle.layout_text.specs.Written.{DetectorText, RouteText, LayoutText}
+use Rattle.layout_text.specs.Reading.{◌>>=◌, each_of, all_of}
 use Rattle.layout.specs.Known.{same_name, same_port, note_key, note_each}
 use Rattle.layout.specs.Limits.{limits_of, all_within}
 use Rattle.layout.specs.Doubles.{ports_joined, same_id, ground_of, directory_of, ids_of, reported_of, joined_of, signalled_of}

@@ -6,15 +6,15 @@ use Rattle.std.proofs.lemmas.Slice.Eq.{bytes_eq-Decides}
 use Rattle.std.proofs.lemmas.List.Kept.{AllPairs-cons}
 use Rattle.std.specs.Map.{lookup, keys_of}
 use Rattle.sci_telegram.specs.Names.{name_field}
-use Rattle.layout.specs.declared.fault.LayoutFault.TheVariants.{UnknownName}
-use Rattle.layout.specs.declared.fault.Place.{Place}
-use Rattle.layout.specs.declared.fault.TableName.{TableName}
-use Rattle.layout.specs.declared.fault.TableName.TheVariants as named
+use Rattle.layout_text.specs.declared.fault.LayoutFault.TheVariants.{UnknownName}
+use Rattle.layout_text.specs.declared.fault.Place.{Place}
+use Rattle.layout_text.specs.declared.fault.TableName.{TableName}
+use Rattle.layout_text.specs.declared.fault.TableName.TheVariants as named
 use Rattle.layout.specs.declared.known.Double.TheVariants as double
 use Rattle.layout.specs.declared.ids.SectionId.{SectionId}
 use Rattle.layout.specs.Entries.{DetectorEntry}
-use Rattle.layout.specs.Written.{DetectorText, LayoutText}
-use Rattle.layout.specs.Reading.{each_of, all_of}
+use Rattle.layout_text.specs.Written.{DetectorText, LayoutText}
+use Rattle.layout_text.specs.Reading.{each_of, all_of}
 use Rattle.layout.specs.Known.{same_name}
 use Rattle.layout.specs.Limits.{all_within}
 use Rattle.layout.specs.Doubles.{sections_reported, reported_of}

@@ -3,11 +3,11 @@ use Rattle.std.proofs.Common.{◌≡◌, ◌≢◌, ℕ, ◌-◌, ◌≤◌, ◌
 use Rattle.std.specs.Option.{ok_or, option_and_then}
 use Rattle.sci_telegram.specs.declared.message.Aspect.TheVariants.{Stop}
 use Rattle.sci_telegram.specs.declared.message.Side.{Side}
-use Rattle.layout.specs.declared.fault.LayoutFault.{LayoutFault}
-use Rattle.layout.specs.declared.fault.LayoutFault.TheVariants.{UnknownName}
-use Rattle.layout.specs.declared.fault.Place.{Place}
-use Rattle.layout.specs.declared.fault.TableName.{TableName}
-use Rattle.layout.specs.declared.fault.TableName.TheVariants as named
+use Rattle.layout_text.specs.declared.fault.LayoutFault.{LayoutFault}
+use Rattle.layout_text.specs.declared.fault.LayoutFault.TheVariants.{UnknownName}
+use Rattle.layout_text.specs.declared.fault.Place.{Place}
+use Rattle.layout_text.specs.declared.fault.TableName.{TableName}
+use Rattle.layout_text.specs.declared.fault.TableName.TheVariants as named
 use Rattle.layout.specs.declared.ids.SectionId.{SectionId}
 use Rattle.layout.specs.declared.ids.PointId.{PointId}
 use Rattle.layout.specs.declared.ids.SignalId.{SignalId}
@@ -21,14 +21,14 @@ use Rattle.layout.specs.declared.entries.Track.{Track}
 use Rattle.layout.specs.declared.entries.Point.{Point}
 use Rattle.layout.specs.declared.entries.Joint.{Joint}
 use Rattle.layout.specs.declared.entries.Signal.{Signal}
-use Rattle.layout.specs.declared.written.PortName.{PortName}
-use Rattle.layout.specs.declared.written.WrittenTrack.{WrittenTrack}
-use Rattle.layout.specs.declared.written.WrittenPoint.{WrittenPoint}
-use Rattle.layout.specs.declared.written.WrittenJoint.{WrittenJoint}
-use Rattle.layout.specs.declared.written.WrittenSignal.{WrittenSignal}
+use Rattle.layout_text.specs.declared.entries.PortName.{PortName}
+use Rattle.layout_text.specs.declared.entries.WrittenTrack.{WrittenTrack}
+use Rattle.layout_text.specs.declared.entries.WrittenPoint.{WrittenPoint}
+use Rattle.layout_text.specs.declared.entries.WrittenJoint.{WrittenJoint}
+use Rattle.layout_text.specs.declared.entries.WrittenSignal.{WrittenSignal}
 use Rattle.layout.specs.Entries.{DetectorEntry, RouteEntry, Plan}
-use Rattle.layout.specs.Written.{DetectorText, RouteText, LayoutText}
-use Rattle.layout.specs.Reading.{all_of}
+use Rattle.layout_text.specs.Written.{DetectorText, RouteText, LayoutText}
+use Rattle.layout_text.specs.Reading.{all_of}
 use Rattle.layout.specs.Resolving.{element_of, exit_of, has_port, entry_named, number_named, section_named, signal_named, route_named, side_named, exit_named, element_named, port_named, track_named, point_named, joint_named, signal_entry, detector_entry, route_entry}
 use Rattle.layout.specs.Station.{HasSection, HasPoint, HasSignal, HasRoute, HasElement, HasExit, HasPort, IsRouteOf, IsDetectorOf}
 use Rattle.layout.proofs.OnceLemmas.{came_from, same_ok}

@@ -5,15 +5,15 @@ use Rattle.std.proofs.lemmas.List.{length-map, length-append, get_or_append_left
 use Rattle.sci_telegram.specs.declared.message.Aspect.TheVariants.{Stop}
 use Rattle.sci_telegram.specs.Names.{IsName}
 use Rattle.toml.specs.Data.{Members}
-use Rattle.layout.specs.declared.fault.LayoutFault.TheVariants.{Limit}
-use Rattle.layout.specs.declared.fault.Place.{Place}
-use Rattle.layout.specs.declared.fault.TableName.{TableName}
-use Rattle.layout.specs.declared.fault.TableName.TheVariants as named
+use Rattle.layout_text.specs.declared.fault.LayoutFault.TheVariants.{Limit}
+use Rattle.layout_text.specs.declared.fault.Place.{Place}
+use Rattle.layout_text.specs.declared.fault.TableName.{TableName}
+use Rattle.layout_text.specs.declared.fault.TableName.TheVariants as named
 use Rattle.layout.specs.Entries.{Plan}
-use Rattle.layout.specs.Written.{DetectorText, RouteText, LayoutText}
-use Rattle.layout.specs.Reading.{◌>>=◌, each_of}
+use Rattle.layout_text.specs.Written.{DetectorText, RouteText, LayoutText}
+use Rattle.layout_text.specs.Reading.{◌>>=◌, each_of}
 use Rattle.layout.specs.Known.{same_name}
-use Rattle.layout.specs.Text.{text_of}
+use Rattle.layout_text.specs.Text.{text_of}
 use Rattle.layout.specs.Limits.{at_most, detector_limit, route_limit, all_within, limits_of}
 use Rattle.layout.specs.Doubles.{sections_reported, directory_of, ids_of, reported_of}
 use Rattle.layout.specs.Resolving.{track_named, point_named, joint_named, signal_entry, detector_entry, route_entry, section_reported, plan_of, names_of, entries_of}

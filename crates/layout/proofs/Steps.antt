@@ -2,10 +2,10 @@
 use Rattle.std.proofs.Common.{◌≡◌, nat_le, leb-true, le-leb, ℕ, suc, ◌+◌, ◌≤◌, Bool, true, false, List, [], ◌∷◌, length, All, Result, Ok, Err, if◌then◌else◌, refl, sym, ap, ◌∙◌, arith, rules}
 use Rattle.std.specs.Bool.{Decides}
 use Rattle.std.proofs.lemmas.List.Elements.{All-nil, All-cons, All-head, All-tail, All-same}
-use Rattle.layout.specs.declared.fault.LayoutFault.{LayoutFault}
-use Rattle.layout.specs.declared.fault.Place.{Place}
-use Rattle.layout.specs.declared.fault.TableName.{TableName}
-use Rattle.layout.specs.Reading.{◌>>=◌, each_of, all_of}
+use Rattle.layout_text.specs.declared.fault.LayoutFault.{LayoutFault}
+use Rattle.layout_text.specs.declared.fault.Place.{Place}
+use Rattle.layout_text.specs.declared.fault.TableName.{TableName}
+use Rattle.layout_text.specs.Reading.{◌>>=◌, each_of, all_of}
 use Rattle.layout.proofs.OnceLemmas.{came_from, same_ok}
 
 pub le-decides : (a b : ℕ) → Decides (nat_le a b) (a ≤ b)

@@ -6,17 +6,17 @@ use Rattle.std.proofs.lemmas.List.Elements.{All-cons, All-append, All-map}
 use Rattle.sci_telegram.specs.declared.message.Aspect.{Aspect}
 use Rattle.sci_telegram.specs.declared.message.Aspect.TheVariants.{Stop, Proceed, Slow}
 use Rattle.toml.specs.Data.{Data, Members, as_integer, get_member}
-use Rattle.layout.specs.declared.fault.LayoutFault.TheVariants.{WrongKind}
-use Rattle.layout.specs.declared.fault.Place.{Place}
-use Rattle.layout.specs.declared.fault.TableName.{TableName}
-use Rattle.layout.specs.declared.fault.TableName.TheVariants as named
-use Rattle.layout.specs.declared.entries.Station.{Station}
-use Rattle.layout.specs.declared.written.WrittenPoint.{WrittenPoint}
-use Rattle.layout.specs.declared.written.WrittenSignal.{WrittenSignal}
-use Rattle.layout.specs.Written.{DetectorText, RouteText, LayoutText}
-use Rattle.layout.specs.Reading.{Read}
-use Rattle.layout.specs.Values.{field_at, text_at, table_at, name_at, id_of, aspect_at}
-use Rattle.layout.specs.Text.{key_place, name_field, id_field, port_field, names_field, ports_field, sides_field, names_at, sides_at, list_or_empty, aspect_or_proceed, key_or_none, station_at, track_at, point_at, joint_at, signal_at, detector_at, route_at, items_at, entries_at, station_in, text_of}
+use Rattle.layout_text.specs.declared.fault.LayoutFault.TheVariants.{WrongKind}
+use Rattle.layout_text.specs.declared.fault.Place.{Place}
+use Rattle.layout_text.specs.declared.fault.TableName.{TableName}
+use Rattle.layout_text.specs.declared.fault.TableName.TheVariants as named
+use Rattle.layout_text.specs.declared.entries.Station.{Station}
+use Rattle.layout_text.specs.declared.entries.WrittenPoint.{WrittenPoint}
+use Rattle.layout_text.specs.declared.entries.WrittenSignal.{WrittenSignal}
+use Rattle.layout_text.specs.Written.{DetectorText, RouteText, LayoutText}
+use Rattle.layout_text.specs.Reading.{Read}
+use Rattle.layout_text.specs.Values.{field_at, text_at, table_at, name_at, id_of, aspect_at}
+use Rattle.layout_text.specs.Text.{key_place, name_field, id_field, port_field, names_field, ports_field, sides_field, names_at, sides_at, list_or_empty, aspect_or_proceed, key_or_none, station_at, track_at, point_at, joint_at, signal_at, detector_at, route_at, items_at, entries_at, station_in, text_of}
 use Rattle.layout.specs.Station.{IsNodeId}
 use Rattle.layout.proofs.OnceLemmas.{came_from, same_ok}
 use Rattle.layout.proofs.Steps.{le-decides, passed, each-all}

@@ -1,14 +1,14 @@
 -- What stands in a layout once: names, identities, sections of detectors, and ports.
 use Rattle.std.specs.Prelude.{ℕ, ◌==◌, Bool, List, [], ◌∷◌, map}
-use Rattle.layout.specs.declared.fault.Place.{Place}
-use Rattle.layout.specs.declared.fault.TableName.TheVariants as named
+use Rattle.layout_text.specs.declared.fault.Place.{Place}
+use Rattle.layout_text.specs.declared.fault.TableName.TheVariants as named
 use Rattle.layout.specs.declared.known.Double.TheVariants as double
 use Rattle.layout.specs.declared.port.Port.{Port}
 use Rattle.layout.specs.declared.entries.Joint.{Joint}
 use Rattle.layout.specs.declared.entries.Signal.{Signal}
-use Rattle.layout.specs.Reading.{Read, ◌>>=◌}
+use Rattle.layout_text.specs.Reading.{Read, ◌>>=◌}
 use Rattle.layout.specs.Known.{note_key, note_each, note_lists, same_name, same_port}
-use Rattle.layout.specs.Written.{DetectorText, LayoutText}
+use Rattle.layout_text.specs.Written.{DetectorText, LayoutText}
 
 abbrev pub same_id : ℕ → ℕ → Bool
 same_id a b = a == b

@@ -8,7 +8,7 @@ use Rattle.layout.specs.declared.ids.SignalId.{SignalId}
 use Rattle.layout.specs.declared.ids.RouteId.{RouteId}
 use Rattle.layout.specs.declared.port.Port.{Port}
 use Rattle.layout.specs.declared.entries.Exit.{Exit}
-use Rattle.layout.specs.declared.entries.Station.{Station}
+use Rattle.layout_text.specs.declared.entries.Station.{Station}
 use Rattle.layout.specs.declared.entries.Track.{Track}
 use Rattle.layout.specs.declared.entries.Point.{Point}
 use Rattle.layout.specs.declared.entries.Joint.{Joint}

@@ -2,16 +2,16 @@
 use Rattle.std.specs.Prelude.{◌≡◌, ◌⊎◌, ℕ, suc, Bool, true, false, List, [], ◌∷◌, ◌++◌, map, Ok, Err}
 use Rattle.std.specs.List.{AllPairs, Contains}
 use Rattle.toml.specs.Parse.{parse_document}
-use Rattle.layout.specs.declared.fault.LayoutFault.{LayoutFault}
-use Rattle.layout.specs.declared.fault.LayoutFault.TheVariants.{DoubleName, DoubleJoint, OutOfMemory}
-use Rattle.layout.specs.declared.fault.Place.{Place}
-use Rattle.layout.specs.declared.fault.TableName.{TableName}
-use Rattle.layout.specs.declared.fault.TableName.TheVariants as named
+use Rattle.layout_text.specs.declared.fault.LayoutFault.{LayoutFault}
+use Rattle.layout_text.specs.declared.fault.LayoutFault.TheVariants.{DoubleName, DoubleJoint, OutOfMemory}
+use Rattle.layout_text.specs.declared.fault.Place.{Place}
+use Rattle.layout_text.specs.declared.fault.TableName.{TableName}
+use Rattle.layout_text.specs.declared.fault.TableName.TheVariants as named
 use Rattle.layout.specs.declared.port.Port.{Port}
 use Rattle.layout.specs.Entries.{Plan}
-use Rattle.layout.specs.Written.{LayoutText}
-use Rattle.layout.specs.Reading.{Read, ◌>>=◌}
-use Rattle.layout.specs.Text.{text_of, document_of}
+use Rattle.layout_text.specs.Written.{LayoutText}
+use Rattle.layout_text.specs.Reading.{Read, ◌>>=◌}
+use Rattle.layout_text.specs.Text.{text_of, document_of}
 use Rattle.layout.specs.Limits.{limits_of}
 use Rattle.layout.specs.Known.{same_name, same_port}
 use Rattle.layout.specs.Doubles.{same_id, sections_reported, ports_joined}

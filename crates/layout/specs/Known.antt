@@ -3,18 +3,18 @@ use Rattle.std.specs.Prelude.{ℕ, suc, Bool, false, ◌==◌, ◌&&◌, List, [
 use Rattle.std.specs.Map.{lookup}
 use Rattle.std.specs.Str.{bytes_eq}
 use Rattle.sci_telegram.specs.Names.{name_field}
-use Rattle.layout.specs.declared.fault.LayoutFault.{LayoutFault}
-use Rattle.layout.specs.declared.fault.LayoutFault.TheVariants.{DoubleName, DoubleJoint}
-use Rattle.layout.specs.declared.fault.Place.{Place}
-use Rattle.layout.specs.declared.fault.TableName.{TableName}
+use Rattle.layout_text.specs.declared.fault.LayoutFault.{LayoutFault}
+use Rattle.layout_text.specs.declared.fault.LayoutFault.TheVariants.{DoubleName, DoubleJoint}
+use Rattle.layout_text.specs.declared.fault.Place.{Place}
+use Rattle.layout_text.specs.declared.fault.TableName.{TableName}
 use Rattle.layout.specs.declared.known.Double.{Double}
 use Rattle.layout.specs.declared.known.Double.TheVariants as double
 use Rattle.layout.specs.declared.port.Port.{Port}
 use Rattle.layout.specs.declared.port.Element.{Element}
 use Rattle.layout.specs.declared.port.Element.TheVariants.{Track, Point, Border}
-use Rattle.layout.specs.declared.port.End.{End}
-use Rattle.layout.specs.declared.port.End.TheVariants as end
-use Rattle.layout.specs.Reading.{◌>>=◌}
+use Rattle.layout_text.specs.declared.entries.End.{End}
+use Rattle.layout_text.specs.declared.entries.End.TheVariants as end
+use Rattle.layout_text.specs.Reading.{◌>>=◌}
 
 -- names are the same where their fields in telegrams are
 abbrev pub same_name : List ℕ → List ℕ → Bool

@@ -1,8 +1,4 @@
-pub mod Reading
-pub mod Values
 pub mod Entries
-pub mod Written
-pub mod Text
 pub mod Limits
 pub mod Known
 pub mod Doubles
@@ -10,4 +6,3 @@ pub mod Resolving
 pub mod Once
 pub mod Station
 pub mod Faults
-pub mod Messages

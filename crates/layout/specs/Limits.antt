@@ -1,11 +1,11 @@
 -- How many entries a station may have. The fault names the first entry too many.
 use Rattle.std.specs.Prelude.{ℕ, ◌+◌, ◌&&◌, nat_le, List, length, Ok, Err, if◌then◌else◌}
-use Rattle.layout.specs.declared.fault.LayoutFault.TheVariants.{Limit}
-use Rattle.layout.specs.declared.fault.Place.{Place}
-use Rattle.layout.specs.declared.fault.TableName.{TableName}
-use Rattle.layout.specs.declared.fault.TableName.TheVariants as named
-use Rattle.layout.specs.Reading.{Read, ◌>>=◌, each_of}
-use Rattle.layout.specs.Written.{DetectorText, RouteText, LayoutText}
+use Rattle.layout_text.specs.declared.fault.LayoutFault.TheVariants.{Limit}
+use Rattle.layout_text.specs.declared.fault.Place.{Place}
+use Rattle.layout_text.specs.declared.fault.TableName.{TableName}
+use Rattle.layout_text.specs.declared.fault.TableName.TheVariants as named
+use Rattle.layout_text.specs.Reading.{Read, ◌>>=◌, each_of}
+use Rattle.layout_text.specs.Written.{DetectorText, RouteText, LayoutText}
 
 abbrev pub at_most : ℕ → TableName → ℕ → Read (Unit {0})
 at_most limit table entries = if nat_le entries limit then Ok tt else Err (Limit (record { table = table; entry = limit + 1 }))

@@ -4,10 +4,10 @@ use Rattle.std.specs.Option.{ok_or, option_and_then}
 use Rattle.std.specs.Map.{lookup}
 use Rattle.toml.specs.Data.{Members}
 use Rattle.sci_telegram.specs.declared.message.Side.{Side}
-use Rattle.layout.specs.declared.fault.LayoutFault.TheVariants.{UnknownName}
-use Rattle.layout.specs.declared.fault.Place.{Place}
-use Rattle.layout.specs.declared.fault.TableName.{TableName}
-use Rattle.layout.specs.declared.fault.TableName.TheVariants as named
+use Rattle.layout_text.specs.declared.fault.LayoutFault.TheVariants.{UnknownName}
+use Rattle.layout_text.specs.declared.fault.Place.{Place}
+use Rattle.layout_text.specs.declared.fault.TableName.{TableName}
+use Rattle.layout_text.specs.declared.fault.TableName.TheVariants as named
 use Rattle.layout.specs.declared.ids.SectionId.{SectionId}
 use Rattle.layout.specs.declared.ids.PointId.{PointId}
 use Rattle.layout.specs.declared.ids.SignalId.{SignalId}
@@ -15,25 +15,25 @@ use Rattle.layout.specs.declared.ids.RouteId.{RouteId}
 use Rattle.layout.specs.declared.port.Port.{Port}
 use Rattle.layout.specs.declared.port.Element.{Element}
 use Rattle.layout.specs.declared.port.Element.TheVariants as element
-use Rattle.layout.specs.declared.port.End.{End}
-use Rattle.layout.specs.declared.port.End.TheVariants as end
+use Rattle.layout_text.specs.declared.entries.End.{End}
+use Rattle.layout_text.specs.declared.entries.End.TheVariants as end
 use Rattle.layout.specs.declared.entries.Track.{Track}
 use Rattle.layout.specs.declared.entries.Point.{Point}
 use Rattle.layout.specs.declared.entries.Joint.{Joint}
 use Rattle.layout.specs.declared.entries.Signal.{Signal}
 use Rattle.layout.specs.declared.entries.Exit.{Exit}
 use Rattle.layout.specs.declared.entries.Exit.TheVariants as exit
-use Rattle.layout.specs.declared.written.PortName.{PortName}
-use Rattle.layout.specs.declared.written.WrittenTrack.{WrittenTrack}
-use Rattle.layout.specs.declared.written.WrittenPoint.{WrittenPoint}
-use Rattle.layout.specs.declared.written.WrittenJoint.{WrittenJoint}
-use Rattle.layout.specs.declared.written.WrittenSignal.{WrittenSignal}
+use Rattle.layout_text.specs.declared.entries.PortName.{PortName}
+use Rattle.layout_text.specs.declared.entries.WrittenTrack.{WrittenTrack}
+use Rattle.layout_text.specs.declared.entries.WrittenPoint.{WrittenPoint}
+use Rattle.layout_text.specs.declared.entries.WrittenJoint.{WrittenJoint}
+use Rattle.layout_text.specs.declared.entries.WrittenSignal.{WrittenSignal}
 use Rattle.layout.specs.Entries.{DetectorEntry, RouteEntry, Plan}
-use Rattle.layout.specs.Written.{DetectorText, RouteText, LayoutText}
-use Rattle.layout.specs.Reading.{Read, ◌>>=◌, each_of, all_of}
+use Rattle.layout_text.specs.Written.{DetectorText, RouteText, LayoutText}
+use Rattle.layout_text.specs.Reading.{Read, ◌>>=◌, each_of, all_of}
 use Rattle.layout.specs.Known.{same_name}
 use Rattle.toml.specs.Parse.{parse_document}
-use Rattle.layout.specs.Text.{text_of, document_of}
+use Rattle.layout_text.specs.Text.{text_of, document_of}
 use Rattle.layout.specs.Limits.{limits_of, all_within}
 use Rattle.layout.specs.Doubles.{directory_of, ids_of, reported_of, joined_of, signalled_of}
 

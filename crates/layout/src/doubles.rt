@@ -1,21 +1,20 @@
 //! What stands in a layout once: names, identities, sections of detectors, and ports.
 
 ghost use Rattle.std.specs.Prelude.{[], Ok, map};
-ghost use Rattle.layout.specs.Reading.{Gives};
+ghost use Rattle.layout_text.specs.Reading.{Gives};
 ghost use Rattle.layout.specs.Known.{note_key, note_each, same_name, same_port};
 ghost use Rattle.layout.specs.Doubles.{same_id, ground_of, directory_of, ids_of, reported_of, joined_of, signalled_of};
-ghost use Rattle.layout.specs.declared.fault.TableName.TheVariants as named;
+ghost use Rattle.layout_text.specs.declared.fault.TableName.TheVariants as named;
 ghost use Rattle.layout.specs.declared.known.Double.TheVariants as double;
 
-use crate::each::{Step, each};
 use crate::entries::{Joint, Signal};
-use crate::fault::{LayoutFault, Place, TableName};
 use crate::known::{Double, note_all, note_each, note_key};
 use crate::port::Port;
-use crate::written::{
-    WrittenDetector, WrittenLayout, WrittenPoint, WrittenRoute, WrittenSignal, WrittenTrack,
-};
 use indexmap::IndexMap;
+use layout_text::{
+    LayoutFault, Place, Step, TableName, WrittenDetector, WrittenLayout, WrittenPoint,
+    WrittenRoute, WrittenSignal, WrittenTrack, each,
+};
 use sci_telegram::Name;
 use std::alloc::Global;
 

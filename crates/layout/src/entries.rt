@@ -8,17 +8,6 @@ use sci_telegram::{Aspect, Name, Side};
 use std::alloc::{AllocError, Global};
 use std::marker::Model;
 
-/// The station, which is the interlocking.
-#[derive(Clone, Copy, Debug)]
-pub struct Station {
-    /// Its name in telegrams.
-    pub name: Name,
-    /// Its identity on the links, 1 to 4294967295.
-    pub id: u32,
-    /// The four registers from which the safety code starts, if the text gives them.
-    pub key: Option<[u32; 4]>,
-}
-
 /// A track: the ports `a` and `b`, and nothing between.
 #[derive(Clone, Copy, Debug)]
 pub struct Track {

@@ -1,11 +1,11 @@
 //! Keys that stand in a layout once: names, identities, ports.
 
 ghost use Rattle.std.specs.Prelude.{◌≡◌};
-ghost use Rattle.layout.specs.Reading.{Gives};
+ghost use Rattle.layout_text.specs.Reading.{Gives};
 ghost use Rattle.layout.specs.Known.{double_fault, note_key, note_each, note_all};
 
-use crate::fault::{LayoutFault, Place, TableName};
 use indexmap::IndexMap;
+use layout_text::{LayoutFault, Place, TableName};
 use std::hash::Hash;
 
 /// Which fault a second use is.

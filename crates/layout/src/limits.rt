@@ -1,13 +1,13 @@
 //! How many entries a station may have.
 
 ghost use Rattle.std.specs.Prelude.{◌<◌};
-ghost use Rattle.layout.specs.Reading.{Gives};
+ghost use Rattle.layout_text.specs.Reading.{Gives};
 ghost use Rattle.layout.specs.Limits.{at_most, all_within, detector_limit, route_limit, limits_of};
-ghost use Rattle.layout.specs.declared.fault.TableName.TheVariants as named;
+ghost use Rattle.layout_text.specs.declared.fault.TableName.TheVariants as named;
 
-use crate::each::{Step, each};
-use crate::fault::{LayoutFault, Place, TableName};
-use crate::written::{WrittenDetector, WrittenLayout, WrittenRoute};
+use layout_text::{
+    LayoutFault, Place, Step, TableName, WrittenDetector, WrittenLayout, WrittenRoute, each,
+};
 use std::alloc::Global;
 
 const MOST_SECTIONS: usize = 64;

@@ -1,23 +1,7 @@
 //! Where tracks, points and borders meet.
 
 use crate::ids::{BorderId, PointId, TrackId};
-
-/// The word for a port of an element.
-#[derive(Clone, Copy, Debug, PartialEq, Eq, Hash)]
-pub enum End {
-    /// One end of a track.
-    A,
-    /// The other end of a track.
-    B,
-    /// The side of a point from which it parts.
-    Tip,
-    /// The left leg of a point.
-    Left,
-    /// The right leg of a point.
-    Right,
-    /// The one port of a border.
-    End,
-}
+use layout_text::End;
 
 /// What a train passes over.
 #[derive(Clone, Copy, Debug, PartialEq, Eq, Hash)]

@@ -1,22 +1,20 @@
 //! Which entry each name is.
 
 ghost use Rattle.std.specs.Prelude.{◌≡◌, Ok};
-ghost use Rattle.layout.specs.Reading.{Gives, each_of, all_of};
-ghost use Rattle.layout.specs.declared.fault.TableName.TheVariants as named;
+ghost use Rattle.layout_text.specs.Reading.{Gives, each_of, all_of};
+ghost use Rattle.layout_text.specs.declared.fault.TableName.TheVariants as named;
 ghost use Rattle.layout.specs.Resolving.{number_named, element_of, exit_of, element_named, exit_named, port_named, section_named, signal_named, side_named, route_named, track_named, point_named, joint_named, signal_entry, detector_entry, route_entry, has_port, plan_of};
 
 use crate::detector::Detector;
-use crate::each::{Step, all, each};
 use crate::entries::{Exit, Joint, Point, Route, Signal, Track};
-use crate::fault::{LayoutFault, Place, TableName};
 use crate::ids::{BorderId, PointId, RouteId, SectionId, SignalId, TrackId};
 use crate::plan::Draft;
-use crate::port::{Element, End, Port};
-use crate::written::{
-    PortName, WrittenDetector, WrittenJoint, WrittenLayout, WrittenPoint, WrittenRoute,
-    WrittenSignal, WrittenTrack,
-};
+use crate::port::{Element, Port};
 use indexmap::IndexMap;
+use layout_text::{
+    End, LayoutFault, Place, PortName, Step, TableName, WrittenDetector, WrittenJoint,
+    WrittenLayout, WrittenPoint, WrittenRoute, WrittenSignal, WrittenTrack, all, each,
+};
 use sci_telegram::{Name, Side};
 use std::alloc::Global;
 

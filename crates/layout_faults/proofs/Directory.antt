@@ -6,14 +6,14 @@ use Rattle.std.proofs.lemmas.List.Elements.{Contains-push_cases}
 use Rattle.std.proofs.lemmas.Slice.Eq.{bytes_eq-Decides}
 use Rattle.std.specs.Map.{lookup}
 use Rattle.sci_telegram.specs.Names.{name_field}
-use Rattle.layout.specs.declared.fault.LayoutFault.{LayoutFault}
-use Rattle.layout.specs.declared.fault.LayoutFault.TheVariants.{DoubleName}
-use Rattle.layout.specs.declared.fault.Place.{Place}
-use Rattle.layout.specs.declared.fault.TableName.{TableName}
-use Rattle.layout.specs.declared.fault.TableName.TheVariants as named
+use Rattle.layout_text.specs.declared.fault.LayoutFault.{LayoutFault}
+use Rattle.layout_text.specs.declared.fault.LayoutFault.TheVariants.{DoubleName}
+use Rattle.layout_text.specs.declared.fault.Place.{Place}
+use Rattle.layout_text.specs.declared.fault.TableName.{TableName}
+use Rattle.layout_text.specs.declared.fault.TableName.TheVariants as named
 use Rattle.layout.specs.declared.known.Double.TheVariants as double
-use Rattle.layout.specs.Written.{LayoutText}
-use Rattle.layout.specs.Reading.{◌>>=◌}
+use Rattle.layout_text.specs.Written.{LayoutText}
+use Rattle.layout_text.specs.Reading.{◌>>=◌}
 use Rattle.layout.specs.Known.{same_name, note_key, note_each, note_all, note_lists}
 use Rattle.layout.specs.Doubles.{sections_reported, ground_of, directory_of, reported_of}
 use Rattle.layout.specs.Faults.{numbered, all_at, listed, names_written, sections_written}

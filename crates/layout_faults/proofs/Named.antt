@@ -5,17 +5,17 @@ use Rattle.std.proofs.lemmas.Bool.Decides.{Decides-eqb}
 use Rattle.std.specs.Map.{lookup}
 use Rattle.std.specs.Option.{ok_or, option_and_then}
 use Rattle.sci_telegram.specs.declared.message.Side.{Side}
-use Rattle.layout.specs.declared.fault.LayoutFault.{LayoutFault}
-use Rattle.layout.specs.declared.fault.LayoutFault.TheVariants.{UnknownName}
-use Rattle.layout.specs.declared.fault.Place.{Place}
-use Rattle.layout.specs.declared.fault.TableName.{TableName}
-use Rattle.layout.specs.declared.fault.TableName.TheVariants as named
+use Rattle.layout_text.specs.declared.fault.LayoutFault.{LayoutFault}
+use Rattle.layout_text.specs.declared.fault.LayoutFault.TheVariants.{UnknownName}
+use Rattle.layout_text.specs.declared.fault.Place.{Place}
+use Rattle.layout_text.specs.declared.fault.TableName.{TableName}
+use Rattle.layout_text.specs.declared.fault.TableName.TheVariants as named
 use Rattle.layout.specs.declared.port.Port.{Port}
 use Rattle.layout.specs.declared.port.Element.{Element}
-use Rattle.layout.specs.declared.port.End.{End}
-use Rattle.layout.specs.declared.port.End.TheVariants as end
-use Rattle.layout.specs.Written.{LayoutText}
-use Rattle.layout.specs.Reading.{Read, ◌>>=◌}
+use Rattle.layout_text.specs.declared.entries.End.{End}
+use Rattle.layout_text.specs.declared.entries.End.TheVariants as end
+use Rattle.layout_text.specs.Written.{LayoutText}
+use Rattle.layout_text.specs.Reading.{Read, ◌>>=◌}
 use Rattle.layout.specs.Known.{same_name}
 use Rattle.layout.specs.Resolving.{table_number, element_of, exit_of, has_port, number_in, number_named, section_named, signal_named, route_named, side_named, exit_named, element_named, port_named}
 use Rattle.layout.specs.Faults.{names_written}

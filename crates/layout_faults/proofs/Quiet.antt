@@ -2,14 +2,14 @@
 use Rattle.std.proofs.Common.{◌≡◌, ℕ, suc, ◌&&◌, Bool, true, false, nat_le, List, [], ◌∷◌, ◌++◌, length, map, is_some, Ok, Err, if◌then◌else◌, refl, sym, ap, ◌∙◌, ◌+◌}
 use Rattle.std.proofs.lemmas.Bool.{false≢true}
 use Rattle.std.specs.Map.{lookup}
-use Rattle.layout.specs.declared.fault.LayoutFault.{LayoutFault}
-use Rattle.layout.specs.declared.fault.LayoutFault.TheVariants.{UnknownName, DoubleName, Limit}
-use Rattle.layout.specs.declared.fault.Place.{Place}
-use Rattle.layout.specs.declared.fault.TableName.{TableName}
-use Rattle.layout.specs.declared.fault.TableName.TheVariants as named
+use Rattle.layout_text.specs.declared.fault.LayoutFault.{LayoutFault}
+use Rattle.layout_text.specs.declared.fault.LayoutFault.TheVariants.{UnknownName, DoubleName, Limit}
+use Rattle.layout_text.specs.declared.fault.Place.{Place}
+use Rattle.layout_text.specs.declared.fault.TableName.{TableName}
+use Rattle.layout_text.specs.declared.fault.TableName.TheVariants as named
 use Rattle.layout.specs.declared.known.Double.TheVariants as double
-use Rattle.layout.specs.Written.{LayoutText}
-use Rattle.layout.specs.Reading.{Read, ◌>>=◌, each_of}
+use Rattle.layout_text.specs.Written.{LayoutText}
+use Rattle.layout_text.specs.Reading.{Read, ◌>>=◌, each_of}
 use Rattle.layout.specs.Limits.{at_most, detector_limit, route_limit, all_within, limits_of}
 use Rattle.layout.specs.Known.{same_name, note_key, note_each, note_all, note_lists}
 use Rattle.layout.specs.Doubles.{same_id, sections_reported, ground_of, directory_of, ids_of, reported_of}

@@ -1,14 +1,14 @@
 -- A fault of the limits is at the first entry too many.
 use Rattle.std.proofs.Common.{◌≡◌, ℕ, suc, ◌+◌, ◌≤◌, ◌&&◌, Bool, true, false, nat_le, List, [], ◌∷◌, ◌++◌, length, Ok, Err, if◌then◌else◌, refl, sym, ap, subst, ◌∙◌, inl, inr, ⊎_elim, append_assoc, leb-true, arith, rules}
 use Rattle.std.proofs.lemmas.Bool.{leb-false}
-use Rattle.layout.specs.declared.fault.LayoutFault.{LayoutFault}
-use Rattle.layout.specs.declared.fault.LayoutFault.TheVariants.{Limit}
-use Rattle.layout.specs.declared.fault.Place.{Place}
-use Rattle.layout.specs.declared.fault.TableName.{TableName}
-use Rattle.layout.specs.declared.fault.TableName.TheVariants as named
-use Rattle.layout.specs.Reading.{Read, ◌>>=◌, each_of}
+use Rattle.layout_text.specs.declared.fault.LayoutFault.{LayoutFault}
+use Rattle.layout_text.specs.declared.fault.LayoutFault.TheVariants.{Limit}
+use Rattle.layout_text.specs.declared.fault.Place.{Place}
+use Rattle.layout_text.specs.declared.fault.TableName.{TableName}
+use Rattle.layout_text.specs.declared.fault.TableName.TheVariants as named
+use Rattle.layout_text.specs.Reading.{Read, ◌>>=◌, each_of}
 use Rattle.layout.specs.Limits.{at_most, all_within, detector_limit, route_limit, limits_of}
-use Rattle.layout.specs.Written.{DetectorText, RouteText, LayoutText}
+use Rattle.layout_text.specs.Written.{DetectorText, RouteText, LayoutText}
 use Rattle.layout_faults.specs.TooMany.{IsTooMany, EachFits, IsFirstUnfit, DetectorFits, RouteFits, IsFirstTooMany, KeepsLimits}
 use Rattle.layout_faults.proofs.Stepwise.{same_err, never, failed_at, came_from}
 

@@ -2,13 +2,13 @@
 use Rattle.std.proofs.Common.{◌≡◌, ℕ, suc, List, [], ◌∷◌, ◌++◌, map, Contains, All, Option, Some, None, is_some, Ok, Err, if◌then◌else◌, refl, sym, ap, subst, ◌∙◌, inl, inr, ⊎_elim, rules}
 use Rattle.std.proofs.lemmas.List.Elements.{All-nil, All-cons, All-head, All-tail}
 use Rattle.std.specs.Map.{lookup}
-use Rattle.layout.specs.declared.fault.LayoutFault.TheVariants.{UnknownName}
-use Rattle.layout.specs.declared.fault.Place.{Place}
-use Rattle.layout.specs.declared.fault.TableName.{TableName}
-use Rattle.layout.specs.declared.fault.TableName.TheVariants as named
+use Rattle.layout_text.specs.declared.fault.LayoutFault.TheVariants.{UnknownName}
+use Rattle.layout_text.specs.declared.fault.Place.{Place}
+use Rattle.layout_text.specs.declared.fault.TableName.{TableName}
+use Rattle.layout_text.specs.declared.fault.TableName.TheVariants as named
 use Rattle.layout.specs.Entries.{Plan}
-use Rattle.layout.specs.Written.{LayoutText, RouteText}
-use Rattle.layout.specs.Reading.{each_of, all_of}
+use Rattle.layout_text.specs.Written.{LayoutText, RouteText}
+use Rattle.layout_text.specs.Reading.{each_of, all_of}
 use Rattle.layout.specs.Known.{same_name}
 use Rattle.layout.specs.Limits.{limits_of, all_within}
 use Rattle.layout.specs.Doubles.{directory_of, ids_of, reported_of}

@@ -1,10 +1,10 @@
 -- The first entry too many, in words of a layout's text.
 use Rattle.std.specs.Prelude.{◌≡◌, ◌⊎◌, ℕ, suc, ◌+◌, ◌<◌, ◌≤◌, List, [], ◌∷◌, ◌++◌, length}
-use Rattle.layout.specs.declared.fault.LayoutFault.{LayoutFault}
-use Rattle.layout.specs.declared.fault.LayoutFault.TheVariants.{Limit}
-use Rattle.layout.specs.declared.fault.TableName.{TableName}
-use Rattle.layout.specs.declared.fault.TableName.TheVariants as named
-use Rattle.layout.specs.Written.{DetectorText, RouteText, LayoutText}
+use Rattle.layout_text.specs.declared.fault.LayoutFault.{LayoutFault}
+use Rattle.layout_text.specs.declared.fault.LayoutFault.TheVariants.{Limit}
+use Rattle.layout_text.specs.declared.fault.TableName.{TableName}
+use Rattle.layout_text.specs.declared.fault.TableName.TheVariants as named
+use Rattle.layout_text.specs.Written.{DetectorText, RouteText, LayoutText}
 
 -- A table has more entries than it may hold: the fault is at the first one past the limit.
 abbrev pub IsTooMany : ℕ → TableName → ℕ → LayoutFault → Type 0

@@ -1,13 +1,13 @@
 //! Laws over every text of a layout whose keys and values are read.
 
 ghost use Rattle.std.specs.Prelude.{◌≡◌, Ok, Err};
-ghost use Rattle.layout.specs.declared.fault.LayoutFault.{LayoutFault};
-ghost use Rattle.layout.specs.declared.fault.LayoutFault.TheVariants.{UnknownName};
-ghost use Rattle.layout.specs.declared.fault.Place.{Place};
+ghost use Rattle.layout_text.specs.declared.fault.LayoutFault.{LayoutFault};
+ghost use Rattle.layout_text.specs.declared.fault.LayoutFault.TheVariants.{UnknownName};
+ghost use Rattle.layout_text.specs.declared.fault.Place.{Place};
 ghost use Rattle.layout.specs.Entries.{Plan};
 ghost use Rattle.layout.specs.Limits.{limits_of};
 ghost use Rattle.layout.specs.Resolving.{entries_of};
-ghost use Rattle.layout.specs.Written.{LayoutText};
+ghost use Rattle.layout_text.specs.Written.{LayoutText};
 ghost use Rattle.layout_faults.specs.TooMany.{IsFirstTooMany, KeepsLimits};
 ghost use Rattle.layout_faults.specs.Unknown.{IsFirstUnknown, NamesWhatIsThere};
 

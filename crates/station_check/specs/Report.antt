@@ -6,8 +6,8 @@ use Rattle.std.specs.Option.{option_map, unwrap_or}
 use Rattle.std.specs.Io.KnownBytes.{Appends}
 use Rattle.layout.specs.Entries.{RouteEntry, Plan}
 use Rattle.layout.specs.Resolving.{layout_in}
-use Rattle.layout.specs.Reading.{Fails}
-use Rattle.layout.specs.Messages.{fault_text as layout_fault_text}
+use Rattle.layout_text.specs.Reading.{Fails}
+use Rattle.layout_text.specs.Messages.{fault_text as layout_fault_text}
 use Rattle.control_table.specs.Table.{Sound, Conflict, is_slow}
 use Rattle.control_table.specs.Faults.{IsFirstFault}
 use Rattle.control_table.specs.Messages.{fault_text as table_fault_text}

@@ -2,8 +2,8 @@
 use Rattle.std.specs.Prelude.{◌≡◌, ℕ, List, [], ◌++◌, take, codes, Option, Ok}
 use Rattle.std.specs.Io.KnownBytes.{Appends}
 use Rattle.layout.specs.Entries.{Plan}
-use Rattle.layout.specs.Messages.{fault_text as layout_fault_text}
-use Rattle.layout.specs.Reading.{Fails}
+use Rattle.layout_text.specs.Messages.{fault_text as layout_fault_text}
+use Rattle.layout_text.specs.Reading.{Fails}
 use Rattle.layout.specs.Resolving.{layout_in}
 use Rattle.control_table.specs.Faults.{IsFirstFault}
 use Rattle.control_table.specs.Messages.{fault_text as table_fault_text}

@@ -1,7 +1,7 @@
 use Rattle.std.proofs.Common.{[], get_or}
 use Rattle.std.proofs.lemmas.Result.{err_from_is_err_and}
 use Rattle.layout.specs.declared.entries.Joint.{Joint}
-use Rattle.layout.specs.declared.fault.TableName.TheVariants as named
+use Rattle.layout_text.specs.declared.fault.TableName.TheVariants as named
 use Rattle.layout.specs.declared.known.Double.TheVariants as double
 use Rattle.layout.specs.Known.{note_lists, same_port}
 use Rattle.layout.specs.Doubles.{ports_joined, joined_of}

@@ -1,4 +1,4 @@
-use Rattle.layout.specs.declared.fault.TableName.TheVariants as named
+use Rattle.layout_text.specs.declared.fault.TableName.TheVariants as named
 use Rattle.layout.proofs.KnownLemmas.{each_of-sure}
 use Rattle.layout.proofs.doubles.track_names.Goals as goal
 

@@ -1,7 +1,0 @@
-use Rattle.std.proofs.Common.{◌≡◌, drop}
-use Rattle.layout.specs.Reading.{all_of}
-use Rattle.layout.proofs.Loops.{with_front}
-use Rattle.layout.proofs.each.all.Given as goal
-
-abbrev pub invariant-loop-entry : goal.invariant-loop-entry
-invariant-loop-entry g l = with_front l.made.items (all_of (g.S.Step.gives l.step l.place) (drop l.entry-index l.from)) ≡ all_of (g.S.Step.gives l.step l.place) l.from

@@ -1,8 +1,0 @@
-use Rattle.layout.specs.Text.{entries_at, detector_at}
-use Rattle.layout.specs.declared.fault.TableName.TheVariants as named
-use Rattle.layout.proofs.TextLemmas.{each_of-view}
-use Rattle.layout.proofs.text.detectors.Goals as goal
-
-pub returns : goal.returns
-unfolding entries_at
-returns c = rw (c.in_ok-items.ensures, each_of-view detector_at named.Detector 1 c.in_ok-items.items.now) c.each.ensures

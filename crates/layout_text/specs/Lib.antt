@@ -1,0 +1,5 @@
+pub mod Reading
+pub mod Values
+pub mod Written
+pub mod Text
+pub mod Messages

@@ -1,0 +1,17 @@
+//! A layout's text as it is written: its TOML, with missing keys and wrong kinds as faults.
+#![tactic(auto)]
+
+mod entries;
+mod fault;
+mod reading;
+mod steps;
+mod text;
+mod values;
+
+pub use entries::{
+    End, PortName, Station, WrittenDetector, WrittenJoint, WrittenLayout, WrittenPoint,
+    WrittenRoute, WrittenSignal, WrittenTrack,
+};
+pub use fault::{LayoutFault, Place, TableName};
+pub use steps::{Step, all, each};
+pub use text::{document, written};
