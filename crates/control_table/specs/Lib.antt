@@ -5,5 +5,5 @@ pub mod Table
 pub mod Masks
 pub mod Freeing
 pub mod Faults
-pub mod Judging
+pub mod inside
 pub mod Messages

@@ -11,7 +11,7 @@ ghost use Rattle.control_table.specs.Table.{Sound, AreSections, AreRequired, Are
 ghost use Rattle.control_table.specs.Freeing.{Awaits};
 ghost use Rattle.control_table.specs.Masks.{AreMasks};
 ghost use Rattle.control_table.specs.Faults.{IsFirstFault};
-ghost use Rattle.control_table.specs.Judging.{IsRowAt, rows_of};
+ghost use Rattle.control_table.specs.inside.Judging.{IsRowAt, rows_of};
 ghost use Rattle.control_table.specs.declared.fault.TableFault.TheVariants.{OutOfMemory};
 
 use crate::conflicts::conflicts;
@@ -39,7 +39,7 @@ impl Model for Checked {
     ghost use Rattle.layout.specs.Entries.{Plan};
     ghost use Rattle.layout.specs.Once.{Once};
     ghost use Rattle.layout.specs.Station.{IsStation};
-    ghost use Rattle.control_table.specs.Judging.{all_masks, rows_of};
+    ghost use Rattle.control_table.specs.inside.Judging.{all_masks, rows_of};
 
     ghost Value = { Plan };
 

@@ -4,7 +4,7 @@ ghost use Rattle.std.specs.Prelude.{◌≡◌};
 ghost use Rattle.layout.specs.declared.port.Element.TheVariants as element;
 ghost use Rattle.layout.specs.Station.{IsStation};
 ghost use Rattle.control_table.specs.Topology.{section_of};
-ghost use Rattle.control_table.specs.Judging.{awaited_by, guarded_sections, with_section};
+ghost use Rattle.control_table.specs.inside.Judging.{awaited_by, guarded_sections, with_section};
 
 use crate::sides::FlankProtection;
 use crate::topology::section_of;

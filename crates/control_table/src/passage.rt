@@ -1,7 +1,7 @@
 //! How a route's path passes from element to element.
 
 ghost use Rattle.std.specs.Prelude.{◌≡◌};
-ghost use Rattle.control_table.specs.Judging.{Gives, may_pass, passage_behind, passages};
+ghost use Rattle.control_table.specs.inside.Judging.{Gives, may_pass, passage_behind, passages};
 
 use crate::fault::{FaultyRoute, TableFault};
 use crate::topology::{is_element, is_end, joined_to};

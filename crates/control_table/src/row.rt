@@ -1,7 +1,7 @@
 //! One route of the control table.
 
 ghost use Rattle.std.specs.Prelude.{◌≡◌, IfOk, map};
-ghost use Rattle.control_table.specs.Judging.{Gives, path_of, sections_of, required_of, row_of, rows_from, rows_of};
+ghost use Rattle.control_table.specs.inside.Judging.{Gives, path_of, sections_of, required_of, row_of, rows_from, rows_of};
 
 use crate::fault::{FaultyRoute, TableFault};
 use crate::order::in_layout_order;
@@ -27,7 +27,7 @@ pub(crate) struct Row {
 }
 
 impl Model for Row {
-    ghost use Rattle.control_table.specs.Judging.{TableRow};
+    ghost use Rattle.control_table.specs.inside.Judging.{TableRow};
 
     ghost Value = { TableRow };
 

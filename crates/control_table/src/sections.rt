@@ -4,7 +4,7 @@ ghost use Rattle.std.specs.Prelude.{◌≡◌, IfOk};
 ghost use Rattle.std.specs.List.{dedup, filter_map};
 ghost use Rattle.control_table.specs.Topology.{section_of};
 ghost use Rattle.control_table.specs.Path.{elements, same_section};
-ghost use Rattle.control_table.specs.Judging.{is_element, all_different};
+ghost use Rattle.control_table.specs.inside.Judging.{is_element, all_different};
 
 use crate::passage::Passage;
 use crate::topology::section_of;

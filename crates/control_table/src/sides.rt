@@ -2,7 +2,7 @@
 
 ghost use Rattle.std.specs.Prelude.{◌≡◌, IfOk};
 ghost use Rattle.control_table.specs.Sides.{leg_at, other};
-ghost use Rattle.control_table.specs.Judging.{side_of, leg_used, used, leg_of_another, guarded_by, protection_from, protection_of, needs, protections, is_open_at, flanks_guarded, same_side, has_need, consistent};
+ghost use Rattle.control_table.specs.inside.Judging.{side_of, leg_used, used, leg_of_another, guarded_by, protection_from, protection_of, needs, protections, is_open_at, flanks_guarded, same_side, has_need, consistent};
 
 use crate::passage::Passage;
 use crate::topology::{has_signal, is_end, joined_to};

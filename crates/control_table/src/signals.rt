@@ -2,7 +2,7 @@
 
 ghost use Rattle.std.specs.Prelude.{◌≡◌};
 ghost use Rattle.control_table.specs.Topology.{port_of};
-ghost use Rattle.control_table.specs.Judging.{same_exit, is_other_at, names_route, stands_at, none_between, leads_out, is_exit, ends_at_exit, no_other_at, signals_placed, lists, lists_in, extras_listed};
+ghost use Rattle.control_table.specs.inside.Judging.{same_exit, is_other_at, names_route, stands_at, none_between, leads_out, is_exit, ends_at_exit, no_other_at, signals_placed, lists, lists_in, extras_listed};
 ghost use Rattle.std.specs.Option.{option_map};
 
 use crate::passage::Passage;

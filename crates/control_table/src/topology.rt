@@ -2,7 +2,7 @@
 
 ghost use Rattle.std.specs.Prelude.{◌≡◌};
 ghost use Rattle.control_table.specs.Topology.{section_of};
-ghost use Rattle.control_table.specs.Judging.{is_port, is_element, is_end, other_port, joined_to, has_signal};
+ghost use Rattle.control_table.specs.inside.Judging.{is_port, is_element, is_end, other_port, joined_to, has_signal};
 
 use layout::{Element, End, Joint, Layout, Port, SectionId, Signal};
 

@@ -1,7 +1,7 @@
 //! What a route writes under `points` and `flank`, beside what it requires.
 
 ghost use Rattle.std.specs.Prelude.{◌≡◌, ◌&&◌};
-ghost use Rattle.control_table.specs.Judging.{used, names_point, is_over, on_path, is_named, points_written, points_right, flank_right, flank_written};
+ghost use Rattle.control_table.specs.inside.Judging.{used, names_point, is_over, on_path, is_named, points_written, points_right, flank_right, flank_written};
 
 use crate::passage::Passage;
 use crate::sides::{has_need, used};
