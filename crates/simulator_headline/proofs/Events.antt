@@ -1,4 +1,4 @@
--- Every event keeps the picture of a world, and so does every list of them.
+-- Every event is a list of moves that keep the picture of a world, and so is every list of them.
 use Rattle.std.proofs.Common.{◌≡◌, ◌⊎◌, inl, inr, ℕ, zero, suc, List, [], ◌∷◌, ◌++◌, Some, None, refl, ap}
 use Rattle.std.specs.Prelude.{◌≢◌}
 use Rattle.layout.specs.Entries.{Plan}
@@ -10,36 +10,34 @@ use Rattle.ixl_table.specs.Table.{IsTableOf}
 use Rattle.simulator_event.specs.declared.event.Event.{Event}
 use Rattle.simulator_event.specs.declared.event.Event.TheVariants as event
 use Rattle.simulator_event.specs.declared.event.NodeId.{NodeId}
+use Rattle.simulator_machine.specs.Chains.{MovesTo}
 use Rattle.simulator_machine.specs.Machine.{Machine, made_anew}
+use Rattle.simulator_rules_seen.specs.Rows.{machine_table}
 use Rattle.simulator_world_links.specs.HasLinks.{CanHappen, after_all}
 use Rattle.simulator_world_run.specs.Happens.{happens}
 use Rattle.simulator_world_run.specs.Nodes.{Station, node_at}
 use Rattle.simulator_world_run.specs.Refusals.{refusal}
 use Rattle.simulator_world_run.specs.State.{WorldState}
-use Rattle.simulator_picture.specs.Picture.{IsPictured}
-use Rattle.simulator_picture_controllers.specs.After.{IsOfControllers, IsPicturedAfter}
-
--- some machine sees the world
-abbrev pub IsSomehowPictured : Plan → Table → WorldState → Type 0
-IsSomehowPictured plan table world = (machine : Machine) × IsPictured plan table world machine
+use Rattle.simulator_picture.specs.Picture.{IsPictured, IsPicturedAfter}
+use Rattle.simulator_picture_controllers.specs.Events.{IsOfControllers}
 
 -- the laws that this stands on
 pub record KeepingLaws : Type 0 where
   pub controllers : (plan : Plan) (table : Table) (happening : Event) (world : WorldState) (machine : Machine) → IsStation plan → Once plan → IsOfControllers happening
       → refusal plan happening world ≡ None → IsPictured plan table world machine → IsPicturedAfter plan table machine (happens plan table happening world)
   pub request : (plan : Plan) (table : Table) (command : Command) (world : WorldState) (machine : Machine) → Once plan → IsStation plan → IsTableOf plan table
-      → IsPictured plan table world machine → IsSomehowPictured plan table (happens plan table (event.Request command) world)
+      → IsPictured plan table world machine → IsPicturedAfter plan table machine (happens plan table (event.Request command) world)
   pub tick : (plan : Plan) (table : Table) (node : NodeId) (world : WorldState) (machine : Machine) → Once plan → IsStation plan → IsTableOf plan table
       → IsPictured plan table world machine → refusal plan (event.Tick node) world ≡ None → node_at plan node.0 ≡ Some Station
-      → IsSomehowPictured plan table (happens plan table (event.Tick node) world)
+      → IsPicturedAfter plan table machine (happens plan table (event.Tick node) world)
   pub delivery : (plan : Plan) (table : Table) (node : NodeId) (bytes : List ℕ) (world : WorldState) (machine : Machine) → Once plan → IsStation plan
       → IsTableOf plan table → IsPictured plan table world machine → refusal plan (event.Deliver node bytes) world ≡ None → node_at plan node.0 ≡ Some Station
-      → IsSomehowPictured plan table (happens plan table (event.Deliver node bytes) world)
+      → IsPicturedAfter plan table machine (happens plan table (event.Deliver node bytes) world)
   pub time : (plan : Plan) (table : Table) (elapsed : ℕ) (clocks : List ℕ) (world : WorldState) (machine : Machine) → Once plan → IsStation plan
-      → IsPictured plan table world machine → refusal plan (event.Time elapsed clocks) world ≡ None → IsSomehowPictured plan table (happens plan table (event.Time elapsed clocks) world)
+      → IsPictured plan table world machine → refusal plan (event.Time elapsed clocks) world ≡ None → IsPicturedAfter plan table machine (happens plan table (event.Time elapsed clocks) world)
   pub restart : (plan : Plan) (table : Table) (node : NodeId) (clock first : ℕ) (world : WorldState) (machine : Machine) → Once plan → IsStation plan → IsTableOf plan table
       → IsPictured plan table world machine → refusal plan (event.Restart node clock first) world ≡ None → node_at plan node.0 ≡ Some Station
-      → IsPictured plan table (happens plan table (event.Restart node clock first) world) (made_anew machine)
+      → (after : IsPicturedAfter plan table machine (happens plan table (event.Restart node clock first) world)) × (after.machine ≡ made_anew machine)
 
 -- the station has the number 0
 station_or_other : (node : ℕ) → (node ≡ 0) ⊎ (node ≢ 0)
@@ -51,24 +49,24 @@ module _ (laws : KeepingLaws) (plan : Plan) (table : Table) (once : Once plan) (
   at_station node zero_is = ap (node_at plan) zero_is
 
   module _ (world : WorldState) (machine : Machine) (pictured : IsPictured plan table world machine) where
-    of_controllers : (happening : Event) → IsOfControllers happening → refusal plan happening world ≡ None → IsSomehowPictured plan table (happens plan table happening world)
-    of_controllers happening at none = let after = laws.controllers plan table happening world machine station once at none pictured in (after.machine, after.pictured)
+    of_controllers : (happening : Event) → IsOfControllers happening → refusal plan happening world ≡ None → IsPicturedAfter plan table machine (happens plan table happening world)
+    of_controllers happening at none = laws.controllers plan table happening world machine station once at none pictured
 
-    ticked : (node : NodeId) → (node.0 ≡ 0) ⊎ (node.0 ≢ 0) → refusal plan (event.Tick node) world ≡ None → IsSomehowPictured plan table (happens plan table (event.Tick node) world)
+    ticked : (node : NodeId) → (node.0 ≡ 0) ⊎ (node.0 ≢ 0) → refusal plan (event.Tick node) world ≡ None → IsPicturedAfter plan table machine (happens plan table (event.Tick node) world)
     ticked node (inl at) none = laws.tick plan table node world machine once station is pictured none (at_station node at)
     ticked node (inr other) none = of_controllers (event.Tick node) other none
 
     delivered : (node : NodeId) (bytes : List ℕ) → (node.0 ≡ 0) ⊎ (node.0 ≢ 0) → refusal plan (event.Deliver node bytes) world ≡ None
-        → IsSomehowPictured plan table (happens plan table (event.Deliver node bytes) world)
+        → IsPicturedAfter plan table machine (happens plan table (event.Deliver node bytes) world)
     delivered node bytes (inl at) none = laws.delivery plan table node bytes world machine once station is pictured none (at_station node at)
     delivered node bytes (inr other) none = of_controllers (event.Deliver node bytes) other none
 
     restarted : (node : NodeId) (clock first : ℕ) → (node.0 ≡ 0) ⊎ (node.0 ≢ 0) → refusal plan (event.Restart node clock first) world ≡ None
-        → IsSomehowPictured plan table (happens plan table (event.Restart node clock first) world)
-    restarted node clock first (inl at) none = (made_anew machine, laws.restart plan table node clock first world machine once station is pictured none (at_station node at))
+        → IsPicturedAfter plan table machine (happens plan table (event.Restart node clock first) world)
+    restarted node clock first (inl at) none = (laws.restart plan table node clock first world machine once station is pictured none (at_station node at)).0
     restarted node clock first (inr other) none = of_controllers (event.Restart node clock first) other none
 
-    pub kept : (happening : Event) → refusal plan happening world ≡ None → IsSomehowPictured plan table (happens plan table happening world)
+    pub kept : (happening : Event) → refusal plan happening world ≡ None → IsPicturedAfter plan table machine (happens plan table happening world)
     kept (event.Request command) none = laws.request plan table command world machine once station is pictured
     kept (event.Occupy section occupancy) none = of_controllers (event.Occupy section occupancy) tt none
     kept (event.Tick node) none = ticked node (station_or_other node.0) none
@@ -78,13 +76,23 @@ module _ (laws : KeepingLaws) (plan : Plan) (table : Table) (once : Once plan) (
     kept (event.Reach point position) none = of_controllers (event.Reach point position) tt none
     kept (event.Restart node clock first) none = restarted node clock first (station_or_other node.0) none
 
--- after a list of events
-pub all_kept : (plan : Plan) (table : Table)
-    → ((happening : Event) (world : WorldState) (machine : Machine) → IsPictured plan table world machine → refusal plan happening world ≡ None → IsSomehowPictured plan table (happens plan table happening world))
-    → (events : List Event) (world : WorldState) → IsSomehowPictured plan table world → CanHappen plan table events world → IsSomehowPictured plan table (after_all plan table events world)
-all_kept plan table keeps [] world pictured can = pictured
-all_kept plan table keeps (first ∷ others) world pictured can =
-    all_kept plan table keeps others (happens plan table first world) (keeps first world pictured.0 pictured.1 can.0) can.1
+-- ---- a list of events
+
+-- the laws that this stands on
+pub record MovingLaws (plan : Plan) (table : Table) : Type 0 where
+  pub none : (machine : Machine) → MovesTo (machine_table table) machine machine
+  pub compose : (old between new : Machine) → MovesTo (machine_table table) old between → MovesTo (machine_table table) between new → MovesTo (machine_table table) old new
+  pub each : (happening : Event) (world : WorldState) (machine : Machine) → IsPictured plan table world machine → refusal plan happening world ≡ None
+      → IsPicturedAfter plan table machine (happens plan table happening world)
+
+module _ (plan : Plan) (table : Table) (laws : MovingLaws plan table) where
+  pub all_kept : (events : List Event) (world : WorldState) (machine : Machine) → IsPictured plan table world machine → CanHappen plan table events world
+      → IsPicturedAfter plan table machine (after_all plan table events world)
+  all_kept [] world machine pictured can = record { machine = machine; moves = laws.none machine; pictured = pictured }
+  all_kept (first ∷ others) world machine pictured can =
+      let one = laws.each first world machine pictured can.0
+      in let all = all_kept others (happens plan table first world) one.machine one.pictured can.1
+      in record { machine = all.machine; moves = laws.compose machine one.machine all.machine one.moves all.moves; pictured = all.pictured }
 
 -- ---- one more event
 

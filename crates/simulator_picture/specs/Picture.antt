@@ -13,6 +13,7 @@ use Rattle.point_ctl.specs.Drive.{PointState}
 use Rattle.signal_ctl.specs.Signal.{SignalState}
 use Rattle.ixl_rules.specs.State.{SwitchState}
 use Rattle.ixl_rules.specs.Table.{Table}
+use Rattle.simulator_machine.specs.Chains.{MovesTo}
 use Rattle.simulator_machine.specs.Invariant.{Invariant}
 use Rattle.simulator_machine.specs.Machine.{Machine}
 use Rattle.simulator_links.specs.Lawful.{AreLawful}
@@ -102,3 +103,9 @@ pub record IsPictured (plan : Plan) (table : Table) (world : WorldState) (machin
   pub station : IsStationSeen plan table network world.station machine
   pub frozen : AreFrozen plan table world.frozen machine
   pub invariant : Invariant (machine_table table) machine
+
+-- Moves lead the machine to one that sees this world.
+pub record IsPicturedAfter (plan : Plan) (table : Table) (old : Machine) (world : WorldState) : Type 0 where
+  pub machine : Machine
+  pub moves : MovesTo (machine_table table) old machine
+  pub pictured : IsPictured plan table world machine

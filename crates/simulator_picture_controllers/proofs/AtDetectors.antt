@@ -16,8 +16,7 @@ use Rattle.simulator_world_run.specs.Happens.{detector_anew, detector_stepped, s
 use Rattle.simulator_world_run.specs.Nodes.{detector_link}
 use Rattle.simulator_world_run.specs.Servers.{sent_by_server, server_after, step_of}
 use Rattle.simulator_world_run.specs.State.{ServerState, WorldState}
-use Rattle.simulator_picture.specs.Picture.{IsNetworkOf, IsPictured}
-use Rattle.simulator_picture_controllers.specs.After.{IsPicturedAfter}
+use Rattle.simulator_picture.specs.Picture.{IsNetworkOf, IsPictured, IsPicturedAfter}
 use Rattle.simulator_picture_controllers.specs.Change.{NoneChanges}
 use Rattle.simulator_picture_controllers.proofs.Stepping.{CallLaws, SeesAnew, clients_anew, clients_stepped, servers_anew, servers_stepped}
 

@@ -20,8 +20,8 @@ use Rattle.simulator_world_run.specs.Network.{connection_of, copy_of}
 use Rattle.simulator_world_run.specs.Nodes.{Node, Station, Signal, Point, Detector, detector_link, links, node_at, point_link}
 use Rattle.simulator_world_run.specs.Refusals.{refusal}
 use Rattle.simulator_world_run.specs.State.{WorldState}
-use Rattle.simulator_picture.specs.Picture.{IsPictured}
-use Rattle.simulator_picture_controllers.specs.After.{IsOfControllers, IsPicturedAfter}
+use Rattle.simulator_picture.specs.Picture.{IsPictured, IsPicturedAfter}
+use Rattle.simulator_picture_controllers.specs.Events.{IsOfControllers}
 
 -- an event leads the machine to one that sees the world then
 abbrev pub LeadsOn : Event → Type 0

@@ -47,8 +47,7 @@ use Rattle.simulator_world_run.specs.Nodes.{links, names_of, point_link}
 use Rattle.simulator_world_run.specs.Refusals.{driven_by}
 use Rattle.simulator_world_run.specs.Servers.{sent_by_server, server_after, server_anew, step_of}
 use Rattle.simulator_world_run.specs.State.{ServerState, WorldState}
-use Rattle.simulator_picture.specs.Picture.{IsHostOf, IsNetworkOf, IsPictured}
-use Rattle.simulator_picture_controllers.specs.After.{IsPicturedAfter}
+use Rattle.simulator_picture.specs.Picture.{IsHostOf, IsNetworkOf, IsPictured, IsPicturedAfter}
 use Rattle.simulator_picture_controllers.specs.Change.{PointChanges}
 use Rattle.simulator_picture_controllers.proofs.AtSignals.{named_still}
 use Rattle.simulator_picture_controllers.proofs.Lists.{changed_one, get_set, get_set_other, length_set, none_some, some_is, some_within, within_some}

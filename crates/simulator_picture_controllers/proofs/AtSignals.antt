@@ -39,8 +39,7 @@ use Rattle.simulator_world_run.specs.Links.{AreLinksOf, names_at}
 use Rattle.simulator_world_run.specs.Nodes.{links, names_of}
 use Rattle.simulator_world_run.specs.Servers.{sent_by_server, server_after, server_anew, step_of}
 use Rattle.simulator_world_run.specs.State.{ServerState, WorldState}
-use Rattle.simulator_picture.specs.Picture.{IsHostOf, IsNetworkOf, IsPictured}
-use Rattle.simulator_picture_controllers.specs.After.{IsPicturedAfter}
+use Rattle.simulator_picture.specs.Picture.{IsHostOf, IsNetworkOf, IsPictured, IsPicturedAfter}
 use Rattle.simulator_picture_controllers.specs.Change.{SignalChanges}
 use Rattle.simulator_picture_controllers.proofs.Lists.{changed_one, some_is, some_within, within_some}
 use Rattle.simulator_picture_controllers.proofs.Stepping.{LinkLaws, clients_anew, clients_stepped, host_after, host_anew, own_anew, own_stepped, servers_anew, servers_stepped}

@@ -28,9 +28,8 @@ use Rattle.simulator_world_run.specs.Nodes.{point_link}
 use Rattle.simulator_world_run.specs.State.{ServerState, WorldState}
 use Rattle.simulator_world_snapshot.specs.Safe.{IsThere}
 use Rattle.simulator_world_snapshot.specs.declared.snapshot.Held.{Held}
-use Rattle.simulator_picture.specs.Picture.{AreFrozen, ArePointsSeen, AreSignalsSeen, IsHostOf, IsPictured, IsStationSeen}
+use Rattle.simulator_picture.specs.Picture.{AreFrozen, ArePointsSeen, AreSignalsSeen, IsHostOf, IsPictured, IsPicturedAfter, IsStationSeen}
 use Rattle.simulator_picture.specs.Seen.{AreHeldPairs}
-use Rattle.simulator_picture_controllers.specs.After.{IsPicturedAfter}
 use Rattle.simulator_picture_controllers.specs.Change.{LeavesStation}
 use Rattle.simulator_picture_controllers.proofs.Elsewhere.{StayLaws, client_seen, point_stays, signal_stays, station_stays}
 use Rattle.simulator_picture_controllers.proofs.Lists.{at_other, at_place, get_set, get_set_other, none_some, same_or_other, some_is, some_within, within_some}

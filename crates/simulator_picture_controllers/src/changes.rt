@@ -9,10 +9,9 @@ ghost use Rattle.ixl_rules.specs.Table.{Table};
 ghost use Rattle.simulator_machine.specs.Machine.{Machine};
 ghost use Rattle.simulator_controllers.specs.Point.{IsPointSeen, PointGoes};
 ghost use Rattle.simulator_controllers.specs.Signal.{IsSignalSeen, SignalGoes};
-ghost use Rattle.simulator_picture.specs.Picture.{IsPictured};
+ghost use Rattle.simulator_picture.specs.Picture.{IsPictured, IsPicturedAfter};
 ghost use Rattle.simulator_world_run.specs.Nodes.{point_link};
 ghost use Rattle.simulator_world_run.specs.State.{ServerState, WorldState};
-ghost use Rattle.simulator_picture_controllers.specs.After.{IsPicturedAfter};
 ghost use Rattle.simulator_picture_controllers.specs.Change.{NoneChanges, PointChanges, SignalChanges};
 
 use simulator_controllers::{points_stay_elsewhere, signals_stay_elsewhere};

@@ -7,11 +7,11 @@ ghost use Rattle.layout.specs.Station.{IsStation};
 ghost use Rattle.ixl_rules.specs.Table.{Table};
 ghost use Rattle.simulator_event.specs.declared.event.Event.{Event};
 ghost use Rattle.simulator_machine.specs.Machine.{Machine};
-ghost use Rattle.simulator_picture.specs.Picture.{IsPictured};
+ghost use Rattle.simulator_picture.specs.Picture.{IsPictured, IsPicturedAfter};
 ghost use Rattle.simulator_world_run.specs.Happens.{happens};
 ghost use Rattle.simulator_world_run.specs.Refusals.{refusal};
 ghost use Rattle.simulator_world_run.specs.State.{WorldState};
-ghost use Rattle.simulator_picture_controllers.specs.After.{IsOfControllers, IsPicturedAfter};
+ghost use Rattle.simulator_picture_controllers.specs.Events.{IsOfControllers};
 
 use crate::detectors::{events_at_detectors_are_pictured, losses_are_pictured};
 use crate::points::events_at_points_are_pictured;

@@ -10,12 +10,11 @@ ghost use Rattle.ixl_rules.specs.Table.{Table};
 ghost use Rattle.simulator_event.specs.declared.event.Event.TheVariants.{Deliver, Reach, Restart, Tick};
 ghost use Rattle.simulator_event.specs.declared.event.NodeId.{NodeId};
 ghost use Rattle.simulator_machine.specs.Machine.{Machine};
-ghost use Rattle.simulator_picture.specs.Picture.{IsPictured};
+ghost use Rattle.simulator_picture.specs.Picture.{IsPictured, IsPicturedAfter};
 ghost use Rattle.simulator_world_run.specs.Happens.{happens};
 ghost use Rattle.simulator_world_run.specs.Nodes.{Point as PointAt, node_at};
 ghost use Rattle.simulator_world_run.specs.Refusals.{refusal};
 ghost use Rattle.simulator_world_run.specs.State.{WorldState};
-ghost use Rattle.simulator_picture_controllers.specs.After.{IsPicturedAfter};
 
 use crate::changes::changes_are_pictured;
 use controller_theorems::point_makes_a_step;

@@ -47,7 +47,7 @@ use Rattle.simulator_world_run.specs.Refusals.{is_missing, refused_where}
 use Rattle.simulator_world_run.specs.State.{WorldState}
 use Rattle.simulator_world_run.specs.Station.{held_of}
 use Rattle.simulator_world_run.specs.Happens as world_run
-use Rattle.simulator_picture.specs.Picture.{AreFrozen, ArePointsSeen, AreSignalsSeen, IsNetworkOf, IsPictured, given_in}
+use Rattle.simulator_picture.specs.Picture.{AreFrozen, ArePointsSeen, AreSignalsSeen, IsNetworkOf, IsPictured, IsPicturedAfter, given_in}
 use Rattle.simulator_picture_station.proofs.Ends.{EndLaws, server_pictured}
 use Rattle.simulator_picture_station.proofs.Lists.{get_map, length_map, some_is, within_some}
 
@@ -191,8 +191,8 @@ module _ (laws : AnewLaws) (plan : Plan) (table : Table) (once : Once plan) (sta
       in let same : found.0 ≡ entry = some_is found.0 entry (sym found.1 ∙ there)
       in subst (λ (s : SwitchState). s.client.peer.objects ≡ entry.name ∷ []) (ap (new_switch_of plan begins) (sym same) ∙ found.2) refl
 
-  pub restart_pictured : IsNetworkOf plan anew after → IsPictured plan table anew (made_anew machine)
-  restart_pictured linked = record {
+  seen_anew : IsNetworkOf plan anew after → IsPictured plan table anew (made_anew machine)
+  seen_anew linked = record {
     network = after;
     linked = linked;
     signals = signals_anew;
@@ -206,3 +206,6 @@ module _ (laws : AnewLaws) (plan : Plan) (table : Table) (once : Once plan) (sta
     frozen = laws.frozen plan table world machine station is pictured_is;
     invariant = laws.reached table machine (made_anew machine) pictured_is.invariant is_anew.keeps.moves;
   }
+
+  pub restart_pictured : IsNetworkOf plan anew after → (reached : IsPicturedAfter plan table machine anew) × (reached.machine ≡ made_anew machine)
+  restart_pictured linked = (record { machine = made_anew machine; moves = is_anew.keeps.moves; pictured = seen_anew linked }, refl)

@@ -25,7 +25,7 @@ use Rattle.simulator_world_run.specs.Nodes.{Node, Station, links, node_at}
 use Rattle.simulator_world_run.specs.Refusals.{refusal}
 use Rattle.simulator_world_run.specs.State.{WorldState}
 use Rattle.simulator_world_run.specs.Station.{station_step}
-use Rattle.simulator_picture.specs.Picture.{IsNetworkOf, IsPictured}
+use Rattle.simulator_picture.specs.Picture.{IsNetworkOf, IsPictured, IsPicturedAfter}
 use Rattle.simulator_picture_station.proofs.Step.{StepLaws, goes, step_pictured}
 
 -- the laws of events that this stands on
@@ -57,14 +57,15 @@ module _ (laws : EventLaws) (plan : Plan) (table : Table) (once : Once plan) (st
   stepped : (input : ixl.Input) (connection : ℕ) → MayComeWith plan input connection pictured.network
       → FollowsBy plan (station_events plan table input connection world.station) (station_stepped plan table input world) pictured.network
       → IsNetworkOf plan (station_stepped plan table input world) (run_links (station_events plan table input connection world.station) pictured.network)
-      → (new : Machine) × IsPictured plan table (station_stepped plan table input world) new
+      → IsPicturedAfter plan table machine (station_stepped plan table input world)
   stepped input connection comes follows linked =
       let done = goes laws.step plan table input connection world machine are is pictured comes
-      in (
-        done.0,
-        step_pictured laws.step plan table input connection world machine are is pictured follows linked
-            (laws.of_nodes plan table input connection world pictured.network are pictured.linked.whole pictured.linked.lawful.timely pictured.linked.are comes) done.0 done.1,
-      )
+      in record {
+        machine = done.0;
+        moves = done.1.behind.moves;
+        pictured = step_pictured laws.step plan table input connection world machine are is pictured follows linked
+            (laws.of_nodes plan table input connection world pictured.network are pictured.linked.whole pictured.linked.lawful.timely pictured.linked.are comes) done.0 done.1;
+      }
 
   follows_by : (happening : Event) → refusal plan happening world ≡ None → FollowsBy plan (events_of plan table happening world) (happens plan table happening world) pictured.network
   follows_by happening none = laws.exactly plan table happening world pictured.network are pictured.linked.whole pictured.linked.lawful.timely pictured.linked.are none
@@ -72,23 +73,23 @@ module _ (laws : EventLaws) (plan : Plan) (table : Table) (once : Once plan) (st
   linked_by : (happening : Event) → refusal plan happening world ≡ None → IsNetworkOf plan (happens plan table happening world) (run_links (events_of plan table happening world) pictured.network)
   linked_by happening none = laws.network plan table happening world pictured.network station once pictured.linked none
 
-  pub request_pictured : (command : Command) → (new : Machine) × IsPictured plan table (happens plan table (event.Request command) world) new
+  pub request_pictured : (command : Command) → IsPicturedAfter plan table machine (happens plan table (event.Request command) world)
   unfolding happens events_of refusal
   request_pictured command = stepped (ixl.Commands command) 0 (λ bytes same link below. absurd (cc (same))) (follows_by (event.Request command) refl) (linked_by (event.Request command) refl)
 
   -- what is so where a node is the station
-  pub tick_pictured : (node : NodeId) → refusal plan (event.Tick node) world ≡ None → node_at plan node.0 ≡ Some Station → (new : Machine) × IsPictured plan table (happens plan table (event.Tick node) world) new
+  pub tick_pictured : (node : NodeId) → refusal plan (event.Tick node) world ≡ None → node_at plan node.0 ≡ Some Station → IsPicturedAfter plan table machine (happens plan table (event.Tick node) world)
   unfolding happens events_of
-  tick_pictured node none at = subst (λ (n : Option Node). (new : Machine) × IsPictured plan table (ticked_at plan table n world) new) (sym at)
+  tick_pictured node none at = subst (λ (n : Option Node). IsPicturedAfter plan table machine (ticked_at plan table n world)) (sym at)
       (stepped ixl.Tick 0 (λ bytes same link below. absurd (cc (same)))
       (subst (λ (n : Option Node). FollowsBy plan (tick_events plan table n world) (ticked_at plan table n world) pictured.network) at (follows_by (event.Tick node) none))
       (subst (λ (n : Option Node). IsNetworkOf plan (ticked_at plan table n world) (run_links (tick_events plan table n world) pictured.network)) at (linked_by (event.Tick node) none)))
 
   pub delivery_pictured : (node : NodeId) (bytes : List ℕ) → refusal plan (event.Deliver node bytes) world ≡ None → node_at plan node.0 ≡ Some Station
-      → (new : Machine) × IsPictured plan table (happens plan table (event.Deliver node bytes) world) new
+      → IsPicturedAfter plan table machine (happens plan table (event.Deliver node bytes) world)
   unfolding happens events_of
   delivery_pictured node bytes none at =
-      subst (λ (n : Option Node). (new : Machine) × IsPictured plan table (delivered_to plan table bytes (connection_of (copy_of bytes world)) n world) new) (sym at)
+      subst (λ (n : Option Node). IsPicturedAfter plan table machine (delivered_to plan table bytes (connection_of (copy_of bytes world)) n world)) (sym at)
       (stepped (ixl.Datagram bytes) (connection_of (copy_of bytes world))
       (λ other same link below. subst (λ b. MayCallOn (names_at plan link) (Receives b (connection_of (copy_of bytes world))) pictured.network) (bytes_same bytes other same) (laws.delivered plan node bytes world pictured.network pictured.linked.are none link))
       (subst (λ (n : Option Node). FollowsBy plan (delivery_events plan table bytes (connection_of (copy_of bytes world)) n world) (delivered_to plan table bytes (connection_of (copy_of bytes world)) n world) pictured.network) at (follows_by (event.Deliver node bytes) none))

@@ -44,7 +44,7 @@ use Rattle.simulator_world_run.specs.Nodes.{links, nodes, point_link}
 use Rattle.simulator_world_run.specs.Refusals.{all_within, keeps_time, refusal_of_time, refused_where, station_within}
 use Rattle.simulator_world_run.specs.Servers as servers_of
 use Rattle.simulator_world_run.specs.State.{ServerState, WorldState}
-use Rattle.simulator_picture.specs.Picture.{AreFrozen, ArePointsSeen, AreSignalsSeen, IsHostOf, IsNetworkOf, IsPictured, IsStationSeen, given_in}
+use Rattle.simulator_picture.specs.Picture.{AreFrozen, ArePointsSeen, AreSignalsSeen, IsHostOf, IsNetworkOf, IsPictured, IsPicturedAfter, IsStationSeen, given_in}
 use Rattle.simulator_picture.specs.Seen.{AreHeldPairs}
 use Rattle.simulator_picture_station.proofs.Passing.{client_seen, point_passed, server_seen, signal_passed}
 use Rattle.simulator_picture_station.proofs.Ends.{EndLaws, server_pictured}
@@ -396,6 +396,9 @@ module _ (laws : TimeLaws) (plan : Plan) (table : Table) (elapsed : ℕ) (steps 
     unfolding passed
     frozen_then = record { pairs = subst (λ f. AreHeldPairs (machine_table table) world.frozen f) (sym is.frozen) pictured_is.frozen.pairs; there = pictured_is.frozen.there }
 
+    to_new : MovesTo (machine_table table) machine new
+    to_new = laws.compose (machine_table table) machine between new to_between is.keeps.moves
+
     all_then : IsPictured plan table (passed elapsed steps world) new
     all_then = record {
       network = after;
@@ -404,8 +407,8 @@ module _ (laws : TimeLaws) (plan : Plan) (table : Table) (elapsed : ℕ) (steps 
       points = points_then;
       station = station_then;
       frozen = frozen_then;
-      invariant = laws.reached table machine new pictured_is.invariant (laws.compose (machine_table table) machine between new to_between is.keeps.moves);
+      invariant = laws.reached table machine new pictured_is.invariant to_new;
     }
 
-  pub time_pictured : (new : Machine) × IsPictured plan table (passed elapsed steps world) new
-  time_pictured = (goes_on.0, all_then goes_on.0 goes_on.1)
+  pub time_pictured : IsPicturedAfter plan table machine (passed elapsed steps world)
+  time_pictured = record { machine = goes_on.0; moves = to_new goes_on.0 goes_on.1; pictured = all_then goes_on.0 goes_on.1 }

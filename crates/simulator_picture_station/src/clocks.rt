@@ -13,7 +13,7 @@ ghost use Rattle.simulator_world_run.specs.Happens.{happens};
 ghost use Rattle.simulator_world_run.specs.Nodes.{Station, node_at};
 ghost use Rattle.simulator_world_run.specs.Refusals.{refusal};
 ghost use Rattle.simulator_world_run.specs.State.{WorldState};
-ghost use Rattle.simulator_picture.specs.Picture.{IsPictured};
+ghost use Rattle.simulator_picture.specs.Picture.{IsPictured, IsPicturedAfter};
 
 use rasta_core::a_node_restarts;
 use simulator_controllers::{
@@ -40,7 +40,7 @@ use simulator_world_links::ends_are_those_of_the_nodes;
 pub fn time_keeps_pictures()
     ensures { (plan : Plan) (table : Table) (elapsed : ℕ) (clocks : List ℕ) (world : WorldState) (machine : Machine) → Once plan → IsStation plan
         → IsPictured plan table world machine → refusal plan (Time elapsed clocks) world ≡ None
-        → (new : Machine) × IsPictured plan table (happens plan table (Time elapsed clocks) world) new }
+        → IsPicturedAfter plan table machine (happens plan table (Time elapsed clocks) world) }
 {
     calls_give_and_take_at_the_ends();
     clients_are_alone_after_quiet();
@@ -67,7 +67,7 @@ pub fn time_keeps_pictures()
 pub fn restarts_of_stations_keep_pictures()
     ensures { (plan : Plan) (table : Table) (node : NodeId) (clock first : ℕ) (world : WorldState) (machine : Machine) → Once plan → IsStation plan → IsTableOf plan table
         → IsPictured plan table world machine → refusal plan (Restart node clock first) world ≡ None → node_at plan node.0 ≡ Some Station
-        → IsPictured plan table (happens plan table (Restart node clock first) world) (made_anew machine) }
+        → (after : IsPicturedAfter plan table machine (happens plan table (Restart node clock first) world)) × (after.machine ≡ made_anew machine) }
 {
     a_node_restarts();
     calls_give_and_take_at_the_ends();

@@ -1,5 +1,5 @@
-//! What the interlocking and the clock do keeps the picture of a world: after it some machine sees the world again. There is
-//! no code here but laws.
+//! What the interlocking and the clock do is a list of moves of the machine, which sees the world then as before. There is no
+//! code here but laws.
 #![tactic(auto)]
 
 mod clocks;

@@ -14,7 +14,7 @@ ghost use Rattle.simulator_world_run.specs.Happens.{happens};
 ghost use Rattle.simulator_world_run.specs.Nodes.{Station, node_at};
 ghost use Rattle.simulator_world_run.specs.Refusals.{refusal};
 ghost use Rattle.simulator_world_run.specs.State.{WorldState};
-ghost use Rattle.simulator_picture.specs.Picture.{IsPictured};
+ghost use Rattle.simulator_picture.specs.Picture.{IsPictured, IsPicturedAfter};
 
 use rasta_core::a_node_makes_a_step;
 use simulator_controllers::{points_stay_elsewhere, signals_stay_elsewhere};
@@ -37,13 +37,13 @@ use simulator_world_links::{
 /// the world behind it.
 pub fn steps_of_stations_keep_pictures()
     ensures request { (plan : Plan) (table : Table) (command : Command) (world : WorldState) (machine : Machine) → Once plan → IsStation plan → IsTableOf plan table
-        → IsPictured plan table world machine → (new : Machine) × IsPictured plan table (happens plan table (Request command) world) new }
+        → IsPictured plan table world machine → IsPicturedAfter plan table machine (happens plan table (Request command) world) }
     ensures tick { (plan : Plan) (table : Table) (node : NodeId) (world : WorldState) (machine : Machine) → Once plan → IsStation plan → IsTableOf plan table
         → IsPictured plan table world machine → refusal plan (Tick node) world ≡ None → node_at plan node.0 ≡ Some Station
-        → (new : Machine) × IsPictured plan table (happens plan table (Tick node) world) new }
+        → IsPicturedAfter plan table machine (happens plan table (Tick node) world) }
     ensures delivery { (plan : Plan) (table : Table) (node : NodeId) (bytes : List ℕ) (world : WorldState) (machine : Machine) → Once plan → IsStation plan
         → IsTableOf plan table → IsPictured plan table world machine → refusal plan (Deliver node bytes) world ≡ None → node_at plan node.0 ≡ Some Station
-        → (new : Machine) × IsPictured plan table (happens plan table (Deliver node bytes) world) new }
+        → IsPicturedAfter plan table machine (happens plan table (Deliver node bytes) world) }
 {
     a_client_of_many_makes_a_step();
     a_node_makes_a_step();

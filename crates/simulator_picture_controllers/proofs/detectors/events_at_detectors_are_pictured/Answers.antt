@@ -6,8 +6,7 @@ use Rattle.simulator_world_links.specs.Events.{delivery_events, events_of, resta
 use Rattle.simulator_world_run.specs.Happens.{coming, delivered_to, happens, made_anew, ticked_at}
 use Rattle.simulator_world_run.specs.Network.{connection_of, copy_of}
 use Rattle.simulator_world_run.specs.Nodes.{Node}
-use Rattle.simulator_picture.specs.Picture.{IsNetworkOf}
-use Rattle.simulator_picture_controllers.specs.After.{IsPicturedAfter}
+use Rattle.simulator_picture.specs.Picture.{IsNetworkOf, IsPicturedAfter}
 use Rattle.simulator_picture_controllers.proofs.AtDetectors.{DetectorLaws, contact_is_unseen, detector_restarts, detector_steps}
 use Rattle.simulator_picture_controllers.proofs.detectors.events_at_detectors_are_pictured.Goals as goal
 

@@ -8,8 +8,7 @@ use Rattle.simulator_world_run.specs.Happens.{coming, delivered_to, happens, mad
 use Rattle.simulator_world_run.specs.Network.{connection_of, copy_of}
 use Rattle.simulator_world_run.specs.Nodes.{Node, point_link}
 use Rattle.simulator_world_run.specs.Refusals.{refusal}
-use Rattle.simulator_picture.specs.Picture.{IsNetworkOf}
-use Rattle.simulator_picture_controllers.specs.After.{IsPicturedAfter}
+use Rattle.simulator_picture.specs.Picture.{IsNetworkOf, IsPicturedAfter}
 use Rattle.simulator_picture_controllers.proofs.AtPoints.{PointLaws, point_reaches, point_restarts, point_steps}
 use Rattle.simulator_picture_controllers.proofs.Reached.{reachable}
 use Rattle.simulator_picture_controllers.proofs.points.events_at_points_are_pictured.Goals as goal

@@ -1,4 +1,4 @@
-use Rattle.std.proofs.Common.{Option, sym, subst}
+use Rattle.std.proofs.Common.{◌≡◌, Option, sym, subst}
 use Rattle.rasta_core.specs.Links.{run_links}
 use Rattle.simulator_event.specs.declared.event.Event.TheVariants.{Restart}
 use Rattle.simulator_machine.specs.Machine as machine
@@ -7,7 +7,7 @@ use Rattle.simulator_world_links.specs.Events.{events_of, restart_events}
 use Rattle.simulator_world_run.specs.Happens.{happens, made_anew}
 use Rattle.simulator_world_run.specs.Nodes.{Node}
 use Rattle.simulator_world_run.specs.Refusals.{refusal}
-use Rattle.simulator_picture.specs.Picture.{IsNetworkOf, IsPictured}
+use Rattle.simulator_picture.specs.Picture.{IsNetworkOf, IsPicturedAfter}
 use Rattle.simulator_picture_station.proofs.Restart.{AnewLaws, restart_pictured, restart_within}
 use Rattle.simulator_picture_station.proofs.clocks.restarts_of_stations_keep_pictures.Goals as goal
 
@@ -32,7 +32,7 @@ returns c =
       reached = λ table old new. c.invariant_is_kept.ensures.reached (machine_table table) old new (c.tables_are_sound.ensures table);
     }
     in λ plan table node clock first world kept once station is pictured none at.
-    subst (λ (n : Option Node). IsPictured plan table (made_anew plan table (record { clock = clock; first = first }) n world) (machine.made_anew kept)) (sym at)
+    subst (λ (n : Option Node). (after : IsPicturedAfter plan table kept (made_anew plan table (record { clock = clock; first = first }) n world)) × (after.machine ≡ machine.made_anew kept)) (sym at)
     (restart_pictured laws plan table once station is (record { clock = clock; first = first }) world kept pictured (restart_within plan node clock none)
     (subst (λ (n : Option Node). IsNetworkOf plan (made_anew plan table (record { clock = clock; first = first }) n world) (run_links (restart_events plan clock first n) pictured.network)) at
     (c.networks_follow_their_worlds.ensures plan table (Restart node clock first) world pictured.network station once pictured.linked none)))
