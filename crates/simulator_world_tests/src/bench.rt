@@ -40,6 +40,8 @@ pub(crate) struct Bench {
     alloc: Global,
     tried: usize,
     rounds_driven: u32,
+    /// Whether a flow brings each datagram to the nodes that it isn't meant for, too.
+    astray: bool,
 }
 
 /// What can be seen of a station of one point.
@@ -108,24 +110,46 @@ impl Bench {
             alloc,
             tried: 0,
             rounds_driven: 0,
+            astray: false,
         }
     }
 
     /// A station whose links are up, and that takes requests.
     pub(crate) fn up(rt: &impl Abort, alloc: Global, text: &str) -> Bench {
         let mut bench = Bench::new(rt, alloc, text);
-        bench.pass(rt, HOLD);
-        bench.flow(rt, 12);
-        bench.accepts(rt, Command::Resume);
+        bench.come_up(rt);
         bench
     }
 
     /// The small station with its first route at proceed.
     pub(crate) fn at_proceed(rt: &impl Abort, alloc: Global) -> Bench {
-        let mut bench = Bench::up(rt, alloc, SMALL);
-        bench.accepts(rt, Command::Request(RouteId(0)));
-        bench.flow(rt, 15);
+        let mut bench = Bench::new(rt, alloc, SMALL);
+        bench.come_to_proceed(rt);
         bench
+    }
+
+    /// The same, where each datagram also came to the nodes that it isn't meant for.
+    pub(crate) fn astray_at_proceed(rt: &impl Abort, alloc: Global) -> Bench {
+        let mut bench = Bench::new(rt, alloc, SMALL);
+        bench.astray = true;
+        bench.come_to_proceed(rt);
+        bench
+    }
+
+    fn come_up(&mut self, rt: &impl Abort) {
+        self.pass(rt, HOLD);
+        self.flow(rt, 12);
+        self.accepts(rt, Command::Resume);
+    }
+
+    // The point reaches its side at once: all is done within two seconds of the first datagram.
+    fn come_to_proceed(&mut self, rt: &impl Abort) {
+        self.come_up(rt);
+        self.accepts(rt, Command::Request(RouteId(0)));
+        self.flow(rt, 2);
+        let (point, position) = (PointId(0), Position::Right);
+        self.does(rt, &Event::Reach { point, position });
+        self.flow(rt, 3);
     }
 
     fn nodes(&self) -> usize {
@@ -166,6 +190,31 @@ impl Bench {
     /// Which datagram was sent last.
     pub(crate) fn last_sent(&self) -> usize {
         self.world.network().len().saturating_sub(1)
+    }
+
+    /// Whether the datagram at a place has these bytes, each with its own place in it.
+    fn has(&self, place: usize, wanted: &[(usize, u8)]) -> bool {
+        let Some(sent) = self.world.network().get(place) else {
+            return false;
+        };
+        wanted
+            .iter()
+            .all(|one| sent.bytes.get(one.0) == Some(&one.1))
+    }
+
+    /// How many datagrams with these bytes were sent, from a place on, and the place of the first.
+    pub(crate) fn sent_with(&self, from: usize, wanted: &[(usize, u8)]) -> (u64, usize) {
+        let mut count: u64 = 0;
+        let mut first = from;
+        for place in from..self.world.network().len() {
+            if self.has(place, wanted) {
+                if count == 0 {
+                    first = place;
+                }
+                count = count.saturating_add(1);
+            }
+        }
+        (count, first)
     }
 
     /// How long it is until a datagram was sent two seconds ago, in microseconds.
@@ -215,7 +264,7 @@ impl Bench {
     }
 
     /// Bytes come to each node that they aren't meant for, and nothing changes.
-    pub(crate) fn come_to_others(&mut self, rt: &impl Abort, bytes: &[u8]) {
+    fn come_to_others(&mut self, rt: &impl Abort, bytes: &[u8]) {
         let before = self.seen();
         for node in 0..self.nodes() {
             if NodeId(node) != receiver_of(bytes) {
@@ -262,6 +311,9 @@ impl Bench {
         for place in self.tried..end {
             let bytes = self.datagram(rt, place);
             let node = receiver_of(bytes.as_slice());
+            if self.astray {
+                self.come_to_others(rt, bytes.as_slice());
+            }
             let _ = self.apply(rt, &Event::Deliver { node, bytes });
         }
         self.tried = end;

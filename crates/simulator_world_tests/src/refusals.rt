@@ -3,6 +3,7 @@
 use crate::bench::{Bench, SMALL};
 use ixl_rules::{Command, Refusal};
 use layout::RouteId;
+use sci_telegram::Aspect;
 use simulator_event::{Answer, Event, Refused};
 
 #[test]
@@ -45,9 +46,8 @@ fn a_lost_datagram_is_gone(rt: HostRuntime) {
 
 #[test]
 fn a_node_that_a_datagram_is_not_meant_for_does_nothing(rt: HostRuntime) {
-    let mut bench = Bench::at_proceed(&rt, rt.alloc());
-    let bytes = bench.datagram(&rt, bench.last_sent());
-    bench.come_to_others(&rt, bytes.as_slice());
+    let bench = Bench::astray_at_proceed(&rt, rt.alloc());
+    bench.shows(&rt, Aspect::Proceed, Some(0));
 }
 
 #[test]
