@@ -39,7 +39,7 @@ fn guarded_sections(layout: &Layout, flanks: &[FlankProtection], point: PointId)
 
 /// The sections that a required point awaits: its own where it lies on the path of the route, otherwise
 /// those of the points that it guards.
-#[tactic(auto, unfolding(crate::specs::Judging::awaited_by))]
+#[tactic(auto, unfolding(crate::specs::inside::Judging::awaited_by))]
 pub(crate) fn awaited(
     layout: &Layout,
     route: &Route,

@@ -62,7 +62,7 @@ fn all_different<T: Eq>(items: &[T]) -> bool
 }
 
 /// Whether no element comes twice.
-#[tactic(auto, unfolding(crate::specs::Judging::is_element))]
+#[tactic(auto, unfolding(crate::specs::inside::Judging::is_element))]
 pub(crate) fn elements_differ(elements: &[Element]) -> bool
     ensures { result ≡ all_different is_element elements.now }
 {

@@ -26,7 +26,7 @@ fn is_over(passage: &Passage, point: PointId) -> bool
 }
 
 /// Whether a path leads over a point.
-#[tactic(auto, unfolding(crate::specs::Judging::on_path))]
+#[tactic(auto, unfolding(crate::specs::inside::Judging::on_path))]
 fn on_path(path: &[Passage], point: PointId) -> bool
     ensures { result ≡ on_path path.now point }
 {
@@ -44,7 +44,7 @@ fn is_named(points: &[(PointId, Side)], passage: &Passage) -> bool
 }
 
 /// Whether each point of the path is written under `points`.
-#[tactic(auto, unfolding(crate::specs::Judging::points_written))]
+#[tactic(auto, unfolding(crate::specs::inside::Judging::points_written))]
 pub(crate) fn points_written(route: &Route, path: &[Passage]) -> bool
     ensures { result ≡ points_written route.now path.now }
 {
@@ -52,7 +52,7 @@ pub(crate) fn points_written(route: &Route, path: &[Passage]) -> bool
 }
 
 /// Whether each point under `points` is required so and on the path.
-#[tactic(auto, unfolding(crate::specs::Judging::points_right))]
+#[tactic(auto, unfolding(crate::specs::inside::Judging::points_right))]
 fn points_right(route: &Route, path: &[Passage], needs: &[(PointId, Side)]) -> bool
     ensures { result ≡ points_right route.now path.now needs.now }
 {
@@ -60,7 +60,7 @@ fn points_right(route: &Route, path: &[Passage], needs: &[(PointId, Side)]) -> b
 }
 
 /// Whether each point under `flank` is required so and off the path.
-#[tactic(auto, unfolding(crate::specs::Judging::flank_right))]
+#[tactic(auto, unfolding(crate::specs::inside::Judging::flank_right))]
 fn flank_right(route: &Route, path: &[Passage], needs: &[(PointId, Side)]) -> bool
     ensures { result ≡ flank_right route.now path.now needs.now }
 {
@@ -75,7 +75,7 @@ pub(crate) fn written_right(route: &Route, path: &[Passage], needs: &[(PointId, 
 }
 
 /// Whether each required point off the path is written under `flank`.
-#[tactic(auto, unfolding(crate::specs::Judging::flank_written))]
+#[tactic(auto, unfolding(crate::specs::inside::Judging::flank_written))]
 pub(crate) fn flank_written(route: &Route, path: &[Passage], needs: &[(PointId, Side)]) -> bool
     ensures { result ≡ flank_written route.now path.now needs.now }
 {
