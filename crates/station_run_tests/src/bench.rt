@@ -1,7 +1,7 @@
 //! A small station that is driven over memory, and what comes of it.
 
-use station_drive::Datagrams;
-use station_memory::{MemoryNetwork, SteppingClock};
+use station_drive::{Clock, Datagrams};
+use station_memory::{MemoryNetwork, NetCall};
 use station_run::{Asked, Prepared, prepare, run};
 use station_sim::replay_text;
 use std::alloc::Global;
@@ -43,10 +43,30 @@ impl Write for Disk {
     }
 }
 
+/// A clock that reads 0, then the time of the first round, and then goes on by 10 ms at each reading.
+#[derive(Drop)]
+struct HastyClock {
+    latest: u64,
+    /// By how much it goes on at the next reading, and at the one behind that, in microseconds.
+    steps: (u64, u64),
+}
+
+impl Clock for HastyClock {
+    ghost latest = { λ clock. clock.latest };
+
+    fn read(&mut self) -> u64 {
+        self.latest = self.latest.saturating_add(self.steps.0);
+        self.steps = (self.steps.1, 10_000);
+        self.latest
+    }
+}
+
 /// How a station is driven over memory.
 #[derive(Clone, Copy)]
 pub(crate) struct Drive<'a> {
     pub(crate) script: &'a str,
+    /// When its first round is, in microseconds. The others are 10 ms apart.
+    pub(crate) begins: u64,
     pub(crate) for_ms: u64,
     /// For how many bytes of its record there is room.
     pub(crate) room: usize,
@@ -63,12 +83,29 @@ pub(crate) struct Left {
     pub(crate) err: Vec<u8>,
     /// How many calls of its network failed.
     pub(crate) faults: u64,
+    /// Which call of its network was the first that sent, counted from 1.
+    pub(crate) first_sent: u64,
 }
 
-/// Runs a station over memory, in rounds of 10 ms.
+/// Which call of a network was the first that sent, counted from 1. Where none did, the one behind the last.
+fn first_sent(net: &MemoryNetwork) -> u64 {
+    let mut number: u64 = 1;
+    for call in net.calls() {
+        if matches!(call, NetCall::Sent(..)) {
+            break;
+        }
+        number = number.saturating_add(1);
+    }
+    number
+}
+
+/// Runs a station over memory.
 fn run_prepared(alloc: Global, prepared: Prepared, drive: Drive<'_>) -> Left {
     let mut net = MemoryNetwork::new(alloc, drive.failing);
-    let mut clock = SteppingClock::new(alloc, 0, 10_000);
+    let mut clock = HastyClock {
+        latest: 0,
+        steps: (0, drive.begins),
+    };
     let mut disk = Disk {
         kept: Vec::new(alloc),
         left: drive.room,
@@ -84,6 +121,7 @@ fn run_prepared(alloc: Global, prepared: Prepared, drive: Drive<'_>) -> Left {
         out,
         err,
         faults: net.faults(),
+        first_sent: first_sent(&net),
     }
 }
 
@@ -124,4 +162,18 @@ pub(crate) fn whole_lines(record: &[u8]) -> &[u8] {
         Some(place) => record.get(..=place).unwrap_or(&[]),
         None => &[],
     }
+}
+
+/// Whether a record is the same as another one up to a line of that one, which delivers a datagram.
+pub(crate) fn lacks_delivery(record: &[u8], other: &[u8]) -> bool {
+    let mut same: usize = 0;
+    for (one, two) in record.iter().zip(other) {
+        if *one != *two {
+            break;
+        }
+        same = same.saturating_add(1);
+    }
+    let (front, _) = other.split_at(same.min(other.len()));
+    let (_, line) = other.split_at(whole_lines(front).len().min(other.len()));
+    line.starts_with(b"deliver ")
 }

@@ -1,9 +1,13 @@
 //! A small station that runs.
 
-use crate::bench::{Drive, SMALL, Told, is_same, run_over_sockets, run_small, whole_lines};
+use crate::bench::{
+    Drive, SMALL, Told, is_same, lacks_delivery, run_over_sockets, run_small, whole_lines,
+};
 use station_run::Asked;
 use std::alloc::Global;
 use std::fs::File;
+use std::ops::Range;
+use std::process::Abort;
 use std::test::Fail;
 use std::time::Duration;
 use std::{fs, thread};
@@ -29,6 +33,7 @@ const SCRIPT: &str = "at 8000 resume\nat 8010 set R1\n";
 
 const WHOLE: Drive<'static> = Drive {
     script: SCRIPT,
+    begins: 10_000,
     for_ms: 12_000,
     room: usize::MAX,
     failing: 0,
@@ -55,21 +60,62 @@ fn a_run_over_memory_is_recorded(rt: HostRuntime) -> Result<(), Fail> {
     Ok(())
 }
 
-// A call that fails loses a datagram, or brings one later.
-#[test]
-fn a_record_is_replayed_where_a_call_failed(rt: HostRuntime) -> Result<(), Fail> {
-    let alloc = rt.alloc();
-    for failing in 1..=300 {
-        let drive = Drive {
-            failing,
-            for_ms: 600,
-            ..WHOLE
-        };
-        let left = run_small(alloc, drive).ok_or("a fault")?;
+/// The links open in the second round, and R1 is set as soon as they are ready.
+const OPENING: Drive<'static> = Drive {
+    script: "at 6060 resume\nat 6070 set R1\n",
+    begins: 5_990_000,
+    for_ms: 7000,
+    ..WHOLE
+};
+
+// Runs the station once for each call of some that fails, counted from 0 at the first that sends. A record replays as the same
+// session, and differs from that of a run where none fails by a delivery that isn't there first. It answers how many differ.
+fn fail_each(rt: &impl Abort, alloc: Global, calls: Range<u64>) -> u64 {
+    let whole = run_small(alloc, OPENING).expect(rt, "the small station is sound");
+    assert!(rt; (whole.status, whole.faults) == (0, 0));
+    assert!(rt; whole.out.starts_with(b"time 7000\nsignal S1 proceed R1\n"));
+    let mut differing: u64 = 0;
+    for call in calls {
+        let failing = whole.first_sent.saturating_add(call);
+        let left = run_small(alloc, Drive { failing, ..OPENING }).expect(
+            rt,
+            "the small station is sound",
+        );
         assert!(rt; (left.status, left.faults) == (0, 1));
+        assert!(rt; left.err.is_empty());
         assert!(rt; is_same(alloc, &left.record));
+        if left.record != whole.record {
+            assert!(rt; lacks_delivery(&left.record, &whole.record));
+            differing = differing.saturating_add(1);
+        }
     }
-    Ok(())
+    differing
+}
+
+// 300 calls are those of some 40 rounds. They are dealt to several tests, since each test has a minute.
+#[test]
+fn a_call_that_fails_shows_in_a_missing_delivery_alone(rt: HostRuntime) {
+    assert!(rt; fail_each(&rt, rt.alloc(), 0..60) > 0);
+}
+
+#[test]
+fn so_does_one_of_the_next_60_calls(rt: HostRuntime) {
+    fail_each(&rt, rt.alloc(), 60..120);
+}
+
+#[test]
+fn so_does_one_from_the_121st_to_the_180th(rt: HostRuntime) {
+    fail_each(&rt, rt.alloc(), 120..180);
+}
+
+#[test]
+fn so_does_one_from_the_181st_to_the_240th(rt: HostRuntime) {
+    fail_each(&rt, rt.alloc(), 180..240);
+}
+
+#[test]
+fn so_does_one_from_the_241st_to_the_300th(rt: HostRuntime) {
+    fail_each(&rt, rt.alloc(), 240..300);
 }
 
 /// The small station with a record.
