@@ -6,6 +6,7 @@ use layout::{LayoutFault, Place, RouteId, TableName};
 use sci_telegram::Name;
 use station_failure::{Failure, tell};
 use std::fmt::Write;
+use std::process::Abort;
 use std::test::Fail;
 
 /// More bytes than any of these texts has.
@@ -32,40 +33,69 @@ fn faults_of_layouts_have_their_numbers_names_and_places(rt: HostRuntime) -> Res
     Ok(())
 }
 
-#[test]
-fn faults_of_tables_have_their_numbers_names_and_routes(rt: HostRuntime) -> Result<(), Fail> {
+/// A route of a table.
+fn route(rt: &impl Abort) -> FaultyRoute {
     let id = RouteId(4);
-    let name = Name::of(b"R5").ok_or("a name")?;
-    let route = FaultyRoute { id, name };
-    for (fault, text) in [
-        (TableFault::PathBroken(route), "1 PathBroken at route R5"),
-        (TableFault::PathRepeats(route), "2 PathRepeats at route R5"),
-        (
-            TableFault::PointMissing(route),
-            "3 PointMissing at route R5",
-        ),
-        (TableFault::PointWrong(route), "4 PointWrong at route R5"),
-        (
-            TableFault::FlankMissing(route),
-            "5 FlankMissing at route R5",
-        ),
-        (TableFault::FlankOpen(route), "6 FlankOpen at route R5"),
-        (
-            TableFault::FlankContradicts(route),
-            "7 FlankContradicts at route R5",
-        ),
-        (TableFault::SignalPlace(route), "8 SignalPlace at route R5"),
-        (
-            TableFault::NotSymmetric(route),
-            "9 NotSymmetric at route R5",
-        ),
-        (TableFault::OutOfMemory, "10 OutOfMemory"),
-    ] {
-        let mut told: ArrayString<LENGTH> = ArrayString::new();
-        write!(told, "{fault}")?;
-        assert!(rt; told.as_str() == text);
-    }
-    Ok(())
+    let name = Name::of(b"R5").expect(rt, "a name");
+    FaultyRoute { id, name }
+}
+
+/// A fault of a table has this text.
+fn tells(rt: &impl Abort, fault: &TableFault, text: &str) {
+    let mut told: ArrayString<LENGTH> = ArrayString::new();
+    assert!(rt; write!(told, "{fault}").is_ok());
+    assert!(rt; told.as_str() == text);
+}
+
+#[test]
+fn faults_of_tables_have_their_numbers_names_and_routes(rt: HostRuntime) {
+    let rt = &rt;
+    tells(
+        rt,
+        &TableFault::PathBroken(route(rt)),
+        "1 PathBroken at route R5",
+    );
+    tells(
+        rt,
+        &TableFault::PathRepeats(route(rt)),
+        "2 PathRepeats at route R5",
+    );
+    tells(
+        rt,
+        &TableFault::PointMissing(route(rt)),
+        "3 PointMissing at route R5",
+    );
+    tells(
+        rt,
+        &TableFault::PointWrong(route(rt)),
+        "4 PointWrong at route R5",
+    );
+    tells(
+        rt,
+        &TableFault::FlankMissing(route(rt)),
+        "5 FlankMissing at route R5",
+    );
+    tells(
+        rt,
+        &TableFault::FlankOpen(route(rt)),
+        "6 FlankOpen at route R5",
+    );
+    tells(
+        rt,
+        &TableFault::FlankContradicts(route(rt)),
+        "7 FlankContradicts at route R5",
+    );
+    tells(
+        rt,
+        &TableFault::SignalPlace(route(rt)),
+        "8 SignalPlace at route R5",
+    );
+    tells(
+        rt,
+        &TableFault::NotSymmetric(route(rt)),
+        "9 NotSymmetric at route R5",
+    );
+    tells(rt, &TableFault::OutOfMemory, "10 OutOfMemory");
 }
 
 #[test]
