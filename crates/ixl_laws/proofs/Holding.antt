@@ -3,6 +3,7 @@ use Rattle.std.proofs.Common.{inl, inr, ◌≡◌, ◌≢◌, ◌⊎◌, ℕ, su
 use Rattle.std.specs.Prelude.{◌||◌, ◌==◌, IsTrue, Option, Some, None, is_some, slice_get}
 use Rattle.std.specs.List.{Contains, list_any}
 use Rattle.std.proofs.lemmas.Bool.{false≢true}
+use Rattle.std.proofs.lemmas.Option.{same_Some}
 use Rattle.sci_telegram.specs.declared.message.Side.{Side}
 use Rattle.ixl_rules.specs.Table.{Need, Row, Table, is_same_side}
 use Rattle.ixl_rules.specs.State.{IxlState, RouteState}
@@ -12,12 +13,6 @@ use Rattle.ixl_rules.specs.declared.phase.Phase.{Phase}
 use Rattle.ixl_laws.specs.Refusals.{IsFirstBlocking}
 use Rattle.ixl_laws.proofs.Decide.{Decides, any_decides, both_decide, equal_decides, equally, itself_decides, less_decides, negation_decides, no, or_decide}
 use Rattle.ixl_laws.proofs.Knows.{itself, same_side}
-
-pub some_same : {A : Type 0} {a b : A} → Some a ≡ Some b → a ≡ b
-some_same {A} {a} {b} is = ap read is where
-  read : Option A → A
-  read None = a
-  read (Some one) = one
 
 pub none_is : {A : Type 0} {one : A} → None ≡ Some one → ⊥
 none_is is = false≢true (ap is_some is)
@@ -71,7 +66,7 @@ some_decides test holds number (row ∷ rows) (route ∷ routes) each =
     there (inr is) = (suc is.0, is.1, is.2, is.3, subst (λ n. holds n is.1 is.2) (omega arith) is.4)
 
     back : AtSome holds number (row ∷ rows) (route ∷ routes) → holds number row route ⊎ AtSome holds (suc number) rows routes
-    back (zero, other, state, is, holding) = inl (subst (λ r. holds number r route) (sym (some_same is.0)) (subst (λ r. holds number other r) (sym (some_same is.1)) (subst (λ n. holds n other state) (omega arith) holding)))
+    back (zero, other, state, is, holding) = inl (subst (λ r. holds number r route) (sym (same_Some _ _ is.0)) (subst (λ r. holds number other r) (sym (same_Some _ _ is.1)) (subst (λ n. holds n other state) (omega arith) holding)))
     back (suc place, other, state, is, holding) = inr (place, other, state, is, subst (λ n. holds n other state) (omega arith) holding)
 
 pub held_at_decides : (table : Table) (ixl : IxlState) (point : ℕ) (side : Side) → Decides (is_held_at table ixl point side) (IsHeldAt table ixl point side)
@@ -152,13 +147,13 @@ behind : (wanted : ℕ) (wanted_row : Row) (number : ℕ) (row : Row) (route : R
     (BlocksBy wanted wanted_row number row route → ⊥) → Found wanted wanted_row (suc number) rows routes found → Found wanted wanted_row number (row ∷ rows) (route ∷ routes) found
 behind wanted wanted_row number row route rows routes None free is = none where
   none : NoneAt wanted wanted_row number (row ∷ rows) (route ∷ routes)
-  none zero other state one two blocking = free (subst (λ r. BlocksBy wanted wanted_row number r route) (sym (some_same one)) (subst (λ r. BlocksBy wanted wanted_row number other r) (sym (some_same two)) (subst (λ n. BlocksBy wanted wanted_row n other state) (omega arith) blocking)))
+  none zero other state one two blocking = free (subst (λ r. BlocksBy wanted wanted_row number r route) (sym (same_Some _ _ one)) (subst (λ r. BlocksBy wanted wanted_row number other r) (sym (same_Some _ _ two)) (subst (λ n. BlocksBy wanted wanted_row n other state) (omega arith) blocking)))
   none (suc place) other state one two blocking = is place other state one two (subst (λ n. BlocksBy wanted wanted_row n other state) (omega arith) blocking)
 behind wanted wanted_row number row route rows routes (Some blocking) free (place, told, (found, before)) =
     (suc place, told ∙ omega arith, ((found.0, found.1, found.2, subst (λ n. BlocksBy wanted wanted_row n found.0 found.1) (omega arith) found.3), none))
   where
     none : (other : ℕ) → other < suc place → (r : Row) (s : RouteState) → slice_get (row ∷ rows) other ≡ Some r → slice_get (route ∷ routes) other ≡ Some s → BlocksBy wanted wanted_row (number + other) r s → ⊥
-    none zero less r s one two by = free (subst (λ x. BlocksBy wanted wanted_row number x route) (sym (some_same one)) (subst (λ x. BlocksBy wanted wanted_row number r x) (sym (some_same two)) (subst (λ n. BlocksBy wanted wanted_row n r s) (omega arith) by)))
+    none zero less r s one two by = free (subst (λ x. BlocksBy wanted wanted_row number x route) (sym (same_Some _ _ one)) (subst (λ x. BlocksBy wanted wanted_row number r x) (sym (same_Some _ _ two)) (subst (λ n. BlocksBy wanted wanted_row n r s) (omega arith) by)))
     none (suc other) less r s one two by = before other (omega (arith, less)) r s one two (subst (λ n. BlocksBy wanted wanted_row n r s) (omega arith) by)
 
 found_first : (wanted : ℕ) (wanted_row : Row) (number : ℕ) (rows : List Row) (routes : List RouteState) →

@@ -3,6 +3,7 @@ use Rattle.std.proofs.Common.{inl, inr, ◌≡◌, ◌⊎◌, ℕ, suc, zero, �
 use Rattle.std.specs.Prelude.{◌&&◌, ◌==◌, Some, None, slice_get}
 use Rattle.std.proofs.lemmas.Bool.{true≢false, false≢true}
 use Rattle.std.proofs.lemmas.Option.{slice_get_past}
+use Rattle.std.proofs.lemmas.Option.{same_Some}
 use Rattle.release.specs.Passage.{is_freeable}
 use Rattle.ixl_rules.specs.Table.{Row, Table, at, passes}
 use Rattle.ixl_rules.specs.State.{IxlState, RouteState, changed}
@@ -15,7 +16,7 @@ use Rattle.ixl_rules.specs.declared.phase.Phase.TheVariants as phase
 use Rattle.ixl_laws.specs.Due.{SomeFreeable}
 use Rattle.ixl_laws.proofs.Decide.{and_yes}
 use Rattle.ixl_laws.proofs.Due.{at_one, passage_decides}
-use Rattle.ixl_laws.proofs.Holding.{none_is, some_same}
+use Rattle.ixl_laws.proofs.Holding.{none_is}
 
 -- whether the next section of a route is freed, by which sections are clear
 frees_of : (ℕ → Bool) → Row → RouteState → Phase → Bool
@@ -121,7 +122,7 @@ frees_same table ixl row route = by_phase route.phase where
 
 changed_at : {A : Type 0} (change : A → A) (place : ℕ) (list : List A) (one : A) → slice_get list place ≡ Some one → slice_get (changed change place list) place ≡ Some (change one)
 changed_at change place [] one is = absurd (none_is is)
-changed_at change zero (first ∷ others) one is = ap (λ o. Some (change o)) (some_same is)
+changed_at change zero (first ∷ others) one is = ap (λ o. Some (change o)) (same_Some _ _ is)
 changed_at change (suc place) (first ∷ others) one is = changed_at change place others one is
 
 Follows : (table : Table) (number : ℕ) (row : Row) → Part → RouteState → Part → Type 0
@@ -152,7 +153,7 @@ pub nothing_more : (table : Table) (number : ℕ) (part : Part) (row : Row) (rou
 unfolding freeing_by_passage Follows
 nothing_more table number part row route after is also fits freeable =
     true≢false (sym ((passage_decides table end.ixl row after fits).shown freeable) ∙ frees_same table end.ixl row after ∙ ap (λ clear. frees clear row after) follows.1
-    ∙ ap (frees (is_clear table part.ixl) row) (some_same (sym also.1 ∙ follows.0.1)) ∙ none_left (is_clear table part.ixl) row route)
+    ∙ ap (frees (is_clear table part.ixl) row) (same_Some _ _ (sym also.1 ∙ follows.0.1)) ∙ none_left (is_clear table part.ixl) row route)
   where
     end : Part
     end = freeing_by_passage table number part

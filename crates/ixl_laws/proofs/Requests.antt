@@ -4,6 +4,7 @@ use Rattle.std.specs.Prelude.{◌||◌, Option, Some, None, slice_get}
 use Rattle.std.specs.List.{All, Contains, list_all}
 use Rattle.std.proofs.lemmas.Bool.{true≢false, false≢true}
 use Rattle.std.proofs.lemmas.List.Elements.{All-cons, All-contains_itself, All-nil, Contains-append_right}
+use Rattle.std.proofs.lemmas.Option.{same_Some}
 use Rattle.layout.specs.declared.ids.RouteId.{RouteId}
 use Rattle.ixl_rules.specs.Table.{Need, Row, Table}
 use Rattle.ixl_rules.specs.State.{IxlState, RouteState}
@@ -17,11 +18,11 @@ use Rattle.ixl_laws.specs.Refusals.{AreThere, IsCause, IsFirstOf, IsRequestRefus
 use Rattle.ixl_laws.proofs.Lists.{contains-here}
 use Rattle.ixl_laws.proofs.Decide.{Decides, all_decides, both_decide, equally, negation_decides, no, one_fails, or_decide}
 use Rattle.ixl_laws.proofs.Knows.{available_decides, clear_decides, known_stop_decides, occupied_decides, signal_ready_decides}
-use Rattle.ixl_laws.proofs.Holding.{first_found, held_at_decides, none_found, none_is, some_same}
+use Rattle.ixl_laws.proofs.Holding.{first_found, held_at_decides, none_found, none_is}
 
 -- two facts of what a list has at a place are facts of one
 at_one_place : {A : Type 0} (list : List A) (place : ℕ) (P Q : A → Type 0) → At list place P → At list place Q → (one : A) × (P one × Q one)
-at_one_place list place P Q p q = (p.0, (p.2, subst Q (some_same (sym q.1 ∙ p.1)) q.2))
+at_one_place list place P Q p q = (p.0, (p.2, subst Q (same_Some _ _ (sym q.1 ∙ p.1)) q.2))
 
 clear_or_occupied : (table : Table) (ixl : IxlState) (section : ℕ) → IsClear table ixl section → IsOccupied table ixl section → ⊥
 clear_or_occupied table ixl section clear occupied =
@@ -218,14 +219,14 @@ cause_is_not now table ixl number can refusals.NotSet why = why
 same_row : (now : ℕ) (table : Table) (ixl : IxlState) (number : ℕ) (can : Admissible now table ixl number) (row : Row) (route : RouteState) → IsRouteOf table ixl number row route →
     (cause : Refusal) → IsCause now table ixl number row cause → ⊥
 same_row now table ixl number can row route is cause why =
-    cause_is_not now table ixl number can cause (subst (λ r. IsCause now table ixl number r cause) (some_same (sym is.0 ∙ can.known.0)) why)
+    cause_is_not now table ixl number can cause (subst (λ r. IsCause now table ixl number r cause) (same_Some _ _ (sym is.0 ∙ can.known.0)) why)
 
 never_refused : (now : ℕ) (table : Table) (ixl : IxlState) (number : ℕ) → Admissible now table ixl number → (cause : Refusal) → IsRequestRefused now table ixl number cause → ⊥
 never_refused now table ixl number can refusals.UnknownRoute why = why can.row can.route can.known
 never_refused now table ixl number can refusals.Holding why = true≢false (sym why ∙ can.over)
 never_refused now table ixl number can refusals.NotResumed why = true≢false (sym can.resumed ∙ why.1)
 never_refused now table ixl number can refusals.AlreadySet why =
-    true≢false (sym why.1.3 ∙ ap (λ route. is_set route.phase) (some_same (sym why.1.2.1 ∙ can.known.1)) ∙ can.free)
+    true≢false (sym why.1.3 ∙ ap (λ route. is_set route.phase) (same_Some _ _ (sym why.1.2.1 ∙ can.known.1)) ∙ can.free)
 never_refused now table ixl number can (refusals.Conflict a) why = same_row now table ixl number can why.1.0 why.1.1 why.1.2 (refusals.Conflict a) why.1.4
 never_refused now table ixl number can (refusals.NotClear section) why = same_row now table ixl number can why.1.0 why.1.1 why.1.2 (refusals.NotClear section) why.1.4
 never_refused now table ixl number can (refusals.PointUnavailable point) why = same_row now table ixl number can why.1.0 why.1.1 why.1.2 (refusals.PointUnavailable point) why.1.4

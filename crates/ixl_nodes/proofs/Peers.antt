@@ -4,6 +4,7 @@ use Rattle.std.specs.Prelude.{nat_lt, Option, Some, None, Result, Ok, Err}
 use Rattle.std.specs.List.{All, position, position_or_len}
 use Rattle.std.proofs.lemmas.Bool.{ltb-true}
 use Rattle.std.proofs.lemmas.List.Elements.{All-nil, All-cons, All-append}
+use Rattle.std.proofs.lemmas.Option.{same_Some}
 use Rattle.sci_telegram.specs.Reading.{reading}
 use Rattle.sci_telegram.specs.declared.fault.SciFault.{SciFault}
 use Rattle.sci_telegram.specs.declared.telegram.Telegram.{Telegram}
@@ -19,16 +20,13 @@ use Rattle.rasta_core.specs.Outbox.{OutboxState}
 abbrev IsBelow : ℕ → Indication → Type 0
 IsBelow most told = told.place < most
 
-some_is : {a b : ℕ} → Some a ≡ Some b → a ≡ b
-some_is is = cc
-
 none_is : {a : ℕ} → None ≡ Some a → ⊥
 none_is is = cc
 
 first_within : (test : List ℕ → Bool) (list : List (List ℕ)) (place : ℕ) → position test list ≡ Some place → place < length list
 first_within test list place is = cases (nat_lt (position_or_len test list) (length list)) refl is where
   cases : (b : Bool) → nat_lt (position_or_len test list) (length list) ≡ b → (if b then Some (position_or_len test list) else None) ≡ Some place → place < length list
-  cases true within found = subst (λ n. n < length list) (some_is found) (ltb-true _ _ within)
+  cases true within found = subst (λ n. n < length list) (same_Some _ _ found) (ltb-true _ _ within)
   cases false within found = absurd (none_is found)
 
 told_within : (peer : PeerState) (sender : List ℕ) (found : Option ℕ) (state : Option ObjectState) → place_of peer sender ≡ found → All (IsBelow (length peer.objects)) (told_of found state)

@@ -1,10 +1,11 @@
 -- What rows of bits say of the lists of a row.
-use Rattle.std.proofs.Common.{inl, inr, ◌≡◌, ◌⊎◌, ◌↔◌, ℕ, zero, suc, ◌<◌, ◌≤◌, Bool, true, false, not, List, [], ◌∷◌, length, get_or, Option, Some, None, refl, ap, sym, ◌∙◌, subst, arith, ⊎_elim}
+use Rattle.std.proofs.Common.{inl, inr, ◌≡◌, ◌⊎◌, ◌↔◌, ℕ, zero, suc, ◌<◌, ◌≤◌, Bool, true, false, not, List, [], ◌∷◌, length, get_or, Some, refl, ap, sym, ◌∙◌, subst, arith, ⊎_elim}
 use Rattle.std.specs.Prelude.{◌&&◌, ◌==◌, nat_lt, slice_get, IsTrue}
 use Rattle.std.specs.FinSet.{contains}
 use Rattle.std.specs.List.{Contains, list_all}
 use Rattle.std.proofs.lemmas.Bool.{false≢true, eqb-true, eqb-false, le-ltb}
 use Rattle.std.proofs.lemmas.Option.{slice_get-get_or, slice_get_past}
+use Rattle.std.proofs.lemmas.Option.{same_Some}
 use Rattle.bit_row.specs.Places.{Has, IsPart, Places}
 use Rattle.sci_telegram.specs.declared.message.Side.{Side}
 use Rattle.sci_telegram.specs.declared.message.Side.TheVariants as sides
@@ -40,15 +41,9 @@ and_then value test other first second is passed one two = is ∙ two ∙ sym (a
 
 -- ---- lists
 
-pub some_same : {A : Type 0} {a b : A} → Some a ≡ Some b → a ≡ b
-some_same {A} {a} {b} is = ap read is where
-  read : Option A → A
-  read None = a
-  read (Some one) = one
-
 -- two rows of one route are the same
 pub same_row : (rows : List Row) (number : ℕ) (one row : Row) → slice_get rows number ≡ Some one → slice_get rows number ≡ Some row → one ≡ row
-same_row rows number one row is also = some_same (sym is ∙ also)
+same_row rows number one row is also = same_Some _ _ (sym is ∙ also)
 
 -- a test of what stands at a place
 pub at_place : {A : Type 0} (list : List A) (place : ℕ) (one : A) (test : A → Bool) → slice_get list place ≡ Some one → test one ≡ at list place test

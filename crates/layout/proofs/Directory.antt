@@ -121,9 +121,6 @@ same_table t u h = sym (at_number t) ∙ ap table_at ((Decides-eqb (table_number
 abbrev pub IsEntry : LayoutText → TableName → List ℕ → ℕ → Type 0
 IsEntry text table name n = (k : List ℕ) × (same_name name k ≡ true) × (slice_get (names_under text table) n ≡ Some k)
 
-pub some_same : {A : Type 0} (x y : A) → Some x ≡ Some y → x ≡ y
-some_same x y h = search rules
-
 module _ (text : LayoutText) (directory : List (List ℕ × Place)) (placed : All (IsPlaced text) directory) (place : Place) where
   pub entry-is : (name : List ℕ) (found : Place) → entry_named directory place name ≡ Some found → IsEntry text found.table name (found.entry - 1)
   entry-is name found h = let f = look-found (same_name name) (IsPlaced text) directory found h placed in (f.0, f.1, f.2.1)

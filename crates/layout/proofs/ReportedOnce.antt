@@ -5,6 +5,7 @@ use Rattle.std.proofs.lemmas.Option.{slice_get_within, slice_get-get_or}
 use Rattle.std.proofs.lemmas.Slice.Eq.{bytes_eq-Decides}
 use Rattle.std.proofs.lemmas.List.Kept.{AllPairs-cons}
 use Rattle.std.specs.Map.{lookup, keys_of}
+use Rattle.std.proofs.lemmas.Option.{same_Some}
 use Rattle.sci_telegram.specs.Names.{name_field}
 use Rattle.layout_text.specs.declared.fault.LayoutFault.TheVariants.{UnknownName}
 use Rattle.layout_text.specs.declared.fault.Place.{Place}
@@ -22,7 +23,7 @@ use Rattle.layout.specs.Resolving.{number_named, section_named, detector_entry, 
 use Rattle.layout.specs.Once.{Distinct}
 use Rattle.layout.proofs.OnceLemmas.{came_from, same_ok, Apart, lists_once, nothing_twice}
 use Rattle.layout.proofs.Steps.{passed, each-held}
-use Rattle.layout.proofs.Directory.{IsPlaced, IsEntry, some_same, number-is}
+use Rattle.layout.proofs.Directory.{IsPlaced, IsEntry, number-is}
 
 same_by : (a b k : List ℕ) → same_name a k ≡ true → same_name b k ≡ true → same_name a b ≡ true
 same_by a b k h g =
@@ -76,7 +77,7 @@ module _ (text : LayoutText) where
   -- two names of one section are the same
   one-name : (n m : List ℕ) (s : SectionId) → IsSection text n s → IsSection text m s → same_name m n ≡ true
   one-name n m s h g =
-      let k : g.0 ≡ h.0 = some_same g.0 h.0 (sym g.2 ∙ h.2) in
+      let k : g.0 ≡ h.0 = same_Some g.0 h.0 (sym g.2 ∙ h.2) in
       same_by m n h.0 (subst (λ x. same_name m x ≡ true) k g.1) h.1
 
   -- no section is reported twice
@@ -99,8 +100,8 @@ module _ (text : LayoutText) where
   one-section apart i j a b at also same =
       let li = slice_get_within text.sections i a at in
       let lj = slice_get_within text.sections j b also in
-      let is : get_or text.sections i a ≡ a = some_same (get_or text.sections i a) a (sym (slice_get-get_or text.sections i a li) ∙ at) in
-      let js : get_or text.sections j a ≡ b = some_same (get_or text.sections j a) b (sym (slice_get-get_or text.sections j a lj) ∙ also) in
+      let is : get_or text.sections i a ≡ a = same_Some (get_or text.sections i a) a (sym (slice_get-get_or text.sections i a li) ∙ at) in
+      let js : get_or text.sections j a ≡ b = same_Some (get_or text.sections j a) b (sym (slice_get-get_or text.sections j a lj) ∙ also) in
       let low : (i < j) → ⊥ = λ lt. false≢true (sym (subst (λ x. same_name x a ≡ false) js (subst (λ x. same_name (get_or text.sections j a) x ≡ false) is (apart i j a lt lj))) ∙ same_turned a b same) in
       let high : (j < i) → ⊥ = λ lt. false≢true (sym (subst (λ x. same_name a x ≡ false) js (subst (λ x. same_name x (get_or text.sections j a) ≡ false) is (apart j i a lt li))) ∙ same) in
       omega (arith, low, high)

@@ -1,6 +1,7 @@
 -- Each entry of a layout names only what is there.
 use Rattle.std.proofs.Common.{◌≡◌, ◌≢◌, ℕ, ◌-◌, ◌≤◌, ◌<◌, List, length, All, Option, Some, None, Ok, refl, ap, subst, arith, rules}
 use Rattle.std.specs.Option.{ok_or, option_and_then}
+use Rattle.std.proofs.lemmas.Option.{same_Some}
 use Rattle.sci_telegram.specs.declared.message.Aspect.TheVariants.{Stop}
 use Rattle.sci_telegram.specs.declared.message.Side.{Side}
 use Rattle.layout_text.specs.declared.fault.LayoutFault.{LayoutFault}
@@ -33,7 +34,7 @@ use Rattle.layout.specs.Resolving.{element_of, exit_of, has_port, entry_named, n
 use Rattle.layout.specs.Station.{HasSection, HasPoint, HasSignal, HasRoute, HasElement, HasExit, HasPort, IsRouteOf, IsDetectorOf}
 use Rattle.layout.proofs.OnceLemmas.{came_from, same_ok}
 use Rattle.layout.proofs.Steps.{passed, all-all, all-length}
-use Rattle.layout.proofs.Directory.{names_under, IsPlaced, some_same, number-is, entry-is, entry-within}
+use Rattle.layout.proofs.Directory.{names_under, IsPlaced, number-is, entry-is, entry-within}
 
 -- A layout has as many entries in each table as its text.
 pub record IsAsLong (text : LayoutText) (l : Plan) : Type 0 where
@@ -94,8 +95,8 @@ module _ (text : LayoutText) (directory : List (List ℕ × Place)) (placed : Al
       subst (λ q. HasPoint l q.0) e (subst (λ n. number.0 < n) long.points lt)
 
   exit-of-there : (table : TableName) (n : ℕ) (x : Exit) → n < length (names_under text table) → exit_of table n ≡ Some x → HasExit l x
-  exit-of-there named.Signal n x lt h = subst (HasExit l) (some_same (exit.Signal (record { 0 = n })) x h) (subst (λ k. n < k) long.signals lt)
-  exit-of-there named.Border n x lt h = subst (HasExit l) (some_same (exit.Border (record { 0 = n })) x h) (subst (λ k. n < k) long.borders lt)
+  exit-of-there named.Signal n x lt h = subst (HasExit l) (same_Some (exit.Signal (record { 0 = n })) x h) (subst (λ k. n < k) long.signals lt)
+  exit-of-there named.Border n x lt h = subst (HasExit l) (same_Some (exit.Border (record { 0 = n })) x h) (subst (λ k. n < k) long.borders lt)
   exit-of-there named.Station n x lt h = search rules
   exit-of-there named.Section n x lt h = search rules
   exit-of-there named.Track n x lt h = search rules
@@ -112,9 +113,9 @@ module _ (text : LayoutText) (directory : List (List ℕ × Place)) (placed : Al
       exit-of-there found.0.table (found.0.entry - 1) x (entry-within text found.0.table name (found.0.entry - 1) is) found.2
 
   element-of-there : (table : TableName) (n : ℕ) (e : Element) → n < length (names_under text table) → element_of table n ≡ Some e → HasElement l e
-  element-of-there named.Track n e lt h = subst (HasElement l) (some_same (element.Track (record { 0 = n })) e h) (subst (λ k. n < k) long.tracks lt)
-  element-of-there named.Point n e lt h = subst (HasElement l) (some_same (element.Point (record { 0 = n })) e h) (subst (λ k. n < k) long.points lt)
-  element-of-there named.Border n e lt h = subst (HasElement l) (some_same (element.Border (record { 0 = n })) e h) (subst (λ k. n < k) long.borders lt)
+  element-of-there named.Track n e lt h = subst (HasElement l) (same_Some (element.Track (record { 0 = n })) e h) (subst (λ k. n < k) long.tracks lt)
+  element-of-there named.Point n e lt h = subst (HasElement l) (same_Some (element.Point (record { 0 = n })) e h) (subst (λ k. n < k) long.points lt)
+  element-of-there named.Border n e lt h = subst (HasElement l) (same_Some (element.Border (record { 0 = n })) e h) (subst (λ k. n < k) long.borders lt)
   element-of-there named.Station n e lt h = search rules
   element-of-there named.Section n e lt h = search rules
   element-of-there named.Joint n e lt h = search rules

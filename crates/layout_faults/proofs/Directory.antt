@@ -5,6 +5,7 @@ use Rattle.std.proofs.lemmas.List.{append-nil}
 use Rattle.std.proofs.lemmas.List.Elements.{Contains-push_cases}
 use Rattle.std.proofs.lemmas.Slice.Eq.{bytes_eq-Decides}
 use Rattle.std.specs.Map.{lookup}
+use Rattle.std.proofs.lemmas.Option.{same_Some}
 use Rattle.sci_telegram.specs.Names.{name_field}
 use Rattle.layout_text.specs.declared.fault.LayoutFault.{LayoutFault}
 use Rattle.layout_text.specs.declared.fault.LayoutFault.TheVariants.{DoubleName}
@@ -24,9 +25,6 @@ Names = List (List ℕ × Place)
 
 -- ---- what a look-up finds
 
-pub some_same : {A : Type 0} (x y : A) → Some x ≡ Some y → x ≡ y
-some_same x y h = search rules
-
 here : {A : Type 0} (x : A) (xs : List A) → Contains (x ∷ xs) x
 here x xs = (0, omega arith, refl)
 
@@ -36,7 +34,7 @@ there x y xs (k, lt, at) = (suc k, omega (arith, lt), at)
 module _ {K : Type 0} (test : K → Bool) where
   found_if : (b : Bool) (e : K × Place) (es : List (K × Place)) (v : Place) → test e.0 ≡ b → cond b (Some e.1) (lookup test es) ≡ Some v
       → (lookup test es ≡ Some v → (k : K) × Contains es (k, v) × (test k ≡ true)) → (k : K) × Contains (e ∷ es) (k, v) × (test k ≡ true)
-  found_if true e es v t h later = (e.0, subst (λ w. Contains (e ∷ es) (e.0, w)) (some_same e.1 v h) (here e es), t)
+  found_if true e es v t h later = (e.0, subst (λ w. Contains (e ∷ es) (e.0, w)) (same_Some e.1 v h) (here e es), t)
   found_if false e es v t h later = let k = later h in (k.0, there e (k.0, v) es k.1, k.2)
 
   pub look-found : (es : List (K × Place)) (v : Place) → lookup test es ≡ Some v → (k : K) × Contains es (k, v) × (test k ≡ true)

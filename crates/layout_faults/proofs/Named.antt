@@ -4,6 +4,7 @@ use Rattle.std.proofs.lemmas.Bool.{false≢true}
 use Rattle.std.proofs.lemmas.Bool.Decides.{Decides-eqb}
 use Rattle.std.specs.Map.{lookup}
 use Rattle.std.specs.Option.{ok_or, option_and_then}
+use Rattle.std.proofs.lemmas.Option.{same_Some}
 use Rattle.sci_telegram.specs.declared.message.Side.{Side}
 use Rattle.layout_text.specs.declared.fault.LayoutFault.{LayoutFault}
 use Rattle.layout_text.specs.declared.fault.LayoutFault.TheVariants.{UnknownName}
@@ -21,7 +22,7 @@ use Rattle.layout.specs.Resolving.{table_number, element_of, exit_of, has_port, 
 use Rattle.layout.specs.Faults.{names_written}
 use Rattle.layout_faults.specs.Unknown.{Use, section_use, point_use, signal_use, route_use, exit_use, table_with, port_use, IsNamed}
 use Rattle.layout_faults.proofs.Tells.{Quiet, quiet-ok, Tells, tells-held, tells-missed, tells-end}
-use Rattle.layout_faults.proofs.Directory.{Leads, look-found, some_same}
+use Rattle.layout_faults.proofs.Directory.{Leads, look-found}
 
 -- ---- the tables that are asked
 
@@ -147,7 +148,7 @@ module _ (text : LayoutText) (directory : List (List ℕ × Place)) (all : direc
   other-table : (u : Use) (found : Place) → lookup (same_name u.name) directory ≡ Some found → may u.tables found.table ≡ false → IsNamed text u → ⊥
   other-table u found h other is =
       let first = leads u.name (is.name, is.place) (subst (λ es. Contains es (is.name, is.place)) (sym all) is.entry) is.same in
-      let one : is.place ≡ found = some_same is.place found (sym first ∙ h) in
+      let one : is.place ≡ found = same_Some is.place found (sym first ∙ h) in
       false≢true (sym other ∙ may-contain u.tables found.table (subst (λ p. Contains u.tables p.table) one is.table))
 
   is-there : (u : Use) (found : Place) → lookup (same_name u.name) directory ≡ Some found → Contains u.tables found.table → IsNamed text u

@@ -7,7 +7,8 @@ use Rattle.sci_telegram.specs.Reading.{reading}
 use Rattle.object_host.specs.Behaviour.{Behaviour}
 use Rattle.object_host.specs.Host.{HostState, Part}
 use Rattle.object_host.specs.Step.{acting, acting_all}
-use Rattle.object_host.proofs.UnderWay.{IsFirst, IsNothing, IsUnderWay, WasMade, goes_on}
+use Rattle.object_host.specs.inside.Performed.{IsPerformed}
+use Rattle.object_host.proofs.UnderWay.{IsFirst, IsNothing, IsUnderWay, goes_on}
 
 module _ {Object : Type 0} (does : Behaviour Object) where
   abbrev pub left_at : ℕ → List (List ℕ) → ℕ → HostState Object → Part Object
@@ -38,7 +39,7 @@ module _ {Object : Type 0} (does : Behaviour Object) where
 
   pub acting_next : (now place : ℕ) (items : List (List ℕ)) (item : List ℕ) (start : HostState Object) (box : OutboxState) (host : HostState Object) (outbox : OutboxState) (new : HostState Object) (out : OutboxState) →
       IsActing now items start box place host outbox → place < length items → item ≡ get_or items place item → is_open host.link.phase ≡ true →
-      WasMade now 18 host outbox (acting does now item (reading item) host) new out → IsActing now items start box (place + 1) new out
+      IsPerformed 18 now (acting does now item (reading item) host) host new outbox out → IsActing now items start box (place + 1) new out
   acting_next now place items item start box host outbox new out state within is_item opened made =
       let rest : drop place items ≡ item ∷ drop (place + 1) items =
       at_drop_more (λ rest. rest) items place item within ∙ ap (λ i. i ∷ drop (place + 1) items) (sym is_item)

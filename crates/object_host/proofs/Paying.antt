@@ -5,7 +5,8 @@ use Rattle.rasta_core.specs.Outbox.{OutboxState}
 use Rattle.object_host.specs.Behaviour.{Behaviour}
 use Rattle.object_host.specs.Host.{HostState, Part, silent}
 use Rattle.object_host.specs.Step.{goes_on, most_owed, paying, paying_first}
-use Rattle.object_host.proofs.UnderWay.{IsFirst, IsNothing, IsUnderWay, WasMade}
+use Rattle.object_host.specs.inside.Performed.{IsPerformed}
+use Rattle.object_host.proofs.UnderWay.{IsFirst, IsNothing, IsUnderWay}
 use Rattle.object_host.proofs.UnderWay as loops
 
 module _ {Object : Type 0} (does : Behaviour Object) where
@@ -38,7 +39,7 @@ module _ {Object : Type 0} (does : Behaviour Object) where
 
   pub paying_next : (now round : ℕ) (start : HostState Object) (box : OutboxState) (host : HostState Object) (outbox : OutboxState) (new : HostState Object) (out : OutboxState) →
       IsPaying now start box round host outbox → round < most_owed → goes_on now (does.owed host.object) host ≡ true →
-      WasMade now 1 host outbox (first_of now host) new out → IsPaying now start box (round + 1) new out
+      IsPerformed 1 now (first_of now host) host new outbox out → IsPaying now start box (round + 1) new out
   paying_next now round start box host outbox new out state within on made =
       let split = subst (λ n. IsFirst (paying does now n host) (first_of now host) (left_at now (round + 1) (first_of now host).host)) (sym (more round within)) (going now (most_owed - (round + 1)) host on)
       in let next = loops.goes_on now start box _ round 1 host outbox _ _ _ new out state.way split made
@@ -46,8 +47,8 @@ module _ {Object : Type 0} (does : Behaviour Object) where
 
   pub paying_stops : (now round : ℕ) (start : HostState Object) (box : OutboxState) (host : HostState Object) (outbox : OutboxState) (new : HostState Object) (out : OutboxState) →
       IsPaying now start box round host outbox → round < most_owed → goes_on now (does.owed host.object) host ≡ false →
-      WasMade now 1 host outbox (first_of now host) new out → loops.IsDone now start box (paying does now most_owed start) (round + 1) new out
+      IsPerformed 1 now (first_of now host) host new outbox out → IsPerformed most_owed now (paying does now most_owed start) start new box out
   paying_stops now round start box host outbox new out state within off made =
       let split = subst (λ n. IsFirst (paying does now n host) (first_of now host) (silent (first_of now host).host)) (sym (more round within)) (stopping now (most_owed - (round + 1)) host off)
       in let next = loops.goes_on now start box _ round 1 host outbox _ _ _ new out state.way split made
-      in loops.comes_to_end now start box _ (round + 1) new out _ next (record { stays = sym made.host; posts_none = refl; calls_none = refl })
+      in loops.comes_to_end now start box _ (round + 1) most_owed new out _ next (record { stays = sym made.host; posts_none = refl; calls_none = refl }) (omega (arith, within))

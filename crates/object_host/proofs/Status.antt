@@ -6,7 +6,8 @@ use Rattle.object_host.specs.Behaviour.{Behaviour}
 use Rattle.object_host.specs.Host.{HostState, Part}
 use Rattle.object_host.specs.Step.{initial_status, most_objects, posting, posting_all, report_then, telling_status}
 use Rattle.object_host.specs.declared.report.Report.{Report}
-use Rattle.object_host.proofs.UnderWay.{IsFirst, IsNothing, IsUnderWay, WasMade, goes_on}
+use Rattle.object_host.specs.inside.Performed.{IsPerformed}
+use Rattle.object_host.proofs.UnderWay.{IsFirst, IsNothing, IsUnderWay, goes_on}
 
 module _ {Object : Type 0} (does : Behaviour Object) where
   -- the reports from a place on
@@ -56,7 +57,7 @@ module _ {Object : Type 0} (does : Behaviour Object) where
 
   pub telling_next : (now : ℕ) (start : HostState Object) (box : OutboxState) (place : ℕ) (host : HostState Object) (outbox : OutboxState) (report : Report) (new : HostState Object) (out : OutboxState) →
       IsTelling now start box place host outbox → place < most_objects → does.status place host.object ≡ Some report →
-      WasMade now 1 host outbox (posting now report host) new out → IsTelling now start box (place + 1) new out
+      IsPerformed 1 now (posting now report host) host new outbox out → IsTelling now start box (place + 1) new out
   telling_next now start box place host outbox report new out telling within found made =
       let next = goes_on now start box _ place 1 host outbox _ _ _ new out telling.way (first_at now place host report within found) made
       in record {

@@ -1,9 +1,9 @@
 -- A loop that does part after part: what is left to do from here does what all of it does from the start.
 use Rattle.std.proofs.Common.{◌≡◌, ℕ, ◌+◌, ◌≤◌, List, [], ◌∷◌, ◌++◌, length, arith, refl, ap, sym, ◌∙◌, subst}
-use Rattle.rasta_core.specs.Calls.{IsAt}
 use Rattle.rasta_core.specs.Outbox.{OutboxState, posted}
 use Rattle.object_host.specs.Host.{HostState, LinkCall, Part, Ticks, Closes, Sends, Receives}
 use Rattle.object_host.specs.Made.{AreItems}
+use Rattle.object_host.specs.inside.Performed.{IsPerformed}
 use Rattle.object_host.proofs.Posting.{posted_nothing, posted_more, length-posted, capacity-posted}
 
 -- two lists of calls that send items
@@ -25,14 +25,6 @@ module _ {Object : Type 0} where
     pub posts_same : posted start.link.identity.key left.pdus outbox ≡ posted start.link.identity.key all.pdus box
     pub items_kept : AreItems left.calls → AreItems all.calls
 
-  -- all was done
-  pub record IsDone (now : ℕ) (start : HostState Object) (box : OutboxState) (all : Part Object) (most : ℕ) (host : HostState Object) (outbox : OutboxState) : Type 0 where
-    pub ends : host ≡ all.host
-    pub kept : IsAt now start.link all.host.link
-    pub posts : outbox ≡ posted start.link.identity.key all.pdus box
-    pub few : length all.pdus ≤ most
-    pub items : AreItems all.calls
-
   -- a part that leaves nothing to do
   pub record IsNothing (host : HostState Object) (left : Part Object) : Type 0 where
     pub stays : left.host ≡ host
@@ -44,14 +36,6 @@ module _ {Object : Type 0} where
     pub ends_same : left.host ≡ next.host
     pub pdus_joined : left.pdus ≡ first.pdus ++ next.pdus
     pub calls_joined : left.calls ≡ first.calls ++ next.calls
-
-  -- a part was done: how a function's clauses say it
-  pub record WasMade (now most : ℕ) (old : HostState Object) (box : OutboxState) (part : Part Object) (new : HostState Object) (outbox : OutboxState) : Type 0 where
-    pub host : new ≡ part.host
-    pub kept : IsAt now old.link part.host.link
-    pub posts : outbox ≡ posted old.link.identity.key part.pdus box
-    pub few : length part.pdus ≤ most
-    pub items : AreItems part.calls
 
   pub begins : (now : ℕ) (start : HostState Object) (box : OutboxState) (all : Part Object) → start.link.clock ≡ now → IsUnderWay now start box all 0 start box all
   begins now start box all at = record {
@@ -65,7 +49,7 @@ module _ {Object : Type 0} where
   }
 
   pub goes_on : (now : ℕ) (start : HostState Object) (box : OutboxState) (all : Part Object) (most more : ℕ) (host : HostState Object) (outbox : OutboxState) (left first next : Part Object) (new : HostState Object) (out : OutboxState) →
-      IsUnderWay now start box all most host outbox left → IsFirst left first next → WasMade now more host outbox first new out →
+      IsUnderWay now start box all most host outbox left → IsFirst left first next → IsPerformed more now first host new outbox out →
       IsUnderWay now start box all (most + more) new out next
   goes_on now start box all most more host outbox left first next new out way split made =
       let key_is : host.link.identity.key ≡ start.link.identity.key = ap (λ i. i.key) way.identity
@@ -84,9 +68,9 @@ module _ {Object : Type 0} where
         items_kept = λ items. way.items_kept (subst AreItems (sym split.calls_joined) (items_joined first.calls next.calls made.items items));
       }
 
-  pub comes_to_end : (now : ℕ) (start : HostState Object) (box : OutboxState) (all : Part Object) (most : ℕ) (host : HostState Object) (outbox : OutboxState) (left : Part Object) →
-      IsUnderWay now start box all most host outbox left → IsNothing host left → IsDone now start box all most host outbox
-  comes_to_end now start box all most host outbox left way nothing =
+  pub comes_to_end : (now : ℕ) (start : HostState Object) (box : OutboxState) (all : Part Object) (most bound : ℕ) (host : HostState Object) (outbox : OutboxState) (left : Part Object) →
+      IsUnderWay now start box all most host outbox left → IsNothing host left → most ≤ bound → IsPerformed bound now all start host box outbox
+  comes_to_end now start box all most bound host outbox left way nothing within =
       let reached : host ≡ all.host = sym nothing.stays ∙ way.ends_same
       in let out : outbox ≡ posted start.link.identity.key all.pdus box =
       sym (posted_nothing start.link.identity.key outbox)
@@ -94,12 +78,12 @@ module _ {Object : Type 0} where
       in let counted : length outbox.datagrams ≡ length box.datagrams + length all.pdus =
       ap (λ (b : OutboxState). length b.datagrams) out ∙ length-posted _ _ box
       in record {
-        ends = reached;
+        host = reached;
         kept = record {
           clock = sym (ap (λ (h : HostState Object). h.link.clock) reached) ∙ way.clock;
           identity = sym (ap (λ (h : HostState Object). h.link.identity) reached) ∙ way.identity;
         };
         posts = out;
-        few = omega (arith, counted, way.few);
+        few = omega (arith, counted, way.few, within);
         items = way.items_kept (subst AreItems (sym nothing.calls_none) tt);
       }

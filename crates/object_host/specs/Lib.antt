@@ -8,3 +8,4 @@ pub mod Hosted
 pub mod Made
 pub mod Told
 pub mod Refused
+pub mod inside

@@ -1,11 +1,11 @@
 //! What becomes of the items that the link hands out.
 
 ghost use Rattle.std.specs.Prelude.{◌≡◌, ◌≤◌, ℕ, List, length};
-ghost use Rattle.rasta_core.specs.Calls.{MayStep, IsAt};
-ghost use Rattle.rasta_core.specs.Outbox.{HasRoomFor, posted};
+ghost use Rattle.rasta_core.specs.Calls.{MayStep};
+ghost use Rattle.rasta_core.specs.Outbox.{HasRoomFor};
 ghost use Rattle.object_host.specs.Course.{course};
-ghost use Rattle.object_host.specs.Made.{AreItems};
 ghost use Rattle.object_host.specs.Step.{acting, acting_all, commanding, following, is_admitted, is_from_peer, is_in_version, is_same_protocol, posting};
+ghost use Rattle.object_host.specs.inside.Performed.{IsPerformed};
 ghost use Rattle.sci_telegram.specs.Reading.{reading};
 
 use crate::controller::Controller;
@@ -25,11 +25,7 @@ impl<C: Controller> Host<C> {
         requires clock { MayStep now self.old.link }
         requires at { self.old.link.clock ≡ now }
         requires room { HasRoomFor 24 outbox.old }
-        ensures host { self.new ≡ (commanding C.behaviour now telegram.now self.old).host }
-        ensures kept { IsAt now self.old.link (commanding C.behaviour now telegram.now self.old).host.link }
-        ensures posted { outbox.new ≡ posted self.old.link.identity.key (commanding C.behaviour now telegram.now self.old).pdus outbox.old }
-        ensures few { length (commanding C.behaviour now telegram.now self.old).pdus ≤ 1 }
-        ensures items { AreItems (commanding C.behaviour now telegram.now self.old).calls }
+        ensures { IsPerformed 1 now (commanding C.behaviour now telegram.now self.old) self.old self.new outbox.old outbox.new }
     {
         if !self.object.take(now, telegram) {
             self.violate(now, outbox);
@@ -41,11 +37,7 @@ impl<C: Controller> Host<C> {
     fn follow(&mut self, now: Millis, telegram: &Telegram, outbox: &mut Outbox)
         requires at { self.old.link.clock ≡ now }
         requires room { HasRoomFor 42 outbox.old }
-        ensures host { (item : List ℕ) → self.new ≡ (following C.behaviour now item telegram.now (course telegram.now.message self.old.stage) self.old).host }
-        ensures kept { (item : List ℕ) → IsAt now self.old.link (following C.behaviour now item telegram.now (course telegram.now.message self.old.stage) self.old).host.link }
-        ensures posted { (item : List ℕ) → outbox.new ≡ posted self.old.link.identity.key (following C.behaviour now item telegram.now (course telegram.now.message self.old.stage) self.old).pdus outbox.old }
-        ensures few { (item : List ℕ) → length (following C.behaviour now item telegram.now (course telegram.now.message self.old.stage) self.old).pdus ≤ 18 }
-        ensures items { (item : List ℕ) → AreItems (following C.behaviour now item telegram.now (course telegram.now.message self.old.stage) self.old).calls }
+        ensures { (item : List ℕ) → IsPerformed 18 now (following C.behaviour now item telegram.now (course telegram.now.message self.old.stage) self.old) self.old self.new outbox.old outbox.new }
     {
         match Course::of(&telegram.message, self.stage) {
             Course::Checks(version) => self.answer(now, version, outbox),
@@ -76,11 +68,7 @@ impl<C: Controller> Host<C> {
     fn act(&mut self, now: Millis, item: &Item, outbox: &mut Outbox)
         requires at { self.old.link.clock ≡ now }
         requires room { HasRoomFor 42 outbox.old }
-        ensures host { self.new ≡ (acting C.behaviour now item.now (reading item.now) self.old).host }
-        ensures kept { IsAt now self.old.link (acting C.behaviour now item.now (reading item.now) self.old).host.link }
-        ensures posted { outbox.new ≡ posted self.old.link.identity.key (acting C.behaviour now item.now (reading item.now) self.old).pdus outbox.old }
-        ensures few { length (acting C.behaviour now item.now (reading item.now) self.old).pdus ≤ 18 }
-        ensures items { AreItems (acting C.behaviour now item.now (reading item.now) self.old).calls }
+        ensures { IsPerformed 18 now (acting C.behaviour now item.now (reading item.now) self.old) self.old self.new outbox.old outbox.new }
     {
         match sci_telegram::read(item.bytes()) {
             Ok(telegram) if self.admits(&telegram) => self.follow(now, &telegram, outbox),
@@ -94,11 +82,7 @@ impl<C: Controller> Host<C> {
         requires at { self.old.link.clock ≡ now }
         requires items { length items.now ≤ 3 }
         requires room { HasRoomFor 96 outbox.old }
-        ensures host { self.new ≡ (acting_all C.behaviour now items.now self.old).host }
-        ensures kept { IsAt now self.old.link (acting_all C.behaviour now items.now self.old).host.link }
-        ensures posted { outbox.new ≡ posted self.old.link.identity.key (acting_all C.behaviour now items.now self.old).pdus outbox.old }
-        ensures few { length (acting_all C.behaviour now items.now self.old).pdus ≤ 54 }
-        ensures items { AreItems (acting_all C.behaviour now items.now self.old).calls }
+        ensures { IsPerformed 54 now (acting_all C.behaviour now items.now self.old) self.old self.new outbox.old outbox.new }
     {
         for item in items {
             if !self.link.is_open() {

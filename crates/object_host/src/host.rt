@@ -1,12 +1,11 @@
 //! A host without its outbox, and what it says.
 
-ghost use Rattle.std.specs.Prelude.{◌≡◌, ◌≤◌, length};
-ghost use Rattle.rasta_core.specs.Calls.{MayStep, IsAt, answer_to_send};
-ghost use Rattle.rasta_core.specs.Outbox.{HasRoomFor, posted};
-ghost use Rattle.object_host.specs.Host.{said};
-ghost use Rattle.object_host.specs.Made.{AreItems};
+ghost use Rattle.std.specs.Prelude.{◌≡◌};
+ghost use Rattle.rasta_core.specs.Calls.{MayStep, answer_to_send};
+ghost use Rattle.rasta_core.specs.Outbox.{HasRoomFor};
+ghost use Rattle.object_host.specs.Host.{said, telegram_of};
 ghost use Rattle.object_host.specs.Step.{posting, violating};
-ghost use Rattle.object_host.specs.Host.{telegram_of};
+ghost use Rattle.object_host.specs.inside.Performed.{IsPerformed};
 
 use crate::controller::Controller;
 use crate::report::Report;
@@ -55,12 +54,8 @@ impl<C: Controller> Host<C> {
     ) -> Result<(), SendFault>
         requires clock { MayStep now self.old.link }
         requires room { HasRoomFor 24 outbox.old }
-        ensures host { self.new ≡ (posting now report.now self.old).host }
-        ensures kept { IsAt now self.old.link (posting now report.now self.old).host.link }
-        ensures posted { outbox.new ≡ posted self.old.link.identity.key (posting now report.now self.old).pdus outbox.old }
         ensures answer { result ≡ answer_to_send now self.old.link }
-        ensures few { length (posting now report.now self.old).pdus ≤ 1 }
-        ensures items { AreItems (posting now report.now self.old).calls }
+        ensures performed { IsPerformed 1 now (posting now report.now self.old) self.old self.new outbox.old outbox.new }
     {
         let item = sci_telegram::write(&self.telegram(report));
         self.link.send(now, &item, outbox)
@@ -71,11 +66,7 @@ impl<C: Controller> Host<C> {
     pub(crate) fn violate(&mut self, now: Millis, outbox: &mut Outbox)
         requires clock { MayStep now self.old.link }
         requires room { HasRoomFor 24 outbox.old }
-        ensures host { self.new ≡ (violating now self.old).host }
-        ensures kept { IsAt now self.old.link (violating now self.old).host.link }
-        ensures posted { outbox.new ≡ posted self.old.link.identity.key (violating now self.old).pdus outbox.old }
-        ensures few { length (violating now self.old).pdus ≤ 1 }
-        ensures items { AreItems (violating now self.old).calls }
+        ensures { IsPerformed 1 now (violating now self.old) self.old self.new outbox.old outbox.new }
     {
         self.link.close(now, Reason::State, outbox);
     }

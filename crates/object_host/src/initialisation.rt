@@ -1,10 +1,10 @@
 //! The telegrams that begin a connection.
 
-ghost use Rattle.std.specs.Prelude.{◌≡◌, ◌≤◌, length};
-ghost use Rattle.rasta_core.specs.Calls.{MayStep, IsAt};
-ghost use Rattle.rasta_core.specs.Outbox.{HasRoomFor, posted};
-ghost use Rattle.object_host.specs.Made.{AreItems};
+ghost use Rattle.std.specs.Prelude.{◌≡◌};
+ghost use Rattle.rasta_core.specs.Calls.{MayStep};
+ghost use Rattle.rasta_core.specs.Outbox.{HasRoomFor};
 ghost use Rattle.object_host.specs.Step.{answering, initialising, posting, telling_status};
+ghost use Rattle.object_host.specs.inside.Performed.{IsPerformed};
 
 use crate::controller::Controller;
 use crate::host::Host;
@@ -21,11 +21,7 @@ impl<C: Controller> Host<C> {
     pub(crate) fn answer(&mut self, now: Millis, version: u8, outbox: &mut Outbox)
         requires clock { MayStep now self.old.link }
         requires room { HasRoomFor 24 outbox.old }
-        ensures host { self.new ≡ (answering C.behaviour now version self.old).host }
-        ensures kept { IsAt now self.old.link (answering C.behaviour now version self.old).host.link }
-        ensures posted { outbox.new ≡ posted self.old.link.identity.key (answering C.behaviour now version self.old).pdus outbox.old }
-        ensures few { length (answering C.behaviour now version self.old).pdus ≤ 1 }
-        ensures items { AreItems (answering C.behaviour now version self.old).calls }
+        ensures { IsPerformed 1 now (answering C.behaviour now version self.old) self.old self.new outbox.old outbox.new }
     {
         let (agreement, stage) = if version == self.version {
             (Agreement::Match, Stage::AwaitsRequest)
@@ -45,11 +41,7 @@ impl<C: Controller> Host<C> {
     fn post_status(&mut self, now: Millis, outbox: &mut Outbox)
         requires at { self.old.link.clock ≡ now }
         requires room { HasRoomFor 40 outbox.old }
-        ensures host { self.new ≡ (telling_status C.behaviour now self.old).host }
-        ensures kept { IsAt now self.old.link (telling_status C.behaviour now self.old).host.link }
-        ensures posted { outbox.new ≡ posted self.old.link.identity.key (telling_status C.behaviour now self.old).pdus outbox.old }
-        ensures few { length (telling_status C.behaviour now self.old).pdus ≤ 16 }
-        ensures items { AreItems (telling_status C.behaviour now self.old).calls }
+        ensures { IsPerformed 16 now (telling_status C.behaviour now self.old) self.old self.new outbox.old outbox.new }
     {
         for place in 0..MOST_OBJECTS {
             match self.object.status(place) {
@@ -66,11 +58,7 @@ impl<C: Controller> Host<C> {
     pub(crate) fn initialise(&mut self, now: Millis, outbox: &mut Outbox)
         requires at { self.old.link.clock ≡ now }
         requires room { HasRoomFor 42 outbox.old }
-        ensures host { self.new ≡ (initialising C.behaviour now self.old).host }
-        ensures kept { IsAt now self.old.link (initialising C.behaviour now self.old).host.link }
-        ensures posted { outbox.new ≡ posted self.old.link.identity.key (initialising C.behaviour now self.old).pdus outbox.old }
-        ensures few { length (initialising C.behaviour now self.old).pdus ≤ 18 }
-        ensures items { AreItems (initialising C.behaviour now self.old).calls }
+        ensures { IsPerformed 18 now (initialising C.behaviour now self.old) self.old self.new outbox.old outbox.new }
     {
         let start = self.say(Initialisation::StartInitialisation);
         let _ = self.post(now, &start, outbox);

@@ -1,10 +1,9 @@
 //! The reports that the object owes.
 
-ghost use Rattle.std.specs.Prelude.{◌≡◌, ◌≤◌, length};
-ghost use Rattle.rasta_core.specs.Calls.{IsAt};
-ghost use Rattle.rasta_core.specs.Outbox.{HasRoomFor, posted};
-ghost use Rattle.object_host.specs.Made.{AreItems};
+ghost use Rattle.std.specs.Prelude.{◌≡◌};
+ghost use Rattle.rasta_core.specs.Outbox.{HasRoomFor};
 ghost use Rattle.object_host.specs.Step.{goes_on, most_owed, paying, paying_first, posting};
+ghost use Rattle.object_host.specs.inside.Performed.{IsPerformed};
 
 use crate::controller::Controller;
 use crate::host::Host;
@@ -20,11 +19,7 @@ impl<C: Controller> Host<C> {
     fn pay_first(&mut self, now: Millis, outbox: &mut Outbox) -> bool
         requires at { self.old.link.clock ≡ now }
         requires room { HasRoomFor 24 outbox.old }
-        ensures host { self.new ≡ (paying_first C.behaviour now (C.behaviour.owed self.old.object) self.old).host }
-        ensures kept { IsAt now self.old.link (paying_first C.behaviour now (C.behaviour.owed self.old.object) self.old).host.link }
-        ensures posted { outbox.new ≡ posted self.old.link.identity.key (paying_first C.behaviour now (C.behaviour.owed self.old.object) self.old).pdus outbox.old }
-        ensures few { length (paying_first C.behaviour now (C.behaviour.owed self.old.object) self.old).pdus ≤ 1 }
-        ensures items { AreItems (paying_first C.behaviour now (C.behaviour.owed self.old.object) self.old).calls }
+        ensures performed { IsPerformed 1 now (paying_first C.behaviour now (C.behaviour.owed self.old.object) self.old) self.old self.new outbox.old outbox.new }
         ensures answer { result ≡ goes_on now (C.behaviour.owed self.old.object) self.old }
     {
         let Some(report) = self.object.owed() else {
@@ -42,11 +37,7 @@ impl<C: Controller> Host<C> {
     pub(crate) fn pay(&mut self, now: Millis, outbox: &mut Outbox)
         requires at { self.old.link.clock ≡ now }
         requires room { HasRoomFor 44 outbox.old }
-        ensures host { self.new ≡ (paying C.behaviour now most_owed self.old).host }
-        ensures kept { IsAt now self.old.link (paying C.behaviour now most_owed self.old).host.link }
-        ensures posted { outbox.new ≡ posted self.old.link.identity.key (paying C.behaviour now most_owed self.old).pdus outbox.old }
-        ensures few { length (paying C.behaviour now most_owed self.old).pdus ≤ 20 }
-        ensures items { AreItems (paying C.behaviour now most_owed self.old).calls }
+        ensures { IsPerformed 20 now (paying C.behaviour now most_owed self.old) self.old self.new outbox.old outbox.new }
     {
         for _round in 0..MOST_OWED {
             if !self.pay_first(now, outbox) {

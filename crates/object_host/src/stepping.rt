@@ -1,16 +1,16 @@
 //! A step of a host, in its order.
 
-ghost use Rattle.std.specs.Prelude.{◌≡◌, ◌≤◌, true, length};
+ghost use Rattle.std.specs.Prelude.{◌≡◌, true};
 ghost use Rattle.rasta_core.specs.Calls.{MayStep, IsAt};
-ghost use Rattle.rasta_core.specs.Outbox.{HasRoomFor, posted};
+ghost use Rattle.rasta_core.specs.Outbox.{HasRoomFor};
 ghost use Rattle.rasta_core.specs.Calls.{receiving};
 ghost use Rattle.rasta_core.specs.Clock.{settled};
 ghost use Rattle.rasta_core.specs.Sending.{entered};
 ghost use Rattle.rasta_core.specs.Verdicts.{is_refusal, refused};
 ghost use Rattle.object_host.specs.Host.{fallen, risen};
 ghost use Rattle.object_host.specs.Refused.{RefusesRightly};
-ghost use Rattle.object_host.specs.Made.{AreItems};
 ghost use Rattle.object_host.specs.Step.{beating, beginning, ending, given, hearing, host_step, posting};
+ghost use Rattle.object_host.specs.inside.Performed.{IsPerformed};
 ghost use Rattle.sci_telegram.specs.Reading.{reading};
 
 use crate::controller::Controller;
@@ -48,11 +48,7 @@ impl<C: Controller> Host<C> {
     fn hear(&mut self, now: Millis, datagram: &[u8], outbox: &mut Outbox)
         requires at { self.old.link.clock ≡ now }
         requires room { HasRoomFor 120 outbox.old }
-        ensures host { self.new ≡ (hearing C.behaviour now datagram.now self.old).host }
-        ensures kept { IsAt now self.old.link (hearing C.behaviour now datagram.now self.old).host.link }
-        ensures posted { outbox.new ≡ posted self.old.link.identity.key (hearing C.behaviour now datagram.now self.old).pdus outbox.old }
-        ensures few { length (hearing C.behaviour now datagram.now self.old).pdus ≤ 76 }
-        ensures items { AreItems (hearing C.behaviour now datagram.now self.old).calls }
+        ensures performed { IsPerformed 76 now (hearing C.behaviour now datagram.now self.old) self.old self.new outbox.old outbox.new }
         ensures rightly { is_refusal (receiving now datagram.now self.old.link).verdict ≡ true → receiving now datagram.now self.old.link ≡ refused (receiving now datagram.now self.old.link).verdict (entered now self.old.link) }
     {
         let mut inbox = Inbox::new();
@@ -78,11 +74,7 @@ impl<C: Controller> Host<C> {
     fn give(&mut self, now: Millis, input: &Input, outbox: &mut Outbox)
         requires at { self.old.link.clock ≡ now }
         requires room { HasRoomFor 120 outbox.old }
-        ensures host { self.new ≡ (given C.behaviour now input.now self.old).host }
-        ensures kept { IsAt now self.old.link (given C.behaviour now input.now self.old).host.link }
-        ensures posted { outbox.new ≡ posted self.old.link.identity.key (given C.behaviour now input.now self.old).pdus outbox.old }
-        ensures few { length (given C.behaviour now input.now self.old).pdus ≤ 76 }
-        ensures items { AreItems (given C.behaviour now input.now self.old).calls }
+        ensures performed { IsPerformed 76 now (given C.behaviour now input.now self.old) self.old self.new outbox.old outbox.new }
         ensures rightly { RefusesRightly now input.now self.old.link }
     {
         match input {
@@ -97,10 +89,7 @@ impl<C: Controller> Host<C> {
     fn beat(&mut self, now: Millis, input: &Input, outbox: &mut Outbox)
         requires at { self.old.link.clock ≡ now }
         requires room { HasRoomFor 24 outbox.old }
-        ensures host { self.new ≡ (beating now input.now self.old).host }
-        ensures kept { IsAt now self.old.link (beating now input.now self.old).host.link }
-        ensures posted { outbox.new ≡ posted self.old.link.identity.key (beating now input.now self.old).pdus outbox.old }
-        ensures items { AreItems (beating now input.now self.old).calls }
+        ensures { IsPerformed 1 now (beating now input.now self.old) self.old self.new outbox.old outbox.new }
     {
         if matches!(input, Input::Tick) {
             self.link.tick(now, outbox);
@@ -122,10 +111,7 @@ impl<C: Controller> Host<C> {
     pub(crate) fn step(&mut self, now: Millis, input: &Input, outbox: &mut Outbox)
         requires clock { MayStep now self.old.link }
         requires room { HasRoomFor 128 outbox.old }
-        ensures host { self.new ≡ (host_step C.behaviour now input.now self.old).host }
-        ensures kept { IsAt now self.old.link self.new.link }
-        ensures posted { outbox.new ≡ posted self.old.link.identity.key (host_step C.behaviour now input.now self.old).pdus outbox.old }
-        ensures items { AreItems (host_step C.behaviour now input.now self.old).calls }
+        ensures performed { IsPerformed 97 now (host_step C.behaviour now input.now self.old) self.old self.new outbox.old outbox.new }
         ensures rightly { RefusesRightly now input.now (settled now self.old.link) }
     {
         self.begin(now);

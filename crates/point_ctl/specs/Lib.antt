@@ -1,4 +1,4 @@
 pub mod Drive
 pub mod Controlled
-pub mod Law
 pub mod History
+pub mod inside

@@ -152,7 +152,7 @@ impl Controller for Point {
         self.drives(now).is_none()
     }
 
-    ghost use Rattle.point_ctl.specs.Law.{point_is_lawful};
+    ghost use Rattle.point_ctl.specs.inside.Law.{point_is_lawful};
 
     ghost lawful = { point_is_lawful };
 }

@@ -24,8 +24,10 @@ pub use Rattle.rasta_core_network.specs.Ordered
 pub use Rattle.rasta_core_network.specs.Links
 pub use Rattle.rasta_core_network.specs.Nodes
 pub use Rattle.rasta_core_network.specs.EachLink
+pub use Rattle.rasta_core_run.specs.header
 pub use Rattle.rasta_core_run.specs.identity
 pub use Rattle.rasta_core_run.specs.reason
 pub use Rattle.rasta_core_run.specs.verdict
 pub use Rattle.rasta_core_run.specs.fault
 pub use Rattle.rasta_core_run.specs.phase
+pub use Rattle.rasta_core_run.specs.window

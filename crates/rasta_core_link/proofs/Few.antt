@@ -1,7 +1,7 @@
 -- How many datagrams a call hands out: few, and none beside items.
-use Rattle.std.proofs.Common.{◌≡◌, ℕ, ◌+◌, ◌≤◌, Bool, true, false, List, [], length, ◌⊎◌, inl, inr, refl, ap, arith, nat_le, nat_lt, ◌&&◌, ◌==◌, not, if◌then◌else◌, Result, Ok, Err, is_ok}
+use Rattle.std.proofs.Common.{◌≡◌, ℕ, ◌+◌, ◌≤◌, Bool, true, false, List, [], length, inl, inr, refl, ap, arith, nat_lt, ◌&&◌, ◌==◌, not, if◌then◌else◌, Result, Ok, Err, is_ok}
 use Rattle.std.proofs.lemmas.List.{length-append, append-nil, nil_from_length}
-use Rattle.std.proofs.lemmas.Bool.{cases_lt, lt-ltb, lt-leb, le-leb}
+use Rattle.std.proofs.lemmas.Bool.{cases_lt, lt-ltb}
 use Rattle.rasta_core_link.specs.Parameters.{quiet_time, sequence_range}
 use Rattle.rasta_core_link.specs.State.{LinkState, is_open, is_client}
 use Rattle.rasta_core_link.specs.Clock.{deadline, state_at}

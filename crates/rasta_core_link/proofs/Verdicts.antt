@@ -1,6 +1,6 @@
 -- The verdict of each call is that of the table of tests.
 use Rattle.std.proofs.Common.{◌≡◌, ◌≢◌, ℕ, ◌+◌, ◌<◌, Bool, true, false, List, [], ◌∷◌, ◌⊎◌, inl, inr, Result, Ok, Err, refl, sym, subst, arith}
-use Rattle.std.specs.Prelude.{if◌then◌else◌, nat_le, nat_lt, ◌==◌, ◌&&◌, not}
+use Rattle.std.specs.Prelude.{if◌then◌else◌, nat_lt, ◌==◌, ◌&&◌, not}
 use Rattle.std.proofs.lemmas.Bool.Decides.{nat_tests}
 use Rattle.rasta_core_link.specs.Parameters.{sequence_range, quiet_time}
 use Rattle.rasta_core_link.specs.Sequence.{stamp}

@@ -9,3 +9,4 @@ pub mod Verdicts
 pub mod Calls
 pub mod Outbox
 pub mod Worked
+pub mod inside

@@ -1,5 +1,5 @@
 -- What an end does with a PDU that could be read: the tests in their order, and what is taken.
-use Rattle.std.specs.Prelude.{ℕ, ◌+◌, ◌-◌, ◌==◌, nat_lt, nat_le, ◌&&◌, not, Bool, true, List, [], ◌∷◌, length, if◌then◌else◌}
+use Rattle.std.specs.Prelude.{ℕ, ◌+◌, ◌-◌, ◌==◌, nat_lt, nat_le, ◌&&◌, not, Bool, List, [], ◌∷◌, length, if◌then◌else◌}
 use Rattle.rasta_core_link.specs.Parameters.{sequence_range, stops_at_greatest}
 use Rattle.rasta_core_link.specs.Sequence.{wire, before, distance, stamp}
 use Rattle.rasta_core_link.specs.State.{LinkState, is_client}

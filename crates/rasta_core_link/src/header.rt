@@ -6,7 +6,7 @@ use rasta_pdu::{Body, Pdu};
 
 /// The fields that all PDUs of one step share.
 #[derive(Clone, Copy, Debug)]
-pub(crate) struct Header {
+pub struct Header {
     pub(crate) receiver: u32,
     pub(crate) sender: u32,
     /// The sequence number of the sender's first PDU in the connection.

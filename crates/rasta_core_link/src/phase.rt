@@ -2,7 +2,7 @@
 
 /// Whether an end is in a connection, and how far. What an end outside does is a matter of its clock.
 #[derive(Clone, Copy, Debug)]
-pub(crate) enum Phase {
+pub enum Phase {
     /// In no connection.
     Closed,
     /// The own request or response is sent, and nothing of the connection was taken after it.

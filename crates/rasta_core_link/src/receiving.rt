@@ -1,8 +1,8 @@
 //! What an end does with a PDU that could be read: the tests in their order, and what is taken.
 
-ghost use Rattle.std.specs.Prelude.{◌≡◌, ◌<◌, ◌≤◌, ◌+◌, ◌-◌, [], IsTrue};
+ghost use Rattle.std.specs.Prelude.{◌≡◌, ◌<◌, ◌+◌, ◌-◌, [], IsTrue};
 ghost use Rattle.rasta_core_link.specs.Outbox.{HasRoomFor, posted};
-ghost use Rattle.rasta_core_link.specs.Parameters.{connection_limit, sequence_range};
+ghost use Rattle.rasta_core_link.specs.Parameters.{connection_limit};
 ghost use Rattle.rasta_core_link.specs.Sequence.{distance};
 
 use crate::admission::Admission;
@@ -41,6 +41,7 @@ impl Link {
     ghost use Rattle.rasta_core_link.specs.State.{is_open};
     ghost use Rattle.rasta_core_link.specs.Sending.{closed};
     ghost use Rattle.rasta_core_link.specs.Clock.{state_at};
+    ghost use Rattle.rasta_core_link.specs.inside.Hearing.{IsDone, IsReady, IsTested};
     ghost use Rattle.rasta_core_link.specs.Receiving.{age, ahead, behind, is_stale, confirms, taking, answering, missing, handing, bringing, in_turn, violating, admission, admitting, testing, is_opening_again, connected, answers_request, asking, resting, by_state, hearing};
 
     /// How far a PDU is ahead of the expected one.
@@ -93,8 +94,7 @@ impl Link {
     /// A PDU is taken: what it returns and confirms is kept.
     #[tactic(auto, using(crate::proofs::Waiting::dropping), unfolding(crate::specs::Receiving::taking))]
     fn take(&mut self, pdu: &Pdu)
-        requires in_range { ahead pdu.now self.old ≤ sequence_range }
-        requires confirmed { behind pdu.now self.old < self.old.sent }
+        requires { IsTested pdu.now self.old }
         ensures { self.new ≡ taking pdu.now self.old }
     {
         let confirmed = self.sent - 1 - self.behind(pdu);
@@ -124,10 +124,7 @@ impl Link {
     fn ask(&mut self, outbox: &mut Outbox) -> Verdict
         requires below { self.old.sent < connection_limit }
         requires room { HasRoomFor 1 outbox.old }
-        ensures link { self.new ≡ (missing self.old).link }
-        ensures posted { outbox.new ≡ posted self.old.identity.key (missing self.old).pdus outbox.old }
-        ensures items { (missing self.old).items ≡ [] }
-        ensures verdict { result ≡ (missing self.old).verdict }
+        ensures { IsDone (missing self.old) self.old self.new outbox.old outbox.new [] result }
     {
         self.dispatch(Body::RetransmissionRequest, outbox);
         self.phase = Phase::RetransmissionRequested;
@@ -153,10 +150,7 @@ impl Link {
         requires below { self.old.sent < connection_limit }
         requires room { HasRoomFor 22 outbox.old }
         requires empty { inbox.old.items ≡ [] }
-        ensures link { self.new ≡ (bringing body.now self.old).link }
-        ensures posted { outbox.new ≡ posted self.old.identity.key (bringing body.now self.old).pdus outbox.old }
-        ensures items { inbox.new.items ≡ (bringing body.now self.old).items }
-        ensures verdict { result ≡ (bringing body.now self.old).verdict }
+        ensures { IsDone (bringing body.now self.old) self.old self.new outbox.old outbox.new inbox.new.items result }
     {
         match body {
             Body::Data(items) => {
@@ -178,15 +172,9 @@ impl Link {
     /// The PDU at the expected number is taken, and a later one shows that one is missing.
     #[tactic(auto, using(crate::proofs::Posting::posting), unfolding(crate::specs::Receiving::in_turn, crate::specs::Receiving::taking))]
     fn follow(&mut self, pdu: &Pdu, outbox: &mut Outbox, inbox: &mut Inbox) -> Verdict
-        requires below { self.old.sent < connection_limit }
-        requires in_range { ahead pdu.now self.old ≤ sequence_range }
-        requires confirmed { behind pdu.now self.old < self.old.sent }
-        requires room { HasRoomFor 22 outbox.old }
-        requires empty { inbox.old.items ≡ [] }
-        ensures link { self.new ≡ (in_turn pdu.now self.old).link }
-        ensures posted { outbox.new ≡ posted self.old.identity.key (in_turn pdu.now self.old).pdus outbox.old }
-        ensures items { inbox.new.items ≡ (in_turn pdu.now self.old).items }
-        ensures verdict { result ≡ (in_turn pdu.now self.old).verdict }
+        requires ready { IsReady self.old outbox.old inbox.old.items }
+        requires tested { IsTested pdu.now self.old }
+        ensures { IsDone (in_turn pdu.now self.old) self.old self.new outbox.old outbox.new inbox.new.items result }
     {
         if self.ahead(pdu) != 0 {
             return self.ask(outbox);
@@ -199,9 +187,7 @@ impl Link {
     fn violate(&mut self, outbox: &mut Outbox) -> Verdict
         requires open { IsTrue (is_open self.old.phase) }
         requires room { HasRoomFor 1 outbox.old }
-        ensures link { self.new ≡ (violating self.old).link }
-        ensures posted { outbox.new ≡ posted self.old.identity.key (violating self.old).pdus outbox.old }
-        ensures verdict { result ≡ (violating self.old).verdict }
+        ensures { IsDone (violating self.old) self.old self.new outbox.old outbox.new [] result }
     {
         self.tell(Reason::State, outbox);
         Verdict::WrongState
@@ -210,16 +196,9 @@ impl Link {
     /// What becomes of a PDU by its type and the phase, once its numbers and stamps were tested.
     #[tactic(auto, using(crate::proofs::Posting::posting), unfolding(crate::specs::Receiving::admitting, crate::specs::Receiving::taking))]
     fn admit(&mut self, pdu: &Pdu, outbox: &mut Outbox, inbox: &mut Inbox) -> Verdict
-        requires open { IsTrue (is_open self.old.phase) }
-        requires below { self.old.sent < connection_limit }
-        requires in_range { ahead pdu.now self.old ≤ sequence_range }
-        requires confirmed { behind pdu.now self.old < self.old.sent }
-        requires room { HasRoomFor 22 outbox.old }
-        requires empty { inbox.old.items ≡ [] }
-        ensures link { self.new ≡ (admitting (admission pdu.now.body self.old.phase) pdu.now self.old).link }
-        ensures posted { outbox.new ≡ posted self.old.identity.key (admitting (admission pdu.now.body self.old.phase) pdu.now self.old).pdus outbox.old }
-        ensures items { inbox.new.items ≡ (admitting (admission pdu.now.body self.old.phase) pdu.now self.old).items }
-        ensures verdict { result ≡ (admitting (admission pdu.now.body self.old.phase) pdu.now self.old).verdict }
+        requires ready { IsReady self.old outbox.old inbox.old.items }
+        requires tested { IsTested pdu.now self.old }
+        ensures { IsDone (admitting (admission pdu.now.body self.old.phase) pdu.now self.old) self.old self.new outbox.old outbox.new inbox.new.items result }
     {
         match Admission::of(&pdu.body, self.phase) {
             Admission::Violates => self.violate(outbox),
@@ -241,14 +220,8 @@ impl Link {
     /// The tests of numbers and stamps in a connection, in their order.
     #[tactic(auto, using(crate::proofs::Posting::posting), unfolding(crate::specs::Receiving::testing))]
     fn test(&mut self, pdu: &Pdu, outbox: &mut Outbox, inbox: &mut Inbox) -> Verdict
-        requires open { IsTrue (is_open self.old.phase) }
-        requires below { self.old.sent < connection_limit }
-        requires room { HasRoomFor 22 outbox.old }
-        requires empty { inbox.old.items ≡ [] }
-        ensures link { self.new ≡ (testing pdu.now self.old).link }
-        ensures posted { outbox.new ≡ posted self.old.identity.key (testing pdu.now self.old).pdus outbox.old }
-        ensures items { inbox.new.items ≡ (testing pdu.now self.old).items }
-        ensures verdict { result ≡ (testing pdu.now self.old).verdict }
+        requires ready { IsReady self.old outbox.old inbox.old.items }
+        ensures { IsDone (testing pdu.now self.old) self.old self.new outbox.old outbox.new inbox.new.items result }
     {
         if self.ahead(pdu) > SEQUENCE_RANGE {
             return Verdict::OutOfRange;
@@ -274,14 +247,8 @@ impl Link {
     /// In a connection.
     #[tactic(auto, using(crate::proofs::Posting::posting), unfolding(crate::specs::Receiving::connected))]
     fn receive_connected(&mut self, pdu: &Pdu, outbox: &mut Outbox, inbox: &mut Inbox) -> Verdict
-        requires open { IsTrue (is_open self.old.phase) }
-        requires below { self.old.sent < connection_limit }
-        requires room { HasRoomFor 22 outbox.old }
-        requires empty { inbox.old.items ≡ [] }
-        ensures link { self.new ≡ (connected pdu.now.body pdu.now self.old).link }
-        ensures posted { outbox.new ≡ posted self.old.identity.key (connected pdu.now.body pdu.now self.old).pdus outbox.old }
-        ensures items { inbox.new.items ≡ (connected pdu.now.body pdu.now self.old).items }
-        ensures verdict { result ≡ (connected pdu.now.body pdu.now self.old).verdict }
+        requires ready { IsReady self.old outbox.old inbox.old.items }
+        ensures { IsDone (connected pdu.now.body pdu.now self.old) self.old self.new outbox.old outbox.new inbox.new.items result }
     {
         match &pdu.body {
             Body::ConnectionRequest(_) if self.is_opening_again(pdu) => Verdict::Discarded,
@@ -304,10 +271,7 @@ impl Link {
         requires open { IsTrue (is_open self.old.phase) }
         requires below { self.old.sent < connection_limit }
         requires room { HasRoomFor 1 outbox.old }
-        ensures link { self.new ≡ (asking pdu.now.body pdu.now self.old).link }
-        ensures posted { outbox.new ≡ posted self.old.identity.key (asking pdu.now.body pdu.now self.old).pdus outbox.old }
-        ensures items { (asking pdu.now.body pdu.now self.old).items ≡ [] }
-        ensures verdict { result ≡ (asking pdu.now.body pdu.now self.old).verdict }
+        ensures { IsDone (asking pdu.now.body pdu.now self.old) self.old self.new outbox.old outbox.new [] result }
     {
         match &pdu.body {
             Body::ConnectionResponse(_) | Body::DisconnectionRequest { .. }
@@ -328,10 +292,7 @@ impl Link {
     #[tactic(auto, using(crate::proofs::Posting::posting), unfolding(crate::specs::Receiving::resting))]
     fn receive_resting(&mut self, pdu: &Pdu, outbox: &mut Outbox) -> Verdict
         requires room { HasRoomFor 1 outbox.old }
-        ensures link { self.new ≡ (resting pdu.now.body pdu.now self.old).link }
-        ensures posted { outbox.new ≡ posted self.old.identity.key (resting pdu.now.body pdu.now self.old).pdus outbox.old }
-        ensures items { (resting pdu.now.body pdu.now self.old).items ≡ [] }
-        ensures verdict { result ≡ (resting pdu.now.body pdu.now self.old).verdict }
+        ensures { IsDone (resting pdu.now.body pdu.now self.old) self.old self.new outbox.old outbox.new [] result }
     {
         match &pdu.body {
             Body::ConnectionRequest(opening) if !self.identity.role.is_client() => {
@@ -348,10 +309,7 @@ impl Link {
         requires below { IsTrue (is_open self.old.phase) → self.old.sent < connection_limit }
         requires room { HasRoomFor 22 outbox.old }
         requires empty { inbox.old.items ≡ [] }
-        ensures link { self.new ≡ (by_state (state_at self.old.clock self.old) pdu.now self.old).link }
-        ensures posted { outbox.new ≡ posted self.old.identity.key (by_state (state_at self.old.clock self.old) pdu.now self.old).pdus outbox.old }
-        ensures items { inbox.new.items ≡ (by_state (state_at self.old.clock self.old) pdu.now self.old).items }
-        ensures verdict { result ≡ (by_state (state_at self.old.clock self.old) pdu.now self.old).verdict }
+        ensures { IsDone (by_state (state_at self.old.clock self.old) pdu.now self.old) self.old self.new outbox.old outbox.new inbox.new.items result }
     {
         match self.state(self.clock) {
             State::Quiet => Verdict::Quiet,
@@ -367,10 +325,7 @@ impl Link {
         requires below { IsTrue (is_open self.old.phase) → self.old.sent < connection_limit }
         requires room { HasRoomFor 22 outbox.old }
         requires empty { inbox.old.items ≡ [] }
-        ensures link { self.new ≡ (hearing pdu.now self.old).link }
-        ensures posted { outbox.new ≡ posted self.old.identity.key (hearing pdu.now self.old).pdus outbox.old }
-        ensures items { inbox.new.items ≡ (hearing pdu.now self.old).items }
-        ensures verdict { result ≡ (hearing pdu.now self.old).verdict }
+        ensures { IsDone (hearing pdu.now self.old) self.old self.new outbox.old outbox.new inbox.new.items result }
     {
         if pdu.receiver != self.identity.own {
             return Verdict::NotForMe;

@@ -12,7 +12,7 @@ use rasta_pdu::{Body, Item, Items, Key};
 
 /// An item, and the count in the connection of the PDU that last carried it.
 #[derive(Debug, Drop)]
-pub(crate) struct Unconfirmed {
+pub struct Unconfirmed {
     pub(crate) tag: u32,
     pub(crate) item: Item,
 }

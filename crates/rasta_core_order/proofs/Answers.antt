@@ -7,7 +7,8 @@ use Rattle.rasta_core_run.specs.Receiving.{repeated, retagged}
 use Rattle.rasta_core_run.specs.pdu.Pdu.{Pdu}
 use Rattle.rasta_core_run.specs.body.Body.{Body}
 use Rattle.rasta_core_run.specs.body.Body.TheVariants.{RetransmissionRequest, RetransmissionResponse, Heartbeat, RetransmittedData}
-use Rattle.rasta_core_order.specs.Held.{Held, Head}
+use Rattle.rasta_core_run.specs.window.Unconfirmed.{Unconfirmed}
+use Rattle.rasta_core_run.specs.header.Header.{Header}
 use Rattle.rasta_core_order.specs.Part.{IsAt, Part, sent, later, items_of}
 use Rattle.rasta_core_order.specs.Order.{IsLevel, Brings, Carries, IsClosing, OpensOn, IsSent, Rises, Waits, Counts, Way}
 use Rattle.rasta_core_order.proofs.Places.{split, within, only_one, IsAfter, CloseNothing, opens_more}
@@ -18,7 +19,7 @@ use Rattle.rasta_core_order.proofs.Sends.{upto, upto_old, upto_new, below, below
 use Rattle.rasta_core_order.proofs.Repeats.{length-items_of, items_of-append, length-repeated, IsRepeat, repeated_at, take_before, take_with}
 
 -- the response, the items again, a heartbeat
-abbrev pub answer : Head → ℕ → List Held → List Pdu
+abbrev pub answer : Header → ℕ → List Unconfirmed → List Pdu
 answer header count waiting =
     pdu_of header count RetransmissionResponse ∷ (repeated header (count + 1) waiting ++ pdu_of header (count + 1 + length waiting) Heartbeat ∷ [])
 
@@ -26,7 +27,7 @@ answer header count waiting =
 abbrev pub again : Part → ℕ → ℕ → ℕ
 again part before number = min (length part.given) (before + (number - (sent part + 1)))
 
-abbrev pub answered : Head → ℕ → Part → Part
+abbrev pub answered : Header → ℕ → Part → Part
 answered header before part = record part {
   flow = part.flow ++ answer header (sent part) part.waiting;
   passed = upto (sent part) (again part before) part.passed;
@@ -35,13 +36,13 @@ answered header before part = record part {
 }
 
 -- A header of an end.
-pub record IsHeader (own : Part) (other_first : ℕ) (header : Head) : Type 0 where
+pub record IsHeader (own : Part) (other_first : ℕ) (header : Header) : Type 0 where
   pub first : header.first_sequence_number ≡ own.first
   pub confirmed : header.confirmed_sequence_number ≡ wire other_first (own.reached - 1)
   pub unsaid : OpensOn own.flow
 
 -- an answer closes nothing
-pub answer_goes_on : (header : Head) (count : ℕ) (waiting : List Held) → CloseNothing (answer header count waiting)
+pub answer_goes_on : (header : Header) (count : ℕ) (waiting : List Unconfirmed) → CloseNothing (answer header count waiting)
 unfolding pdu_of
 answer_goes_on header count waiting zero pdu at closes = subst (λ (p : Pdu). IsClosing p.body) (sym at) closes
 answer_goes_on header count waiting (suc place) pdu at closes =
@@ -50,7 +51,7 @@ answer_goes_on header count waiting (suc place) pdu at closes =
       | inr new ↦ subst (λ (p : Pdu). IsClosing p.body) (sym (only_one new.0 pdu (pdu_of header (count + 1 + length waiting) Heartbeat) new.2).1) closes
     ]
 
-module _ (own other : Part) (header : Head) (before : List (List ℕ)) (way : Way own other) (is_header : IsHeader own other.first header) (some : 1 ≤ own.reached)
+module _ (own other : Part) (header : Header) (before : List (List ℕ)) (way : Way own other) (is_header : IsHeader own other.first header) (some : 1 ≤ own.reached)
     (fits : sent own + length own.waiting + 2 < 2 ^ 31) (last : own.given ≡ before ++ items_of own.waiting)
     (unanswered : (place : ℕ) (pdu : Pdu) → IsAt place pdu own.flow → pdu.body ≡ RetransmissionResponse → place < other.reached)
     (asked_no_more : (place : ℕ) (pdu : Pdu) → IsAt place pdu other.flow → pdu.body ≡ RetransmissionRequest → own.reached ≤ place → ⊥)

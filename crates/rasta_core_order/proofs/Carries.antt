@@ -21,7 +21,8 @@ use Rattle.rasta_core_run.specs.pdu_fault.PduFault.{PduFault}
 use Rattle.rasta_core_run.specs.body.Opening.{Opening}
 use Rattle.rasta_core_run.specs.body.Body.{Body}
 use Rattle.rasta_core_run.specs.body.Body.TheVariants.{ConnectionRequest, ConnectionResponse, RetransmissionRequest, RetransmissionResponse, DisconnectionRequest, Heartbeat, Data, RetransmittedData}
-use Rattle.rasta_core_order.specs.Held.{Held, Head}
+use Rattle.rasta_core_run.specs.window.Unconfirmed.{Unconfirmed}
+use Rattle.rasta_core_run.specs.header.Header.{Header}
 use Rattle.rasta_core_run.specs.Given.{new_items}
 use Rattle.rasta_core_order.specs.Carried.{carried}
 use Rattle.rasta_core_order.specs.Playing.{accepted, reads}
@@ -87,7 +88,7 @@ sending_carries now item link = after_entered now link _ (accepted (acceptance (
 
 -- ---- what comes
 
-none_repeated : (header : Head) (count : ℕ) (waiting : List Held) → carried (repeated header count waiting) ≡ []
+none_repeated : (header : Header) (count : ℕ) (waiting : List Unconfirmed) → carried (repeated header count waiting) ≡ []
 unfolding repeated pdu_of
 none_repeated header count [] = refl
 none_repeated header count (first ∷ others) = none_repeated header (count + 1) others

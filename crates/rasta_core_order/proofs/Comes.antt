@@ -1,6 +1,6 @@
 -- What the numbers of a PDU of the partner say to a link in the connection, and what the link is after it took it.
-use Rattle.std.proofs.Common.{◌≡◌, ℕ, ◌+◌, ◌-◌, ◌^◌, ◌<◌, ◌≤◌, Bool, true, false, List, length, ◌⊎◌, inl, inr, refl, sym, ap, subst, ◌∙◌, arith}
-use Rattle.std.specs.Prelude.{nat_lt, if◌then◌else◌}
+use Rattle.std.proofs.Common.{◌≡◌, ℕ, ◌+◌, ◌-◌, ◌^◌, ◌<◌, ◌≤◌, Bool, true, false, List, length, sym, ap, subst, ◌∙◌, arith}
+use Rattle.std.specs.Prelude.{nat_lt}
 use Rattle.std.proofs.lemmas.Bool.{ltb-false}
 use Rattle.rasta_core_run.specs.Parameters.{sequence_range, stops_at_greatest}
 use Rattle.rasta_core_run.specs.Sequence.{wire, before, distance}
@@ -8,7 +8,7 @@ use Rattle.rasta_core_run.specs.State.{LinkState, is_open, is_up, is_asking}
 use Rattle.rasta_core_run.specs.Clock.{open_state}
 use Rattle.rasta_core_run.specs.Receiving.{ahead, behind, taking, still_waiting}
 use Rattle.rasta_core_run.specs.pdu.Pdu.{Pdu}
-use Rattle.rasta_core_order.specs.Held.{Stage}
+use Rattle.rasta_core_run.specs.phase.Phase.{Phase}
 use Rattle.rasta_core_order.specs.Part.{IsAt, Part, sent}
 use Rattle.rasta_core_order.specs.Order.{IsSent, InOrder}
 use Rattle.rasta_core_order.specs.Playing.{reads, HaveCome, HasJoined}
@@ -75,7 +75,7 @@ module _ (link : LinkState) (own other : Part) (order : InOrder own other) (play
       ∙ next_is own.reached steps (omega (arith, there, within place pdu other.flow at, order.back.counts.fits))
 
   -- the link after taking, in a phase of a connection
-  pub moved_plays : Confirms → (phase : Stage) (taken_count reached : ℕ) (reading : Bool) (taken : List (List ℕ))
+  pub moved_plays : Confirms → (phase : Phase) (taken_count reached : ℕ) (reading : Bool) (taken : List (List ℕ))
       → is_open phase ≡ true → is_asking (record (taking pdu link) { phase = phase; taken = taken_count }) ≡ false → reading ≡ reads (open_state phase)
       → taken_count ≡ stops_at_greatest (length taken) → (taking pdu link).expected ≡ reached → HaveCome (is_up phase) (farther reached reading taken (drops confirmed own)) other
       → HasJoined (record (taking pdu link) { phase = phase; taken = taken_count }) (farther reached reading taken (drops confirmed own)) other

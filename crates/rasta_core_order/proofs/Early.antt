@@ -1,6 +1,5 @@
 -- A client alone in its connection: what it does before the server enters.
 use Rattle.std.proofs.Common.{◌≡◌, ℕ, ◌+◌, ◌^◌, ◌<◌, ◌≤◌, true, [], ◌∷◌, length, take, ◌⊎◌, inl, inr, refl, sym, ap, subst, ◌∙◌, arith}
-use Rattle.std.specs.Prelude.{if◌then◌else◌}
 use Rattle.std.proofs.lemmas.List.{length-append, append-nil}
 use Rattle.rasta_core_run.specs.Parameters.{most_sent}
 use Rattle.rasta_core_run.specs.Sequence.{wire}

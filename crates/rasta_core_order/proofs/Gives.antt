@@ -4,7 +4,7 @@ use Rattle.std.proofs.lemmas.List.{length-append, take_all, take-append-le}
 use Rattle.rasta_core_run.specs.Sequence.{wire}
 use Rattle.rasta_core_run.specs.pdu.Pdu.{Pdu}
 use Rattle.rasta_core_run.specs.body.Body.TheVariants.{RetransmissionResponse, Data}
-use Rattle.rasta_core_order.specs.Held.{Held}
+use Rattle.rasta_core_run.specs.window.Unconfirmed.{Unconfirmed}
 use Rattle.rasta_core_order.specs.Part.{IsAt, Part, sent, later, items_of}
 use Rattle.rasta_core_order.specs.Order.{Brings, Carries, IsUnanswered, IsSent, Rises, Waits, Counts, Way}
 use Rattle.rasta_core_order.proofs.Places.{only_one}
@@ -12,7 +12,7 @@ use Rattle.rasta_core_order.proofs.Tags.{later_none, later_one_more, rises_one_m
 use Rattle.rasta_core_order.proofs.Growing.{Extends, grown}
 use Rattle.rasta_core_order.proofs.Sends.{upto, upto_old, upto_new, below, below_old, below_new, IsNext}
 
-abbrev pub held : ℕ → List ℕ → Held
+abbrev pub held : ℕ → List ℕ → Unconfirmed
 held tag item = record { tag = tag; item = item }
 
 abbrev pub gives : List ℕ → Pdu → Part → Part

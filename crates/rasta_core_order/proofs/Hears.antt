@@ -9,7 +9,7 @@ use Rattle.rasta_core_run.specs.Clock.{open_state, deadline, state_at}
 use Rattle.rasta_core_run.specs.Sending.{Step, silent, sending, telling, closed}
 use Rattle.rasta_core_run.specs.Opening.{meeting, judging, joining}
 use Rattle.rasta_core_run.specs.Receiving as receiving
-use Rattle.rasta_core_run.specs.Receiving.{Receipt, accepting, refusing, violating, ahead, behind, is_stale, confirms, taking, in_turn, admission, admitting, testing, is_opening_again, connected, answers_request, asking, by_state, hearing}
+use Rattle.rasta_core_run.specs.Receiving.{Receipt, accepting, refusing, violating, ahead, is_stale, confirms, taking, admission, admitting, testing, is_opening_again, connected, answers_request, asking, by_state, hearing}
 use Rattle.rasta_core_run.specs.phase.State.{State}
 use Rattle.rasta_core_run.specs.phase.State.TheVariants as state
 use Rattle.rasta_core_run.specs.reason.Reason.TheVariants as reason

@@ -10,7 +10,7 @@ use Rattle.rasta_core_run.specs.body.Opening.{Opening}
 use Rattle.rasta_core_run.specs.body.Body.{Body}
 use Rattle.rasta_core_run.specs.body.Body.TheVariants.{ConnectionRequest, ConnectionResponse, RetransmissionRequest, RetransmissionResponse, DisconnectionRequest, Heartbeat, Data, RetransmittedData}
 use Rattle.rasta_core_run.specs.pdu.Pdu.{Pdu}
-use Rattle.rasta_core_order.specs.Held.{Stage}
+use Rattle.rasta_core_run.specs.phase.Phase.{Phase}
 use Rattle.rasta_core_order.specs.Order.{IsClosing}
 use Rattle.rasta_core_order.specs.Playing.{reads}
 
@@ -33,7 +33,7 @@ pub data Admits (pdu : Pdu) (link : LinkState) (receipt : Receipt) : Type 0 wher
   violates : receipt ≡ violating link → Admits pdu link receipt
   discards : receipt ≡ refusing verdict.Discarded link → Admits pdu link receipt
   closes : IsClosing pdu.body → receipt ≡ accepting (silent (closed (taking pdu link))) → Admits pdu link receipt
-  resumes : (phase : Stage) → is_up link.phase ≡ true → open_state phase ≡ state.RetransmissionRunning → pdu.body ≡ RetransmissionResponse
+  resumes : (phase : Phase) → is_up link.phase ≡ true → open_state phase ≡ state.RetransmissionRunning → pdu.body ≡ RetransmissionResponse
       → receipt ≡ accepting (silent (record (taking pdu link) { phase = phase })) → Admits pdu link receipt
   turns : reads (open_state link.phase) ≡ true → TakesTurns pdu.body → (BringsUp pdu.body ⊎ (is_up link.phase ≡ true)) → receipt ≡ in_turn pdu link → Admits pdu link receipt
 
@@ -117,13 +117,13 @@ module _ (pdu : Pdu) (link : LinkState) where
   answer_violates e = grind arith
 
   pub answer_comes : reads (open_state link.phase) ≡ false
-      → (phase : Stage) × (open_state phase ≡ state.RetransmissionRunning)
+      → (phase : Phase) × (open_state phase ≡ state.RetransmissionRunning)
       × (admitting (admission RetransmissionResponse link.phase) pdu link ≡ accepting (silent (record (taking pdu link) { phase = phase })))
   unfolding admitting
   answer_comes e = ((admitting (admission RetransmissionResponse link.phase) pdu link).link.phase, grind arith, grind arith)
 
   answer_resumes : is_open link.phase ≡ true → reads (open_state link.phase) ≡ false
-      → (is_up link.phase ≡ true) × ((phase : Stage) × (open_state phase ≡ state.RetransmissionRunning)
+      → (is_up link.phase ≡ true) × ((phase : Phase) × (open_state phase ≡ state.RetransmissionRunning)
       × (admitting (admission RetransmissionResponse link.phase) pdu link ≡ accepting (silent (record (taking pdu link) { phase = phase }))))
   unfolding admitting
   answer_resumes connected e = (grind (arith, e, connected), answer_comes e)

@@ -5,32 +5,33 @@ use Rattle.rasta_core_run.specs.Sending.{pdu_of}
 use Rattle.rasta_core_run.specs.Receiving.{repeated}
 use Rattle.rasta_core_run.specs.pdu.Pdu.{Pdu}
 use Rattle.rasta_core_run.specs.body.Body.TheVariants.{RetransmittedData}
-use Rattle.rasta_core_order.specs.Held.{Held, Head}
+use Rattle.rasta_core_run.specs.window.Unconfirmed.{Unconfirmed}
+use Rattle.rasta_core_run.specs.header.Header.{Header}
 use Rattle.rasta_core_order.specs.Part.{IsAt, items_of}
 
-pub length-items_of : (waiting : List Held) → length (items_of waiting) ≡ length waiting
+pub length-items_of : (waiting : List Unconfirmed) → length (items_of waiting) ≡ length waiting
 length-items_of [] = refl
 length-items_of (first ∷ others) = ap (λ (n : ℕ). suc n) (length-items_of others)
 
-pub items_of-append : (front back : List Held) → items_of (front ++ back) ≡ items_of front ++ items_of back
+pub items_of-append : (front back : List Unconfirmed) → items_of (front ++ back) ≡ items_of front ++ items_of back
 items_of-append [] back = refl
 items_of-append (first ∷ others) back = ap (λ rest. first.item ∷ rest) (items_of-append others back)
 
-pub length-repeated : (header : Head) (count : ℕ) (waiting : List Held) → length (repeated header count waiting) ≡ length waiting
+pub length-repeated : (header : Header) (count : ℕ) (waiting : List Unconfirmed) → length (repeated header count waiting) ≡ length waiting
 unfolding repeated
 length-repeated header count [] = refl
 length-repeated header count (first ∷ others) = ap (λ (n : ℕ). suc n) (length-repeated header (count + 1) others)
 
 -- A PDU of the repetition carries the item of its place.
-pub record IsRepeat (header : Head) (count : ℕ) (waiting : List Held) (place : ℕ) (pdu : Pdu) : Type 0 where
-  pub front : List Held
-  pub one : Held
-  pub back : List Held
+pub record IsRepeat (header : Header) (count : ℕ) (waiting : List Unconfirmed) (place : ℕ) (pdu : Pdu) : Type 0 where
+  pub front : List Unconfirmed
+  pub one : Unconfirmed
+  pub back : List Unconfirmed
   pub here : front ++ one ∷ back ≡ waiting
   pub at : length front ≡ place
   pub is : pdu ≡ pdu_of header (count + place) (RetransmittedData (one.item ∷ []))
 
-pub repeated_at : (header : Head) (count : ℕ) (waiting : List Held) (place : ℕ) (pdu : Pdu) → IsAt place pdu (repeated header count waiting) → IsRepeat header count waiting place pdu
+pub repeated_at : (header : Header) (count : ℕ) (waiting : List Unconfirmed) (place : ℕ) (pdu : Pdu) → IsAt place pdu (repeated header count waiting) → IsRepeat header count waiting place pdu
 unfolding repeated
 repeated_at header count [] place pdu there = elim there [ ]
 repeated_at header count (first ∷ others) zero pdu there = record {

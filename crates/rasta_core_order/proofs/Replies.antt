@@ -7,7 +7,7 @@ use Rattle.rasta_core_run.specs.Sending.{header_of, pdu_of, sending}
 use Rattle.rasta_core_run.specs.Receiving.{retagged, repeating, answering}
 use Rattle.rasta_core_run.specs.pdu.Pdu.{Pdu}
 use Rattle.rasta_core_run.specs.body.Body.TheVariants.{RetransmissionRequest, RetransmissionResponse}
-use Rattle.rasta_core_order.specs.Held.{Head}
+use Rattle.rasta_core_run.specs.header.Header.{Header}
 use Rattle.rasta_core_order.specs.Part.{IsAt, Part, sent, later}
 use Rattle.rasta_core_order.specs.Order.{InOrder}
 use Rattle.rasta_core_order.specs.Playing.{HasJoined, joined, GoesOn}
@@ -20,7 +20,7 @@ module _ (link : LinkState) (own other : Part) (order : InOrder own other) (play
     (asked_no_more : (place : ℕ) (pdu : Pdu) → IsAt place pdu other.flow → pdu.body ≡ RetransmissionRequest → own.reached ≤ place → ⊥)
     (other_waits : other.reading ≡ false)
     (all_wait : later other.reached own.waiting ≡ length own.waiting) where
-  header : Head
+  header : Header
   header = header_of link
 
   before : List (List ℕ)

@@ -1,5 +1,5 @@
 -- What a link in a connection sends is the next PDU of its part.
-use Rattle.std.proofs.Common.{◌≡◌, ◌-◌, ◌≤◌, [], ◌∷◌, ◌++◌, length, ◌⊎◌, inl, inr, ap, ◌∙◌, arith}
+use Rattle.std.proofs.Common.{◌≡◌, ◌-◌, [], ◌∷◌, length, ◌⊎◌, inl, inr, ap, ◌∙◌, arith}
 use Rattle.std.specs.Prelude.{if◌then◌else◌}
 use Rattle.rasta_core_run.specs.Sequence.{wire, before}
 use Rattle.rasta_core_run.specs.State.{LinkState}

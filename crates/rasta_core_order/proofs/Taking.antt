@@ -2,18 +2,18 @@
 use Rattle.std.proofs.Common.{◌≡◌, ℕ, ◌+◌, ◌<◌, ◌≤◌, true, false, List, [], ◌∷◌, ◌++◌, take, ◌⊎◌, inl, inr, refl, sym, ap, ◌∙◌, arith}
 use Rattle.rasta_core_run.specs.pdu.Pdu.{Pdu}
 use Rattle.rasta_core_run.specs.body.Body.TheVariants.{RetransmissionRequest, RetransmissionResponse}
-use Rattle.rasta_core_order.specs.Held.{Held}
+use Rattle.rasta_core_run.specs.window.Unconfirmed.{Unconfirmed}
 use Rattle.rasta_core_order.specs.Part.{IsAt, Part, sent}
 use Rattle.rasta_core_order.specs.Order.{Brings, IsAsking, Way}
 use Rattle.rasta_core_order.proofs.Places.{split, within, only_one, IsAfter}
 use Rattle.rasta_core_order.proofs.Growing.{HasNo}
 
 -- a part that has sent more, with its own items; what it took is as it was
-abbrev pub replaced : Part → List Pdu → (ℕ → ℕ) → (ℕ → ℕ) → List (List ℕ) → List Held → Part
+abbrev pub replaced : Part → List Pdu → (ℕ → ℕ) → (ℕ → ℕ) → List (List ℕ) → List Unconfirmed → Part
 replaced part flow passed expecting given waiting = record part { flow = flow; passed = passed; expecting = expecting; given = given; waiting = waiting }
 
 -- the taker has sent more, but for a retransmission request
-module _ (giver taker : Part) (way : Way giver taker) (more : List Pdu) (passed expecting : ℕ → ℕ) (given : List (List ℕ)) (waiting : List Held)
+module _ (giver taker : Part) (way : Way giver taker) (more : List Pdu) (passed expecting : ℕ → ℕ) (given : List (List ℕ)) (waiting : List Unconfirmed)
     (same : (number : ℕ) → number < sent taker → expecting number ≡ taker.expecting number) (no_request : HasNo RetransmissionRequest more) where
   asking_only : (place : ℕ)
       → ((number : ℕ) (pdu : Pdu) → IsAt number pdu taker.flow → pdu.body ≡ RetransmissionRequest → giver.reached ≤ number → number ≡ place)
@@ -95,10 +95,10 @@ module _ (giver taker : Part) (way : Way giver taker) (reading : taker.reading �
       ]
 
 -- what waits at the taker doesn't matter
-abbrev pub holding : List Held → Part → Part
+abbrev pub holding : List Unconfirmed → Part → Part
 holding waiting part = record part { waiting = waiting }
 
-pub taker_held : (giver taker : Part) (waiting : List Held) → Way giver taker → Way giver (holding waiting taker)
+pub taker_held : (giver taker : Part) (waiting : List Unconfirmed) → Way giver taker → Way giver (holding waiting taker)
 taker_held giver taker waiting way = record {
   counts = way.counts;
   each = way.each;

@@ -13,7 +13,7 @@ use Rattle.rasta_core_run.specs.phase.State.TheVariants as state
 use Rattle.rasta_core_run.specs.pdu.Pdu.{Pdu}
 use Rattle.rasta_core_run.specs.body.Body.{Body}
 use Rattle.rasta_core_run.specs.body.Body.TheVariants.{ConnectionRequest, ConnectionResponse, RetransmissionRequest, RetransmissionResponse, DisconnectionRequest, Heartbeat, Data, RetransmittedData}
-use Rattle.rasta_core_order.specs.Held.{Stage}
+use Rattle.rasta_core_run.specs.phase.Phase.{Phase}
 use Rattle.rasta_core_order.specs.Part.{IsAt, Part, sent}
 use Rattle.rasta_core_order.specs.Order.{Brings, Carries, IsClosing, BeginsByResponse, OpensOn, IsAsking, InOrder}
 use Rattle.rasta_core_order.specs.Playing.{reads, HasJoined, joined, left, GoesOn}
@@ -64,7 +64,7 @@ module _ (link : LinkState) (own other : Part) (order : InOrder own other) (play
           back = taker_took other dropped items before.back reading (omega (arith, is, within place pdu other.flow at)) (subst (λ number. Brings other number items) at_reached brings);
         }
 
-    took_plays : (phase : Stage) (taken_count : ℕ) (items : List (List ℕ)) → is_open phase ≡ true
+    took_plays : (phase : Phase) (taken_count : ℕ) (items : List (List ℕ)) → is_open phase ≡ true
         → is_asking (record (taking pdu link) { phase = phase; taken = taken_count }) ≡ false → own.reading ≡ reads (open_state phase) → is_up phase ≡ true
         → taken_count ≡ stops_at_greatest (length (own.taken ++ items)) → HasJoined (record (taking pdu link) { phase = phase; taken = taken_count }) (took items dropped) other
     unfolding here dropped
@@ -76,7 +76,7 @@ module _ (link : LinkState) (own other : Part) (order : InOrder own other) (play
         next = omega arith
 
     -- it brings these items to the user
-    took_on : (phase : Stage) (taken_count : ℕ) (items : List (List ℕ)) → Brings other place items → is_open phase ≡ true
+    took_on : (phase : Phase) (taken_count : ℕ) (items : List (List ℕ)) → Brings other place items → is_open phase ≡ true
         → is_asking (record (taking pdu link) { phase = phase; taken = taken_count }) ≡ false → own.reading ≡ reads (open_state phase) → is_up phase ≡ true
         → taken_count ≡ stops_at_greatest (length (own.taken ++ items)) → GoesOn own other (record (taking pdu link) { phase = phase; taken = taken_count }) [] [] items
     unfolding dropped
@@ -173,7 +173,7 @@ module _ (link : LinkState) (own other : Part) (order : InOrder own other) (play
           some (suc steps) no_step = omega arith
 
   -- it takes the answer that it waits for
-  pub resumed_on : (phase : Stage) → is_up link.phase ≡ true → open_state phase ≡ state.RetransmissionRunning → pdu.body ≡ RetransmissionResponse → nat_lt sequence_range (ahead pdu link) ≡ false
+  pub resumed_on : (phase : Phase) → is_up link.phase ≡ true → open_state phase ≡ state.RetransmissionRunning → pdu.body ≡ RetransmissionResponse → nat_lt sequence_range (ahead pdu link) ≡ false
       → GoesOn own other (record (taking pdu link) { phase = phase }) [] [] []
   unfolding here dropped taking
   resumed_on phase was_up running body in_range =
@@ -195,13 +195,13 @@ module _ (link : LinkState) (own other : Part) (order : InOrder own other) (play
             (record { starting = λ down. absurd (cc (running_up phase running, down)); heard = λ up. plays.come.heard was_up }));
       }
     where
-      running_open : (phase : Stage) → open_state phase ≡ state.RetransmissionRunning → is_open phase ≡ true
+      running_open : (phase : Phase) → open_state phase ≡ state.RetransmissionRunning → is_open phase ≡ true
       running_open phase e = grind arith
 
-      running_up : (phase : Stage) → open_state phase ≡ state.RetransmissionRunning → is_up phase ≡ true
+      running_up : (phase : Phase) → open_state phase ≡ state.RetransmissionRunning → is_up phase ≡ true
       running_up phase e = grind arith
 
-      running_joined : (phase : Stage) → open_state phase ≡ state.RetransmissionRunning → is_asking (record (taking pdu link) { phase = phase; taken = link.taken }) ≡ false
+      running_joined : (phase : Phase) → open_state phase ≡ state.RetransmissionRunning → is_asking (record (taking pdu link) { phase = phase; taken = link.taken }) ≡ false
       running_joined phase e = grind arith
 
   -- it takes the closing

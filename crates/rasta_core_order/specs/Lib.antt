@@ -1,5 +1,4 @@
 -- Invariants, for the proofs: what is believed of runs is in rasta_core_run.
-pub mod Held
 pub mod Part
 pub mod Order
 pub mod Playing

@@ -3,7 +3,7 @@ use Rattle.std.specs.Prelude.{◌≡◌, ℕ, ◌+◌, ◌-◌, ◌^◌, ◌<◌
 use Rattle.rasta_core_run.specs.Parameters.{window_size}
 use Rattle.rasta_core_run.specs.Sequence.{wire}
 use Rattle.rasta_core_run.specs.Opening.{own_opening}
-use Rattle.rasta_core_order.specs.Held.{Held}
+use Rattle.rasta_core_run.specs.window.Unconfirmed.{Unconfirmed}
 use Rattle.rasta_core_order.specs.Part.{IsAt, Part, sent, later, items_of}
 use Rattle.rasta_core_run.specs.pdu.Pdu.{Pdu}
 use Rattle.rasta_core_run.specs.body.Body.{Body}
@@ -70,7 +70,7 @@ pub record IsSent (giver : Part) (taker_first : ℕ) (place : ℕ) (pdu : Pdu) :
   pub carries : Carries giver place pdu.body
 
 -- the tags rise, from this one on, and stay below that
-abbrev pub Rises : ℕ → ℕ → List Held → Type 0
+abbrev pub Rises : ℕ → ℕ → List Unconfirmed → Type 0
 Rises low high [] = Unit {0}
 Rises low high (first ∷ others) = (low ≤ first.tag) × (first.tag < high) × Rises (first.tag + 1) high others
 

@@ -1,6 +1,6 @@
 -- What an end has in one connection: the PDUs that it sent there, and what it gave and took.
 use Rattle.std.specs.Prelude.{◌≡◌, ℕ, zero, suc, nat_le, Bool, List, [], ◌∷◌, length, map, if◌then◌else◌}
-use Rattle.rasta_core_order.specs.Held.{Held}
+use Rattle.rasta_core_run.specs.window.Unconfirmed.{Unconfirmed}
 use Rattle.rasta_core_run.specs.pdu.Pdu.{Pdu}
 
 -- the PDU of this number, counted from 0
@@ -26,7 +26,7 @@ pub record Part : Type 0 where
   pub given : List (List ℕ)
   pub taken : List (List ℕ)
   -- the items that it holds to be unconfirmed
-  pub waiting : List Held
+  pub waiting : List Unconfirmed
   -- which of the partner's PDUs it expects
   pub reached : ℕ
   -- whether it takes PDUs in turn: an end that asked for a retransmission doesn't
@@ -37,12 +37,12 @@ abbrev pub sent : Part → ℕ
 sent part = length part.flow
 
 -- how many of these items wait under a PDU of this number or a later one
-abbrev pub later : ℕ → List Held → ℕ
+abbrev pub later : ℕ → List Unconfirmed → ℕ
 later number [] = 0
 later number (first ∷ others) = if nat_le number first.tag then suc (later number others) else later number others
 
-abbrev pub item : Held → List ℕ
+abbrev pub item : Unconfirmed → List ℕ
 item held = held.item
 
-abbrev pub items_of : List Held → List (List ℕ)
+abbrev pub items_of : List Unconfirmed → List (List ℕ)
 items_of waiting = map item waiting

@@ -20,11 +20,13 @@ pub use Rattle.rasta_core_link.specs.Receiving
 pub use Rattle.rasta_core_link.specs.Verdicts
 pub use Rattle.rasta_core_link.specs.Calls
 pub use Rattle.rasta_core_link.specs.Outbox
+pub use Rattle.rasta_core_link.specs.declared.header
 pub use Rattle.rasta_core_link.specs.declared.identity
 pub use Rattle.rasta_core_link.specs.declared.reason
 pub use Rattle.rasta_core_link.specs.declared.verdict
 pub use Rattle.rasta_core_link.specs.declared.fault
 pub use Rattle.rasta_core_link.specs.declared.phase
+pub use Rattle.rasta_core_link.specs.declared.window
 pub use Rattle.rasta_pdu.specs.Values
 pub use Rattle.rasta_pdu.specs.SafetyCode
 pub use Rattle.rasta_pdu.specs.Spelling

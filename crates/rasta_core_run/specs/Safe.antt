@@ -26,6 +26,17 @@ abbrev pub AreCounted : Ends → Type 0
 AreCounted ends = (connection : ℕ) → ends.client.connection ≡ Some connection → ends.server.connection ≡ Some connection
     → IsCounted ends.client × IsCounted ends.server
 
+-- The link of an end counts none, and holds none for confirmed.
+pub record CountsNone (end : EndState) : Type 0 where
+  pub given : end.link.given ≡ 0
+  pub taken : end.link.taken ≡ 0
+  pub confirmed : confirmed_items end.link ≡ 0
+
+-- the client, as long as its server hasn't entered its last connection
+abbrev pub IsCountedAlone : Ends → Type 0
+IsCountedAlone ends = (connection : ℕ) → ends.client.connection ≡ Some connection → (ends.server.connection ≡ Some connection → ⊥)
+    → CountsNone ends.client
+
 -- an end has given and taken fewer than 2^31 items in its last connection
 pub record IsFew (end : EndState) : Type 0 where
   pub given : length end.given < 2 ^ 31

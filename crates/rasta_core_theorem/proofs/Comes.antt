@@ -1,5 +1,6 @@
 -- What comes to an end is a PDU of its partner's flow, or isn't for it.
 use Rattle.std.proofs.Common.{◌≡◌, ℕ, ◌<◌, inl, inr, Bool, true, false, List, [], Some, Result, Ok, Err, sym, ap, subst, ◌∙◌, arith}
+use Rattle.std.proofs.lemmas.Option.{same_Some}
 use Rattle.rasta_core_run.specs.identity.Identity.{Identity}
 use Rattle.rasta_core_run.specs.identity.Role.{Role}
 use Rattle.rasta_core_run.specs.identity.Role.TheVariants as role
@@ -106,10 +107,7 @@ module _ (names : Names) (who : Role) (ends : Ends) (is : Timely names ends) (by
 
   -- it is of the connection that the client began last
   pub of_last : (last : ℕ) → ends.client.connection ≡ Some last → from.datagram.connection ≡ last
-  of_last last e = in_newest ∙ some_same (sym from.known.begun ∙ e)
-    where
-      some_same : Some is.newest ≡ Some last → is.newest ≡ last
-      some_same e = cc
+  of_last last e = in_newest ∙ same_Some is.newest last (sym from.known.begun ∙ e)
 
   -- and so of the partner's flow
   pub in_flow : (last : ℕ) (flow : List Pdu) → ends.client.connection ≡ Some last → Each (IsSpelledIn names (partner_of who) last flow) ends.sent → IsOf pdu flow
@@ -118,10 +116,7 @@ module _ (names : Names) (who : Role) (ends : Ends) (is : Timely names ends) (by
 -- a server that isn't in the client's connection has sent nothing there, and is outside
 module _ (names : Names) (ends : Ends) (is : Timely names ends) (lonely : IsAlone names ends) where
   newest_is : ends.client.connection ≡ Some is.newest → is.newest ≡ lonely.connection
-  newest_is e = some_same (sym e ∙ lonely.of_client)
-    where
-      some_same : Some is.newest ≡ Some lonely.connection → is.newest ≡ lonely.connection
-      some_same e = cc
+  newest_is e = same_Some is.newest lonely.connection (sym e ∙ lonely.of_client)
 
   pub not_entered : ends.client.connection ≡ Some is.newest → ends.server.connection ≡ Some is.newest → ⊥
   not_entered e f = lonely.not_of_server (f ∙ ap (λ (c : ℕ). Some c) (newest_is e))

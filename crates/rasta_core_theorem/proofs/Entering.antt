@@ -4,21 +4,20 @@ use Rattle.std.specs.Prelude.{if◌then◌else◌, is_ok, nat_eq, ◌==◌}
 use Rattle.std.specs.Cmp.Lexicographic.{pointwise}
 use Rattle.rasta_core_run.specs.Parameters.{heartbeat_interval, own_version, window_size}
 use Rattle.rasta_core_run.specs.State.{LinkState, is_open, is_up}
-use Rattle.rasta_core_run.specs.Opening.{beginning, granting, judging, may_open, meeting, own_opening, requesting}
+use Rattle.rasta_core_run.specs.Opening.{granting, judging, may_open, requesting}
 use Rattle.rasta_core_run.specs.Sending.{Step, silent, then_do, entered, sending, telling, beating, giving, closing}
-use Rattle.rasta_core_run.specs.Receiving.{Receipt, hearing, accepting}
+use Rattle.rasta_core_run.specs.Receiving.{Receipt, hearing}
 use Rattle.rasta_core_run.specs.Calls.{opens, opening, ticking, closing_by, acceptance, answer_to_send, sending_item, hearing_bytes, receiving}
 use Rattle.rasta_core_run.specs.phase.Phase.{Phase}
 use Rattle.rasta_core_run.specs.phase.Phase.TheVariants as phase
 use Rattle.rasta_core_run.specs.reason.Reason.{Reason}
-use Rattle.rasta_core_run.specs.verdict.Verdict.{Verdict}
-use Rattle.rasta_core_run.specs.Ends.{EndState, Outcome, Call, Ticks, Opens, Closes, Sends, Receives, outcome, entered_by, is_taken, reading_of}
+use Rattle.rasta_core_run.specs.Ends.{EndState, Call, Ticks, Opens, Closes, Sends, Receives, outcome, is_taken, reading_of}
 use Rattle.rasta_core_run.specs.Safe.{DoesNothing}
 use Rattle.rasta_core_order.specs.Beginning.{HearsOutside, refuses, grants}
 use Rattle.rasta_core_theorem.proofs.Outside.{EnteringLaws, IsShut, no_opening, no_taking}
 use Rattle.rasta_core_theorem.proofs.Receptions.{both_true, taken_is}
 use Rattle.rasta_core_theorem.proofs.Tests.{by_test}
-use Rattle.rasta_core_run.specs.body.Body.TheVariants.{ConnectionRequest, ConnectionResponse, Heartbeat}
+use Rattle.rasta_core_run.specs.body.Body.TheVariants.{Heartbeat}
 use Rattle.rasta_core_run.specs.body.Opening.{Opening}
 use Rattle.rasta_core_run.specs.pdu_fault.PduFault.{PduFault}
 use Rattle.rasta_core_run.specs.pdu.Pdu.{Pdu}

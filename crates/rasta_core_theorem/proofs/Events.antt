@@ -1,8 +1,9 @@
 -- Every event keeps the order of two ends, and so does every run.
 use Rattle.std.proofs.Common.{◌≡◌, ℕ, ◌+◌, ◌≤◌, ◌<◌, ◌^◌, inl, inr, true, List, [], ◌∷◌, ◌++◌, length, Some, None, refl, sym, ap, subst, ◌∙◌, arith}
 use Rattle.std.proofs.lemmas.List.{length-append}
+use Rattle.std.proofs.lemmas.Option.{same_Some}
 use Rattle.rasta_core_run.specs.Parameters.{stops_at_greatest}
-use Rattle.rasta_core_run.specs.State.{LinkState, is_open, confirmed_items}
+use Rattle.rasta_core_run.specs.State.{confirmed_items}
 use Rattle.rasta_core_run.specs.Calls.{created}
 use Rattle.rasta_core_run.specs.identity.Identity.{Identity}
 use Rattle.rasta_core_run.specs.identity.Role.{Role}
@@ -13,14 +14,14 @@ use Rattle.rasta_core_run.specs.Run.{Ends, called, later, lost, restarted}
 use Rattle.rasta_core_order.specs.Order.{InOrder}
 use Rattle.rasta_core_order.specs.Part.{Part}
 use Rattle.rasta_core_order.specs.Playing.{Keeps, Plays, joined, asking, left}
-use Rattle.rasta_core_order.specs.Beginning.{PlaysEarly, gone}
+use Rattle.rasta_core_order.specs.Beginning.{IsEarly, PlaysEarly, asks, gone}
 use Rattle.rasta_core_run.specs.Each.{Each}
 use Rattle.rasta_core_run.specs.Names.{Names, AreNames}
 use Rattle.rasta_core_time.specs.Invariant.{Timely}
 use Rattle.rasta_core_run.specs.Events.{Event, Calls, Passes, Loses, Restarts, Elsewhere, May, MayCall, happened, run, MayRun, Start, started}
 use Rattle.rasta_core_time.proofs.Called.{ReadIsIntact}
 use Rattle.rasta_core_theorem.specs.Ordered.{AreTogether, IsSpelledIn, Ordered, unbegun, alone, together}
-use Rattle.rasta_core_run.specs.Safe.{AreCounted, AreFew, AreSafe, IsCounted, IsFew, IsSafe, counts, made_anew}
+use Rattle.rasta_core_run.specs.Safe.{AreCounted, AreFew, AreSafe, CountsNone, IsCounted, IsCountedAlone, IsFew, IsSafe, counts, made_anew}
 use Rattle.rasta_core_theorem.proofs.Tests.{by_test}
 use Rattle.rasta_core_theorem.proofs.OrderLaws.{Laws, SafeLaws}
 use Rattle.rasta_core_theorem.proofs.Calls.{ticks_client, closes_client, sends_client, opens_client, ticks_server, closes_server, sends_server, opens_server}
@@ -249,9 +250,6 @@ starts names start = unbegun refl
 
 -- ---- what follows
 
-some_same : (a b : ℕ) → Some a ≡ Some b → a ≡ b
-some_same a b e = cc
-
 not_none : (connection : ℕ) → None ≡ Some connection → ⊥
 not_none connection e = cc
 
@@ -294,7 +292,7 @@ together_few law names ends is = (
 of_both : (names : Names) (ends : Ends) (connection : ℕ) → Ordered names ends → ends.client.connection ≡ Some connection → ends.server.connection ≡ Some connection → AreTogether names ends
 of_both names ends connection (unbegun is) of_client of_server = absurd (not_none connection (sym is ∙ of_client))
 of_both names ends connection (alone is) of_client of_server =
-    absurd (is.not_of_server (of_server ∙ ap (λ (c : ℕ). Some c) (some_same connection is.connection (sym of_client ∙ is.of_client))))
+    absurd (is.not_of_server (of_server ∙ ap (λ (c : ℕ). Some c) (same_Some connection is.connection (sym of_client ∙ is.of_client))))
 of_both names ends connection (together is) of_client of_server = is
 
 pub ordered_few : SafeLaws → (names : Names) (ends : Ends) → Ordered names ends → AreFew ends
@@ -308,6 +306,28 @@ ordered_counted law names ends ordered connection of_client of_server =
       plays_counted ends.client is.client is.server is.client_plays is.client_given is.client_taken few.0,
       plays_counted ends.server is.server is.client is.server_plays is.server_given is.server_taken few.1,
     )
+
+-- a client alone in its connection counts none
+counts_none : (end : EndState) → end.link.given ≡ 0 → end.link.taken ≡ 0 → CountsNone end
+counts_none end given taken = record { given = given; taken = taken; confirmed = omega (arith, given) }
+
+kept_none : (end : EndState) (client : Part) → IsEarly client → Keeps end.link client → CountsNone end
+kept_none end client early keeps =
+    counts_none end (keeps.given ∙ ap (λ (items : List (List ℕ)). stops_at_greatest (length items)) early.given)
+    (keeps.taken ∙ ap (λ (items : List (List ℕ)). stops_at_greatest (length items)) early.taken)
+
+early_counted : (end : EndState) (client : Part) → IsEarly client → PlaysEarly end.link client → CountsNone end
+early_counted end client early (asks inside waits) = kept_none end client early inside.keeps
+early_counted end client early (gone shut keeps) = elim keeps [
+  | inl kept ↦ kept_none end client early kept
+  | inr new ↦ counts_none end new.given new.taken
+]
+
+pub alone_counted : (names : Names) (ends : Ends) → Ordered names ends → IsCountedAlone ends
+alone_counted names ends (unbegun is) connection of_client before = absurd (not_none connection (sym is ∙ of_client))
+alone_counted names ends (alone is) connection of_client before = early_counted ends.client is.client is.early is.plays
+alone_counted names ends (together is) connection of_client before =
+    absurd (before (is.of_server ∙ ap (λ (c : ℕ). Some c) (same_Some is.connection connection (sym is.of_client ∙ of_client))))
 
 pub ordered_safe : SafeLaws → (names : Names) (ends : Ends) → Ordered names ends → AreSafe ends
 ordered_safe law names ends ordered connection of_client of_server = (there, back)

@@ -1,5 +1,6 @@
 -- Every event keeps it that what an end gave is read off the datagrams that it sent.
 use Rattle.std.proofs.Common.{◌≡◌, ℕ, ◌<◌, Bool, true, false, ◌&&◌, not, if◌then◌else◌, List, [], ◌∷◌, Some, None, refl, sym, ap, subst, ◌∙◌, arith}
+use Rattle.std.proofs.lemmas.Option.{same_Some}
 use Rattle.rasta_core_run.specs.State.{is_open}
 use Rattle.rasta_core_run.specs.Calls.{opens, opening, ticking, closing_by, sending_item, receiving}
 use Rattle.rasta_core_run.specs.identity.Role.{Role}
@@ -75,10 +76,7 @@ opened_at true moment connection e = cc
 opened_at false moment connection e = absurd (cc (e))
 
 entered_at : (entering : Bool) (number connection : ℕ) → (if entering then Some number else None) ≡ Some connection → (entering ≡ true) × (number ≡ connection)
-entered_at true number connection e = (refl, some_same e)
-  where
-    some_same : Some number ≡ Some connection → number ≡ connection
-    some_same f = cc
+entered_at true number connection e = (refl, same_Some number connection e)
 entered_at false number connection e = absurd (cc (e))
 
 module _ (law : Laws) (carry : CarryingLaws) (intact : ReadIsIntact) (names : Names) (are : AreNames names) (ends : Ends) (timely : Timely names ends) where

@@ -5,7 +5,7 @@ use Rattle.rasta_core_run.specs.State.{is_open}
 use Rattle.rasta_core_run.specs.identity.Role.{Role}
 use Rattle.rasta_core_run.specs.identity.Role.TheVariants as role
 use Rattle.rasta_core_run.specs.Bag.{is_copy, without_oldest}
-use Rattle.rasta_core_run.specs.Ends.{Sent, EndState, Call, outcome, end_after, end_later, end_restarted, handed_out, newer}
+use Rattle.rasta_core_run.specs.Ends.{Sent, Call, outcome, end_after, end_later, end_restarted, handed_out, newer}
 use Rattle.rasta_core_run.specs.Events.{Event, Calls, Passes, Loses, Restarts, Elsewhere, MayRun, Start, happened, run, started}
 use Rattle.rasta_core_run.specs.Given.{is_same}
 use Rattle.rasta_core_run.specs.Names.{AreNames, Names}

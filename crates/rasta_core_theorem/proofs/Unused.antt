@@ -1,16 +1,17 @@
 -- What was given and taken before a connection: nothing.
 use Rattle.std.proofs.Common.{◌≡◌, ℕ, Bool, true, false, List, [], ◌∷◌, ◌++◌, Option, Some, None, refl, sym, ap, ◌∙◌}
+use Rattle.std.proofs.lemmas.Option.{same_Some}
 use Rattle.rasta_core_run.specs.State.{is_open}
 use Rattle.rasta_core_run.specs.identity.Role.{Role}
 use Rattle.rasta_core_run.specs.identity.Role.TheVariants as role
-use Rattle.rasta_core_run.specs.Ends.{EndState, Call, Outcome, outcome, end_after, end_later, end_restarted, kept, newer}
+use Rattle.rasta_core_run.specs.Ends.{Call, outcome, end_after, end_later, end_restarted, kept, newer}
 use Rattle.rasta_core_run.specs.Events.{Event, Calls, Passes, Loses, Restarts, Elsewhere, MayRun, Start, happened, run, started}
 use Rattle.rasta_core_run.specs.Names.{AreNames, Names}
 use Rattle.rasta_core_run.specs.Newest.{IsUnused}
 use Rattle.rasta_core_run.specs.Run.{Ends, end_of, called, later, lost, restarted}
 use Rattle.rasta_core_run.specs.Safe.{DoesNothing}
 use Rattle.rasta_core_time.specs.Invariant.{Timely}
-use Rattle.rasta_core_theorem.specs.Ordered.{IsAlone, AreTogether, Ordered, unbegun, alone, together}
+use Rattle.rasta_core_theorem.specs.Ordered.{Ordered, unbegun, alone, together}
 use Rattle.rasta_core_theorem.proofs.Entering.{does_nothing}
 use Rattle.rasta_core_theorem.proofs.Events.{KeepsTime}
 use Rattle.rasta_core_theorem.proofs.Newest.{InsideIsSome}
@@ -90,12 +91,9 @@ starts_unused names start role.Client none = (refl, refl)
 starts_unused names start role.Server none = (refl, refl)
 
 -- a client whose server hasn't entered its connection
-some_same : (a b : ℕ) → Some a ≡ Some b → a ≡ b
-some_same a b e = cc
-
 pub alone_unused : (names : Names) (ends : Ends) (connection : ℕ) → Ordered names ends → ends.client.connection ≡ Some connection → (ends.server.connection ≡ Some connection → ⊥)
     → (ends.client.given ≡ []) × (ends.client.taken ≡ [])
 alone_unused names ends connection (unbegun is) of_client before = absurd (not_none connection ends.client.connection is of_client)
 alone_unused names ends connection (alone is) of_client before = (is.given, is.taken)
 alone_unused names ends connection (together is) of_client before =
-    absurd (before (is.of_server ∙ ap (λ (c : ℕ). Some c) (some_same is.connection connection (sym is.of_client ∙ of_client))))
+    absurd (before (is.of_server ∙ ap (λ (c : ℕ). Some c) (same_Some is.connection connection (sym is.of_client ∙ of_client))))

@@ -15,7 +15,7 @@ ghost use Rattle.rasta_core_run.specs.Given.{IsGiven};
 ghost use Rattle.rasta_core_theorem.specs.Ordered.{Ordered};
 ghost use Rattle.rasta_core_run.specs.SafetyCode.{IsIntact};
 ghost use Rattle.rasta_core_run.specs.Newest.{IsNewest, IsUnused};
-ghost use Rattle.rasta_core_run.specs.Safe.{AreCounted, AreFew, AreSafe, DoesNothing, IsIdle};
+ghost use Rattle.rasta_core_run.specs.Safe.{AreCounted, AreFew, AreSafe, DoesNothing, IsCountedAlone, IsIdle};
 
 use rasta_core_order::{
     calls_carry_what_they_accept, calls_keep_order, client_alone, connection_begins,
@@ -63,10 +63,13 @@ pub fn order_is_safe()
 }
 
 /// In a connection that is the last of both ends, `Link::given` and `Link::taken` are how many items the end gave and
-/// took there, until it is made anew; and these are fewer than 2^31.
+/// took there, until it is made anew; and these are fewer than 2^31. A client whose server hasn't entered its last
+/// connection counts none, as it has given and taken none there (`nothing_before_a_connection`), and holds none for
+/// confirmed.
 pub fn items_are_counted()
     ensures counted { (names : Names) (ends : Ends) → Ordered names ends → AreCounted ends }
     ensures few { (names : Names) (ends : Ends) → Ordered names ends → AreFew ends }
+    ensures alone { (names : Names) (ends : Ends) → Ordered names ends → IsCountedAlone ends }
 {
     parts_are_safe();
     partner_stays();

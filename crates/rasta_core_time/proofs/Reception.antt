@@ -1,5 +1,6 @@
 -- What reception of a datagram says of the two ends, and that taking it keeps what is true of them.
 use Rattle.std.proofs.Common.{◌≡◌, ℕ, ◌+◌, ◌*◌, ◌≤◌, ◌<◌, Some, refl, arith}
+use Rattle.std.proofs.lemmas.Option.{same_Some}
 use native.Mathlib.Decide.{ℕ_discrete, dec_lt}
 use Rattle.rasta_core_run.specs.Parameters.{quiet_time}
 use Rattle.rasta_core_run.specs.identity.Role.{Role}
@@ -54,7 +55,7 @@ asking_kept now times are down = record {
     returned_before = omega arith;
     heard_before = are.client.heard_before;
     left_counted = omega (arith, are.client.left_counted);
-    began = λ c e. omega (arith, some_same _ _ e);
+    began = λ c e. omega (arith, same_Some _ _ e);
     in_newest = λ i. refl;
     was_read = λ i. omega (arith, down.reads.reached);
     young = λ i. omega (arith, down.reads.passed);
@@ -89,9 +90,6 @@ asking_kept now times are down = record {
   where
     gone : IsInside times.server.standing → ⊥
     gone = server_gone now times are down
-
-    some_same : (a b : ℕ) → Some a ≡ Some b → a ≡ b
-    some_same a b e = cc
 
     heard_inside : (s : Standing) → HasHeard s → IsInside s
     heard_inside (Inside asking own heard) h = tt

@@ -1,5 +1,6 @@
 -- Taking a datagram keeps what is true of the two ends.
 use Rattle.std.proofs.Common.{◌≡◌, ℕ, ◌+◌, ◌-◌, ◌^◌, ◌<◌, ◌≤◌, Some, sym, ap, subst, arith}
+use Rattle.std.proofs.lemmas.Option.{same_Some}
 use Rattle.rasta_core_run.specs.Sequence.{distance, stamp}
 use Rattle.rasta_core_run.specs.identity.Role.TheVariants as role
 use Rattle.rasta_core_run.specs.pdu.Pdu.{Pdu}
@@ -8,9 +9,6 @@ use Rattle.rasta_core_time.specs.Moves.{asking, granting, hearing}
 use Rattle.rasta_core_time.specs.Timely.{WasRead, WasReadThen, IsTimed, AreTimed, IsAnswering, IsKnown}
 use Rattle.rasta_core_run.specs.Sentences.{IsRequest}
 use Rattle.rasta_core_time.proofs.Reception.{Reads, IsDown, IsAlive, alive_newest, connection_fresh}
-
-some_same : (a b : ℕ) → Some a ≡ Some b → a ≡ b
-some_same a b e = cc
 
 heard_inside : (s : Standing) → HasHeard s → IsInside s
 heard_inside (Inside asking own heard) h = tt
@@ -26,7 +24,7 @@ granting_kept now times at connection pdu back are down known request alive = re
     returned_before = omega arith;
     heard_before = known.sent_before;
     left_counted = are.server.left_counted;
-    began = λ c e. omega (arith, some_same _ _ e, known.counted);
+    began = λ c e. omega (arith, same_Some _ _ e, known.counted);
     in_newest = λ i. ap (λ (c : ℕ). Some c) new;
     was_read = λ i. omega (arith, down.reads.reached);
     young = λ i. omega (arith, down.reads.passed);

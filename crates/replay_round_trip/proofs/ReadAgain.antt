@@ -10,6 +10,7 @@ use Rattle.std.specs.Option.{option_map_or}
 use Rattle.std.specs.List.{All, join_with_byte, list_any}
 use Rattle.std.specs.Str.{bytes_eq}
 use Rattle.std.specs.Fmt.{decimal as written}
+use Rattle.std.proofs.lemmas.Option.{same_Some}
 use Rattle.hex.specs.Hex.{IsBytes}
 use Rattle.event_words.specs.declared.fault.Fault.{Fault}
 use Rattle.event_words.specs.declared.fault.Fault.TheVariants.{Name, Number}
@@ -56,11 +57,8 @@ pub record Laws (plan : Plan) : Type 0 where
 
 -- ---- options and tests
 
-some_same : {A : Type 0} (x y : A) → Some x ≡ Some y → x ≡ y
-some_same {A} x y e = let unwrap : Option A → A = λ o. elim o [ None ↦ x | Some z ↦ z ] in ap unwrap e
-
 mapped : {A B : Type 0} (f : A → B) (o : Option A) (b : B) → option_map f o ≡ Some b → (a : A) × (o ≡ Some a) × (b ≡ f a)
-mapped f (Some a) b e = (a, refl, sym (some_same (f a) b e))
+mapped f (Some a) b e = (a, refl, sym (same_Some (f a) b e))
 mapped f None b e = absurd (cc)
 
 kept : {A : Type 0} (test : Bool) (o : Option A) (b : A) → (if test then o else None) ≡ Some b → (test ≡ true) × (o ≡ Some b)
@@ -351,10 +349,10 @@ module _ (plan : Plan) (laws : Laws plan) where
   -- ---- all events
 
   pub words-say : (event : Event) → IsOfValues event → (ws : List (List ℕ)) → event_words plan event ≡ Some ws → Says plan ws (event_read plan event)
-  words-say (Request (command.Request route)) values ws e = says-same plan ws _ _ (sym (some_same _ ws e)) (set-says route)
-  words-say (Request (command.Cancel route)) values ws e = says-same plan ws _ _ (sym (some_same _ ws e)) (cancel-says route)
+  words-say (Request (command.Request route)) values ws e = says-same plan ws _ _ (sym (same_Some _ ws e)) (set-says route)
+  words-say (Request (command.Cancel route)) values ws e = says-same plan ws _ _ (sym (same_Some _ ws e)) (cancel-says route)
   words-say (Request command.Resume) values ws e =
-      says-same plan ws _ _ (sym (some_same _ ws e)) (record { said_is = refl; some = omega arith; are = refl })
+      says-same plan ws _ _ (sym (same_Some _ ws e)) (record { said_is = refl; some = omega arith; are = refl })
   words-say (Occupy section occupancy.Occupied) values ws e =
       let found = mapped _ (slice_get plan.sections section.0) ws e in
       says-same plan ws _ _ found.2 (occupy-says section.0 found.0 found.1)
@@ -366,7 +364,7 @@ module _ (plan : Plan) (laws : Laws plan) where
       says-same plan ws _ _ found.2 (tick-says node.0 found.0 found.1)
   words-say (Time elapsed steps) values ws e =
       let passed = kept (length steps == length (node_names plan)) _ ws e in
-      says-same plan ws _ _ (sym (some_same _ ws passed.1)) (time-says elapsed steps values.0 values.1 (eqb-true (length steps) (length (node_names plan)) passed.0))
+      says-same plan ws _ _ (sym (same_Some _ ws passed.1)) (time-says elapsed steps values.0 values.1 (eqb-true (length steps) (length (node_names plan)) passed.0))
   words-say (Deliver node bytes) values ws e =
       let passed = kept (nat_le (length bytes) 512) _ ws e in
       let found = mapped _ (slice_get (node_names plan) node.0) ws passed.1 in
@@ -374,7 +372,7 @@ module _ (plan : Plan) (laws : Laws plan) where
   words-say (Lose bytes) values ws e =
       let passed = kept (nat_lt 0 (length bytes) && nat_le (length bytes) 512) _ ws e in
       let tests = two_tests (nat_lt 0 (length bytes)) (nat_le (length bytes) 512) passed.0 in
-      says-same plan ws _ _ (sym (some_same _ ws passed.1)) (lose-says bytes values (below 0 (length bytes) tests.0) (within (length bytes) 512 tests.1))
+      says-same plan ws _ _ (sym (same_Some _ ws passed.1)) (lose-says bytes values (below 0 (length bytes) tests.0) (within (length bytes) 512 tests.1))
   words-say (Reach point lies) values ws e =
       let found = mapped _ (slice_get plan.points point.0) ws e in
       says-same plan ws _ _ found.2 (reach-says point.0 found.0 lies found.1)

@@ -4,10 +4,11 @@ use Rattle.std.specs.Str.{bytes_eq}
 use Rattle.std.proofs.lemmas.Bool.{and_parts, and_from, leb-true, le-leb}
 use Rattle.std.proofs.lemmas.List.{length-append, length-replicate}
 use Rattle.std.proofs.lemmas.Slice.Eq.{bytes_eq-Decides}
+use Rattle.std.proofs.lemmas.Option.{same_Some}
 use Rattle.sci_telegram.specs.Names.{is_name, IsName, name_field, name_in}
 use Rattle.sci_telegram.specs.Reading.{name_spelled}
 use Rattle.sci_telegram.proofs.Names.{name_in-name_field}
-use Rattle.sci_telegram.proofs.Steps.{test_some, some_is, some_or_none}
+use Rattle.sci_telegram.proofs.Steps.{test_some, some_or_none}
 
 is_name_means : (name : List ℕ) → is_name name ≡ true → IsName name
 is_name_means name h =
@@ -25,7 +26,7 @@ spelled_takes field name e =
     let t = test_some (is_name (name_in field) && bytes_eq (name_field (name_in field)) field) (Some (name_in field)) name e in
     let parts = and_parts (is_name (name_in field)) (bytes_eq (name_field (name_in field)) field) t.0 in
     let made : IsName (name_in field) × (field ≡ name_field (name_in field)) = (is_name_means (name_in field) parts.0, sym ((bytes_eq-Decides (name_field (name_in field)) field).0 parts.1)) in
-    subst (λ (n : List ℕ). IsName n × (field ≡ name_field n)) (some_is (name_in field) name t.1) made
+    subst (λ (n : List ℕ). IsName n × (field ≡ name_field n)) (same_Some (name_in field) name t.1) made
 
 -- a name that is spelled so is read
 pub spelled_again : (name : List ℕ) → IsName name → name_spelled (name_field name) ≡ Some name

@@ -4,6 +4,7 @@ use Rattle.std.specs.Option.{option_map}
 use Rattle.std.specs.Str.{bytes_eq}
 use Rattle.std.proofs.lemmas.Bool.Decides.{nat_tests}
 use Rattle.std.proofs.lemmas.Slice.Eq.{bytes_eq-Decides}
+use Rattle.std.proofs.lemmas.Option.{same_Some}
 use Rattle.sci_telegram.specs.declared.kind.Kind.{Kind}
 use Rattle.sci_telegram.specs.declared.kind.Kind.TheVariants as kinds
 use Rattle.sci_telegram.specs.declared.message.Protocol.{Protocol}
@@ -27,7 +28,7 @@ use Rattle.sci_telegram.specs.declared.message.Message.TheVariants.{Initialisati
 use Rattle.sci_telegram.specs.Messages.{protocol_of, protocol_byte, type_number, agreement_byte, side_byte, position_byte, aspect_byte, occupancy_byte, payload}
 use Rattle.sci_telegram.specs.Telegrams.{IsMessage}
 use Rattle.sci_telegram.specs.Reading.{protocol_at, agreement_at, side_at, position_at, aspect_at, occupancy_at, own_kind_at, kind_at, payload_length, aspect_in, message_in}
-use Rattle.sci_telegram.proofs.Steps.{map_some, some_is, test_some, row, no_row}
+use Rattle.sci_telegram.proofs.Steps.{map_some, test_some, row, no_row}
 
 -- ---- bytes
 
@@ -248,10 +249,10 @@ pub record Carries (p : Protocol) (k : Kind) (bytes : List ℕ) (m : Message) : 
 
 pub message_takes : (p : Protocol) (k : Kind) (bytes : List ℕ) (m : Message) → length bytes ≡ payload_length k → message_in p k bytes ≡ Some m → Carries p k bytes m
 unfolding message_in
-message_takes p kinds.InitialisationRequest bytes m h e = subst (Carries p kinds.InitialisationRequest bytes) (some_is _ m e) (record { protocol = refl; number = refl; bytes_are = no_bytes bytes h })
-message_takes p kinds.StartInitialisation bytes m h e = subst (Carries p kinds.StartInitialisation bytes) (some_is _ m e) (record { protocol = refl; number = refl; bytes_are = no_bytes bytes h })
-message_takes p kinds.InitialisationCompleted bytes m h e = subst (Carries p kinds.InitialisationCompleted bytes) (some_is _ m e) (record { protocol = refl; number = refl; bytes_are = no_bytes bytes h })
-message_takes p kinds.VersionCheck bytes m h e = subst (Carries p kinds.VersionCheck bytes) (some_is _ m e) (record { protocol = refl; number = refl; bytes_are = one_byte bytes h })
+message_takes p kinds.InitialisationRequest bytes m h e = subst (Carries p kinds.InitialisationRequest bytes) (same_Some _ m e) (record { protocol = refl; number = refl; bytes_are = no_bytes bytes h })
+message_takes p kinds.StartInitialisation bytes m h e = subst (Carries p kinds.StartInitialisation bytes) (same_Some _ m e) (record { protocol = refl; number = refl; bytes_are = no_bytes bytes h })
+message_takes p kinds.InitialisationCompleted bytes m h e = subst (Carries p kinds.InitialisationCompleted bytes) (same_Some _ m e) (record { protocol = refl; number = refl; bytes_are = no_bytes bytes h })
+message_takes p kinds.VersionCheck bytes m h e = subst (Carries p kinds.VersionCheck bytes) (same_Some _ m e) (record { protocol = refl; number = refl; bytes_are = one_byte bytes h })
 message_takes p kinds.VersionAnswer bytes m h e =
     let a = map_some (λ agreement. Initialisation p (VersionAnswer agreement (slice_index bytes 1))) (agreement_at (slice_index bytes 0)) m e in
     subst (Carries p kinds.VersionAnswer bytes) a.2 (record { protocol = refl; number = refl; bytes_are = two_bytes bytes h ∙ ap (λ (b : ℕ). b ∷ slice_index bytes 1 ∷ []) (agreement_takes _ a.0 a.1) })
@@ -261,7 +262,7 @@ message_takes p kinds.MovePoint bytes m h e =
 message_takes p kinds.PointPosition bytes m h e =
     let a = map_some (λ position. Point (PointPosition position)) (position_at (slice_index bytes 0)) m e in
     subst (Carries p kinds.PointPosition bytes) a.2 (record { protocol = refl; number = refl; bytes_are = one_byte bytes h ∙ ap (λ (b : ℕ). b ∷ []) (position_takes _ a.0 a.1) })
-message_takes p kinds.Timeout bytes m h e = subst (Carries p kinds.Timeout bytes) (some_is _ m e) (record { protocol = refl; number = refl; bytes_are = no_bytes bytes h })
+message_takes p kinds.Timeout bytes m h e = subst (Carries p kinds.Timeout bytes) (same_Some _ m e) (record { protocol = refl; number = refl; bytes_are = no_bytes bytes h })
 message_takes p kinds.IndicateAspect bytes m h e =
     let a = map_some (λ aspect. Signal (IndicateAspect aspect)) (aspect_in bytes) m e in
     subst (Carries p kinds.IndicateAspect bytes) a.2 (record { protocol = refl; number = refl; bytes_are = aspect_in_takes bytes a.0 h a.1 })

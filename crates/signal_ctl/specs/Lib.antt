@@ -1,4 +1,4 @@
 pub mod Lamp
 pub mod Signal
-pub mod Law
 pub mod History
+pub mod inside

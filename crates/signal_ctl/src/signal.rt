@@ -66,7 +66,7 @@ impl Signal {
 }
 
 impl Controller for Signal {
-    ghost use Rattle.signal_ctl.specs.Law.{signal_is_lawful};
+    ghost use Rattle.signal_ctl.specs.inside.Law.{signal_is_lawful};
     ghost use Rattle.signal_ctl.specs.Signal.{signal_behaviour};
 
     ghost behaviour = { signal_behaviour };

@@ -1,21 +1,17 @@
 -- What was given and taken in the client's last connection.
-use Rattle.std.proofs.Common.{◌≡◌, ℕ, ◌-◌, ◌≤◌, Bool, true, false, List, [], ◌++◌, length, Option, Some, None, refl, sym, ap, subst, ◌∙◌, arith}
+use Rattle.std.proofs.Common.{◌≡◌, ℕ, ◌≤◌, Bool, true, false, List, [], ◌++◌, length, Option, Some, None, refl, sym, ap, subst, ◌∙◌, arith}
 use Rattle.std.specs.Prelude.{◌==◌}
 use Rattle.std.proofs.lemmas.Bool.Decides.{nat_tests}
 use Rattle.rasta_core.specs.Ends.{EndState}
 use Rattle.rasta_core.specs.Invariant.{Timely}
 use Rattle.rasta_core.specs.Names.{Names}
-use Rattle.rasta_core.specs.Ordered.{IsAlone, Ordered, alone, together, unbegun}
-use Rattle.rasta_core.specs.Parameters.{stops_at_greatest}
+use Rattle.rasta_core.specs.Ordered.{Ordered}
 use Rattle.rasta_core.specs.Run.{Ends, end_of}
-use Rattle.rasta_core.specs.Safe.{AreCounted, AreSafe, IsCounted, counts, made_anew}
+use Rattle.rasta_core.specs.Safe.{AreCounted, AreSafe, CountsNone, IsCounted, IsCountedAlone, counts, made_anew}
 use Rattle.rasta_core.specs.Sentences.{IsIn}
 use Rattle.rasta_core.specs.State.{LinkState, confirmed_items, is_open}
 use Rattle.rasta_core.specs.identity.Role.{Role}
 use Rattle.rasta_core.specs.identity.Role.TheVariants as role
-use Rattle.rasta_core_order.specs.Beginning.{IsEarly, PlaysEarly, asks, gone}
-use Rattle.rasta_core_order.specs.Part.{Part}
-use Rattle.rasta_core_order.specs.Playing.{Keeps}
 use Rattle.simulator_machine.specs.Link.{Server, Before}
 use Rattle.simulator_links.specs.Flows.{AreInOne, Counts, FlowsInOrder, IsBeginning, commands_given, commands_taken, of_server, reports_given, reports_taken}
 use Rattle.simulator_links.specs.Lawful.{IsLawful}
@@ -27,6 +23,7 @@ pub record FlowLaws : Type 0 where
   pub place : PlaceLaws
   pub safe : (names : Names) (ends : Ends) → Ordered names ends → AreSafe ends
   pub counted : (names : Names) (ends : Ends) → Ordered names ends → AreCounted ends
+  pub alone : (names : Names) (ends : Ends) → Ordered names ends → IsCountedAlone ends
   pub some : (names : Names) (ends : Ends) (who : Role) → Timely names ends → IsIn who ends → (connection : ℕ) × ((end_of who ends).connection ≡ Some connection)
   pub early : (names : Names) (ends : Ends) (connection : ℕ) → Ordered names ends → ends.client.connection ≡ Some connection
       → (ends.server.connection ≡ Some connection → ⊥) → (ends.client.given ≡ []) × (ends.client.taken ≡ [])
@@ -147,24 +144,9 @@ module _ (laws : FlowLaws) (names : Names) (ends : Ends) (is : IsLawful names en
   counted end (counts given taken) = record { given = λ opened. given; taken = λ opened. taken }
   counted end (made_anew shut given taken) = record { given = λ opened. absurd (not_open end.link opened shut); taken = λ opened. absurd (not_open end.link opened shut) }
 
-  -- a client alone in its connection has counted nothing
-  nothing_kept : (l : LinkState) (part : Part) → IsEarly part → Keeps l part → (l.given ≡ 0) × (l.taken ≡ 0)
-  nothing_kept l part early keeps = (keeps.given ∙ ap (λ (items : List (List ℕ)). stops_at_greatest (length items)) early.given, keeps.taken ∙ ap (λ (items : List (List ℕ)). stops_at_greatest (length items)) early.taken)
-
-  alone_counts : (connection : ℕ) → ends.client.connection ≡ Some connection → (ends.server.connection ≡ Some connection → ⊥) → is_open ends.client.link.phase ≡ true
-      → (ends.client.link.given ≡ 0) × (ends.client.link.taken ≡ 0)
-  alone_counts connection client server opened = choose is.ordered where
-    numbers : (a b : ℕ) → Some a ≡ Some b → b ≡ a
-    numbers a b e = cc
-
-    by_part : (alone : IsAlone names ends) → PlaysEarly ends.client.link alone.client → (ends.client.link.given ≡ 0) × (ends.client.link.taken ≡ 0)
-    by_part only (asks inside asking) = nothing_kept ends.client.link only.client only.early inside.keeps
-    by_part only (gone shut left) = absurd (not_open ends.client.link opened shut)
-
-    choose : Ordered names ends → (ends.client.link.given ≡ 0) × (ends.client.link.taken ≡ 0)
-    choose (unbegun none) = absurd (begun opened none)
-    choose (alone only) = by_part only only.plays
-    choose (together ours) = absurd (server (ours.of_server ∙ ap (λ (n : ℕ). Some n) (numbers connection ours.connection (sym client ∙ ours.of_client))))
+  -- a client alone in its connection
+  none_counted : (end : EndState) → CountsNone end → (end.given ≡ []) × (end.taken ≡ []) → Counts end
+  none_counted end none nothing = record { given = λ opened. none.given ∙ sym (ap length nothing.0); taken = λ opened. none.taken ∙ sym (ap length nothing.1) }
 
   pub client_counts : Counts ends.client
   client_counts = choose (joined ends.client.connection ends.server.connection) where
@@ -176,11 +158,7 @@ module _ (laws : FlowLaws) (names : Names) (ends : Ends) (is : IsLawful names en
     choose (unbegun_client client differ) = unbegun_counts client
     choose (both connection client server same) = counted ends.client (laws.counted names ends is.ordered connection client server).0
     choose (apart connection client server differ) =
-        let nothing = laws.early names ends connection is.ordered client server
-        in record {
-          given = λ opened. (alone_counts connection client server opened).0 ∙ sym (ap length nothing.0);
-          taken = λ opened. (alone_counts connection client server opened).1 ∙ sym (ap length nothing.1);
-        }
+        none_counted ends.client (laws.alone names ends is.ordered connection client server) (laws.early names ends connection is.ordered client server)
 
   pub in_one : is_open ends.server.link.phase ≡ true → AreInOne ends
   in_one opened =
@@ -192,8 +170,8 @@ module _ (laws : FlowLaws) (names : Names) (ends : Ends) (is : IsLawful names en
     when : is_open ends.server.link.phase ≡ true → Counts ends.server
     when opened = let one = in_one opened in counted ends.server (laws.counted names ends is.ordered one.connection one.client one.server).1
 
-  none_less : (given waiting bound : ℕ) → given ≡ 0 → given - waiting ≤ bound
-  none_less given waiting bound none = omega arith
+  none_less : (confirmed bound : ℕ) → confirmed ≡ 0 → confirmed ≤ bound
+  none_less confirmed bound none = omega (arith, none)
 
   pub confirmed_taken : is_open ends.client.link.phase ≡ true → confirmed_items ends.client.link ≤ length (commands_taken ends)
   confirmed_taken opened = choose (joined ends.client.connection ends.server.connection) where
@@ -202,7 +180,7 @@ module _ (laws : FlowLaws) (names : Names) (ends : Ends) (is : IsLawful names en
     choose (unbegun_client client differ) = absurd (begun opened client)
     choose (both connection client server same) =
         subst (λ (items : List (List ℕ)). confirmed_items ends.client.link ≤ length items) (sym (of_same same ends.server.taken)) (laws.safe names ends is.ordered connection client server).0.confirmed
-    choose (apart connection client server differ) = none_less ends.client.link.given (length ends.client.link.waiting) (length (commands_taken ends)) (alone_counts connection client server opened).0
+    choose (apart connection client server differ) = none_less (confirmed_items ends.client.link) (length (commands_taken ends)) (laws.alone names ends is.ordered connection client server).confirmed
 
   pub flows : FlowsInOrder ends
   flows = record { commands = commands_begin; reports = reports_begin; confirmed = confirmed_taken }

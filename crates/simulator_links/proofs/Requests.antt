@@ -26,7 +26,8 @@ use Rattle.rasta_pdu.specs.declared.body.Opening.{Opening}
 use Rattle.rasta_pdu.specs.declared.fault.PduFault.{PduFault}
 use Rattle.rasta_pdu.specs.declared.pdu.Pdu.{Pdu}
 use Rattle.rasta_pdu.specs.Reading.{reading}
-use Rattle.rasta_core_order.specs.Held.{Head, Held}
+use Rattle.rasta_core.specs.header.Header.{Header}
+use Rattle.rasta_core.specs.window.Unconfirmed.{Unconfirmed}
 use Rattle.simulator_links.specs.Flows.{AsksNone, AsksOnce, begins}
 use Rattle.simulator_links.proofs.Tests.{by_test}
 
@@ -85,7 +86,7 @@ opening_none link may = by_test NoRequest (may_open link) (requesting link) (sil
 
 -- ---- datagrams
 
-repeated_none : (header : Head) (count : ℕ) (waiting : List Held) → AsksNone (repeated header count waiting)
+repeated_none : (header : Header) (count : ℕ) (waiting : List Unconfirmed) → AsksNone (repeated header count waiting)
 unfolding repeated pdu_of
 repeated_none header count [] = tt
 repeated_none header count (first ∷ others) = (no, repeated_none header (count + 1) others)

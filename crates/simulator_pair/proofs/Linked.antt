@@ -5,6 +5,7 @@ use Rattle.std.specs.Str.{bytes_eq}
 use Rattle.std.proofs.lemmas.Bool.{and_parts, false≢true}
 use Rattle.std.proofs.lemmas.Bool.Decides.{nat_tests}
 use Rattle.std.proofs.lemmas.Slice.Eq.{bytes_eq-Decides}
+use Rattle.std.proofs.lemmas.Option.{same_Some}
 use Rattle.simulator_pair.specs.declared.event.Refused.TheVariants.{NeverSent}
 use Rattle.rasta_core.specs.Bag.{is_copy, is_alive_copy, lifetime, newest_copy}
 use Rattle.rasta_core.specs.Ends.{Sent, Call, Ticks, Opens, Closes, Sends, Receives, is_taken, reading_of}
@@ -62,9 +63,6 @@ found_first time bytes first later none_later alive = rw (none_later, alive) ref
 found_none : (time : ℕ) (bytes : List ℕ) (first : Sent) (later : List Sent) → newest_copy time bytes later ≡ None → is_alive_copy time bytes first ≡ false → newest_copy time bytes (first ∷ later) ≡ None
 found_none time bytes first later none_later no_copy = rw (none_later, no_copy) refl
 
-some_same : (one other : Sent) → Some one ≡ Some other → one ≡ other
-some_same one other same = cc
-
 none_is_not_some : (copy : Sent) → None ≡ Some copy → ⊥
 none_is_not_some copy same = cc
 
@@ -74,7 +72,7 @@ newest-is_found time bytes [] copy found = absurd (none_is_not_some copy found)
 newest-is_found time bytes (first ∷ later) copy found = by_later (newest_copy time bytes later) refl (λ other. newest-is_found time bytes later other) where
   by_first : newest_copy time bytes later ≡ None → (alive : Bool) → is_alive_copy time bytes first ≡ alive → IsFound time bytes (first ∷ later) copy
   by_first none_later true alive =
-      let is_first = some_same first copy (sym (found_first time bytes first later none_later alive) ∙ found)
+      let is_first = same_Some first copy (sym (found_first time bytes first later none_later alive) ∙ found)
       in let facts = alive_is_found time bytes first alive
       in let Found : Sent → Type 0 = λ s. IsFound time bytes (first ∷ later) s
       in subst Found is_first (record { was_sent = inl refl; same = facts.0; in_time = facts.1 })
@@ -82,7 +80,7 @@ newest-is_found time bytes (first ∷ later) copy found = by_later (newest_copy 
 
   by_later : (newest : Option Sent) → newest_copy time bytes later ≡ newest → ((other : Sent) → newest_copy time bytes later ≡ Some other → IsFound time bytes later other) → IsFound time bytes (first ∷ later) copy
   by_later (Some other) newest_is found_in_later =
-      let is_other = some_same other copy (sym (found_later time bytes first later other newest_is) ∙ found)
+      let is_other = same_Some other copy (sym (found_later time bytes first later other newest_is) ∙ found)
       in let inner = found_in_later copy (newest_is ∙ ap Some is_other)
       in record { was_sent = inr inner.was_sent; same = inner.same; in_time = inner.in_time }
   by_later None newest_is found_in_later = by_first newest_is (is_alive_copy time bytes first) refl

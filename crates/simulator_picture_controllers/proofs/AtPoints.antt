@@ -2,6 +2,7 @@
 use Rattle.std.proofs.Common.{◌≡◌, ◌≢◌, ◌⊎◌, ◌∙◌, ℕ, ◌<◌, true, false, List, ◌++◌, length, Option, Some, None, slice_get, slice_set, slice_index_or, refl, sym, ap, subst, inl, inr}
 use Rattle.std.specs.Prelude.{is_some}
 use Rattle.std.proofs.lemmas.Option.{get_or_from_slice_get}
+use Rattle.std.proofs.lemmas.Option.{same_Some}
 use Rattle.sci_telegram.specs.declared.message.Position.{Position}
 use Rattle.sci_telegram.specs.declared.message.Position.TheVariants as positions
 use Rattle.layout.specs.declared.entries.Point.{Point}
@@ -50,7 +51,7 @@ use Rattle.simulator_world_run.specs.State.{ServerState, WorldState}
 use Rattle.simulator_picture.specs.Picture.{IsHostOf, IsNetworkOf, IsPictured, IsPicturedAfter}
 use Rattle.simulator_picture_controllers.specs.Change.{PointChanges}
 use Rattle.simulator_picture_controllers.proofs.AtSignals.{named_still}
-use Rattle.simulator_picture_controllers.proofs.Lists.{changed_one, get_set, get_set_other, length_set, none_some, some_is, some_within, within_some}
+use Rattle.simulator_picture_controllers.proofs.Lists.{changed_one, get_set, get_set_other, length_set, none_some, some_within, within_some}
 use Rattle.simulator_picture_controllers.proofs.Stepping.{LinkLaws, clients_anew, clients_stepped, host_after, host_anew, own_anew, own_stepped, servers_anew, servers_stepped}
 
 -- the laws of points that this stands on
@@ -192,7 +193,7 @@ module _ (laws : PointLaws) (plan : Plan) (table : Table) (world : WorldState) (
     position_is : (position other : Position) → slice_get (slice_set world.positions place position) place ≡ Some other → position ≡ other
     position_is position other at =
         let within : place < length world.positions = subst (λ n. place < n) (sym pictured.points.count) below
-        in some_is position other (sym (get_set world.positions place position within) ∙ at)
+        in same_Some position other (sym (get_set world.positions place position within) ∙ at)
 
     pub point_reaches : IsNetworkOf plan (point_stepped plan contact 0 place reached) (run_links (point_events plan contact 0 place world) before)
         → IsPicturedAfter plan table machine (point_stepped plan contact 0 place reached)
@@ -272,7 +273,7 @@ module _ (laws : PointLaws) (plan : Plan) (table : Table) (world : WorldState) (
           signals = refl;
           points = changed_one (server_anew (new_point plan begins position entry) begins.clock (length world.sent)) place world.points server is;
           others = servers_anew laws.link.anew (point_link plan place) begins.clock begins.first before;
-          host = λ other that. subst (λ (e : Point). IsHostOf plan e.name next_anew.host) (some_is entry other (sym at ∙ that))
+          host = λ other that. subst (λ (e : Point). IsHostOf plan e.name next_anew.host) (same_Some entry other (sym at ∙ that))
               (subst (IsHostOf plan entry.name) (sym (host_anew (new_point plan begins position entry) begins.clock (length world.sent) server)) new_is_host);
           stands = λ other that. ap (λ (h : HostState PointState). h.object.sensed) (host_anew (new_point plan begins position entry) begins.clock (length world.sent) server) ∙ new_stands
               ∙ get_or_from_slice_get world.positions place other positions.NoEndPosition that;

@@ -1,5 +1,6 @@
 -- What happens at the controller of a signal.
 use Rattle.std.proofs.Common.{◌≡◌, ◌∙◌, ℕ, ◌<◌, false, List, ◌++◌, length, Option, Some, None, slice_get, slice_set, refl, sym, ap, subst}
+use Rattle.std.proofs.lemmas.Option.{same_Some}
 use Rattle.layout.specs.declared.entries.Signal.{Signal}
 use Rattle.layout.specs.Entries.{Plan}
 use Rattle.layout.specs.Once.{Once}
@@ -41,7 +42,7 @@ use Rattle.simulator_world_run.specs.Servers.{sent_by_server, server_after, serv
 use Rattle.simulator_world_run.specs.State.{ServerState, WorldState}
 use Rattle.simulator_picture.specs.Picture.{IsHostOf, IsNetworkOf, IsPictured, IsPicturedAfter}
 use Rattle.simulator_picture_controllers.specs.Change.{SignalChanges}
-use Rattle.simulator_picture_controllers.proofs.Lists.{changed_one, some_is, some_within, within_some}
+use Rattle.simulator_picture_controllers.proofs.Lists.{changed_one, some_within, within_some}
 use Rattle.simulator_picture_controllers.proofs.Stepping.{LinkLaws, clients_anew, clients_stepped, host_after, host_anew, own_anew, own_stepped, servers_anew, servers_stepped}
 
 -- the laws of signals that this stands on
@@ -210,7 +211,7 @@ module _ (laws : SignalLaws) (plan : Plan) (table : Table) (world : WorldState) 
           points = refl;
           positions = refl;
           others = servers_anew laws.link.anew place begins.clock begins.first before;
-          host = λ other that. subst (λ (e : Signal). IsHostOf plan e.name next_anew.host) (some_is entry other (sym at ∙ that))
+          host = λ other that. subst (λ (e : Signal). IsHostOf plan e.name next_anew.host) (same_Some entry other (sym at ∙ that))
               (subst (IsHostOf plan entry.name) (sym (host_anew (new_signal plan begins entry) begins.clock (length world.sent) server)) new_is_host);
         }) (anew_goes linked)
 

@@ -1,6 +1,7 @@
 -- A world in which one controller is changed, or none, is seen by the machine.
 use Rattle.std.proofs.Common.{◌≡◌, ◌≢◌, ◌⊎◌, ◌∙◌, ℕ, ◌+◌, ◌<◌, true, false, List, length, Some, None, slice_get, slice_set, refl, sym, ap, subst, arith, inl, inr}
 use Rattle.std.specs.List.{Contains}
+use Rattle.std.proofs.lemmas.Option.{same_Some}
 use Rattle.sci_telegram.specs.declared.message.Position.{Position}
 use Rattle.layout.specs.declared.entries.Point.{Point}
 use Rattle.layout.specs.declared.entries.Signal.{Signal}
@@ -32,7 +33,7 @@ use Rattle.simulator_picture.specs.Picture.{AreFrozen, ArePointsSeen, AreSignals
 use Rattle.simulator_picture.specs.Seen.{AreHeldPairs}
 use Rattle.simulator_picture_controllers.specs.Change.{LeavesStation}
 use Rattle.simulator_picture_controllers.proofs.Elsewhere.{StayLaws, client_seen, point_stays, signal_stays, station_stays}
-use Rattle.simulator_picture_controllers.proofs.Lists.{at_other, at_place, get_set, get_set_other, none_some, same_or_other, some_is, some_within, within_some}
+use Rattle.simulator_picture_controllers.proofs.Lists.{at_other, at_place, get_set, get_set_other, none_some, same_or_other, some_within, within_some}
 
 -- the laws that this stands on
 pub record ChangeLaws : Type 0 where
@@ -191,7 +192,7 @@ module _ (laws : ChangeLaws) (plan : Plan) (table : Table) (world new : WorldSta
     module _ (signals : new.signals ≡ slice_set world.signals place next) (others : (link : ℕ) → link ≢ place → (after.ends link).server ≡ (before.ends link).server)
         (host : (entry : Signal) → slice_get plan.signals place ≡ Some entry → IsHostOf plan entry.name next.host) where
       next_there : (server : ServerState SignalState) → slice_get new.signals place ≡ Some server → next ≡ server
-      next_there server at = some_is next server (sym (ap (λ l. slice_get l place) signals ∙ get_set world.signals place next within_signals) ∙ at)
+      next_there server at = same_Some next server (sym (ap (λ l. slice_get l place) signals ∙ get_set world.signals place next within_signals) ∙ at)
 
       other_there : (other : ℕ) (server : ServerState SignalState) → other ≢ place → slice_get new.signals other ≡ Some server → slice_get world.signals other ≡ Some server
       other_there other server differ at = sym (ap (λ l. slice_get l other) signals ∙ get_set_other world.signals place other next differ) ∙ at
@@ -270,7 +271,7 @@ module _ (laws : ChangeLaws) (plan : Plan) (table : Table) (world new : WorldSta
         (stands : (position : Position) → slice_get new.positions place ≡ Some position → next.host.object.sensed ≡ position)
         (elsewhere : (other : ℕ) → other ≢ place → slice_get new.positions other ≡ slice_get world.positions other) where
       next_point_there : (server : ServerState PointState) → slice_get new.points place ≡ Some server → next ≡ server
-      next_point_there server at = some_is next server (sym (ap (λ l. slice_get l place) points ∙ get_set world.points place next within_points) ∙ at)
+      next_point_there server at = same_Some next server (sym (ap (λ l. slice_get l place) points ∙ get_set world.points place next within_points) ∙ at)
 
       other_point_there : (other : ℕ) (server : ServerState PointState) → other ≢ place → slice_get new.points other ≡ Some server → slice_get world.points other ≡ Some server
       other_point_there other server differ at = sym (ap (λ l. slice_get l other) points ∙ get_set_other world.points place other next differ) ∙ at

@@ -2,6 +2,7 @@
 use Rattle.std.proofs.Common.{◌≡◌, ◌∙◌, ℕ, zero, suc, ◌<◌, nat_le, Bool, true, false, List, [], ◌∷◌, length, Option, Some, None, slice_get, refl, sym, ap, arith}
 use Rattle.std.specs.Prelude.{is_some, not}
 use Rattle.std.proofs.lemmas.Bool.Decides.{nat_tests}
+use Rattle.std.proofs.lemmas.Option.{same_Some}
 use Rattle.sci_telegram.specs.declared.message.Position.{Position}
 use Rattle.sci_telegram.specs.declared.message.Side.{Side}
 use Rattle.layout.specs.declared.ids.PointId.{PointId}
@@ -12,7 +13,7 @@ use Rattle.simulator_event.specs.declared.refused.Refused.{Refused}
 use Rattle.simulator_event.specs.declared.refused.Refused.TheVariants as refused
 use Rattle.simulator_world_run.specs.Refusals.{driven_at, driven_by, may_reach, refusal, refused_where}
 use Rattle.simulator_world_run.specs.State.{ServerState, WorldState}
-use Rattle.simulator_picture_controllers.proofs.Lists.{none_some, some_is}
+use Rattle.simulator_picture_controllers.proofs.Lists.{none_some}
 
 not_refused : (fails : Bool) (why : Refused) (otherwise : Option Refused) → refused_where fails why otherwise ≡ None → (fails ≡ false) × (otherwise ≡ None)
 not_refused true why otherwise e = absurd (none_some why (sym e))
@@ -25,7 +26,7 @@ is_driven (Some side) position e = refl
 
 drive_there : (place : ℕ) (servers : List (ServerState PointState)) (server : ServerState PointState) → slice_get servers place ≡ Some server → driven_at place servers ≡ driven_by server
 drive_there place [] server is = absurd (none_some server is)
-drive_there zero (first ∷ others) server is = ap driven_by (some_is first server is)
+drive_there zero (first ∷ others) server is = ap driven_by (same_Some first server is)
 drive_there (suc place) (first ∷ others) server is = drive_there place others server is
 
 pub reachable : (plan : Plan) (point : PointId) (position : Position) (world : WorldState) → refusal plan (event.Reach point position) world ≡ None

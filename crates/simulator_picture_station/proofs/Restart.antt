@@ -2,6 +2,7 @@
 use Rattle.std.proofs.Common.{◌≡◌, ◌∙◌, ◌*◌, ◌+◌, ◌<◌, ◌≤◌, ℕ, zero, suc, Bool, true, false, nat_lt, List, [], ◌∷◌, length, Option, Some, None, refl, sym, ap, subst, arith, if◌then◌else◌}
 use Rattle.std.specs.Prelude.{◌==◌, slice_get}
 use Rattle.std.proofs.lemmas.Bool.Decides.{nat_tests}
+use Rattle.std.proofs.lemmas.Option.{same_Some}
 use Rattle.layout.specs.Entries.{Plan}
 use Rattle.layout.specs.Once.{Once}
 use Rattle.layout.specs.Station.{IsStation}
@@ -49,7 +50,7 @@ use Rattle.simulator_world_run.specs.Station.{held_of}
 use Rattle.simulator_world_run.specs.Happens as world_run
 use Rattle.simulator_picture.specs.Picture.{AreFrozen, ArePointsSeen, AreSignalsSeen, IsNetworkOf, IsPictured, IsPicturedAfter, given_in}
 use Rattle.simulator_picture_station.proofs.Ends.{EndLaws, server_pictured}
-use Rattle.simulator_picture_station.proofs.Lists.{get_map, length_map, some_is, within_some}
+use Rattle.simulator_picture_station.proofs.Lists.{get_map, length_map, within_some}
 
 -- ---- each link sees a restart of its client
 
@@ -188,7 +189,7 @@ module _ (laws : AnewLaws) (plan : Plan) (table : Table) (once : Once plan) (sta
   unfolding new_ixl new_client
   objects_anew place entry switch there at =
       let found = get_map (new_switch_of plan begins) plan.points place switch at
-      in let same : found.0 ≡ entry = some_is found.0 entry (sym found.1 ∙ there)
+      in let same : found.0 ≡ entry = same_Some found.0 entry (sym found.1 ∙ there)
       in subst (λ (s : SwitchState). s.client.peer.objects ≡ entry.name ∷ []) (ap (new_switch_of plan begins) (sym same) ∙ found.2) refl
 
   seen_anew : IsNetworkOf plan anew after → IsPictured plan table anew (made_anew machine)

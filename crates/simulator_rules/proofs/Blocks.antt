@@ -5,6 +5,7 @@ use Rattle.std.specs.List.{list_all, list_any}
 use Rattle.std.proofs.lemmas.Option.{slice_get_cases, slice_get_within}
 use Rattle.std.specs.Prelude.{get_or}
 use Rattle.std.proofs.lemmas.Bool.{true≢false, false≢true, eqb-true}
+use Rattle.std.proofs.lemmas.Option.{same_Some}
 use Rattle.ixl_rules.specs.Table.{Need, Row, Table, is_same_side}
 use Rattle.ixl_rules.specs.State.{RouteState}
 use Rattle.ixl_rules.specs.View.{blocks, first_blocking, freed_sections, holds_need, holds_point_elsewhere, holds_section, is_set}
@@ -16,7 +17,7 @@ use Rattle.simulator_rules_seen.specs.Nodes.{phase_seen, route_seen}
 use Rattle.simulator_rules_seen.specs.Rows.{AreHeldAtFirst, is_elsewhere, machine_table, row_at, row_or_none, rows_conflict, some_pair}
 use Rattle.simulator_rules_seen.proofs.Tests.{both_true, not_true, true_both}
 use Rattle.simulator_rules_seen.proofs.Changes.{same_self}
-use Rattle.simulator_rules.proofs.Guards.{all_shown, or_left, or_right, some_is}
+use Rattle.simulator_rules.proofs.Guards.{all_shown, or_left, or_right}
 use Rattle.simulator_rules_seen.proofs.Tables.{either, elsewhere_swap, equal_swap}
 
 -- where none blocks, none does at any place
@@ -35,7 +36,7 @@ none_at wanted wanted_row start (first ∷ rows) (one ∷ routes) n row route no
       some_none e = cc (e)
     by_first false e zero has is later =
         subst (λ k. blocks wanted wanted_row k row route ≡ false) (sym (plus_none start))
-        (subst (λ r. blocks wanted wanted_row start r route ≡ false) (some_is first row has) (subst (λ r. blocks wanted wanted_row start first r ≡ false) (some_is one route is) e))
+        (subst (λ r. blocks wanted wanted_row start r route ≡ false) (same_Some first row has) (subst (λ r. blocks wanted wanted_row start first r ≡ false) (same_Some one route is) e))
       where
         plus_none : (k : ℕ) → k + 0 ≡ k
         plus_none k = omega arith

@@ -3,6 +3,7 @@ use Rattle.std.proofs.Common.{inl, inr, ◌≡◌, ℕ, zero, suc, ◌+◌, ◌<
 use Rattle.std.specs.Prelude.{◌&&◌, ◌||◌, ◌-◌, nat_le, nat_lt, min, Option, Some, None, slice_get}
 use Rattle.std.specs.List.{list_all, list_any}
 use Rattle.std.proofs.lemmas.Bool.{true≢false, false≢true, leb-true, ltb-true}
+use Rattle.std.proofs.lemmas.Option.{same_Some}
 use Rattle.sci_telegram.specs.declared.message.Aspect.{Aspect as TelegramAspect}
 use Rattle.sci_telegram.specs.declared.message.Aspect.TheVariants as aspects
 use Rattle.sci_telegram.specs.declared.message.Side.{Side as TelegramSide}
@@ -30,12 +31,6 @@ use Rattle.simulator_rules_seen.proofs.Phases.{up_is_open}
 use Rattle.simulator_rules_seen.proofs.Tests.{both_true}
 use Rattle.simulator_rules_seen.proofs.Places.{inside_up}
 use Rattle.simulator_rules_nodes.proofs.Nodes.{length_same}
-
-pub some_is : {A : Type 0} (one other : A) → Some one ≡ Some other → one ≡ other
-some_is one other is = ap (value one) is where
-  value : {A : Type 0} → A → Option A → A
-  value before None = before
-  value before (Some one) = one
 
 -- what passes a test at a place is there
 pub at_true : {A : Type 0} (list : List A) (place : ℕ) (test : A → Bool) → at list place test ≡ true → (one : A) × (slice_get list place ≡ Some one) × (test one ≡ true)
@@ -184,7 +179,7 @@ pub some_at : (test : Row → RouteState → Bool) (start : ℕ) (rows : List Ro
 some_at test start [] routes n row route has is holds = absurd (cc (has))
 some_at test start (first ∷ rows) [] n row route has is holds = absurd (cc (is))
 some_at test start (first ∷ rows) (one ∷ routes) zero row route has is holds = or_left (test first one) (some_route (λ number row route. test row route) (suc start) rows routes)
-    (subst (λ r. test first r ≡ true) (sym (some_is one route is)) (subst (λ r. test r route ≡ true) (sym (some_is first row has)) holds))
+    (subst (λ r. test first r ≡ true) (sym (same_Some one route is)) (subst (λ r. test r route ≡ true) (sym (same_Some first row has)) holds))
   where
     or_left : (a b : Bool) → a ≡ true → a || b ≡ true
     or_left true b is = refl

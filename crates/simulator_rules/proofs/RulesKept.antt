@@ -3,6 +3,7 @@ use Rattle.std.proofs.Common.{◌≡◌, ℕ, zero, suc, Bool, true, false, not,
 use Rattle.std.specs.Prelude.{◌&&◌, ◌==◌, nat_lt, Option, Some, None, slice_get}
 use Rattle.std.specs.List.{list_all, list_any}
 use Rattle.std.proofs.lemmas.Bool.{true≢false, false≢true, eqb-true}
+use Rattle.std.proofs.lemmas.Option.{same_Some}
 use Rattle.sci_telegram.specs.declared.message.Aspect.TheVariants as aspects
 use Rattle.rasta_core.specs.Clock.{settled}
 use Rattle.rasta_core.specs.State.{is_open, is_up}
@@ -41,7 +42,7 @@ use Rattle.simulator_rules_nodes.proofs.Nodes.{aspect_given_on, ready_inside}
 use Rattle.simulator_rules_nodes.proofs.SwitchNodes.{move_given_on}
 use Rattle.simulator_rules_nodes.proofs.Routes.{along_kept, at_kept, over_kept, route_on, route_same}
 use Rattle.simulator_rules_seen.proofs.Changes.{at_here}
-use Rattle.simulator_rules.proofs.Guards.{all_shown, any_of_all, at_true, is_ready_where_available, lamp_at_stop, seen_side_is, some_at, some_is, switch_known, up_where_inside}
+use Rattle.simulator_rules.proofs.Guards.{all_shown, any_of_all, at_true, is_ready_where_available, lamp_at_stop, seen_side_is, some_at, switch_known, up_where_inside}
 
 proceeding_at : (p : RoutePhase) → is_proceeding p ≡ true → p ≡ phase.Proceeding
 proceeding_at phase.Free is = absurd (false≢true is)
@@ -143,7 +144,7 @@ module _ (now : ℕ) (input : Input) (rows : Rows) (ixl : IxlState) (given : Giv
       due e = by_test On (is_signal_ready set.ixl row.entry) (giving_aspect now row.entry aspects.Stop set) set (stop_on row.entry set was) (λ e. was) where
         was : On set
         was = route_same now input (machine_table rows) ixl given machine onward number (come_to phase.Withdrawn) part
-            (λ other at. sym (ap (λ (r : RouteState). phase_seen r.phase) (some_is other route (sym at ∙ is)) ∙ ap phase_seen (proceeding_at route.phase (both_true (is_proceeding route.phase) _ e).0))) on
+            (λ other at. sym (ap (λ (r : RouteState). phase_seen r.phase) (same_Some other route (sym at ∙ is)) ∙ ap phase_seen (proceeding_at route.phase (both_true (is_proceeding route.phase) _ e).0))) on
 
   -- ---- the entry of a route
 
@@ -348,7 +349,7 @@ module _ (now : ℕ) (input : Input) (rows : Rows) (ixl : IxlState) (given : Giv
           (one_move (machine_table rows) new (Authorises number) (waits, all_points number row part new has during two.1))
           in let here = lamp_here part new row.entry ready.0 during ready.1
           in let up = up_where_inside (is_outside ready.0.client.stage) (is_up ready.0.client.link.phase) here.1.client.steady.outside (ready_inside ready.0.client.stage ready.2)
-          in let same = some_is stopped.0 ready.0 (sym stopped.1 ∙ ready.1)
+          in let same = same_Some stopped.0 ready.0 (sym stopped.1 ∙ ready.1)
           in let confirmed = (lamp_at_stop now ready.0 here.0 (new.signals row.entry) far.clock here.1 here.2 (ap (is_lamp_at_stop now) (sym same) ∙ stopped.2)).1 up
           in aspect_given_on now input (machine_table rows) ixl given machine far chain_signal onward row.entry row.aspect (with_route number (authorised rows part.ixl row) part) between ready.0 granted ready.1 ready.2
           (subst (λ s. MovesTo (machine_table rows) between (with_signal s (aspect_given (aspect_seen row.aspect) (between.signals s)) between)) (entry_is number row has)

@@ -1,9 +1,10 @@
 -- What contracts see of a network after a change of what it keeps.
-use Rattle.std.proofs.Common.{◌≡◌, refl, sym, ap, ◌∙◌, ℕ, zero, suc, ◌+◌, ◌-◌, ◌≤◌, ◌<◌, true, false, not, Bool, List, [], ◌∷◌, ◌++◌, map, length, drop, get_or, Option, Some, None, add-one, arith, if◌then◌else◌}
+use Rattle.std.proofs.Common.{◌≡◌, refl, sym, ap, ◌∙◌, ℕ, zero, suc, ◌+◌, ◌-◌, ◌<◌, true, false, not, List, [], ◌∷◌, ◌++◌, length, drop, get_or, Option, Some, None, add-one, arith}
 use Rattle.std.specs.Prelude.{slice_get, unwrap_or}
 use Rattle.std.proofs.Math.ListN.{set}
 use Rattle.std.proofs.lemmas.List.{get_or_default, length-drop, length-map, map-set}
-use Rattle.rasta_core.specs.Ends.{Sent, handed_out}
+use Rattle.std.proofs.lemmas.Option.{same_Some}
+use Rattle.rasta_core.specs.Ends.{handed_out}
 use Rattle.rasta_core.specs.Links.{OnLink, sent_on}
 use Rattle.rasta_core.specs.identity.Role.{Role}
 use Rattle.simulator_world_bag.specs.Bag.{not_lost}
@@ -61,15 +62,12 @@ seen_lost time room place row entries entry new state one is_seen below is_entry
 
 -- ---- what is left behind a place
 
-some_same : (one other : OnLink) → Some one ≡ Some other → one ≡ other
-some_same one other same = cc
-
 none_is_not_some : (one : OnLink) → None ≡ Some one → ⊥
 none_is_not_some one same = cc
 
 first_left : (sent : List OnLink) (place : ℕ) (one : OnLink) → slice_get sent place ≡ Some one → drop place sent ≡ one ∷ drop (suc place) sent
 first_left [] place one there = absurd (none_is_not_some one there)
-first_left (first ∷ later) zero one there = ap (λ o. o ∷ later) (some_same first one there)
+first_left (first ∷ later) zero one there = ap (λ o. o ∷ later) (same_Some first one there)
 first_left (first ∷ later) (suc place) one there = first_left later place one there
 
 -- one is left, and what is behind it

@@ -1,5 +1,6 @@
 -- Every event keeps the nodes of a world whole.
 use Rattle.std.proofs.Common.{◌≡◌, ℕ, ◌+◌, ◌<◌, List, ◌++◌, length, map, Option, Some, None, slice_get, slice_set, sym, ap, subst, ◌∙◌, arith}
+use Rattle.std.proofs.lemmas.Option.{same_Some}
 use Rattle.layout.specs.Entries.{Plan}
 use Rattle.layout.specs.Station.{IsStation}
 use Rattle.sci_telegram.specs.declared.message.Occupancy.{Occupancy}
@@ -23,7 +24,7 @@ use Rattle.simulator_world_run.specs.State.{WorldState}
 use Rattle.simulator_world_links.proofs.Delivered.{IsDeliverable, deliverable, delivery_may}
 use Rattle.simulator_world_links.proofs.Everything.{AllLaws, moved, moved_links, moved_whole}
 use Rattle.simulator_world_links.proofs.KeptWhole.{detector_keeps, point_keeps, signal_keeps, time_keeps}
-use Rattle.simulator_world_links.proofs.Lists.{length_joined, length_map, some_is, within_some}
+use Rattle.simulator_world_links.proofs.Lists.{length_joined, length_map, within_some}
 use Rattle.simulator_world_links.proofs.Parts.{MayComeIn}
 use Rattle.simulator_world_links.proofs.Reached.{IsManned}
 use Rattle.simulator_world_links.proofs.Station.{reached}
@@ -66,7 +67,7 @@ module _ (laws : AllLaws) (plan : Plan) (are_links : AreLinks (links plan) (name
             detectors = on.manned.detectors;
             peers = λ link client at.
                 let is = on.clients link (subst (λ n. link < n) (states_count plan (station_stepped plan table input world).station.ixl on.manned) (within_some (client_states (station_stepped plan table input world).station.ixl) link client at))
-                in subst (λ (c : ClientState). IsPeer c.peer) (some_is is.client client (sym is.there ∙ at)) is.peer;
+                in subst (λ (c : ClientState). IsPeer c.peer) (same_Some is.client client (sym is.there ∙ at)) is.peer;
           };
           connections = on.tells.count;
           signals = whole.signals;

@@ -1,5 +1,6 @@
 -- The nodes of signals and points at the ends of their links.
 use Rattle.std.proofs.Common.{◌≡◌, ℕ, ◌+◌, ◌<◌, List, ◌++◌, length, map, Some, option_map, slice_get, sym, ap, subst, ◌∙◌, arith}
+use Rattle.std.proofs.lemmas.Option.{same_Some}
 use Rattle.layout.specs.Entries.{Plan}
 use Rattle.ixl_client.specs.Client.{ClientState}
 use Rattle.ixl_rules.specs.State.{DetectorState, LampState, SwitchState}
@@ -12,7 +13,7 @@ use Rattle.simulator_world_run.specs.Links.{AreLinksOf, IsClientAt, end_of_serve
 use Rattle.simulator_world_run.specs.Nodes.{links, point_link}
 use Rattle.simulator_world_run.specs.State.{ServerState, WorldState}
 use Rattle.simulator_world_links.proofs.ByKind.{point_there, signal_there}
-use Rattle.simulator_world_links.proofs.Lists.{get_left, get_map, get_right, length_map, some_is, within_some}
+use Rattle.simulator_world_links.proofs.Lists.{get_left, get_map, get_right, length_map, within_some}
 use Rattle.simulator_world_links.proofs.Partners.{partner_at}
 use Rattle.simulator_world_links.proofs.Places.{IsKept, kept_at}
 use Rattle.simulator_world_links.proofs.Station.{link_there}
@@ -63,7 +64,7 @@ module _ (plan : Plan) (world : WorldState) (network : Links) (whole : IsWhole p
   of_client link client below there =
       let partner = partner_at plan link below
       in let is : IsClientAt world link (network.ends link).client = are.clients link partner.0 partner.1
-      in let same : is.kept ≡ client.link = some_is is.kept client.link (sym is.there ∙ link_there world.station.ixl link client there)
+      in let same : is.kept ≡ client.link = same_Some is.kept client.link (sym is.there ∙ link_there world.station.ixl link client there)
       in record { link_is = is.link_is ∙ ap (settled (reading_of world.station.clock)) same; clock_is = is.clock_is; peer = whole.clients.peers link client there }
 
   lamps_long : length lamps ≡ length plan.signals

@@ -1,5 +1,6 @@
 -- Every event keeps the nodes of a world whole.
 use Rattle.std.proofs.Common.{◌≡◌, ◌≢◌, ◌⊎◌, inl, inr, ℕ, zero, suc, ◌<◌, List, [], ◌∷◌, ◌++◌, length, Option, Some, None, slice_get, slice_set, refl, sym, ap, subst, ◌∙◌}
+use Rattle.std.proofs.lemmas.Option.{same_Some}
 use Rattle.layout.specs.Entries.{Plan}
 use Rattle.object_host.specs.Host.{HostState, Part}
 use Rattle.object_host.specs.declared.input.Input.{Input}
@@ -15,7 +16,7 @@ use Rattle.simulator_world_run.specs.Nodes.{detector_link, point_link}
 use Rattle.simulator_world_run.specs.Servers.{sent_by_server, server_after, server_later, step_of}
 use Rattle.simulator_world_run.specs.State.{ServerState, WorldState}
 use Rattle.simulator_world_links.proofs.HostItems.{TelegramsAreItems, step_is_sound}
-use Rattle.simulator_world_links.proofs.Lists.{get_set, get_set_other, length_set, same_or_other, some_is, within_some}
+use Rattle.simulator_world_links.proofs.Lists.{get_set, get_set_other, length_set, same_or_other, within_some}
 use Rattle.simulator_world_links.proofs.Steps.{each_named}
 use Rattle.simulator_world_links.proofs.Tellings.{AnyPoint, AnySignal, AreSectionsNamed, detectors_tell, points_tell, signals_tell}
 use Rattle.simulator_world_links.specs.Whole.{HasSections, IsNamed, IsWhole}
@@ -28,7 +29,7 @@ all_set : {A : Type 0} (P : A → Type 0) (list : List A) (place : ℕ) (new : A
 all_set P list place new is all other one at = by_place (same_or_other other place) where
   by_place : (other ≡ place) ⊎ (other ≢ place) → P one
   by_place (inr differ) = all other one (sym (get_set_other list place other new differ) ∙ at)
-  by_place (inl same) = subst P (some_is new one (sym (get_set list place new within) ∙ ap (slice_get (slice_set list place new)) (sym same) ∙ at)) is where
+  by_place (inl same) = subst P (same_Some new one (sym (get_set list place new within) ∙ ap (slice_get (slice_set list place new)) (sym same) ∙ at)) is where
     within : place < length list
     within = subst (λ n. n < length list) same (subst (λ n. other < n) (length_set list place new) (within_some (slice_set list place new) other one at))
 
@@ -46,7 +47,7 @@ later_all P moment steps [] all place one at = absurd (none_is at) where
   none_is : None ≡ Some one → ⊥
   none_is e = cc (e)
 later_all P moment [] (server ∷ servers) all place one at = all place one at
-later_all P moment (step ∷ steps) (server ∷ servers) all zero one at = subst (λ (s : ServerState _). P s.host) (some_is _ one at) (all zero server refl)
+later_all P moment (step ∷ steps) (server ∷ servers) all zero one at = subst (λ (s : ServerState _). P s.host) (same_Some _ one at) (all zero server refl)
 later_all P moment (step ∷ steps) (server ∷ servers) all (suc place) one at = later_all P moment steps servers (λ n s is. all (suc n) s is) place one at
 
 pub time_keeps : (plan : Plan) (elapsed : ℕ) (steps : List ℕ) (world : WorldState) → IsWhole plan world → IsWhole plan (passed elapsed steps world)
@@ -73,7 +74,7 @@ pub sections_at : (sections : List Section) → AreSectionsNamed sections → Al
 sections_at [] named place one at = absurd (none_is at) where
   none_is : None ≡ Some one → ⊥
   none_is e = cc (e)
-sections_at (first ∷ others) named zero one at = subst (λ (s : Section). IsName s.name) (some_is first one at) named.0
+sections_at (first ∷ others) named zero one at = subst (λ (s : Section). IsName s.name) (same_Some first one at) named.0
 sections_at (first ∷ others) named (suc place) one at = sections_at others named.1 place one at
 
 module _ (written : TelegramsAreItems) (plan : Plan) (world : WorldState) (whole : IsWhole plan world) where

@@ -1,8 +1,9 @@
 -- Places of lists that stand one behind another, and a list of which one place is set.
-use Rattle.std.proofs.Common.{◌≡◌, ◌≢◌, ℕ, zero, suc, ◌+◌, ◌<◌, Bool, true, false, List, [], ◌∷◌, ◌++◌, length, map, Option, Some, None, option_map, slice_get, slice_set, refl, ap, ◌∙◌, arith, inl, inr, if◌then◌else◌}
+use Rattle.std.proofs.Common.{◌≡◌, ◌≢◌, ℕ, zero, suc, ◌+◌, ◌<◌, Bool, true, false, List, [], ◌∷◌, ◌++◌, length, map, Some, None, option_map, slice_get, slice_set, refl, ap, ◌∙◌, arith, inl, inr, if◌then◌else◌}
 use Rattle.std.specs.Prelude.{◌⊎◌, ◌==◌, ◌&&◌}
 use Rattle.std.proofs.lemmas.Bool.Decides.{nat_tests}
 use Rattle.std.proofs.lemmas.Bool.{false≢true}
+use Rattle.std.proofs.lemmas.Option.{same_Some}
 use Rattle.ixl_rules.specs.State.{changed}
 
 -- ---- tests
@@ -62,12 +63,6 @@ within_some [] place one is = absurd (none_is is) where
   none_is e = cc (e)
 within_some (first ∷ others) zero one is = omega arith
 within_some (first ∷ others) (suc place) one is = let h = within_some others place one is in omega arith
-
-pub some_is : {A : Type 0} (one other : A) → Some one ≡ Some other → one ≡ other
-some_is {A = A} one other e = ap from e where
-  from : Option A → A
-  from None = one
-  from (Some found) = found
 
 -- ---- lists one behind another
 
@@ -131,5 +126,5 @@ changed_to one (suc place) (first ∷ others) = ap (λ l. first ∷ l) (changed_
 
 pub changed_one : {A : Type 0} (change : A → A) (place : ℕ) (list : List A) (one : A) → slice_get list place ≡ Some one → changed change place list ≡ slice_set list place (change one)
 changed_one change place [] one is = refl
-changed_one change zero (first ∷ others) one is = ap (λ o. change o ∷ others) (some_is first one is)
+changed_one change zero (first ∷ others) one is = ap (λ o. change o ∷ others) (same_Some first one is)
 changed_one change (suc place) (first ∷ others) one is = ap (λ l. first ∷ l) (changed_one change place others one is)

@@ -1,6 +1,7 @@
 -- Each part of a step of the interlocking goes on from where its links are.
 use Rattle.std.proofs.Common.{◌≡◌, ℕ, zero, suc, ◌+◌, ◌<◌, Bool, List, [], ◌∷◌, ◌++◌, length, map, Option, Some, None, option_map, slice_get, slice_set, refl, sym, ap, subst, ◌∙◌, arith}
 use Rattle.std.specs.Prelude.{◌&&◌, ◌||◌}
+use Rattle.std.proofs.lemmas.Option.{same_Some}
 use Rattle.layout.specs.Entries.{Plan}
 use Rattle.sci_telegram.specs.declared.message.Aspect.{Aspect}
 use Rattle.sci_telegram.specs.declared.message.Aspect.TheVariants as aspects
@@ -33,7 +34,7 @@ use Rattle.simulator_world_run.specs.Station.{Sending}
 use Rattle.simulator_world_links.proofs.ClientItems.{AreSendable, SaysItems, commanding_says, hearing_says, ticking_says}
 use Rattle.simulator_world_links.proofs.HostItems.{TelegramsAreItems}
 use Rattle.simulator_world_links.proofs.Laws.{ClientLaws, LinkLaws}
-use Rattle.simulator_world_links.proofs.Lists.{by_test, changed_to, get_left, get_map, get_right, length_map, length_set, map_set, some_is, within_some}
+use Rattle.simulator_world_links.proofs.Lists.{by_test, changed_to, get_left, get_map, get_right, length_map, length_set, map_set, within_some}
 use Rattle.simulator_world_links.proofs.PartCalls.{AllMayMake, MayMake, own_sendable}
 use Rattle.simulator_world_links.proofs.Places.{first_set, second_set, third_set}
 use Rattle.simulator_world_links.proofs.Reached.{Does, IsManned, Reached, reached_next}
@@ -171,7 +172,7 @@ module _ (laws : LinkLaws) (client_laws : ClientLaws) (plan : Plan) (are : AreLi
       in get_left (lamp_clients part.ixl) (switch_clients part.ixl ++ detector_clients part.ixl) place (within_some (lamp_clients part.ixl) place lamp.client found) ∙ found
 
   lamp_peer : (part : Part) → On part → (place : ℕ) (lamp : LampState) → slice_get part.ixl.lamps place ≡ Some lamp → IsPeer lamp.client.peer
-  lamp_peer part on place lamp is = let found = on.clients place (signal_link part on place lamp is) in subst (λ (c : ClientState). IsPeer c.peer) (some_is found.client lamp.client (sym found.there ∙ lamp_at part place lamp is)) found.peer
+  lamp_peer part on place lamp is = let found = on.clients place (signal_link part on place lamp is) in subst (λ (c : ClientState). IsPeer c.peer) (same_Some found.client lamp.client (sym found.there ∙ lamp_at part place lamp is)) found.peer
 
   lamp_kept : (part : Part) → On part → (place : ℕ) (lamp : LampState) → slice_get part.ixl.lamps place ≡ Some lamp → (done : client.Part) (aspect : Option Aspect) (number : ℕ) → IsDone place lamp.client part.outbox done
       → On (with_lamp place (lamp_after aspect number done.client) (noted (Signal place) done part))
@@ -220,7 +221,7 @@ module _ (laws : LinkLaws) (client_laws : ClientLaws) (plan : Plan) (are : AreLi
       ∙ get_left (switch_clients part.ixl) (detector_clients part.ixl) place (within_some (switch_clients part.ixl) place switch.client found) ∙ found
 
   switch_peer : (part : Part) → On part → (place : ℕ) (switch : SwitchState) → slice_get part.ixl.switches place ≡ Some switch → IsPeer switch.client.peer
-  switch_peer part on place switch is = let found = on.clients (point_link plan place) (switch_link part on place switch is) in subst (λ (c : ClientState). IsPeer c.peer) (some_is found.client switch.client (sym found.there ∙ switch_at part on place switch is)) found.peer
+  switch_peer part on place switch is = let found = on.clients (point_link plan place) (switch_link part on place switch is) in subst (λ (c : ClientState). IsPeer c.peer) (same_Some found.client switch.client (sym found.there ∙ switch_at part on place switch is)) found.peer
 
   switch_kept : (part : Part) → On part → (place : ℕ) (switch : SwitchState) → slice_get part.ixl.switches place ≡ Some switch → (done : client.Part) (side : Option Side) (gone : Places) → IsDone (point_link plan place) switch.client part.outbox done
       → On (with_switch place (switch_after side gone done.client) (noted (Point place) done part))
@@ -280,7 +281,7 @@ module _ (laws : LinkLaws) (client_laws : ClientLaws) (plan : Plan) (are : AreLi
       sums a b c d n p q = omega arith
 
   detector_peer : (part : Part) → On part → (place : ℕ) (detector : DetectorState) → slice_get part.ixl.detectors place ≡ Some detector → IsPeer detector.client.peer
-  detector_peer part on place detector is = let found = on.clients (detector_link plan place) (detector_below part on place detector is) in subst (λ (c : ClientState). IsPeer c.peer) (some_is found.client detector.client (sym found.there ∙ detector_at part on place detector is)) found.peer
+  detector_peer part on place detector is = let found = on.clients (detector_link plan place) (detector_below part on place detector is) in subst (λ (c : ClientState). IsPeer c.peer) (same_Some found.client detector.client (sym found.there ∙ detector_at part on place detector is)) found.peer
 
   detector_kept : (part : Part) → On part → (place : ℕ) (detector : DetectorState) → slice_get part.ixl.detectors place ≡ Some detector → (done : client.Part) (occupied : Places) → IsDone (detector_link plan place) detector.client part.outbox done
       → On (with_detector place (detector_after occupied done.client) (noted (Detector place) done part))

@@ -1,5 +1,6 @@
 -- What stands at the places of a world's links, and one link of them with new ends.
 use Rattle.std.proofs.Common.{◌≡◌, ◌≢◌, ◌⊎◌, ℕ, ◌+◌, ◌<◌, List, ◌++◌, length, Some, slice_get, slice_set, refl, sym, ap, subst, ◌∙◌, arith, inl, inr}
+use Rattle.std.proofs.lemmas.Option.{same_Some}
 use Rattle.layout.specs.Entries.{Plan}
 use Rattle.rasta_core.specs.Clock.{settled}
 use Rattle.rasta_core.specs.Ends.{EndState, reading_of}
@@ -10,7 +11,7 @@ use Rattle.rasta_core.specs.identity.Role.TheVariants as role
 use Rattle.simulator_world_run.specs.Links.{AreLinksOf, IsClientAt, IsServerAt, ServerEnd, client_links, server_ends}
 use Rattle.simulator_world_run.specs.Nodes.{partners}
 use Rattle.simulator_world_run.specs.State.{StationState, WorldState}
-use Rattle.simulator_world_links.proofs.Lists.{get_set, get_set_other, length_joined, same_or_other, set_left, set_right, some_is}
+use Rattle.simulator_world_links.proofs.Lists.{get_set, get_set_other, length_joined, same_or_other, set_left, set_right}
 
 -- an end is the one that a world keeps of a server
 pub record IsKept (kept : ServerEnd) (end : EndState) : Type 0 where
@@ -21,7 +22,7 @@ pub record IsKept (kept : ServerEnd) (end : EndState) : Type 0 where
 
 pub kept_at : (world : WorldState) (link : ℕ) (end : EndState) (one : ServerEnd) → IsServerAt world link end → slice_get (server_ends world) link ≡ Some one → IsKept one end
 kept_at world link end one is at =
-    let same : is.kept ≡ one = some_is is.kept one (sym is.there ∙ at)
+    let same : is.kept ≡ one = same_Some is.kept one (sym is.there ∙ at)
     in record {
       link_is = is.link_is ∙ ap (λ (k : ServerEnd). settled (reading_of k.clock) k.link) same;
       clock_is = is.clock_is ∙ ap (λ (k : ServerEnd). k.clock) same;

@@ -1,6 +1,7 @@
 -- A step of the interlocking so far: its links are what its calls made of them, and what it notes of the datagrams that it
 -- handed out is what the links tell.
 use Rattle.std.proofs.Common.{◌≡◌, ◌≢◌, ◌⊎◌, inl, inr, ℕ, ◌<◌, List, [], ◌∷◌, ◌++◌, length, map, Some, slice_get, slice_set, refl, sym, ap, subst, ◌∙◌}
+use Rattle.std.proofs.lemmas.Option.{same_Some}
 use Rattle.layout.specs.Entries.{Plan}
 use Rattle.ixl_client.specs.Client.{ClientState}
 use Rattle.ixl_client.specs.Made.{Makes, link_after, outbox_after}
@@ -18,7 +19,7 @@ use Rattle.simulator_world_run.specs.Nodes.{links}
 use Rattle.simulator_world_run.specs.Station.{Sending, sending_all}
 use Rattle.simulator_world_links.proofs.Asking.{Tells}
 use Rattle.simulator_world_links.proofs.Laws.{ClientLaws, LinkLaws}
-use Rattle.simulator_world_links.proofs.Lists.{get_set, get_set_other, same_or_other, some_is, within_some}
+use Rattle.simulator_world_links.proofs.Lists.{get_set, get_set_other, same_or_other, within_some}
 use Rattle.simulator_world_links.proofs.PartCalls.{AllMayMake, Leads, all_later, calls_lead, events_at}
 use Rattle.simulator_world_links.specs.Calls.{AreOfNodes, IsNodeOf, as_call, link_at, node_call}
 use Rattle.simulator_world_links.specs.Whole.{IsPeer, client_states}
@@ -111,10 +112,10 @@ module _ (laws : LinkLaws) (client_laws : ClientLaws) (plan : Plan) (are : AreLi
     next_part = record (noted node done part) { ixl = ixl }
 
     old_link : old.link ≡ (here.ends link).client.link
-    old_link = let is = reached.clients link does.below in ap (λ (c : ClientState). c.link) (some_is old is.client (sym does.at ∙ is.there)) ∙ is.link_is
+    old_link = let is = reached.clients link does.below in ap (λ (c : ClientState). c.link) (same_Some old is.client (sym does.at ∙ is.there)) ∙ is.link_is
 
     old_peer : IsPeer old.peer
-    old_peer = let is = reached.clients link does.below in subst (λ (c : ClientState). IsPeer c.peer) (some_is is.client old (sym is.there ∙ does.at)) is.peer
+    old_peer = let is = reached.clients link does.below in subst (λ (c : ClientState). IsPeer c.peer) (same_Some is.client old (sym is.there ∙ does.at)) is.peer
 
     leads : Leads laws client_laws plan are time connection now link does.list here part.outbox start
     leads = calls_lead laws client_laws plan are time connection now link does.list here part.outbox start does.below (reached.reads link does.below)

@@ -1,5 +1,5 @@
 -- What the bytes of a PDU tell of it: whether it is a connection request, and the link to its receiver.
-use Rattle.std.proofs.Common.{◌≡◌, ℕ, zero, suc, ◌+◌, ◌-◌, ◌<◌, ◌≤◌, Bool, true, false, cond, not, nat_lt, List, [], ◌∷◌, length, get_or, take, drop, Option, Some, None, Result, Ok, Err, position, slice_get, refl, sym, ap, subst, ◌∙◌, arith, if◌then◌else◌}
+use Rattle.std.proofs.Common.{◌≡◌, ℕ, zero, suc, ◌+◌, ◌-◌, ◌<◌, ◌≤◌, Bool, true, false, cond, not, nat_lt, List, [], ◌∷◌, length, get_or, take, drop, Some, None, Result, Ok, Err, position, slice_get, refl, sym, ap, subst, ◌∙◌, arith, if◌then◌else◌}
 use Rattle.std.specs.Prelude.{◌==◌, unwrap_or}
 use Rattle.std.specs.Int.{w32, from_le_bytes}
 use Rattle.std.specs.List.{position_or_len, prefix_len}
@@ -7,6 +7,7 @@ use Rattle.std.specs.Str.{bytes_eq}
 use Rattle.std.proofs.lemmas.Bool.{true≢false}
 use Rattle.std.proofs.lemmas.Bool.Decides.{nat_tests}
 use Rattle.std.proofs.lemmas.List.{get_or-drop, get_or-take}
+use Rattle.std.proofs.lemmas.Option.{same_Some}
 use Rattle.layout.specs.Entries.{Plan}
 use Rattle.rasta_core.specs.Links.{AreLinks}
 use Rattle.rasta_core.specs.Sentences.{IsRequest}
@@ -138,12 +139,7 @@ first_place : (test : ℕ → Bool) (list : List ℕ) (place one : ℕ) → slic
 first_place test [] place one at passes before = absurd (none_is at) where
   none_is : None ≡ Some one → ⊥
   none_is e = cc (e)
-first_place test (first ∷ others) zero one at passes before = ap (λ b. cond (not b) (1 + prefix_len (λ x. not (test x)) others) 0) (ap test (some_same at) ∙ passes) where
-  some_same : Some first ≡ Some one → first ≡ one
-  some_same e = ap from e where
-    from : Option ℕ → ℕ
-    from None = 0
-    from (Some n) = n
+first_place test (first ∷ others) zero one at passes before = ap (λ b. cond (not b) (1 + prefix_len (λ x. not (test x)) others) 0) (ap test (same_Some first one at) ∙ passes)
 first_place test (first ∷ others) (suc place) one at passes before =
     ap (λ b. cond (not b) (1 + prefix_len (λ x. not (test x)) others) 0) (before 0 first (omega arith) refl)
     ∙ ap (λ n. 1 + n) (first_place test others place one at passes (λ earlier other below there. before (suc earlier) other (omega arith) there))

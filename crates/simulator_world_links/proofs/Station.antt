@@ -1,5 +1,6 @@
 -- A step of the interlocking, as events of the links of a world.
 use Rattle.std.proofs.Common.{◌≡◌, ℕ, ◌+◌, ◌<◌, List, [], ◌∷◌, ◌++◌, length, map, Some, option_map, slice_get, refl, sym, ap, subst, ◌∙◌, arith}
+use Rattle.std.proofs.lemmas.Option.{same_Some}
 use Rattle.layout.specs.Entries.{Plan}
 use Rattle.ixl_client.specs.Client.{ClientState}
 use Rattle.ixl_client.specs.Step.{clocked, fallen}
@@ -24,7 +25,7 @@ use Rattle.simulator_world_run.specs.Station.{Sending, empty_outbox, sending_all
 use Rattle.simulator_world_run.specs.State.{WorldState}
 use Rattle.simulator_world_links.proofs.Asking.{Tells}
 use Rattle.simulator_world_links.proofs.Laws.{ClientLaws, LinkLaws}
-use Rattle.simulator_world_links.proofs.Lists.{by_test, get_map, length_joined, length_map, some_is, some_within}
+use Rattle.simulator_world_links.proofs.Lists.{by_test, get_map, length_joined, length_map, some_within}
 use Rattle.simulator_world_links.proofs.Partners.{below_links, partner_at}
 use Rattle.simulator_world_links.proofs.Parts.{MayComeIn, StepLaws, lamp_client, switch_client, detector_client, step_kept}
 use Rattle.simulator_world_links.proofs.Places.{server_same}
@@ -141,7 +142,7 @@ module _ (laws : LinkLaws) (client_laws : ClientLaws) (node_laws : NodeLaws) (st
       in record {
         client = clocked now found.0;
         there = ap (λ l. slice_get l link) (clients_clocked now world.station.ixl) ∙ get_map (clocked now) (client_states world.station.ixl) link ∙ ap (option_map (clocked now)) found.1;
-        link_is = clocked_link now found.0 ∙ ap (settled now) (some_is found.0.link is.kept (sym (link_there world.station.ixl link found.0 found.1) ∙ is.there)) ∙ sym is.link_is;
+        link_is = clocked_link now found.0 ∙ ap (settled now) (same_Some found.0.link is.kept (sym (link_there world.station.ixl link found.0 found.1) ∙ is.there)) ∙ sym is.link_is;
         peer = subst IsPeer (sym (clocked_peer now found.0)) (whole.clients.peers link found.0 found.1);
       }
 

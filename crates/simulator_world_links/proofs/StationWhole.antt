@@ -2,6 +2,7 @@
 use Rattle.std.proofs.Common.{◌≡◌, ℕ, zero, suc, ◌<◌, List, [], ◌∷◌, ◌++◌, length, map, Option, Some, None, slice_get, slice_index_or, refl, sym, ap, subst, ◌∙◌, arith}
 use Rattle.std.specs.List.{All}
 use Rattle.std.proofs.lemmas.Option.{get_or_from_slice_get}
+use Rattle.std.proofs.lemmas.Option.{same_Some}
 use Rattle.layout.specs.Entries.{DetectorEntry, Plan}
 use Rattle.layout.specs.Station.{HasSection, IsStation}
 use Rattle.layout.specs.declared.entries.Point.{Point as PointEntry}
@@ -28,7 +29,7 @@ use Rattle.simulator_world_run.specs.Nodes.{Node, Station, Signal, Point, Detect
 use Rattle.simulator_world_run.specs.Servers.{server_anew}
 use Rattle.simulator_world_run.specs.State.{ServerState, WorldState}
 use Rattle.simulator_world_links.proofs.KeptWhole.{AllAt, sections_at}
-use Rattle.simulator_world_links.proofs.Lists.{by_test, length_map, some_is, some_within, within_some}
+use Rattle.simulator_world_links.proofs.Lists.{by_test, length_map, some_within, within_some}
 use Rattle.simulator_world_links.proofs.Partners.{partners_count}
 use Rattle.simulator_world_links.proofs.Tellings.{AreSectionsNamed, losing_named}
 use Rattle.simulator_world_links.proofs.Names.{HasNames}
@@ -41,7 +42,7 @@ none_there one e = absurd (cc (e))
 
 all_changed : {A : Type 0} (P : A → Type 0) (change : A → A) → ((one : A) → P (change one)) → (place : ℕ) (list : List A) → AllAt P list → AllAt P (changed change place list)
 all_changed P change makes place [] all n one at = none_there one at
-all_changed P change makes zero (first ∷ others) all zero one at = subst P (some_is (change first) one at) (makes first)
+all_changed P change makes zero (first ∷ others) all zero one at = subst P (same_Some (change first) one at) (makes first)
 all_changed P change makes zero (first ∷ others) all (suc n) one at = all (suc n) one at
 all_changed P change makes (suc place) (first ∷ others) all zero one at = all zero one at
 all_changed P change makes (suc place) (first ∷ others) all (suc n) one at = all_changed P change makes place others (λ m a is. all (suc m) a is) n one at
@@ -53,12 +54,12 @@ length_of_changed change (suc place) (first ∷ others) = ap suc (length_of_chan
 
 all_map : {A B : Type 0} (P : B → Type 0) (f : A → B) (list : List A) → AllAt (λ a. P (f a)) list → AllAt P (map f list)
 all_map P f [] all place one at = none_there one at
-all_map P f (first ∷ others) all zero one at = subst P (some_is (f first) one at) (all zero first refl)
+all_map P f (first ∷ others) all zero one at = subst P (same_Some (f first) one at) (all zero first refl)
 all_map P f (first ∷ others) all (suc place) one at = all_map P f others (λ n a is. all (suc n) a is) place one at
 
 all_joined : {A : Type 0} (P : A → Type 0) (first rest : List A) → AllAt P first → AllAt P rest → AllAt P (first ++ rest)
 all_joined P [] rest all more place one at = more place one at
-all_joined P (head ∷ others) rest all more zero one at = subst P (some_is head one at) (all zero head refl)
+all_joined P (head ∷ others) rest all more zero one at = subst P (same_Some head one at) (all zero head refl)
 all_joined P (head ∷ others) rest all more (suc place) one at = all_joined P others rest (λ n a is. all (suc n) a is) more place one at
 
 -- ---- nodes that were just made

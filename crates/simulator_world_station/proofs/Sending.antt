@@ -1,6 +1,7 @@
 -- Datagrams that are sent one after another, each on the link of its receiver.
 use Rattle.std.proofs.Common.{◌≡◌, refl, sym, ap, ◌∙◌, ℕ, List, [], ◌∷◌, ◌++◌, length, Option, Some, None, drop}
 use Rattle.std.specs.Prelude.{slice_get, slice_index_or}
+use Rattle.std.proofs.lemmas.Option.{same_Some}
 use Rattle.layout.specs.Entries.{Plan}
 use Rattle.rasta_core.specs.Ends.{handed_out}
 use Rattle.rasta_core.specs.Links.{OnLink, sent_on}
@@ -20,15 +21,12 @@ one_sent plan time link moment bytes begun new_begun sent new_sent connection li
     ∙ ap (Done link) (begun_is ∙ ap (λ m. begun_by link m bytes begun) moment_is)
     ∙ ap (λ l. Done l (begun_by l (length sent) bytes begun)) link_is
 
-some_same : (one other : List ℕ) → Some one ≡ Some other → one ≡ other
-some_same one other same = cc
-
 none_is_not_some : (one : List ℕ) → None ≡ Some one → ⊥
 none_is_not_some one same = cc
 
 pub first_taken : (datagrams : List (List ℕ)) (first : List ℕ) → Some first ≡ slice_get datagrams 0 → datagrams ≡ first ∷ drop 1 datagrams
 first_taken [] first there = absurd (none_is_not_some first (sym there))
-first_taken (one ∷ others) first there = ap (λ d. d ∷ others) (sym (some_same first one there))
+first_taken (one ∷ others) first there = ap (λ d. d ∷ others) (sym (same_Some first one there))
 
 pub none_taken : (datagrams : List (List ℕ)) → None ≡ slice_get datagrams 0 → datagrams ≡ []
 none_taken [] there = refl

@@ -3,6 +3,7 @@ use Rattle.std.proofs.Common.{◌≡◌, refl, sym, ap, ◌∙◌, ℕ, zero, su
 use Rattle.std.specs.Option.{option_map}
 use Rattle.std.proofs.lemmas.List.{drop_all, drop_more}
 use Rattle.std.proofs.lemmas.Option.{get_or_from_slice_get, slice_get_within}
+use Rattle.std.proofs.lemmas.Option.{same_Some}
 use Rattle.sci_telegram.specs.declared.message.Aspect.{Aspect}
 use Rattle.sci_telegram.specs.declared.message.Occupancy.{Occupancy}
 use Rattle.sci_telegram.specs.declared.message.Position.{Position}
@@ -36,13 +37,10 @@ all_added old left whole none before = sym (append-nil old) ∙ ap (λ rest. old
 some≢none : {A : Type 0} (a : A) → Some a ≡ None → ⊥
 some≢none a e = search rules
 
-some_is : {A : Type 0} (a b : A) → Some a ≡ Some b → a ≡ b
-some_is a b e = search rules
-
 -- what was read at a place stands there
 found : {A B : Type 0} (f : A → B) (o : Option A) (b : B) → option_map f o ≡ Some b → (a : A) × (o ≡ Some a) × (f a ≡ b)
 found f None b e = absurd (some≢none b (sym e))
-found f (Some a) b e = (a, refl, some_is (f a) b e)
+found f (Some a) b e = (a, refl, same_Some (f a) b e)
 
 -- what stands at a place comes first of what is left there
 dropped : {A : Type 0} (xs : List A) (place : ℕ) (x : A) → slice_get xs place ≡ Some x → drop place xs ≡ x ∷ drop (place + 1) xs
@@ -89,7 +87,7 @@ signals-all plan held place signals servers old whole past before =
 
 driven_is : (servers : List (ServerState PointState)) (place : ℕ) (server : ServerState PointState) → slice_get servers place ≡ Some server → driven_at place servers ≡ driven_by server
 driven_is [] place server e = absurd (let within = slice_get_within [] place server e in omega (arith, within))
-driven_is (first ∷ others) zero server e = ap driven_by (some_is first server e)
+driven_is (first ∷ others) zero server e = ap driven_by (same_Some first server e)
 driven_is (first ∷ others) (suc place) server e = driven_is others place server e
 
 there : {A : Type 0} (xs : List A) (n : ℕ) → n < length xs → (x : A) × (slice_get xs n ≡ Some x)
@@ -167,7 +165,7 @@ routes-all place routes states old whole past before =
 
 pub named : (routes : List RouteEntry) (number : ℕ) (route : RouteEntry) → slice_get routes number ≡ Some route → route_name number routes ≡ route.name
 named [] number route e = absurd (let within = slice_get_within [] number route e in omega (arith, within))
-named (first ∷ others) zero route e = ap (λ (r : RouteEntry). r.name) (some_is first route e)
+named (first ∷ others) zero route e = ap (λ (r : RouteEntry). r.name) (same_Some first route e)
 named (first ∷ others) (suc number) route e = named others number route e
 
 pub unnamed : (routes : List RouteEntry) (number : ℕ) → slice_get routes number ≡ None → route_name number routes ≡ codes "-"

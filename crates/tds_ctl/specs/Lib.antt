@@ -1,4 +1,4 @@
 pub mod Sections
 pub mod Controlled
-pub mod Law
 pub mod History
+pub mod inside

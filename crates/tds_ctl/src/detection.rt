@@ -89,7 +89,7 @@ impl Controller for Detection {
         true
     }
 
-    ghost use Rattle.tds_ctl.specs.Law.{detection_is_lawful};
+    ghost use Rattle.tds_ctl.specs.inside.Law.{detection_is_lawful};
 
     ghost lawful = { detection_is_lawful };
 }

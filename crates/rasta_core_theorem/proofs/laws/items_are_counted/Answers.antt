@@ -1,4 +1,4 @@
-use Rattle.rasta_core_theorem.proofs.Events.{ordered_counted, ordered_few}
+use Rattle.rasta_core_theorem.proofs.Events.{alone_counted, ordered_counted, ordered_few}
 use Rattle.rasta_core_theorem.proofs.laws.items_are_counted.Goals as goal
 
 pub returns-clause-counted : goal.returns-clause-counted
@@ -14,3 +14,6 @@ returns-clause-few c = ordered_few (record {
   confirmed = c.order_is_safe.ensures.confirmed;
   swapped = c.partner_stays.ensures.order;
 })
+
+pub returns-clause-alone : goal.returns-clause-alone
+returns-clause-alone c = alone_counted

@@ -11,6 +11,7 @@ returns-clause-flows c = flows (record {
   };
   safe = c.order_is_safe.ensures;
   counted = c.items_are_counted.ensures.counted;
+  alone = c.items_are_counted.ensures.alone;
   some = c.one_connection.ensures.some;
   early = c.nothing_before_a_connection.ensures.client;
 })
@@ -25,6 +26,7 @@ returns-clause-client c = client_counts (record {
   };
   safe = c.order_is_safe.ensures;
   counted = c.items_are_counted.ensures.counted;
+  alone = c.items_are_counted.ensures.alone;
   some = c.one_connection.ensures.some;
   early = c.nothing_before_a_connection.ensures.client;
 })
@@ -39,6 +41,7 @@ returns-clause-server c = server_counts (record {
   };
   safe = c.order_is_safe.ensures;
   counted = c.items_are_counted.ensures.counted;
+  alone = c.items_are_counted.ensures.alone;
   some = c.one_connection.ensures.some;
   early = c.nothing_before_a_connection.ensures.client;
 })
@@ -53,6 +56,7 @@ returns-clause-before c = nothing_before (record {
   };
   safe = c.order_is_safe.ensures;
   counted = c.items_are_counted.ensures.counted;
+  alone = c.items_are_counted.ensures.alone;
   some = c.one_connection.ensures.some;
   early = c.nothing_before_a_connection.ensures.client;
 })
