@@ -13,15 +13,17 @@ use Rattle.ixl_client.specs.declared.stage.Stage.{Stage}
 use Rattle.ixl_client.specs.declared.stage.Stage.TheVariants as stage
 use Rattle.ixl_client_laws.specs.Saying.{items_said, items_sent}
 use Rattle.ixl_rules.specs.Due.{Known}
-use Rattle.ixl_rules.specs.Part.{Part, begun_with, over}
+use Rattle.ixl_rules.specs.Part.{Part, Point, begun_with, over}
 use Rattle.ixl_rules.specs.Rules.{count, ruled}
 use Rattle.ixl_rules.specs.State.{IxlState, SwitchState}
 use Rattle.ixl_rules.specs.Step.{Input, Reply, all_clocked, clocked_switch, given, stepped, watching}
 use Rattle.ixl_rules.specs.Table.{Table}
 use Rattle.ixl_state.specs.First.{Beginning, key_of, new_ixl, new_switch_of}
 use Rattle.ixl.specs.Interlocking.{HasStepped, InterlockingState, empty_outbox, step_of}
-use Rattle.ixl_promises.specs.Answered.{GoesOnAnswered, IsAnswered, IsCounted, IsOfPoint, at_point, kept_by, last_told, move_items, told_in}
-use Rattle.ixl_promises.proofs.Answering.{Begins, Hears, Says, SaysNoMore, SoFar, available_completed, given_stays, mapped, ruled_stays, seen_stays, switch_client, switch_none, switch_side, ticked_stays}
+use Rattle.ixl_promises.specs.Answered.{GoesOnAnswered, IsAnswered, IsCounted, IsOfPoint, kept_by, last_told, move_items, told_in}
+use Rattle.ixl_promises.specs.Nodes.{of_node}
+use Rattle.ixl_promises.proofs.Answering.{Begins, Hears, Says, SaysNoMore, SoFar, available_completed, given_stays, ruled_stays, seen_stays, switch_none, switch_side, ticked_stays}
+use Rattle.ixl_promises.proofs.Clients.{mapped, switch_client}
 use Rattle.ixl_promises.proofs.Hears.{Counts, counts_inside, counts_within, fallen_peer, inside_stays, nothing_outside}
 use Rattle.ixl_promises.proofs.Picking.{none_is, some_same}
 
@@ -87,15 +89,15 @@ module _ (now : ℕ) (before : SwitchState) (moves : List Side) (told : List Obj
       so_far.switch ≡ after → GoesOnAnswered now input old place before after moves told
   ends input old place after so_far is = subst (λ (s : SwitchState). GoesOnAnswered now input old place before s moves told) is (record {
     more = so_far.more;
-    sent = λ inside. ap (λ (c : ClientState). items_said c ++ items_sent (at_point place (step_of now input old.state).calls)) (sym client_is) ∙ so_far.fine.sent inside
+    sent = λ inside. ap (λ (c : ClientState). items_said c ++ items_sent (of_node (Point place) (step_of now input old.state).calls)) (sym client_is) ∙ so_far.fine.sent inside
         ∙ ap (λ (p : PeerState). items_said so_far.switch.client ++ move_items p so_far.more) peer_is;
-    answered = subst (λ (p : PeerState). IsAnswered (kept_moves ++ so_far.more) (kept_told ++ told_in p (at_point place (step_of now input old.state).acted)) so_far.switch) peer_is (record {
+    answered = subst (λ (p : PeerState). IsAnswered (kept_moves ++ so_far.more) (kept_told ++ told_in p (of_node (Point place) (step_of now input old.state).acted)) so_far.switch) peer_is (record {
       point = subst IsOfPoint (sym (so_far.fine.peer ∙ peer_is)) was.point;
       counted = counted (is_outside so_far.switch.client.stage) refl;
       last = so_far.fine.last;
     });
   }) where
-    counted : (b : Bool) → is_outside so_far.switch.client.stage ≡ b → IsCounted so_far.switch.client.stage (kept_moves ++ so_far.more) (kept_told ++ told_in start.client.peer (at_point place (step_of now input old.state).acted))
+    counted : (b : Bool) → is_outside so_far.switch.client.stage ≡ b → IsCounted so_far.switch.client.stage (kept_moves ++ so_far.more) (kept_told ++ told_in start.client.peer (of_node (Point place) (step_of now input old.state).acted))
     counted true outside = counted_outside so_far.switch.client.stage _ _ outside
     counted false inside = counts_inside so_far.switch.client.stage _ _ (so_far.fine.counted inside)
 

@@ -1,6 +1,6 @@
 -- What a point is given and tells through the parts of a step.
-use Rattle.std.proofs.Common.{◌≡◌, ℕ, ◌+◌, zero, suc, Bool, true, false, if◌then◌else◌, List, [], ◌∷◌, ◌++◌, append_assoc, append-nil, length, length-append, arith, refl, ap, sym, ◌∙◌, subst}
-use Rattle.std.specs.Prelude.{◌&&◌, ◌||◌, ◌==◌, map, Option, Some, None, slice_get}
+use Rattle.std.proofs.Common.{◌≡◌, ℕ, ◌+◌, Bool, true, false, List, [], ◌∷◌, ◌++◌, append_assoc, append-nil, length, length-append, arith, refl, ap, sym, ◌∙◌, subst}
+use Rattle.std.specs.Prelude.{◌==◌, Option, Some, None, slice_get}
 use Rattle.std.proofs.lemmas.Bool.{eq-eqb, eqb-true, false≢true}
 use Rattle.sci_telegram.specs.Telegrams.{writing}
 use Rattle.sci_telegram.specs.declared.message.Aspect.{Aspect}
@@ -22,59 +22,24 @@ use Rattle.ixl_client.specs.declared.stage.Stage.TheVariants as stage
 use Rattle.ixl_client_laws.specs.Closing.{telegram_of}
 use Rattle.ixl_client_laws.specs.Saying.{SaysCommand, SaysInOrder, SaysNothing, items_said, items_sent}
 use Rattle.ixl_rules.specs.Commands.{commanded_by, obeyed, refusal, unmoved_for}
-use Rattle.ixl_rules.specs.Part.{Detector, Node, Part, Point, Signal, all_below, along, at_route, giving_aspect, giving_move, noted, over, switch_after, with_one, with_route, with_switch}
-use Rattle.ixl_rules.specs.Rules.{authorised, count, ending_authority, freeing_by_cancel, freeing_by_passage, freeing_next, frees_cancelled, frees_next, is_move_due, is_proceed_due, is_proceeding, is_stop_due, is_withdrawn, moving, moving_one, proceeding, repeated, ruled, stopped, withdrawing}
-use Rattle.ixl_rules.specs.State.{IxlState, RouteState, SwitchState, changed}
-use Rattle.ixl_rules.specs.Step.{Commands, Datagram, Input, Tick, addressed, detector_hearing, detector_ticking, given, lamp_hearing, lamp_ticking, looking, looking_by, looks, node_hearing, side_heard, switch_hearing, switch_ticking, ticked, watching}
-use Rattle.ixl_rules.specs.Table.{Need, Row, Table, at, passes}
-use Rattle.ixl_rules.specs.View.{is_at_known_stop, is_point_available, is_signal_ready, was_authorised}
+use Rattle.ixl_rules.specs.Part.{Detector, Node, Part, Point, Signal, all_below, giving_aspect, giving_move, noted, over, switch_after, with_one, with_route, with_switch}
+use Rattle.ixl_rules.specs.Rules.{count, ruled}
+use Rattle.ixl_rules.specs.State.{RouteState, SwitchState}
+use Rattle.ixl_rules.specs.Step.{Commands, Datagram, Input, Tick, addressed, detector_hearing, detector_ticking, given, lamp_hearing, lamp_ticking, looking, looks, node_hearing, side_heard, switch_hearing, switch_ticking, ticked, watching}
+use Rattle.ixl_rules.specs.Table.{Table, at, passes}
+use Rattle.ixl_rules.specs.View.{is_point_available}
 use Rattle.ixl_rules.specs.declared.command.Command.{Command as RouteCommand}
 use Rattle.ixl_rules.specs.declared.command.Command.TheVariants as given_commands
 use Rattle.ixl_rules.specs.declared.command.Refusal.{Refusal}
-use Rattle.ixl_promises.specs.Answered.{IsOfPoint, at_point, is_point, last_told, move_items, states_of, told_in}
+use Rattle.ixl_promises.specs.Answered.{IsOfPoint, last_told, move_items, states_of, told_in}
+use Rattle.ixl_promises.specs.Nodes.{is_node, of_node}
+use Rattle.ixl_promises.proofs.Clients.{becomes_there, mapped, switch_client}
 use Rattle.ixl_promises.proofs.Hears.{Counts, HearsBehind, fallen_peer, hearing_hears, inside_stays, posting_posts}
-use Rattle.ixl_promises.proofs.Picking.{both, changed_elsewhere, either, none_is, picked, some_same}
-
--- ---- what a step did at one point
-
-at_joined : {A : Type 0} (place : ℕ) (some more : List (Node × A)) → at_point place (some ++ more) ≡ at_point place some ++ at_point place more
-unfolding at_point
-at_joined place [] more = refl
-at_joined {A} place (first ∷ others) more = cases (is_point place first.0) (at_joined place others more) where
-  cases : (b : Bool) → at_point place (others ++ more) ≡ at_point place others ++ at_point place more →
-      (if b then first.1 ∷ at_point place (others ++ more) else at_point place (others ++ more)) ≡ (if b then first.1 ∷ at_point place others else at_point place others) ++ at_point place more
-  cases true rest = ap (λ list. first.1 ∷ list) rest
-  cases false rest = rest
-
-at_node : {A : Type 0} (place : ℕ) (node : Node) (list : List A) → is_point place node ≡ true → at_point place (map (λ one. (node, one)) list) ≡ list
-unfolding at_point
-at_node place node [] is = refl
-at_node place node (first ∷ others) is = rw is (ap (λ list. first ∷ list) (at_node place node others is))
-
-at_others : {A : Type 0} (place : ℕ) (node : Node) (list : List A) → is_point place node ≡ false → at_point place (map (λ one. (node, one)) list) ≡ []
-unfolding at_point
-at_others place node [] is = refl
-at_others place node (first ∷ others) is = rw is (at_others place node others is)
-
-noted_elsewhere : {A : Type 0} (place : ℕ) (node : Node) (before : List (Node × A)) (list : List A) → is_point place node ≡ false → at_point place (before ++ map (λ one. (node, one)) list) ≡ at_point place before
-noted_elsewhere place node before list is =
-    at_joined place before (map (λ one. (node, one)) list) ∙ ap (λ more. at_point place before ++ more) (at_others place node list is) ∙ append-nil (at_point place before)
-
-noted_here : {A : Type 0} (place : ℕ) (before : List (Node × A)) (list : List A) → at_point place (before ++ map (λ one. (Point place, one)) list) ≡ at_point place before ++ list
-noted_here place before list =
-    at_joined place before (map (λ one. (Point place, one)) list) ∙ ap (λ more. at_point place before ++ more) (at_node place (Point place) list (eq-eqb place place refl))
+use Rattle.ixl_promises.proofs.Nodes.{noted_elsewhere, noted_here}
+use Rattle.ixl_promises.proofs.Picking.{changed_elsewhere, none_is, some_same}
+use Rattle.ixl_promises.proofs.Ruled.{along_holds, looking_holds, over_holds, ruled_holds, seen_holds, with_one_holds}
 
 -- ---- lists
-
-becomes_there : {A : Type 0} (place : ℕ) (new : A) (list : List A) (old : A) → slice_get list place ≡ Some old → slice_get (changed (λ one. new) place list) place ≡ Some new
-becomes_there place new [] old is = absurd (none_is is)
-becomes_there zero new (first ∷ others) old is = refl
-becomes_there (suc place) new (first ∷ others) old is = becomes_there place new others old is
-
-pub mapped : {A B : Type 0} (change : A → B) (place : ℕ) (list : List A) (one : A) → slice_get list place ≡ Some one → slice_get (map change list) place ≡ Some (change one)
-mapped change place [] one is = absurd (none_is is)
-mapped change zero (first ∷ others) one is = ap (λ a. Some (change a)) (some_same is)
-mapped change (suc place) (first ∷ others) one is = mapped change place others one is
 
 sent_joined : (some more : List LinkCall) → items_sent (some ++ more) ≡ items_sent some ++ items_sent more
 unfolding items_sent
@@ -98,10 +63,6 @@ heard_last side [] = refl
 heard_last side (first ∷ others) = heard_last _ others
 
 -- ---- what becomes of a switch
-
-pub switch_client : (side : Option Side) (moved : Places) (client : ClientState) → (switch_after side moved client).client ≡ client
-unfolding switch_after
-switch_client side moved client = either (λ (s : SwitchState). s.client ≡ client) (is_outside client.stage) _ _ refl refl
 
 pub switch_side : (side : Option Side) (moved : Places) (client : ClientState) → is_outside client.stage ≡ false → (switch_after side moved client).side ≡ side
 unfolding switch_after
@@ -185,7 +146,7 @@ module _ (place : ℕ) (start : SwitchState) (moves : List Side) (told : List Ob
     pub switch : SwitchState
     pub more : List Side
     pub there : slice_get part.ixl.switches place ≡ Some switch
-    pub fine : Fine (at_point place part.calls) (at_point place part.acted) switch more
+    pub fine : Fine (of_node (Point place) part.calls) (of_node (Point place) part.acted) switch more
 
   -- another switch with the same client and the same side
   alike : (calls : List LinkCall) (acted : List (List ℕ)) (switch other : SwitchState) (more : List Side) → other.client ≡ switch.client → other.side ≡ switch.side → Fine calls acted switch more → Fine calls acted other more
@@ -196,42 +157,19 @@ module _ (place : ℕ) (start : SwitchState) (moves : List Side) (told : List Ob
     last = λ inside. side ∙ is.last (ap (λ (c : ClientState). is_outside c.stage) (sym client) ∙ inside);
   }
 
-  stays : (a b : Part) → slice_get b.ixl.switches place ≡ slice_get a.ixl.switches place → at_point place b.calls ≡ at_point place a.calls → at_point place b.acted ≡ at_point place a.acted → SoFar a → SoFar b
+  stays : (a b : Part) → slice_get b.ixl.switches place ≡ slice_get a.ixl.switches place → of_node (Point place) b.calls ≡ of_node (Point place) a.calls → of_node (Point place) b.acted ≡ of_node (Point place) a.acted → SoFar a → SoFar b
   stays a b same calls acted is = record {
     switch = is.switch;
     more = is.more;
     there = same ∙ is.there;
-    fine = subst (λ list. Fine list (at_point place b.acted) is.switch is.more) (sym calls) (subst (λ list. Fine (at_point place a.calls) list is.switch is.more) (sym acted) is.fine);
+    fine = subst (λ list. Fine list (of_node (Point place) b.acted) is.switch is.more) (sym calls) (subst (λ list. Fine (of_node (Point place) a.calls) list is.switch is.more) (sym acted) is.fine);
   }
 
   -- what is done at another node
-  stays_elsewhere : (node : Node) (done : client.Part) (a b : Part) → is_point place node ≡ false → slice_get b.ixl.switches place ≡ slice_get a.ixl.switches place →
+  stays_elsewhere : (node : Node) (done : client.Part) (a b : Part) → is_node (Point place) node ≡ false → slice_get b.ixl.switches place ≡ slice_get a.ixl.switches place →
       b.calls ≡ (noted node done a).calls → b.acted ≡ (noted node done a).acted → SoFar a → SoFar b
   stays_elsewhere node done a b apart same calls acted is =
-      stays a b same (ap (at_point place) calls ∙ noted_elsewhere place node a.calls done.calls apart) (ap (at_point place) acted ∙ noted_elsewhere place node a.acted done.acted apart) is
-
-  -- ---- how parts are put together
-
-  with_one_stays : {A : Type 0} (one : Option A) (does : A → Part → Part) (part : Part) → ((a : A) → one ≡ Some a → SoFar (does a part)) → SoFar part → SoFar (with_one one does part)
-  with_one_stays None does part each is = is
-  with_one_stays (Some a) does part each is = each a refl
-
-  at_route_stays : (table : Table) (number : ℕ) (does : Row → RouteState → Part → Part) (part : Part) → ((row : Row) (route : RouteState) → SoFar (does row route part)) → SoFar part → SoFar (at_route table number does part)
-  unfolding at_route
-  at_route_stays table number does part each is =
-      with_one_stays (slice_get table.rows number) _ part (λ row there. with_one_stays (slice_get part.ixl.routes number) (does row) part (λ route also. each row route) is) is
-
-  over_stays : (does : ℕ → Part → Part) → ((number : ℕ) (part : Part) → SoFar part → SoFar (does number part)) → (n : ℕ) (part : Part) → SoFar part → SoFar (over does n part)
-  over_stays does each zero part is = is
-  over_stays does each (suc n) part is = each n (over does n part) (over_stays does each n part is)
-
-  along_stays : {A : Type 0} (does : A → Part → Part) → ((a : A) (part : Part) → SoFar part → SoFar (does a part)) → (list : List A) (part : Part) → SoFar part → SoFar (along does list part)
-  along_stays does each [] part is = is
-  along_stays does each (first ∷ others) part is = along_stays does each others (does first part) (each first part is)
-
-  repeated_stays : (does : Part → Part) → ((part : Part) → SoFar part → SoFar (does part)) → (n : ℕ) (part : Part) → SoFar part → SoFar (repeated n does part)
-  repeated_stays does each zero part is = is
-  repeated_stays does each (suc n) part is = repeated_stays does each n (does part) (each part is)
+      stays a b same (ap (of_node (Point place)) calls ∙ noted_elsewhere (Point place) node a.calls done.calls apart) (ap (of_node (Point place)) acted ∙ noted_elsewhere (Point place) node a.acted done.acted apart) is
 
   -- ---- a move
 
@@ -303,10 +241,10 @@ module _ (place : ℕ) (start : SwitchState) (moves : List Side) (told : List Ob
           switch = switch_after switch.side (all_below (length part.ixl.routes)) done.client;
           more = is.more ++ side ∷ [];
           there = becomes_there place (switch_after switch.side (all_below (length part.ixl.routes)) done.client) part.ixl.switches switch there;
-          fine = subst (λ list. Fine list (at_point place (noted (Point place) done part).acted) (switch_after switch.side (all_below (length part.ixl.routes)) done.client) (is.more ++ side ∷ [])) (sym (noted_here place part.calls done.calls))
-              (subst (λ list. Fine (at_point place part.calls ++ done.calls) list (switch_after switch.side (all_below (length part.ixl.routes)) done.client) (is.more ++ side ∷ [])) (sym (noted_here place part.acted done.acted))
-              (move_fine now side part switch (all_below (length part.ixl.routes)) (at_point place part.calls) (at_point place part.acted) is.more (says (commands.Move side) (begun switch.client part.outbox))
-              (sym (ap (passes (λ (s : SwitchState). is_available s.client.stage)) there) ∙ available) (subst (λ s. Fine (at_point place part.calls) (at_point place part.acted) s is.more) same is.fine)));
+          fine = subst (λ list. Fine list (of_node (Point place) (noted (Point place) done part).acted) (switch_after switch.side (all_below (length part.ixl.routes)) done.client) (is.more ++ side ∷ [])) (sym (noted_here (Point place) part.calls done.calls))
+              (subst (λ list. Fine (of_node (Point place) part.calls ++ done.calls) list (switch_after switch.side (all_below (length part.ixl.routes)) done.client) (is.more ++ side ∷ [])) (sym (noted_here (Point place) part.acted done.acted))
+              (move_fine now side part switch (all_below (length part.ixl.routes)) (of_node (Point place) part.calls) (of_node (Point place) part.acted) is.more (says (commands.Move side) (begun switch.client part.outbox))
+              (sym (ap (passes (λ (s : SwitchState). is_available s.client.stage)) there) ∙ available) (subst (λ s. Fine (of_node (Point place) part.calls) (of_node (Point place) part.acted) s is.more) same is.fine)));
         }
 
   giving_move_stays : (now point : ℕ) (side : Side) (part : Part) → Says now → is_point_available part.ixl point ≡ true → SoFar part → SoFar (giving_move now point side part)
@@ -314,7 +252,7 @@ module _ (place : ℕ) (start : SwitchState) (moves : List Side) (told : List Ob
   giving_move_stays now point side part says available is = by_place (point == place) refl where
     by_place : (b : Bool) → point == place ≡ b → SoFar (giving_move now point side part)
     by_place true same = subst (λ p. is_point_available part.ixl p ≡ true → SoFar (giving_move now p side part)) (sym (eqb-true point place same)) (λ there. move_here now side part says there is) available
-    by_place false apart = with_one_stays (slice_get part.ixl.switches point) _ part (λ switch there.
+    by_place false apart = with_one_holds SoFar (slice_get part.ixl.switches point) _ part (λ switch there.
         stays_elsewhere (Point point) (commanding now (commands.Move side) (begun switch.client part.outbox)) part _ apart
         (changed_elsewhere _ point place part.ixl.switches (λ same. false≢true (sym apart ∙ eq-eqb point place (sym same)))) refl refl is) is
 
@@ -322,81 +260,21 @@ module _ (place : ℕ) (start : SwitchState) (moves : List Side) (told : List Ob
 
   aspect_stays : (now signal : ℕ) (aspect : Aspect) (part : Part) → SoFar part → SoFar (giving_aspect now signal aspect part)
   unfolding giving_aspect
-  aspect_stays now signal aspect part is = with_one_stays (slice_get part.ixl.lamps signal) _ part (λ lamp there.
+  aspect_stays now signal aspect part is = with_one_holds SoFar (slice_get part.ixl.lamps signal) _ part (λ lamp there.
       stays_elsewhere (Signal signal) (commanding now (commands.Indicate aspect) (begun lamp.client part.outbox)) part _ refl refl refl refl is) is
 
   route_stays : (number : ℕ) (change : RouteState → RouteState) (part : Part) → SoFar part → SoFar (with_route number change part)
   route_stays number change part is = stays part (with_route number change part) refl refl refl is
 
-  withdrawing_stays : (now : ℕ) (table : Table) (number : ℕ) (part : Part) → SoFar part → SoFar (withdrawing now table number part)
-  unfolding withdrawing
-  withdrawing_stays now table number part is = at_route_stays table number _ part (λ row route.
-      either SoFar (is_stop_due table part.ixl row route) _ _ (stop row (with_route number _ part) (route_stays number _ part is)) is) is
-    where
-      stop : (row : Row) (part : Part) → SoFar part → SoFar (stopped now row part)
-      stop row part is = either SoFar (is_signal_ready part.ixl row.entry) _ _ (aspect_stays now row.entry _ part is) is
-
-  ending_stays : (now : ℕ) (table : Table) (number : ℕ) (part : Part) → SoFar part → SoFar (ending_authority now table number part)
-  unfolding ending_authority
-  ending_stays now table number part is = at_route_stays table number _ part (λ row route.
-      either SoFar (is_withdrawn route.phase && is_at_known_stop now part.ixl row.entry) _ _ (route_stays number _ part is) is) is
-
-  next_stays : (table : Table) (number : ℕ) (part : Part) → SoFar part → SoFar (freeing_next table number part)
-  unfolding freeing_next
-  next_stays table number part is = at_route_stays table number _ part (λ row route. either SoFar (frees_next table part.ixl row route route.phase) _ _ (route_stays number _ part is) is) is
-
-  passage_stays : (table : Table) (number : ℕ) (part : Part) → SoFar part → SoFar (freeing_by_passage table number part)
-  unfolding freeing_by_passage
-  passage_stays table number part is = at_route_stays table number _ part (λ row route. repeated_stays (freeing_next table number) (next_stays table number) (length row.sections) part is) is
-
-  cancel_stays : (now : ℕ) (table : Table) (number : ℕ) (part : Part) → SoFar part → SoFar (freeing_by_cancel now table number part)
-  unfolding freeing_by_cancel
-  cancel_stays now table number part is = at_route_stays table number _ part (λ row route.
-      either SoFar (route.cancelled && frees_cancelled now table part.ixl row route route.phase) _ _ (route_stays number _ part is) is) is
-
-  -- a move is given only where the point is available
-  due_available : (table : Table) (ixl : IxlState) (number : ℕ) (route : RouteState) (need : Need) → is_move_due table ixl number route need ≡ true → is_point_available ixl need.point ≡ true
-  due_available table ixl number route need due = (both _ _ (both _ _ (both _ _ (both _ _ (both _ _ due).0).0).0).0).1
-
-  moving_one_stays : (now : ℕ) (table : Table) (number : ℕ) → Says now → (need : Need) (part : Part) → SoFar part → SoFar (moving_one now table number need part)
-  unfolding moving_one
-  moving_one_stays now table number says need part is = at_route_stays table number _ part (λ row route.
-      picked SoFar (is_move_due table part.ixl number route need) _ _
-      (λ due. giving_move_stays now need.point need.side part says (due_available table part.ixl number route need due) is) (λ none. is)) is
-
-  moving_stays : (now : ℕ) (table : Table) → Says now → (number : ℕ) (part : Part) → SoFar part → SoFar (moving now table number part)
-  unfolding moving
-  moving_stays now table says number part is = at_route_stays table number _ part (λ row route. along_stays (moving_one now table number) (moving_one_stays now table number says) row.needs part is) is
-
-  proceeding_stays : (now : ℕ) (table : Table) (number : ℕ) (part : Part) → SoFar part → SoFar (proceeding now table number part)
-  unfolding proceeding
-  proceeding_stays now table number part is = at_route_stays table number _ part (λ row route.
-      either SoFar (is_proceed_due now table part.ixl row route) _ _ (aspect_stays now row.entry row.aspect (with_route number (authorised table part.ixl row) part) (route_stays number _ part is)) is) is
-
   pub ruled_stays : (now : ℕ) (table : Table) (part : Part) → Says now → SoFar part → SoFar (ruled now table part)
-  ruled_stays now table part says is =
-      over_stays (proceeding now table) (proceeding_stays now table) (count table) _
-      (over_stays (moving now table) (moving_stays now table says) (count table) _
-      (over_stays (freeing_by_cancel now table) (cancel_stays now table) (count table) _
-      (over_stays (freeing_by_passage table) (passage_stays table) (count table) _
-      (over_stays (ending_authority now table) (ending_stays now table) (count table) _
-      (over_stays (withdrawing now table) (withdrawing_stays now table) (count table) part is)))))
-
-  -- ---- what is seen
-
-  pub watching_stays : (table : Table) (number : ℕ) (part : Part) → SoFar part → SoFar (watching table number part)
-  unfolding watching
-  watching_stays table number part is = at_route_stays table number _ part (λ row route. either SoFar (is_proceeding route.phase || is_withdrawn route.phase) _ _ (route_stays number _ part is) is) is
+  ruled_stays now table part says is = ruled_holds SoFar now (record {
+    route = route_stays;
+    aspect = aspect_stays now;
+    move = λ point side before available is. giving_move_stays now point side before says available is;
+  }) table part is
 
   pub seen_stays : (table : Table) (part : Part) → SoFar part → SoFar (over (watching table) (count table) part)
-  seen_stays table part is = over_stays (watching table) (watching_stays table) (count table) part is
-
-  looking_by_stays : (section : ℕ) (occupied : Bool) (table : Table) (number : ℕ) (part : Part) → SoFar part → SoFar (looking_by section occupied table number part)
-  unfolding looking_by
-  looking_by_stays section occupied table number part is = at_route_stays table number _ part (λ row route. either SoFar (was_authorised route.phase) _ _ (route_stays number _ part is) is) is
-
-  looking_stays : (table : Table) (look : ℕ × Bool) (part : Part) → SoFar part → SoFar (looking table look part)
-  looking_stays table look part is = over_stays (looking_by look.0 look.1 table) (looking_by_stays look.0 look.1 table) (count table) part is
+  seen_stays table part is = seen_holds SoFar route_stays table part is
 
   -- ---- ticks
 
@@ -444,10 +322,10 @@ module _ (place : ℕ) (start : SwitchState) (moves : List Side) (told : List Ob
           switch = switch_after switch.side switch.moved done.client;
           more = is.more;
           there = becomes_there place (switch_after switch.side switch.moved done.client) part.ixl.switches switch there;
-          fine = subst (λ list. Fine list (at_point place (noted (Point place) done part).acted) (switch_after switch.side switch.moved done.client) is.more) (sym (noted_here place part.calls done.calls))
-              (subst (λ list. Fine (at_point place part.calls ++ done.calls) list (switch_after switch.side switch.moved done.client) is.more) (sym (noted_here place part.acted done.acted))
-              (tick_fine now part switch (at_point place part.calls) (at_point place part.acted) is.more (says (begun switch.client part.outbox))
-              (subst (λ s. Fine (at_point place part.calls) (at_point place part.acted) s is.more) same is.fine)));
+          fine = subst (λ list. Fine list (of_node (Point place) (noted (Point place) done part).acted) (switch_after switch.side switch.moved done.client) is.more) (sym (noted_here (Point place) part.calls done.calls))
+              (subst (λ list. Fine (of_node (Point place) part.calls ++ done.calls) list (switch_after switch.side switch.moved done.client) is.more) (sym (noted_here (Point place) part.acted done.acted))
+              (tick_fine now part switch (of_node (Point place) part.calls) (of_node (Point place) part.acted) is.more (says (begun switch.client part.outbox))
+              (subst (λ s. Fine (of_node (Point place) part.calls) (of_node (Point place) part.acted) s is.more) same is.fine)));
         }
 
   switch_tick_stays : (now : ℕ) → SaysNoMore now → (point : ℕ) (part : Part) → SoFar part → SoFar (switch_ticking now point part)
@@ -455,26 +333,26 @@ module _ (place : ℕ) (start : SwitchState) (moves : List Side) (told : List Ob
   switch_tick_stays now says point part is = by_place (point == place) refl where
     by_place : (b : Bool) → point == place ≡ b → SoFar (switch_ticking now point part)
     by_place true same = subst (λ p. SoFar (switch_ticking now p part)) (sym (eqb-true point place same)) (tick_here now part says is)
-    by_place false apart = with_one_stays (slice_get part.ixl.switches point) _ part (λ switch there.
+    by_place false apart = with_one_holds SoFar (slice_get part.ixl.switches point) _ part (λ switch there.
         stays_elsewhere (Point point) (ticking now (begun switch.client part.outbox)) part _ apart
         (changed_elsewhere _ point place part.ixl.switches (λ same. false≢true (sym apart ∙ eq-eqb point place (sym same)))) refl refl is) is
 
   lamp_tick_stays : (now : ℕ) (signal : ℕ) (part : Part) → SoFar part → SoFar (lamp_ticking now signal part)
   unfolding lamp_ticking
-  lamp_tick_stays now signal part is = with_one_stays (slice_get part.ixl.lamps signal) _ part (λ lamp there.
+  lamp_tick_stays now signal part is = with_one_holds SoFar (slice_get part.ixl.lamps signal) _ part (λ lamp there.
       stays_elsewhere (Signal signal) (ticking now (begun lamp.client part.outbox)) part _ refl refl refl refl is) is
 
   detector_tick_stays : (now : ℕ) (other : ℕ) (part : Part) → SoFar part → SoFar (detector_ticking now other part)
   unfolding detector_ticking
-  detector_tick_stays now other part is = with_one_stays (slice_get part.ixl.detectors other) _ part (λ detector there.
+  detector_tick_stays now other part is = with_one_holds SoFar (slice_get part.ixl.detectors other) _ part (λ detector there.
       stays_elsewhere (Detector other) (ticking now (begun detector.client part.outbox)) part _ refl refl refl refl is) is
 
   pub ticked_stays : (now : ℕ) (input : Input) (part : Part) → SaysNoMore now → SoFar part → SoFar (ticked now input part)
   unfolding ticked
   ticked_stays now Tick part says is =
-      over_stays (detector_ticking now) (detector_tick_stays now) (length part.ixl.detectors) _
-      (over_stays (switch_ticking now) (switch_tick_stays now says) (length part.ixl.switches) _
-      (over_stays (lamp_ticking now) (lamp_tick_stays now) (length part.ixl.lamps) part is))
+      over_holds SoFar (detector_ticking now) (detector_tick_stays now) (length part.ixl.detectors) _
+      (over_holds SoFar (switch_ticking now) (switch_tick_stays now says) (length part.ixl.switches) _
+      (over_holds SoFar (lamp_ticking now) (lamp_tick_stays now) (length part.ixl.lamps) part is))
   ticked_stays now (Datagram bytes) part says is = is
   ticked_stays now (Commands command) part says is = is
 
@@ -489,10 +367,10 @@ module _ (place : ℕ) (start : SwitchState) (moves : List Side) (told : List Ob
     pub counts : Counts start.client.stage moves told
     pub side : start.side ≡ last_told None told
 
-  first_fine : (part : Part) → Begins part → Fine (at_point place part.calls) (at_point place part.acted) start []
-  unfolding at_point items_sent told_by_all
+  first_fine : (part : Part) → Begins part → Fine (of_node (Point place) part.calls) (of_node (Point place) part.acted) start []
+  unfolding of_node items_sent told_by_all
   first_fine part begins =
-      subst (λ list. Fine (at_point place list) (at_point place part.acted) start []) (sym begins.calls) (subst (λ list. Fine [] (at_point place list) start []) (sym begins.acted) (record {
+      subst (λ list. Fine (of_node (Point place) list) (of_node (Point place) part.acted) start []) (sym begins.calls) (subst (λ list. Fine [] (of_node (Point place) list) start []) (sym begins.acted) (record {
         peer = refl;
         sent = λ inside. refl;
         counted = λ inside. subst (λ list. Counts start.client.stage list (told ++ [])) (sym (append-nil moves)) (subst (Counts start.client.stage moves) (sym (append-nil told)) begins.counts);
@@ -503,7 +381,7 @@ module _ (place : ℕ) (start : SwitchState) (moves : List Side) (told : List Ob
   at_first part begins = record { switch = start; more = []; there = begins.there; fine = first_fine part begins }
 
   hear_here : (now : ℕ) (bytes : List ℕ) (part : Part) → Hears now → Begins part → SoFar (switch_hearing now bytes place part)
-  unfolding switch_hearing at_point heard_by
+  unfolding switch_hearing of_node heard_by
   hear_here now bytes part hears begins = by_switch (slice_get part.ixl.switches place) refl where
     done : client.Part
     done = hearing now bytes (begun start.client part.outbox)
@@ -542,10 +420,10 @@ module _ (place : ℕ) (start : SwitchState) (moves : List Side) (told : List Ob
       switch = switch_after (side_heard done.heard start.side) moved done.client;
       more = [];
       there = becomes_there place (switch_after (side_heard done.heard start.side) moved done.client) part.ixl.switches start begins.there;
-      fine = subst (λ list. Fine list (at_point place (noted (Point place) done part).acted) (switch_after (side_heard done.heard start.side) moved done.client) [])
-          (sym (noted_here place part.calls done.calls ∙ ap (λ list. at_point place list ++ done.calls) begins.calls))
+      fine = subst (λ list. Fine list (of_node (Point place) (noted (Point place) done part).acted) (switch_after (side_heard done.heard start.side) moved done.client) [])
+          (sym (noted_here (Point place) part.calls done.calls ∙ ap (λ list. of_node (Point place) list ++ done.calls) begins.calls))
           (subst (λ list. Fine done.calls list (switch_after (side_heard done.heard start.side) moved done.client) [])
-          (sym (noted_here place part.acted done.acted ∙ ap (λ list. at_point place list ++ done.acted) begins.acted))
+          (sym (noted_here (Point place) part.acted done.acted ∙ ap (λ list. of_node (Point place) list ++ done.acted) begins.acted))
           (alike done.calls done.acted (behind moved) _ [] (switch_client (side_heard done.heard start.side) moved done.client) refl (plainly moved)));
     }
 
@@ -555,16 +433,16 @@ module _ (place : ℕ) (start : SwitchState) (moves : List Side) (told : List Ob
 
   node_stays : (now : ℕ) (table : Table) (bytes : List ℕ) (part : Part) → Hears now → Begins part → (node : Node) → SoFar (node_hearing now table bytes node part)
   unfolding node_hearing lamp_hearing switch_hearing detector_hearing
-  node_stays now table bytes part hears begins (Signal signal) = with_one_stays (slice_get part.ixl.lamps signal) _ part (λ lamp there.
+  node_stays now table bytes part hears begins (Signal signal) = with_one_holds SoFar (slice_get part.ixl.lamps signal) _ part (λ lamp there.
       stays_elsewhere (Signal signal) (hearing now bytes (begun lamp.client part.outbox)) part _ refl refl refl refl (at_first part begins)) (at_first part begins)
-  node_stays now table bytes part hears begins (Detector other) = with_one_stays (slice_get table.detectors other) _ part (λ sections listed.
-      with_one_stays (slice_get part.ixl.detectors other) _ part (λ detector there.
-      along_stays (looking table) (looking_stays table) (looks sections detector (hearing now bytes (begun detector.client part.outbox)).heard (hearing now bytes (begun detector.client part.outbox)).client) _
+  node_stays now table bytes part hears begins (Detector other) = with_one_holds SoFar (slice_get table.detectors other) _ part (λ sections listed.
+      with_one_holds SoFar (slice_get part.ixl.detectors other) _ part (λ detector there.
+      along_holds SoFar (looking table) (looking_holds SoFar route_stays table) (looks sections detector (hearing now bytes (begun detector.client part.outbox)).heard (hearing now bytes (begun detector.client part.outbox)).client) _
       (stays_elsewhere (Detector other) (hearing now bytes (begun detector.client part.outbox)) part _ refl refl refl refl (at_first part begins))) (at_first part begins)) (at_first part begins)
   node_stays now table bytes part hears begins (Point point) = by_place (point == place) refl where
     by_place : (b : Bool) → point == place ≡ b → SoFar (switch_hearing now bytes point part)
     by_place true same = subst (λ p. SoFar (switch_hearing now bytes p part)) (sym (eqb-true point place same)) (hear_here now bytes part hears begins)
-    by_place false apart = with_one_stays (slice_get part.ixl.switches point) _ part (λ switch there.
+    by_place false apart = with_one_holds SoFar (slice_get part.ixl.switches point) _ part (λ switch there.
         stays_elsewhere (Point point) (hearing now bytes (begun switch.client part.outbox)) part _ apart
         (changed_elsewhere _ point place part.ixl.switches (λ same. false≢true (sym apart ∙ eq-eqb point place (sym same)))) refl refl (at_first part begins)) (at_first part begins)
 
@@ -577,11 +455,11 @@ module _ (place : ℕ) (start : SwitchState) (moves : List Side) (told : List Ob
     switch = unmoved_for route.0 start;
     more = [];
     there = mapped (unmoved_for route.0) place part.ixl.switches start begins.there;
-    fine = alike (at_point place part.calls) (at_point place part.acted) start (unmoved_for route.0 start) [] refl refl (first_fine part begins);
+    fine = alike (of_node (Point place) part.calls) (of_node (Point place) part.acted) start (unmoved_for route.0 start) [] refl refl (first_fine part begins);
   }
 
   pub given_stays : (now : ℕ) (table : Table) (key : Key) (input : Input) (part : Part) → Hears now → Begins part → SoFar (given now table key input part)
   unfolding given
   given_stays now table key Tick part hears begins = at_first part begins
   given_stays now table key (Commands command) part hears begins = command_stays (refusal now table command part.ixl) command part begins
-  given_stays now table key (Datagram bytes) part hears begins = with_one_stays (addressed (reading key bytes) part.ixl) (node_hearing now table bytes) part (λ node there. node_stays now table bytes part hears begins node) (at_first part begins)
+  given_stays now table key (Datagram bytes) part hears begins = with_one_holds SoFar (addressed (reading key bytes) part.ixl) (node_hearing now table bytes) part (λ node there. node_stays now table bytes part hears begins node) (at_first part begins)

@@ -1,9 +1,9 @@
 -- A move is given once for a route in a connection.
-use Rattle.std.proofs.Common.{◌≡◌, ◌≢◌, ℕ, zero, suc, ◌<◌, Bool, true, false, List, [], ◌∷◌, length, arith, refl, ap, sym, ◌∙◌, subst}
+use Rattle.std.proofs.Common.{◌≡◌, ℕ, zero, suc, ◌<◌, Bool, true, false, List, [], ◌∷◌, length, arith, refl, ap, sym, ◌∙◌, subst}
 use Rattle.std.specs.Prelude.{◌||◌, ◌==◌, Option, Some, None, slice_get}
 use Rattle.std.specs.Cmp.{nat_cmp_total, unsigned_tied}
-use Rattle.std.specs.FinSet.{contains, empty, insert, contains-insert}
-use Rattle.std.proofs.lemmas.Bool.{eqb-false, false≢true, true≢false}
+use Rattle.std.specs.FinSet.{contains, insert, contains-insert}
+use Rattle.std.proofs.lemmas.Bool.{eqb-false, false≢true}
 use Rattle.bit_row.specs.Places.{Places}
 use Rattle.sci_telegram.specs.declared.message.Side.{Side}
 use Rattle.ixl_client.specs.Client.{ClientState, is_available, is_outside}
@@ -16,7 +16,8 @@ use Rattle.ixl_rules.specs.Due.{MoveDue}
 use Rattle.ixl_rules.specs.Part.{Part, all_below, giving_move, switch_after, with_one}
 use Rattle.ixl_rules.specs.State.{RouteState, SwitchState}
 use Rattle.ixl_rules.specs.Table.{Need, Table}
-use Rattle.ixl_promises.proofs.Answering.{moved_by, switch_client}
+use Rattle.ixl_promises.proofs.Answering.{moved_by}
+use Rattle.ixl_promises.proofs.Clients.{switch_client}
 use Rattle.ixl_promises.proofs.Picking.{changed_here, none_is, some_same}
 
 get_inside : {A : Type 0} (list : List A) (place : ℕ) (one : A) → slice_get list place ≡ Some one → place < length list

@@ -4,7 +4,6 @@ use Rattle.std.specs.Prelude.{◌==◌, Option, Some, None, slice_get}
 use Rattle.std.proofs.lemmas.Bool.{eq-eqb, eqb-true, false≢true}
 use Rattle.rasta_core.specs.State.{is_client}
 use Rattle.rasta_core.specs.identity.Identity.{Identity}
-use Rattle.ixl_client.specs.Client.{ClientState, is_outside}
 use Rattle.ixl_client.specs.Part as client
 use Rattle.ixl_client.specs.Part.{begun}
 use Rattle.ixl_client.specs.Step.{ticking}
@@ -15,7 +14,8 @@ use Rattle.ixl_rules.specs.Step.{Tick, detector_ticking, lamp_ticking, stepped, 
 use Rattle.ixl.specs.Interlocking.{HasStepped, InterlockingState}
 use Rattle.ixl_rules.specs.Step.{Reply}
 use Rattle.ixl_promises.specs.Links.{IsTended, NoneDown}
-use Rattle.ixl_promises.proofs.Picking.{changed_elsewhere, changed_here, either, none_is}
+use Rattle.ixl_promises.proofs.Clients.{detector_client, lamp_client, switch_client}
+use Rattle.ixl_promises.proofs.Picking.{changed_elsewhere, changed_here, none_is}
 
 -- what a tick of one client leaves
 abbrev pub Ticks : ℕ → Type 0
@@ -113,18 +113,6 @@ switches_of part = part.ixl.switches
 
 detectors_of : Part → List DetectorState
 detectors_of part = part.ixl.detectors
-
-lamp_client : (aspect : _) (number : ℕ) (client : ClientState) → (lamp_after aspect number client).client ≡ client
-unfolding lamp_after
-lamp_client aspect number client = either (λ (l : LampState). l.client ≡ client) (is_outside client.stage) _ _ refl refl
-
-switch_client : (side : _) (moved : _) (client : ClientState) → (switch_after side moved client).client ≡ client
-unfolding switch_after
-switch_client side moved client = either (λ (s : SwitchState). s.client ≡ client) (is_outside client.stage) _ _ refl refl
-
-detector_client : (occupied : _) (client : ClientState) → (detector_after occupied client).client ≡ client
-unfolding detector_after
-detector_client occupied client = either (λ (d : DetectorState). d.client ≡ client) (is_outside client.stage) _ _ refl refl
 
 -- what a tick does where there is such a controller
 lamp_ticked : ℕ → ℕ → LampState → Part → Part

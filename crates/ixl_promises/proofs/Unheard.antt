@@ -30,6 +30,7 @@ use Rattle.ixl_state.specs.First.{key_of}
 use Rattle.ixl.specs.Interlocking.{HasStepped, InterlockingState, empty_outbox}
 use Rattle.ixl_promises.specs.Refused.{IsWithoutInput, MayHear, step_without_input}
 use Rattle.ixl_promises.proofs.Blind.{Alike, seen_and_ruled}
+use Rattle.ixl_promises.proofs.Clients.{detector_client, lamp_client, switch_client}
 use Rattle.ixl_promises.proofs.LinkRefusing.{refused_still, settled_again}
 use Rattle.ixl_promises.proofs.Picking.{either, none_is, picked, some_same}
 
@@ -201,18 +202,6 @@ module _ (now : ℕ) (table : Table) (bytes : List ℕ) (ixl : IxlState) (outbox
     refusal = said.1;
     other = said.2;
   }
-
-  lamp_client : (aspect : _) (number : ℕ) (one : ClientState) → (lamp_after aspect number one).client ≡ one
-  unfolding lamp_after
-  lamp_client aspect number one = either (λ (l : LampState). l.client ≡ one) (is_outside one.stage) _ _ refl refl
-
-  switch_client : (side : _) (moved : _) (one : ClientState) → (switch_after side moved one).client ≡ one
-  unfolding switch_after
-  switch_client side moved one = either (λ (s : SwitchState). s.client ≡ one) (is_outside one.stage) _ _ refl refl
-
-  detector_client : (occupied : _) (one : ClientState) → (detector_after occupied one).client ≡ one
-  unfolding detector_after
-  detector_client occupied one = either (λ (d : DetectorState). d.client ≡ one) (is_outside one.stage) _ _ refl refl
 
   signal_unheard : (place : ℕ) (one : ClientState) → client_at (Signal place) part.ixl ≡ Some one → Said one → Alike (lamp_hearing now bytes place part) part
   unfolding lamp_hearing all_clocked lamp_by

@@ -1,6 +1,6 @@
 -- What a point is given and tells in its present connection: each move is answered by one report, and the last report tells
 -- where the point is known.
-use Rattle.std.specs.Prelude.{◌≡◌, ◌+◌, ◌==◌, ℕ, Bool, false, List, [], ◌∷◌, ◌++◌, length, map, Option, None, if◌then◌else◌}
+use Rattle.std.specs.Prelude.{◌≡◌, ◌+◌, ℕ, false, List, [], ◌∷◌, ◌++◌, length, map, Option, None, if◌then◌else◌}
 use Rattle.sci_telegram.specs.Telegrams.{writing}
 use Rattle.sci_telegram.specs.declared.message.Protocol.TheVariants as protocols
 use Rattle.sci_telegram.specs.declared.message.Side.{Side}
@@ -13,10 +13,11 @@ use Rattle.ixl_client.specs.declared.indication.ObjectState.{ObjectState}
 use Rattle.ixl_client.specs.declared.stage.Stage.{Stage}
 use Rattle.ixl_client.specs.declared.stage.Stage.TheVariants as stage
 use Rattle.ixl_client_laws.specs.Saying.{items_said, items_sent}
-use Rattle.ixl_rules.specs.Part.{Node, Point}
+use Rattle.ixl_rules.specs.Part.{Point}
 use Rattle.ixl_rules.specs.State.{SwitchState}
 use Rattle.ixl_rules.specs.Step.{Input, side_of}
 use Rattle.ixl.specs.Interlocking.{InterlockingState, step_of}
+use Rattle.ixl_promises.specs.Nodes.{of_node}
 
 -- a controller that tells of one point
 pub record IsOfPoint (peer : PeerState) : Type 0 where
@@ -46,15 +47,6 @@ pub record IsAnswered (moves : List Side) (told : List ObjectState) (switch : Sw
 
 -- ---- what a step adds
 
-abbrev pub is_point : ℕ → Node → Bool
-is_point place (Point other) = other == place
-is_point place _ = false
-
--- of what a step did, what it did at a point
-unfoldable pub at_point : {A : Type 0} → ℕ → List (Node × A) → List A
-at_point place [] = []
-at_point place (first ∷ others) = if is_point place first.0 then first.1 ∷ at_point place others else at_point place others
-
 -- moves, as the items that are sent
 abbrev pub move_items : PeerState → List Side → List (List ℕ)
 move_items peer moves = map (λ side. writing (telegram_to peer (message_of (commands.Move side)))) moves
@@ -74,5 +66,5 @@ kept_by client list = if is_outside client.stage then [] else list
 -- telegrams of the initialisation. And it told what the items tell that were acted on in the step.
 pub record GoesOnAnswered (now : ℕ) (input : Input) (old : InterlockingState) (place : ℕ) (before after : SwitchState) (moves : List Side) (told : List ObjectState) : Type 0 where
   pub more : List Side
-  pub sent : is_outside after.client.stage ≡ false → items_said (clocked now before.client) ++ items_sent (at_point place (step_of now input old.state).calls) ≡ items_said after.client ++ move_items before.client.peer more
-  pub answered : IsAnswered (kept_by (clocked now before.client) moves ++ more) (kept_by (clocked now before.client) told ++ told_in before.client.peer (at_point place (step_of now input old.state).acted)) after
+  pub sent : is_outside after.client.stage ≡ false → items_said (clocked now before.client) ++ items_sent (of_node (Point place) (step_of now input old.state).calls) ≡ items_said after.client ++ move_items before.client.peer more
+  pub answered : IsAnswered (kept_by (clocked now before.client) moves ++ more) (kept_by (clocked now before.client) told ++ told_in before.client.peer (of_node (Point place) (step_of now input old.state).acted)) after

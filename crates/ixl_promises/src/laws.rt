@@ -10,9 +10,9 @@ ghost use Rattle.layout.specs.declared.ids.RouteId.{RouteId};
 ghost use Rattle.ixl_client.specs.declared.indication.ObjectState.{ObjectState};
 ghost use Rattle.sci_telegram.specs.declared.message.Side.{Side};
 ghost use Rattle.ixl_rules.specs.Due.{HoldsPoint, HoldsSection, Known, MoveDue};
-ghost use Rattle.ixl_rules.specs.Part.{Part, giving_move};
+ghost use Rattle.ixl_rules.specs.Part.{Node, Part, giving_move};
 ghost use Rattle.ixl_rules.specs.State.{IxlState, RouteState, SwitchState};
-ghost use Rattle.ixl_rules.specs.Step.{Accepted, Commands, Datagram, Input, Received, Refused, Reply, Tick, all_clocked, addressed, client_of};
+ghost use Rattle.ixl_rules.specs.Step.{Accepted, Commands, Datagram, Input, Received, Refused, Reply, Tick, all_clocked, addressed, client_at, client_of};
 ghost use Rattle.ixl_rules.specs.Table.{Need, Row, Table};
 ghost use Rattle.ixl_rules.specs.View.{freed_sections, has_authority, is_holding, is_set};
 ghost use Rattle.ixl_rules.specs.declared.command.Command.TheVariants as commands;
@@ -23,17 +23,20 @@ ghost use Rattle.ixl_state.specs.First.{Beginning, key_of, new_ixl};
 ghost use Rattle.ixl.specs.Interlocking.{HasStepped, InterlockingState};
 ghost use Rattle.ixl_promises.specs.Answered.{GoesOnAnswered, IsAnswered, last_told};
 ghost use Rattle.ixl_promises.specs.Apart.{AllApart, DoNotConflict, IsWhole, StandApart};
+ghost use Rattle.ixl_promises.specs.Called.{ActsOnTaken, HandsOut, IsNobody, ReceivesFirst, Stays, acted_at, calls_at, items_taken, receipt_at};
 ghost use Rattle.ixl_promises.specs.Cancels.{IsCancelRefused, MayCancel};
 ghost use Rattle.ixl_promises.specs.Links.{NoneDown};
 ghost use Rattle.ixl_promises.specs.Onward.{GoesOn};
 ghost use Rattle.ixl_promises.specs.Refused.{IsWithoutInput, MayHear};
 ghost use Rattle.ixl_client.specs.Client.{ClientState, is_outside};
+ghost use Rattle.ixl_client.specs.Made.{link_after};
+ghost use Rattle.rasta_core.specs.Clock.{settled};
 ghost use Rattle.rasta_core.specs.Verdicts.{is_refusal};
 ghost use Rattle.rasta_core.specs.verdict.Verdict.TheVariants as verdicts;
 ghost use Rattle.rasta_core.specs.verdict.Verdict.{Verdict};
 
 use ixl::requests_are_accepted_where_admissible;
-use ixl_client::step_hears_what_was_taken;
+use ixl_client::{step_hears_what_was_taken, step_is_calls, step_keeps_the_peer};
 use ixl_client_laws::{initialisations_go_out_in_order, ticks_open_links_that_are_down};
 
 /// In a step each route goes on in its order, or is freed, and never back: it waits, its aspect was given, it was
@@ -128,4 +131,28 @@ pub fn the_last_report_answers_the_last_move()
 {
     initialisations_go_out_in_order();
     step_hears_what_was_taken();
+}
+
+/// To the link of each controller a step is a list of calls at its clock: the link behind it is what these calls, one after
+/// another, make of the link that the clock left. So a link of which no call is made is only settled. A datagram is received
+/// first, by the controller that it names as its sender, and no other call takes anything. The items acted on are a beginning
+/// of those that the calls take, and all of them where the link stays open. What the step hands out are the datagrams of these
+/// calls, for each link in their order. Controllers neither come nor go.
+pub fn steps_are_calls()
+    ensures link { (now : ℕ) (input : Input) (old new : InterlockingState) (answer : Reply) (node : Node) (before after : ClientState) → HasStepped now input old new answer
+        → client_at node old.state.ixl ≡ Some before → client_at node new.state.ixl ≡ Some after → after.link ≡ link_after now (calls_at now input old node) (settled now before.link) }
+    ensures receipt { (now : ℕ) (input : Input) (old new : InterlockingState) (answer : Reply) (node : Node) (before : ClientState) → HasStepped now input old new answer
+        → client_at node old.state.ixl ≡ Some before → ReceivesFirst (receipt_at now input old node) (calls_at now input old node) }
+    ensures items { (now : ℕ) (input : Input) (old new : InterlockingState) (answer : Reply) (node : Node) (before after : ClientState) → HasStepped now input old new answer
+        → client_at node old.state.ixl ≡ Some before → client_at node new.state.ixl ≡ Some after
+        → ActsOnTaken (items_taken now (calls_at now input old node) (settled now before.link)) (acted_at now input old node) after.link }
+    ensures datagrams { (now : ℕ) (input : Input) (old new : InterlockingState) (answer : Reply) → HasStepped now input old new answer → HandsOut now input old new }
+    ensures stays { (now : ℕ) (input : Input) (old new : InterlockingState) (answer : Reply) (node : Node) (before : ClientState) → HasStepped now input old new answer
+        → client_at node old.state.ixl ≡ Some before → Stays node before new }
+    ensures nobody { (now : ℕ) (input : Input) (old new : InterlockingState) (answer : Reply) (node : Node) → HasStepped now input old new answer
+        → client_at node old.state.ixl ≡ None → IsNobody now input old new node }
+{
+    step_hears_what_was_taken();
+    step_is_calls();
+    step_keeps_the_peer();
 }
