@@ -1,92 +1,65 @@
-//! What the lines of a list say of a node.
+//! What events say of a node.
 
-use anyhow::Context;
-use event_words::{Words, decimal};
+use simulator_event::{Event, NodeId};
 
 /// How many microseconds a millisecond has.
 const MICROS: u64 = 1000;
 
-/// By how many microseconds time goes on in a line.
-pub(crate) fn elapsed(line: &str) -> anyhow::Result<u64> {
-    let (word, rest) = line.split_once(" ").unwrap_or((line, ""));
-    match word {
-        "time" => number(rest),
-        "flow" => Ok(number(rest)?.saturating_mul(MICROS)),
-        _ => Ok(0),
-    }
-}
-
-/// The number that a word says.
-pub(crate) fn number(word: &str) -> anyhow::Result<u64> {
-    decimal(word).ok().context("a number is wanted")
-}
-
-/// A node as the lines of a list leave it.
+/// A node as events leave it.
 #[derive(Clone, Copy)]
-pub(crate) struct Known<'a> {
-    pub(crate) name: &'a str,
-    /// True time, in microseconds.
-    time: u64,
-    /// When the node was made last, in microseconds.
-    made: u64,
-    /// The clock that it was made with, in milliseconds.
+pub(crate) struct Known {
+    pub(crate) node: NodeId,
+    /// For how long it has stood since it was made, in microseconds of true time.
+    pub(crate) age: u64,
+    /// Its clock, in microseconds.
     clock: u64,
     /// The number that it was made with.
-    pub(crate) first: u64,
+    pub(crate) first: u32,
 }
 
-impl<'a> Known<'a> {
+impl Known {
     /// A node as a station begins.
-    fn new(name: &'a str) -> Self {
+    pub(crate) fn new(node: NodeId) -> Known {
         Known {
-            name,
-            time: 0,
-            made: 0,
+            node,
+            age: 0,
             clock: 0,
             first: 0,
         }
     }
 
-    /// A node behind some lines.
-    pub(crate) fn behind(name: &'a str, lines: &[&str]) -> anyhow::Result<Self> {
-        let mut known = Known::new(name);
-        for line in lines {
-            known.pass(line)?;
+    /// A node behind some events.
+    pub(crate) fn behind(node: NodeId, events: &[Event]) -> Known {
+        let mut known = Known::new(node);
+        for event in events {
+            known.pass(event);
         }
-        Ok(known)
-    }
-
-    /// So many microseconds pass.
-    pub(crate) fn let_pass(&mut self, micros: u64) {
-        self.time = self.time.saturating_add(micros);
-    }
-
-    /// How long ago the node was made, in microseconds.
-    pub(crate) fn age(&self) -> u64 {
-        self.time.saturating_sub(self.made)
+        known
     }
 
     /// The clock of the node, in whole milliseconds.
-    pub(crate) fn clock_now(&self) -> u64 {
-        self.clock.saturating_add(self.age() / MICROS)
+    pub(crate) fn millis(&self) -> u64 {
+        self.clock / MICROS
     }
 
-    /// The node is made anew.
-    pub(crate) fn make(&mut self, clock: u64, first: u64) {
-        self.made = self.time;
-        self.clock = clock;
-        self.first = first;
-    }
-
-    /// A line is passed.
-    fn pass(&mut self, line: &str) -> anyhow::Result<()> {
-        self.let_pass(elapsed(line)?);
-        let mut words = Words::of(line);
-        if words.next() == Some("restart") && words.next() == Some(self.name) {
-            let clock = number(words.next().context("a clock is wanted")?)?;
-            let first = number(words.next().context("a number is wanted")?)?;
-            self.make(clock, first);
+    /// An event happened.
+    pub(crate) fn pass(&mut self, event: &Event) {
+        match event {
+            Event::Time { elapsed, clocks } => {
+                let step = clocks.as_slice().get(self.node.0).copied().unwrap_or(0);
+                self.age = self.age.saturating_add(*elapsed);
+                self.clock = self.clock.saturating_add(step);
+            }
+            Event::Restart {
+                node,
+                clock,
+                first_sequence_number,
+            } if *node == self.node => {
+                self.age = 0;
+                self.clock = clock.saturating_mul(MICROS);
+                self.first = *first_sequence_number;
+            }
+            _ => {}
         }
-        Ok(())
     }
 }

@@ -1,65 +1,100 @@
 //! The lists of the file `runs`.
 
-use crate::judged::look_through;
-use crate::known::{Known, number};
-use crate::played::{Played, Way};
+use crate::known::Known;
+use crate::made::events_of;
+use crate::run::{Run, Way};
 use crate::tally::Tally;
+use crate::watched::Watched;
 use anyhow::Context;
-use event_words::Words;
-use std::alloc::{AllocError, Global};
+use control_table::Checked;
+use event_words::{Words, decimal};
+use ixl_rules::Command;
+use replay_lines::{SimLine, read_lines};
+use replay_names::node_named;
+use simulator_event::{Event, NodeId};
+use station_failure::table_of;
+use std::alloc::Global;
 use std::fs;
 use std::io::Write;
 
 /// With which clocks and numbers each node is made anew.
 const WAYS: [Way; 2] = [Way::Zero, Way::Clock];
 
-/// How many more times the interlocking is made anew.
-const AGAIN: u8 = 2;
+/// How many times the interlocking is made anew in a run, beside one time.
+const TIMES: u8 = 3;
 
-/// What a line of `runs` asks for.
-#[derive(Clone, Copy)]
+/// The interlocking.
+const STATION: NodeId = NodeId(0);
+
+/// A list.
+#[derive(Drop)]
 struct List<'a> {
     name: &'a str,
-    layout: &'a str,
-    lines: &'a [&'a str],
-    /// What follows behind the lines.
-    rounds: &'a [&'a str],
-    /// The interlocking.
-    station: &'a str,
-    /// Nodes are made anew at the first of so many lines.
+    table: Checked,
+    events: Vec<Event>,
+    /// What follows behind the events.
+    rounds: Vec<SimLine>,
+    /// Nodes are made anew behind the first of so many events.
     step: usize,
 }
 
-/// A place of a list, and what is known there of a node.
+/// What is tried in a run: a node is made anew in a way behind so many events, and all in all so many times.
 #[derive(Clone, Copy)]
-struct Place<'a> {
-    before: &'a [&'a str],
-    behind: &'a [&'a str],
-    known: Known<'a>,
+struct Trial {
+    node: NodeId,
+    place: usize,
+    way: Way,
+    times: u8,
 }
 
 /// Makes each node anew that a line of `runs` names, in all runs of its list, and writes what happened.
 pub(crate) fn carry_out<W: Write>(rt: &HostRuntime, line: &str, out: &mut W) -> anyhow::Result<()> {
     let (files, nodes) = line.split_once(": ").context("a colon is wanted")?;
+    let list = read_list(rt, files)?;
+    list.try_nodes(rt.alloc(), nodes, out)
+}
+
+/// The list that the words of a line name.
+fn read_list<'a>(rt: &HostRuntime, files: &'a str) -> anyhow::Result<List<'a>> {
     let mut words = Words::of(files);
     let name = words.next().context("a name is wanted")?;
-    let (layout, list) = (read(rt, words.next())?, read(rt, words.next())?);
-    let rounds = read(rt, words.next())?;
-    let step = number(words.next().context("a number of lines is wanted")?)?;
-    let lines = events(rt.alloc(), list.as_str())?;
-    let rounds = events(rt.alloc(), rounds.as_str())?;
-    let list = List {
+    let table = read_table(rt, words.next())?;
+    let lines = read_lines_of(rt, &table, words.next())?;
+    let events = events_of(rt.alloc(), &table, lines)?;
+    let rounds = read_lines_of(rt, &table, words.next())?;
+    let step = step_of(words.next())?;
+    Ok(List {
         name,
-        layout: layout.as_str(),
-        lines: lines.as_slice(),
-        rounds: rounds.as_slice(),
-        station: Words::of(nodes).next().context("a node is wanted")?,
-        step: step as usize,
-    };
-    for node in Words::of(nodes) {
-        list.try_node(rt.alloc(), node, out)?;
-    }
-    Ok(())
+        table,
+        events,
+        rounds,
+        step,
+    })
+}
+
+/// The table of a file with a layout.
+fn read_table(rt: &HostRuntime, file: Option<&str>) -> anyhow::Result<Checked> {
+    let text = read(rt, file)?;
+    table_of(rt.alloc(), text.as_str())
+        .ok()
+        .context("a sound layout is wanted")
+}
+
+/// The lines of a file.
+fn read_lines_of(
+    rt: &HostRuntime,
+    table: &Checked,
+    file: Option<&str>,
+) -> anyhow::Result<Vec<SimLine>> {
+    let text = read(rt, file)?;
+    Ok(read_lines(rt.alloc(), table, text.as_str())?)
+}
+
+/// Behind every how manieth event a node is made anew.
+fn step_of(word: Option<&str>) -> anyhow::Result<usize> {
+    let word = word.context("a number of events is wanted")?;
+    let step = decimal(word).ok().context("a number is wanted")?;
+    Ok(step as usize)
 }
 
 /// The text of a file.
@@ -67,67 +102,76 @@ fn read(rt: &HostRuntime, file: Option<&str>) -> anyhow::Result<String> {
     Ok(fs::read_to_string(rt, file.context("a file is wanted")?)?)
 }
 
-/// The events of a list, without the answers that a session has.
-fn events<'a>(alloc: Global, text: &'a str) -> Result<Vec<&'a str>, AllocError> {
-    text.lines()
-        .map(|line| line.split_once(" = ").map_or(line, |(event, _)| event))
-        .collect(alloc)
-}
-
-impl<'a> List<'a> {
-    /// Makes a node anew at each place, and writes what happened.
-    fn try_node<W: Write>(&self, alloc: Global, node: &'a str, out: &mut W) -> anyhow::Result<()> {
-        let first = self
-            .lines
-            .iter()
-            .position(|line| line.starts_with("set "))
-            .context("a request is wanted")?;
-        let mut tally = Tally::default();
-        for place in (first..=self.lines.len()).step_by(self.step.max(1)) {
-            self.try_place(alloc, node, place, &mut tally)
-                .context(format_args!("{} {node} behind line {place}", self.name))?;
+impl List<'_> {
+    /// Makes each of these nodes anew, and writes what happened.
+    fn try_nodes<W: Write>(&self, alloc: Global, nodes: &str, out: &mut W) -> anyhow::Result<()> {
+        writeln!(out, "{}: {} events", self.name, self.events.len())?;
+        for word in Words::of(nodes) {
+            let node = node_named(self.table.layout(), word)
+                .ok()
+                .context("a node is wanted")?;
+            let tally = self.try_node(alloc, node)?;
+            writeln!(out, "{} {word}: {tally}", self.name)?;
         }
-        writeln!(out, "{} {node}: {tally}", self.name)?;
         Ok(())
     }
 
-    /// Makes a node anew at a place, in each way.
+    /// Makes a node anew at each place from the first request on, and tells what happened.
+    fn try_node(&self, alloc: Global, node: NodeId) -> anyhow::Result<Tally> {
+        let first = self
+            .events
+            .iter()
+            .position(|event| matches!(event, Event::Request(Command::Request(_))))
+            .context("a request is wanted")?;
+        let mut tally = Tally::default();
+        for place in (first..=self.events.len()).step_by(self.step.max(1)) {
+            for way in WAYS {
+                self.try_place(alloc, node, place, way, &mut tally)?;
+            }
+        }
+        Ok(tally)
+    }
+
+    /// Makes a node anew behind so many events, the interlocking also more often.
     fn try_place(
         &self,
         alloc: Global,
-        node: &'a str,
+        node: NodeId,
         place: usize,
+        way: Way,
         tally: &mut Tally,
     ) -> anyhow::Result<()> {
-        let (before, behind) = self.lines.split_at_checked(place).context("no such line")?;
-        let place = Place {
-            before,
-            behind,
-            known: Known::behind(node, before)?,
+        let trial = Trial {
+            node,
+            place,
+            way,
+            times: 1,
         };
-        for way in WAYS {
-            self.run(alloc, place, way, 0, tally)?;
-            if node == self.station {
-                self.run(alloc, place, way, AGAIN, tally)?;
-            }
+        self.carry_out(alloc, trial, tally)?;
+        if node == STATION {
+            let times = TIMES;
+            self.carry_out(alloc, Trial { times, ..trial }, tally)?;
         }
         Ok(())
     }
 
-    /// A run in which a node is made anew at a place, and so many times more.
-    fn run(
-        &self,
-        alloc: Global,
-        place: Place<'a>,
-        way: Way,
-        again: u8,
-        tally: &mut Tally,
-    ) -> anyhow::Result<()> {
-        let mut played = Played::begun(alloc, place.before, place.known, way, again)?;
-        played.add_all(place.behind)?;
-        played.add_all(self.rounds)?;
-        look_through(alloc, self.layout, self.station, played.text(), tally).context(format_args!(
-            "made anew by {way:?}, {again} times more"
+    /// Makes a run, and tells which one it was where it fails.
+    fn carry_out(&self, alloc: Global, trial: Trial, tally: &mut Tally) -> anyhow::Result<()> {
+        self.run(alloc, trial, tally).context(format_args!(
+            "{}: node {} behind {} events",
+            self.name, trial.node.0, trial.place
         ))
+    }
+
+    /// Plays a run to its end.
+    fn run(&self, alloc: Global, trial: Trial, tally: &mut Tally) -> anyhow::Result<()> {
+        let (before, behind) = self
+            .events
+            .split_at_checked(trial.place)
+            .context("no such event")?;
+        let station = Watched::behind(alloc, &self.table, before, tally)?;
+        let known = Known::behind(trial.node, before);
+        let mut run = Run::new(station, known, trial.way, trial.times);
+        run.play(alloc, behind, &self.rounds, tally)
     }
 }

@@ -1,21 +1,23 @@
-//! Makes each node of a station anew after the events of recorded runs, and looks at a picture after every event from
-//! there on. The file `runs` names in each line a list, its layout, its events, what follows behind them, at every how
-//! manieth line of the list a node is made anew, and behind a colon the nodes, the interlocking first. A line of a recorded
-//! session is one event; `flow 10` is some 17 events at the junction, and some 9 at the small station.
+//! Makes each node of a station anew after the events of recorded runs, and looks at the station after every event. The file
+//! `runs` names in each line a list, its layout, its lines, what follows behind them, behind every how manieth event of the
+//! list a node is made anew, and behind a colon the nodes.
 //!
-//! For each place of a list from the first request of a route on, and for each node, a new station is told the list up to
-//! there. Then the node is made anew, and the rest of the list and what follows are told. A node gets clock and number 0,
-//! or its clock and the first number that it had. The interlocking is also made anew a second and a third time. Every
-//! picture has to be safe; datagrams that were never sent so (2) and points that aren't driven so (4) may be refused from
-//! there on, and commands are refused 2 in the hold alone. A line is printed for each list and node; where something is
-//! wrong, the program fails.
+//! The events of a list are those that its lines come to on a new station, where each flow is rounds of 100 ms. For each place
+//! from the first request of a route on, and for each node, a new station is given the events up to there. Then the node is
+//! made anew, and the rest of the events follow, and behind them rounds that begin with what was sent on this station. A node
+//! gets clock and number 0, or its clock and the first number that it had. The interlocking is also made anew a second and a
+//! third time. The station has to be safe after every event. Since a node was made anew, datagrams that were never sent so
+//! (2) and points that aren't driven so (4) may be refused; commands are refused 2 in the hold alone. A line is printed for
+//! each list and node; where something is wrong, the program fails.
 #![tactic(auto)]
 
-mod judged;
 mod known;
 mod lists;
-mod played;
+mod made;
+mod rounds;
+mod run;
 mod tally;
+mod watched;
 
 use crate::lists::carry_out;
 use std::fs;

@@ -6,8 +6,9 @@ use std::fmt;
 #[derive(Default, Drop)]
 pub(crate) struct Tally {
     pub(crate) runs: u64,
-    pub(crate) pictures: u64,
-    /// Runs in which a signal was open when the node was made anew.
+    /// Events behind which the station was looked at.
+    pub(crate) events: u64,
+    /// Restarts at which a signal was open.
     pub(crate) open: u64,
     /// Runs in which a signal was open at the end.
     pub(crate) open_later: u64,
@@ -21,8 +22,8 @@ pub(crate) struct Tally {
 
 impl fmt::Display for Tally {
     fn fmt<W: fmt::Write>(&self, f: &mut fmt::Formatter<W>) -> fmt::Result {
-        let (runs, pictures) = (self.runs, self.pictures);
-        write!(f, "{runs} runs, {pictures} pictures, all safe; ")?;
+        let (runs, events) = (self.runs, self.events);
+        write!(f, "{runs} runs, {events} events, all safe; ")?;
         let (open, later) = (self.open, self.open_later);
         write!(f, "a signal open in {open} before, in {later} at the end; ")?;
         let (unsent, undriven, held) = (self.unsent, self.undriven, self.held_back);
