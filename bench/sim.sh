@@ -1,7 +1,8 @@
 #!/usr/bin/env bash
 # Measures `station sim` in long flows of the small station and of one at every limit, as LLVM builds it: an event against
-# writing and reading one PDU of 99 bytes, and ten times as long a flow; and `station replay` of a million lines. usage:
-# bench/sim.sh [ROUNDS]. The best of all rounds counts.
+# writing and reading one PDU of 99 bytes, ten times as long a flow, and the memory that each datagram takes, of which it tells
+# whether it is within its bound; and `station replay` of a million lines. usage: bench/sim.sh [ROUNDS]. The best of all rounds
+# counts. The status is 1 where the bound is exceeded.
 set -eu
 rounds=${1:-3}
 here=$(cd "$(dirname "$0")/.." && pwd)
@@ -14,6 +15,8 @@ here, rounds = sys.argv[1], int(sys.argv[2])
 station, pdu = f"{here}/crates/station/out/station", f"{here}/crates/rasta_pdu_speed/out/rasta_pdu_speed"
 SHORT, LONG = 60_000, 600_000
 ROUND = 10
+HEARTBEAT = 300  # after so many milliseconds in which it sent nothing an end sends a heartbeat, of 36 bytes
+MOST_MEMORY = 96  # bytes for each
 
 
 def used():
@@ -47,6 +50,31 @@ def tell(name, layout, nodes, room, a_pdu):
     print(f"{name}: a flow of {LONG} ms takes {long / short:.1f} times as long as one of {SHORT} ms")
 
 
+def peak(command):
+    """The most memory that a run takes, in bytes. What this process took when it began the run is counted in."""
+    run = subprocess.Popen(command, stdout=subprocess.DEVNULL)
+    _, status, usage = os.wait4(run.pid, 0)
+    run.returncode = os.waitstatus_to_exitcode(status)
+    if run.returncode or usage.ru_maxrss <= resource.getrusage(resource.RUSAGE_SELF).ru_maxrss:
+        sys.exit(f"the memory of {' '.join(command)} can't be told")
+    return usage.ru_maxrss * 1024
+
+
+def tell_memory(layout, links, room):
+    """The flows are so long that all that is sent between their ends are heartbeats, one of each end of each link at a time."""
+    flows = 10, 40
+    took = []
+    for count in flows:
+        with open(f"{room}/flows", "w") as file:
+            file.write("flow 8000\n" + f"flow {LONG}\n" * count)
+        took.append(peak([station, "sim", layout, f"{room}/flows"]))
+    sent = (flows[1] - flows[0]) * LONG // HEARTBEAT * 2 * links
+    each = (took[1] - took[0]) / sent
+    is_within = each <= MOST_MEMORY
+    print(f"the small station: {each:.1f} bytes for each of {sent} heartbeats, {'within' if is_within else 'beyond'} {MOST_MEMORY}")
+    return is_within
+
+
 def tell_replay(layout, room):
     with open(f"{room}/session", "w") as text:
         text.write("tick S1 = ok\n" * 1_000_000)
@@ -63,5 +91,7 @@ with tempfile.TemporaryDirectory() as room:
     largest = max((f"{room}/{name}" for name in os.listdir(room)), key=os.path.getsize)
     tell("the small station", f"{here}/examples/small.toml", 6, room, a_pdu)
     tell("a station at every limit", largest, 81, room, a_pdu)
+    is_within = tell_memory(f"{here}/examples/small.toml", 5, room)
     tell_replay(f"{here}/examples/small.toml", room)
+sys.exit(not is_within)
 PY

@@ -77,6 +77,7 @@ fn expect_text(
     match read(alloc, words) {
         Ok(asked) => assert!(rt; false, "{asked:?} was asked"),
         Err(error) => {
+            assert!(rt; !is_memory(&error), "there is memory");
             assert!(rt; status(&error) == ends_with);
             expect_printed(rt, alloc, &error, ends_with == 1, text)?;
         }

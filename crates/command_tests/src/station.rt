@@ -233,6 +233,7 @@ fn expect_text(
     match read(alloc, words) {
         Ok(asked) => assert!(rt; false, "{asked:?} was asked"),
         Err(error) => {
+            assert!(rt; !is_memory(&error), "there is memory");
             assert!(rt; error.exit_code() == status);
             expect_printed(rt, alloc, &error, status == 2, text)?;
         }

@@ -109,14 +109,15 @@ const WRITTEN: [(&str, &str); 19] = [
 ];
 
 /// The number of a line's fault, 0 for none; where memory is lacking the line is read once more.
-fn fault_of(alloc: Global, table: &Checked, line: &str) -> u8 {
+fn fault_of(alloc: Global, table: &Checked, line: &str) -> Result<u8, AllocError> {
     let said = match read_line(alloc, table.layout(), line) {
         Err(Fault::Memory) => read_line(alloc, table.layout(), line),
         said => said,
     };
     match said {
-        Ok(_) => 0,
-        Err(fault) => fault.number(),
+        Ok(_) => Ok(0),
+        Err(Fault::Memory) => Err(AllocError),
+        Err(fault) => Ok(fault.number()),
     }
 }
 
@@ -141,7 +142,7 @@ fn a_line_is_told_its_lowest_fault(rt: HostRuntime) -> Result<(), Fail> {
     let table = small(rt.alloc())?;
     for (line, fault) in &FAULTY {
         assert!(rt;
-            fault_of(rt.alloc(), &table, *line) == *fault,
+            fault_of(rt.alloc(), &table, *line)? == *fault,
             "at {line:?}"
         );
     }
@@ -157,7 +158,7 @@ fn lines_at_their_bounds_have_no_fault(rt: HostRuntime) -> Result<(), Fail> {
         "picture",
         "time 18446744073709551615",
     ] {
-        assert!(rt; fault_of(rt.alloc(), &table, *line) == 0, "at {line:?}");
+        assert!(rt; fault_of(rt.alloc(), &table, *line)? == 0, "at {line:?}");
     }
     Ok(())
 }

@@ -89,7 +89,7 @@ fn a_session_has_an_event_and_its_answer_in_each_line(rt: HostRuntime) -> Result
     for (text, answer) in &SESSIONS {
         match entries(rt.alloc(), &table, *text) {
             Ok(entries) => assert!(rt; Ok(entries.len()) == *answer, "at {text:?}"),
-            Err(fault) => assert!(rt; Err(place(fault)) == *answer, "at {text:?}"),
+            Err(fault) => assert!(rt; Err(place(fault)) == *answer, "{fault} at {text:?}"),
         }
     }
     Ok(())
@@ -101,7 +101,7 @@ fn the_times_of_a_script_do_not_fall(rt: HostRuntime) -> Result<(), Fail> {
     for (text, answer) in &SCRIPTS {
         match scripted(rt.alloc(), &table, *text) {
             Ok(count) => assert!(rt; Ok(count) == *answer, "at {text:?}"),
-            Err(fault) => assert!(rt; Err(place(fault)) == *answer, "at {text:?}"),
+            Err(fault) => assert!(rt; Err(place(fault)) == *answer, "{fault} at {text:?}"),
         }
     }
     Ok(())

@@ -238,6 +238,10 @@ impl Bench {
         if let Err(Refused::OutOfMemory) = reply {
             assert!(rt; self.seen() == before);
             reply = self.world.apply(event);
+            assert!(rt;
+                !matches!(reply, Err(Refused::OutOfMemory)),
+                "there is memory"
+            );
         }
         assert!(rt; self.world.safe());
         match reply {

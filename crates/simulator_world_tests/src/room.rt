@@ -7,7 +7,7 @@ use simulator_event::{Event, NodeId};
 fn steps_that_have_room_happen(rt: HostRuntime) {
     let mut bench = Bench::up(&rt, rt.alloc(), SMALL);
     if bench.world.reserve(3).is_err() {
-        assert!(rt; bench.world.reserve(3).is_ok());
+        assert!(rt; bench.world.reserve(3).is_ok(), "there is memory");
     }
     for _ in 0..3 {
         assert!(rt; bench.world.room() >= 1);
@@ -27,7 +27,7 @@ fn memory_that_no_machine_has_is_refused(rt: HostRuntime) {
 fn a_list_of_events_counts_those_that_happen(rt: HostRuntime) {
     let mut bench = Bench::new(&rt, rt.alloc(), SMALL);
     if bench.world.reserve(2).is_err() {
-        assert!(rt; bench.world.reserve(2).is_ok());
+        assert!(rt; bench.world.reserve(2).is_ok(), "there is memory");
     }
     let events = [
         Event::Tick(NodeId(0)),
