@@ -1,3 +1,4 @@
+pub mod Renewing
 pub mod RowLaws
 pub mod Leading
 pub mod Turning

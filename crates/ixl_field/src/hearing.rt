@@ -8,7 +8,7 @@ ghost use Rattle.ixl_nodes.specs.Nodes.{AreHeardBy};
 ghost use Rattle.ixl_field.specs.Field.{AllAt, FieldGoes, Rest, detector_hearing_alone};
 
 use crate::field::Field;
-use crate::rows::{PointRows, SectionRows};
+use crate::rows::PointRows;
 use ixl_client::Indications;
 use rasta_core::{Millis, Outbox, Verdict};
 
@@ -66,7 +66,9 @@ impl Field {
         ensures verdict { IfSome (slice_get self.old.detectors place) (λ detector. result ≡ (receiving now datagram.now detector.client.link).verdict) }
     {
         let verdict = self.detectors[place].hear(now, datagram, outbox, heard);
-        self.sections = SectionRows::of(&self.reporters, &self.detectors);
+        self.sections = self
+            .sections
+            .renewed(place, &self.detectors[place], &self.reporters);
         verdict
     }
 }

@@ -1,8 +1,9 @@
 //! What is known of sections and points, as rows of bits.
 
-ghost use Rattle.std.specs.Prelude.{◌≡◌, ◌==◌, ◌&&◌, ◌||◌, ◌<◌, ◌≤◌, ℕ, length, IsTrue};
+ghost use Rattle.std.specs.Prelude.{◌≡◌, ◌==◌, ◌&&◌, ◌||◌, ◌<◌, ◌≤◌, ℕ, length, slice_get, not, IsTrue, List, Some, if◌then◌else◌};
 ghost use Rattle.std.specs.FinSet.{contains};
-ghost use Rattle.ixl_field.specs.inside.Rows.{ArePointRows, AreSectionRows, told_as};
+ghost use Rattle.ixl_rules.specs.State.{DetectorState};
+ghost use Rattle.ixl_field.specs.inside.Rows.{ArePointRows, AreRowsSoFar, AreSectionRows, told_as};
 
 use bit_row::BitRow;
 use ixl_nodes::{Detector, Switch};
@@ -34,6 +35,18 @@ fn told(detectors: &[Detector], reporter: (usize, usize)) -> Option<bool>
     Some(detectors[reporter.0].occupied().contains(reporter.1))
 }
 
+/// A row that has a place exactly where a test of it passes, and else is as it was.
+fn exactly_where(row: BitRow, place: usize, passes: bool) -> BitRow
+    requires { place < 64 }
+    ensures { (other : ℕ) → contains result other ≡ (if other == place then passes else contains row other) }
+{
+    if passes {
+        row.with(place)
+    } else {
+        row.without(place)
+    }
+}
+
 impl SectionRows {
     /// What the detectors tell of the sections.
     pub(crate) fn of(reporters: &[(usize, usize)], detectors: &[Detector]) -> SectionRows
@@ -50,6 +63,39 @@ impl SectionRows {
             }
         }
         SectionRows { clear, occupied }
+    }
+
+    /// The rows where a section's detector is ready or isn't, and tells it as occupied or not.
+    fn with_told(self, section: usize, is_ready: bool, is_occupied: bool) -> SectionRows
+        requires { section < 64 }
+        ensures clear { (other : ℕ) → contains result.clear other ≡ (if other == section then (is_ready && not is_occupied) else contains self.clear other) }
+        ensures occupied { (other : ℕ) → contains result.occupied other ≡ (if other == section then (is_ready && is_occupied) else contains self.occupied other) }
+    {
+        SectionRows {
+            clear: exactly_where(self.clear, section, is_ready && !is_occupied),
+            occupied: exactly_where(self.occupied, section, is_ready && is_occupied),
+        }
+    }
+
+    /// The rows once one detector may tell something else than before: those of its own sections are made anew.
+    pub(crate) fn renewed(
+        self,
+        place: usize,
+        detector: &Detector,
+        reporters: &[(usize, usize)],
+    ) -> SectionRows
+        requires { length reporters.now ≤ 64 }
+        ensures { (detectors : List DetectorState) → slice_get detectors place ≡ Some detector.now → AreRowsSoFar place 0 reporters.now detectors self → AreSectionRows reporters.now detectors result }
+    {
+        let is_ready = detector.is_ready();
+        let told = detector.occupied();
+        let mut rows = self;
+        for (section, reporter) in reporters.iter().enumerate() {
+            if reporter.0 == place {
+                rows = rows.with_told(section, is_ready, told.contains(reporter.1));
+            }
+        }
+        rows
     }
 
     /// The rows as they are where the detectors tell the same as before, else made anew.

@@ -1,3 +1,4 @@
+pub mod AtRest
 pub mod Going
 pub mod RowLaws
 pub mod Rules

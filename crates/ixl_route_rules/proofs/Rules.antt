@@ -142,7 +142,7 @@ repeated_sum (suc done) more does part = ap (λ n. repeated n does part) (one_le
   one_less : (n k : ℕ) → suc n + k ≡ suc (n + k)
   one_less n k = omega arith
 
-repeated_still : (more : ℕ) (does : Part → Part) (part : Part) → does part ≡ part → repeated more does part ≡ part
+pub repeated_still : (more : ℕ) (does : Part → Part) (part : Part) → does part ≡ part → repeated more does part ≡ part
 repeated_still zero does part same = refl
 repeated_still (suc more) does part same = ap (repeated more does) same ∙ repeated_still more does part same
 
@@ -218,7 +218,7 @@ point_moved now number need point side old box new out due there is holds is_poi
     (λ row route kept part same. if_so _ _ part (ap (λ ixl. is_move_due old.planned.table ixl number route need) same ∙ sym (is row route kept) ∙ holds)
     ∙ ap (λ k. giving_move now k need.side part) (sym is_point) ∙ ap (λ s. giving_move now point s part) (sym is_side))) goes
 
-along_still : (does : Need → Part → Part) (needs : List Need) (part : Part) → ((need : Need) → Contains needs need → does need part ≡ part) → along does needs part ≡ part
+pub along_still : (does : Need → Part → Part) (needs : List Need) (part : Part) → ((need : Need) → Contains needs need → does need part ≡ part) → along does needs part ≡ part
 along_still does [] part each = refl
 along_still does (first ∷ others) part each = ap (along does others) (each first (0, omega arith, refl))
     ∙ along_still does others part (λ need has. each need (suc has.0, omega (arith, has.1), has.2))

@@ -10,6 +10,7 @@ use crate::ending::end_authorities;
 use crate::moving::move_points_of_routes;
 use crate::passage::free_routes_by_passage;
 use crate::proceeding::give_authority;
+use crate::resting::all_rest;
 use crate::withdrawing::withdraw_routes;
 use ixl_state::State;
 use rasta_core::{Millis, Outbox};
@@ -22,6 +23,10 @@ pub fn apply_rules(state: &mut State, now: Millis, outbox: &mut Outbox)
     ensures { Goes now 4352 (ruled now state.old.planned.table) state.old outbox.old state.new outbox.new }
 {
     withdraw_routes(state, now, outbox);
+    // The other rules leave routes that rest as they are.
+    if all_rest(state) {
+        return;
+    }
     end_authorities(state, now);
     free_routes_by_passage(state);
     free_routes_by_cancel(state, now);

@@ -8,6 +8,7 @@ mod knowing;
 mod moving;
 mod passage;
 mod proceeding;
+mod resting;
 mod withdrawing;
 
 pub use applying::apply_rules;

@@ -1,6 +1,7 @@
 -- What a look at a section leaves of a route.
 use Rattle.std.proofs.Common.{◌≡◌, ◌∙◌, ◌==◌, ◌||◌, ◌⊎◌, Bool, true, false, ℕ, ◌<◌, List, length, Option, Some, None, refl, sym, ap, subst, ⊎_elim}
 use Rattle.std.specs.Prelude.{IfSome, IsTrue}
+use Rattle.std.specs.List.{Contains}
 use Rattle.std.specs.Bool.{Decides}
 use Rattle.std.specs.Cmp.{nat_cmp_total, unsigned_tied}
 use Rattle.std.specs.FinSet.{contains, insert, contains-insert}
@@ -17,6 +18,12 @@ use Rattle.ixl_state.specs.inside.Kept.{HoldsAlike, IsPassageOf}
 
 place-below : (section : ℕ) (sections : List ℕ) (k : ℕ) → place_in section sections ≡ Some k → k < length sections
 place-below section sections k is = (position-Some (λ other. other == section) sections k 0 is).0
+
+pub place-absent : (section : ℕ) (sections : List ℕ) → (Contains sections section → ⊥) → place_in section sections ≡ None
+place-absent section sections absent = cases (place_in section sections) refl where
+  cases : (place : Option ℕ) → place_in section sections ≡ place → place ≡ None
+  cases None is = refl
+  cases (Some k) is = let found = position-Some (λ other. other == section) sections k section is in absurd (absent (k, found.0, eqb-true _ _ found.1))
 
 pub place-within : (place : Option ℕ) (section : ℕ) (sections : List ℕ) (n : ℕ) → place ≡ place_in section sections → n ≡ length sections → IfSome place (λ k. k < n)
 place-within None section sections n is long = tt

@@ -15,7 +15,7 @@ use crate::route::Route;
 use crate::state::State;
 use control_table::a_route_leads_over_its_sections_alone;
 use ixl_rules::Phase;
-use ixl_table::{set_routes_lock_sections, the_first_blocking_route_is_told_by_phase};
+use ixl_table::{Row, set_routes_lock_sections, the_first_blocking_route_is_told_by_phase};
 use layout::RouteId;
 use rasta_core::Millis;
 
@@ -24,6 +24,17 @@ fn place_in(section: usize, sections: &[usize]) -> Option<usize>
     ensures { result ≡ place_in section sections.now }
 {
     sections.iter().position(|other| *other == section)
+}
+
+/// The place of a section in the path of the route of a row. Most paths don't have it, as their rows of bits tell at once.
+fn place_on(row: &Row, section: usize) -> Option<usize>
+    ensures { result ≡ place_in section row.now.sections }
+{
+    if row.section_row().contains(section) {
+        place_in(section, row.sections())
+    } else {
+        None
+    }
 }
 
 impl State {
@@ -124,7 +135,7 @@ impl State {
         requires there { number < length self.old.planned.table.rows }
         ensures { AtRoute self.old number (λ row route. self.new ≡ route_changed (route_looks section occupied row) number self.old) }
     {
-        let place = place_in(section, self.table().rows()[number].sections());
+        let place = place_on(&self.table().rows()[number], section);
         let route = self.route(number).looks(place, occupied);
         self.keep(number, route);
     }

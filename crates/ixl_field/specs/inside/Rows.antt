@@ -1,6 +1,7 @@
 -- What is known of sections and points, as rows of bits.
-use Rattle.std.specs.Prelude.{◌≡◌, ℕ, ◌≤◌, ◌&&◌, not, Bool, List, length, Option, Some, None, slice_get, if◌then◌else◌}
+use Rattle.std.specs.Prelude.{◌≡◌, ℕ, ◌<◌, ◌≤◌, ◌⊎◌, ◌&&◌, not, Bool, List, length, Option, Some, None, slice_get, if◌then◌else◌}
 use Rattle.std.specs.FinSet.{contains}
+use Rattle.bit_row.specs.Places.{Places}
 use Rattle.sci_telegram.specs.declared.message.Side.{Side}
 use Rattle.sci_telegram.specs.declared.message.Side.TheVariants as sides
 use Rattle.ixl_client.specs.Client.{is_available, is_ready}
@@ -31,6 +32,18 @@ told_as detectors reporter = told_by reporter.1 (slice_get detectors reporter.0)
 pub record AreSectionRows (reporters : List (ℕ × ℕ)) (detectors : List DetectorState) (rows : SectionRows) : Type 0 where
   pub clear : (section : ℕ) → contains rows.clear section ≡ is_told_clear reporters detectors section
   pub occupied : (section : ℕ) → contains rows.occupied section ≡ is_told_occupied reporters detectors section
+
+-- a section isn't reported by this detector
+abbrev pub IsReportedElsewhere : ℕ → List (ℕ × ℕ) → ℕ → Type 0
+IsReportedElsewhere place reporters section = (reporter : ℕ × ℕ) → slice_get reporters section ≡ Some reporter → reporter.0 ≡ place → ⊥
+
+-- a row is right at the first so many sections, and at those that this detector doesn't report
+abbrev pub IsRightSoFar : ℕ → ℕ → List (ℕ × ℕ) → (ℕ → Bool) → Places → Type 0
+IsRightSoFar place done reporters test row = (section : ℕ) → IsReportedElsewhere place reporters section ⊎ section < done → contains row section ≡ test section
+
+pub record AreRowsSoFar (place done : ℕ) (reporters : List (ℕ × ℕ)) (detectors : List DetectorState) (rows : SectionRows) : Type 0 where
+  pub clear : IsRightSoFar place done reporters (is_told_clear reporters detectors) rows.clear
+  pub occupied : IsRightSoFar place done reporters (is_told_occupied reporters detectors) rows.occupied
 
 -- a point is available, or known at a side
 abbrev pub is_free : List SwitchState → ℕ → Bool

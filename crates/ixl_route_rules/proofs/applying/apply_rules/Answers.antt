@@ -1,9 +1,13 @@
+use Rattle.ixl_route_rules.proofs.AtRest.{rest_go}
 use Rattle.ixl_route_rules.proofs.Rules.{rules_go}
 use Rattle.ixl_route_rules.proofs.applying.apply_rules.Goals as goal
 
 pub move_points_of_routes-requires-clause-clock : goal.move_points_of_routes-requires-clause-clock
 move_points_of_routes-requires-clause-clock c =
     c.free_routes_by_cancel.ensures.clock c.args.now (c.free_routes_by_passage.ensures.clock c.args.now (c.end_authorities.ensures.clock c.args.now c.withdraw_routes.ensures.clock))
+
+pub returns-then-all_rest : goal.returns-then-all_rest
+returns-then-all_rest c = rest_go c.args.now c.args.state.now c.withdraw_routes.new.state c.args.outbox.now c.withdraw_routes.new.outbox (c.all_rest.ensures c.if-all_rest.true) c.withdraw_routes.ensures
 
 pub returns : goal.returns
 returns c = rules_go c.args.now c.args.state.now c.withdraw_routes.new.state c.end_authorities.new.state c.free_routes_by_passage.new.state c.free_routes_by_cancel.new.state c.move_points_of_routes.new.state c.give_authority.new.state

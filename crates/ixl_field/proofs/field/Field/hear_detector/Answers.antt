@@ -2,6 +2,7 @@ use Rattle.std.proofs.Common.{◌<◌, length, subst, sym}
 use Rattle.ixl_field.specs.Field.{FieldState}
 use Rattle.ixl_field.proofs.FieldGoing.{at_inside, field_in, detector_field, detector_there}
 use Rattle.ixl_field.proofs.Leading.{detector_hears}
+use Rattle.ixl_field.proofs.Renewing.{field_renewed}
 use Rattle.ixl_field.proofs.field.Field.hear_detector.Goals as goal
 
 pub returns-clause-goes : goal.returns-clause-goes
@@ -14,3 +15,8 @@ returns-clause-verdict c = detector_there _ _ c.args.place c.index_mut.result.no
 
 pub returns-clause-heard : goal.returns-clause-heard
 returns-clause-heard c = detector_there _ _ c.args.place c.index_mut.result.now _ c.self.view_is c.requires.there c.index_mut.ensures.value c.hear-verdict.ensures.heard
+
+pub invariant_of-self : goal.invariant_of-self
+invariant_of-self c = field_renewed (record { lamps = c.self.inside.lamps.items; switches = c.self.inside.switches.items; detectors = c.self.inside.detectors.items; reporters = c.self.inside.reporters.items })
+    c.args.place c.hear-verdict.new.self c.index.result.now c.deref.result.now c.self.inside.sections c.renewed-self-inside.result c.self.inside.points c.self.invariant
+    (subst (λ (f : FieldState). c.args.place < length f.detectors) (sym c.self.view_is) c.requires.there) c.deref.ensures.value c.index.ensures c.renewed-self-inside.ensures
