@@ -15,7 +15,10 @@ use simulator_event::{Event, NodeId};
 use station_failure::table_of;
 use std::alloc::Global;
 use std::fs;
-use std::io::Write;
+use std::io::{BufWriter, Write};
+
+/// The file that names what is run.
+const RUNS: &str = "runs";
 
 /// With which clocks and numbers each node is made anew.
 const WAYS: [Way; 2] = [Way::Zero, Way::Clock];
@@ -47,8 +50,21 @@ struct Trial {
     times: u8,
 }
 
+/// Carries out the file `runs`, and prints a line for each list and node. It names in each line a list, its layout, its lines,
+/// what follows behind them, behind every how manieth event of the list a node is made anew, and behind a colon the nodes.
+/// It fails where a station isn't safe, or refuses what it may not refuse.
+pub fn make_anew(rt: &HostRuntime) -> anyhow::Result<()> {
+    let runs = fs::read_to_string(rt, RUNS)?;
+    let mut out = BufWriter::new(rt.alloc(), rt.stdout())?;
+    for line in runs.as_str().lines() {
+        carry_out(rt, line, &mut out)?;
+    }
+    out.flush()?;
+    Ok(())
+}
+
 /// Makes each node anew that a line of `runs` names, in all runs of its list, and writes what happened.
-pub(crate) fn carry_out<W: Write>(rt: &HostRuntime, line: &str, out: &mut W) -> anyhow::Result<()> {
+fn carry_out<W: Write>(rt: &HostRuntime, line: &str, out: &mut W) -> anyhow::Result<()> {
     let (files, nodes) = line.split_once(": ").context("a colon is wanted")?;
     let list = read_list(rt, files)?;
     list.try_nodes(rt.alloc(), nodes, out)

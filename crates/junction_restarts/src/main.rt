@@ -1,0 +1,9 @@
+//! Makes each node of a junction anew after each 20th event of three lists: a signal comes to proceed, a stop is lost, and a
+//! train passes.
+#![tactic(auto)]
+
+use restart_runs::make_anew;
+
+fn main(rt: HostRuntime) -> anyhow::Result<()> {
+    make_anew(&rt)
+}

@@ -1,0 +1,19 @@
+//! Makes each node of a station anew after the events of recorded runs, and looks at the station after every event.
+//!
+//! The events of a list are those that its lines come to on a new station, where each flow is rounds of 100 ms. For each place
+//! from the first request of a route on, and for each node, a new station is given the events up to there. Then the node is
+//! made anew, and the rest of the events follow, and behind them rounds that begin with what was sent on this station. A node
+//! gets clock and number 0, or its clock and the first number that it had. The interlocking is also made anew a second and a
+//! third time. The station has to be safe after every event. Since a node was made anew, datagrams that were never sent so
+//! (2) and points that aren't driven so (4) may be refused; commands are refused 2 in the hold alone.
+#![tactic(auto)]
+
+mod known;
+mod lists;
+mod made;
+mod rounds;
+mod run;
+mod tally;
+mod watched;
+
+pub use lists::make_anew;
