@@ -1,7 +1,7 @@
 // An interlocking with its controllers, between which nothing is lost.
 
 use crate::passes::{read, report, tick, write};
-use anyhow::{Context, bail};
+use anyhow::{bail, ensure};
 use control_table::Checked;
 use ixl::{Command, Input as StationInput, Interlocking, Reply};
 use ixl_beginning::key_of;
@@ -139,17 +139,23 @@ impl Station {
         key_of(self.interlocking.table().checked().layout())
     }
 
+    /// What the interlocking has sent is kept.
+    fn collect(&mut self) -> Result<(), AllocError> {
+        for _ in 0..self.interlocking.outbox().len() {
+            if let Some(datagram) = self.interlocking.take_first() {
+                self.sent.push(datagram)?;
+            }
+        }
+        Ok(())
+    }
+
     /// The interlocking makes a step, and what it sends is kept.
     fn step_station(&mut self, input: StationInput<'_>) -> anyhow::Result<Reply> {
         if !self.interlocking.may_step(self.now) {
             bail!("its clock has fallen");
         }
         let reply = self.interlocking.step(self.now, input);
-        for _ in 0..self.interlocking.outbox().len() {
-            if let Some(datagram) = self.interlocking.take_first() {
-                self.sent.push(datagram)?;
-            }
-        }
+        self.collect()?;
         Ok(reply)
     }
 
@@ -215,14 +221,15 @@ impl Station {
 
     /// Of each detector the report that its first section is occupied, and then of each that it is clear again. They are
     /// numbered so that they can come next.
-    fn reports(&mut self, alloc: Global) -> anyhow::Result<Vec<Pdu>> {
+    fn reports(&mut self, alloc: Global) -> Result<Vec<Pdu>, AllocError> {
         let key = self.key();
         let mut reports = Vec::new(alloc);
         for occupancy in [Occupancy::Occupied, Occupancy::Clear] {
             for place in 0..self.detectors.len() {
                 let detector = &mut self.detectors[place];
-                let report = report_of(detector, self.now, &key, occupancy).context("no report")?;
-                reports.push(report)?;
+                if let Some(report) = report_of(detector, self.now, &key, occupancy) {
+                    reports.push(report)?;
+                }
             }
         }
         Ok(reports)
@@ -255,6 +262,10 @@ impl Station {
         self.come_up(alloc, routes)?;
         let proceeding = self.proceeding();
         let mut reports = self.reports(alloc)?;
+        ensure!(
+            reports.len() / 2 == self.detectors.len(),
+            "a report is missing"
+        );
         Ok((proceeding, self.done(&mut reports, work, times)))
     }
 }

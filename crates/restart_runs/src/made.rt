@@ -6,7 +6,7 @@ use crate::watched::Watched;
 use control_table::Checked;
 use replay_lines::SimLine;
 use simulator_event::Event;
-use std::alloc::Global;
+use std::alloc::{AllocError, Global};
 
 /// A list as far as it is made, and the station to which its events happen.
 #[derive(Drop)]
@@ -47,6 +47,12 @@ impl Made {
     /// Adds an event.
     fn add(&mut self, event: Event) -> anyhow::Result<()> {
         self.station.apply(&event, &mut self.tally)?;
+        self.keep(event)?;
+        Ok(())
+    }
+
+    /// Keeps an event.
+    fn keep(&mut self, event: Event) -> Result<(), AllocError> {
         self.events.push(event)?;
         Ok(())
     }

@@ -2,6 +2,7 @@
 
 ghost use Rattle.std.specs.Prelude.{◌<◌, length};
 
+use anyhow::Context;
 use control_table::{Checked, check};
 use layout::{Layout, Route, RouteId};
 use std::alloc::Global;
@@ -14,10 +15,10 @@ pub(crate) fn show_contents<W: Write>(
     text: &str,
     out: &mut W,
 ) -> anyhow::Result<()> {
-    let layout = Layout::read(alloc, text)?;
+    let layout = Layout::read(alloc, text).ok().context("no layout")?;
     let layout = layout.copy(alloc)?;
     show_layout(&layout, out)?;
-    let table = check(alloc, layout)?;
+    let table = check(alloc, layout).ok().context("no sound table")?;
     let table = table.copy(alloc)?;
     show_table(&table, out)?;
     Ok(())
