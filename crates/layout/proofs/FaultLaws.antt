@@ -14,7 +14,7 @@ use Rattle.layout.specs.Entries.{Plan}
 use Rattle.layout_text.specs.Written.{LayoutText}
 use Rattle.layout_text.specs.Reading.{◌>>=◌, Fails, Gives}
 use Rattle.layout_text.specs.Text.{text_of, document_of}
-use Rattle.layout.specs.Limits.{limits_of, all_within}
+use Rattle.layout_text.specs.Limits.{limits_of, all_within}
 use Rattle.layout.specs.Known.{same_name, same_port, double_fault, note_key, note_each, note_all, note_lists}
 use Rattle.layout.specs.Doubles.{same_id, sections_reported, ports_joined, ground_of, directory_of, ids_of, reported_of, joined_of, signalled_of}
 use Rattle.layout.specs.Resolving.{section_reported, plan_of, names_of, entries_of, ports_once, layout_of, layout_in}

@@ -17,7 +17,7 @@ use Rattle.layout.specs.Entries.{DetectorEntry}
 use Rattle.layout_text.specs.Written.{DetectorText, LayoutText}
 use Rattle.layout_text.specs.Reading.{each_of, all_of}
 use Rattle.layout.specs.Known.{same_name}
-use Rattle.layout.specs.Limits.{all_within}
+use Rattle.layout_text.specs.Limits.{all_within}
 use Rattle.layout.specs.Doubles.{sections_reported, reported_of}
 use Rattle.layout.specs.Resolving.{number_named, section_named, detector_entry, section_reported}
 use Rattle.layout.specs.Once.{Distinct}

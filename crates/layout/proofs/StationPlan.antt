@@ -14,7 +14,7 @@ use Rattle.layout_text.specs.Written.{DetectorText, RouteText, LayoutText}
 use Rattle.layout_text.specs.Reading.{◌>>=◌, each_of}
 use Rattle.layout.specs.Known.{same_name}
 use Rattle.layout_text.specs.Text.{text_of}
-use Rattle.layout.specs.Limits.{at_most, detector_limit, route_limit, all_within, limits_of}
+use Rattle.layout_text.specs.Limits.{at_most, detector_limit, route_limit, all_within, limits_of}
 use Rattle.layout.specs.Doubles.{sections_reported, directory_of, ids_of, reported_of}
 use Rattle.layout.specs.Resolving.{track_named, point_named, joint_named, signal_entry, detector_entry, route_entry, section_reported, plan_of, names_of, entries_of}
 use Rattle.layout.specs.Station.{HasSection, HasPort, IsNodeId, IsRouteOf, IsDetectorOf, IsWithinLimits, ReportsEachOnce, IsStation}

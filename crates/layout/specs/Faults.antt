@@ -12,7 +12,7 @@ use Rattle.layout.specs.Entries.{Plan}
 use Rattle.layout_text.specs.Written.{LayoutText}
 use Rattle.layout_text.specs.Reading.{Read, ◌>>=◌}
 use Rattle.layout_text.specs.Text.{text_of, document_of}
-use Rattle.layout.specs.Limits.{limits_of}
+use Rattle.layout_text.specs.Limits.{limits_of}
 use Rattle.layout.specs.Known.{same_name, same_port}
 use Rattle.layout.specs.Doubles.{same_id, sections_reported, ports_joined}
 use Rattle.layout.specs.Resolving.{entries_of}

@@ -1,5 +1,4 @@
 pub mod Entries
-pub mod Limits
 pub mod Known
 pub mod Doubles
 pub mod Resolving

@@ -34,7 +34,7 @@ use Rattle.layout_text.specs.Reading.{Read, ◌>>=◌, each_of, all_of}
 use Rattle.layout.specs.Known.{same_name}
 use Rattle.toml.specs.Parse.{parse_document}
 use Rattle.layout_text.specs.Text.{text_of, document_of}
-use Rattle.layout.specs.Limits.{limits_of, all_within}
+use Rattle.layout_text.specs.Limits.{limits_of, all_within}
 use Rattle.layout.specs.Doubles.{directory_of, ids_of, reported_of, joined_of, signalled_of}
 
 -- the tables, counted in reading order

@@ -6,7 +6,6 @@ mod doubles;
 mod entries;
 mod ids;
 mod known;
-mod limits;
 mod plan;
 mod port;
 mod resolving;

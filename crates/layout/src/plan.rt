@@ -4,7 +4,7 @@ ghost use Rattle.std.specs.Prelude.{◌≡◌, IfErr, IfOk};
 ghost use Rattle.layout.specs.Faults.{IsFirstFault};
 ghost use Rattle.toml.specs.View.{table_view};
 ghost use Rattle.layout_text.specs.Reading.{Gives};
-ghost use Rattle.layout.specs.Limits.{all_within};
+ghost use Rattle.layout_text.specs.Limits.{all_within};
 ghost use Rattle.layout.specs.Once.{Once};
 ghost use Rattle.layout.specs.Station.{IsStation};
 ghost use Rattle.layout.specs.Resolving.{names_of, entries_of, ports_once, layout_of, layout_in, section_reported};
@@ -13,11 +13,11 @@ ghost use Rattle.layout_text.specs.declared.fault.TableName.TheVariants as named
 use crate::detector::Detector;
 use crate::doubles::{directory, ids, joined, reported, signalled};
 use crate::entries::{Joint, Point, Route, Signal, Track};
-use crate::limits::within_limits;
 use crate::resolving::plan;
 use indexmap::IndexMap;
 use layout_text::{
-    LayoutFault, Place, Station, Step, TableName, WrittenLayout, document, each, written,
+    LayoutFault, Place, Station, Step, TableName, WrittenLayout, document, each, within_limits,
+    written,
 };
 use sci_telegram::Name;
 use std::alloc::{AllocError, Global};

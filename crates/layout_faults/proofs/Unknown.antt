@@ -10,7 +10,7 @@ use Rattle.layout.specs.Entries.{Plan}
 use Rattle.layout_text.specs.Written.{LayoutText, RouteText}
 use Rattle.layout_text.specs.Reading.{each_of, all_of}
 use Rattle.layout.specs.Known.{same_name}
-use Rattle.layout.specs.Limits.{limits_of, all_within}
+use Rattle.layout_text.specs.Limits.{limits_of, all_within}
 use Rattle.layout.specs.Doubles.{directory_of, ids_of, reported_of}
 use Rattle.layout.specs.Faults.{numbered, all_at, listed, names_written, sections_written}
 use Rattle.layout.specs.Resolving.{section_named, signal_named, route_named, side_named, exit_named, port_named, track_named, point_named, joint_named, signal_entry, detector_entry, route_entry, section_reported, plan_of, names_of, entries_of}

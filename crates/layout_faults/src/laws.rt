@@ -5,7 +5,7 @@ ghost use Rattle.layout_text.specs.declared.fault.LayoutFault.{LayoutFault};
 ghost use Rattle.layout_text.specs.declared.fault.LayoutFault.TheVariants.{UnknownName};
 ghost use Rattle.layout_text.specs.declared.fault.Place.{Place};
 ghost use Rattle.layout.specs.Entries.{Plan};
-ghost use Rattle.layout.specs.Limits.{limits_of};
+ghost use Rattle.layout_text.specs.Limits.{limits_of};
 ghost use Rattle.layout.specs.Resolving.{entries_of};
 ghost use Rattle.layout_text.specs.Written.{LayoutText};
 ghost use Rattle.layout_faults.specs.TooMany.{IsFirstTooMany, KeepsLimits};

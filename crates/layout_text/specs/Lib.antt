@@ -3,3 +3,4 @@ pub mod Values
 pub mod Written
 pub mod Text
 pub mod Messages
+pub mod Limits

@@ -3,6 +3,7 @@
 
 mod entries;
 mod fault;
+mod limits;
 mod reading;
 mod steps;
 mod text;
@@ -13,5 +14,6 @@ pub use entries::{
     WrittenRoute, WrittenSignal, WrittenTrack,
 };
 pub use fault::{LayoutFault, Place, TableName};
+pub use limits::within_limits;
 pub use steps::{Step, all, each};
 pub use text::{document, written};

@@ -2,12 +2,12 @@
 
 ghost use Rattle.std.specs.Prelude.{◌<◌};
 ghost use Rattle.layout_text.specs.Reading.{Gives};
-ghost use Rattle.layout.specs.Limits.{at_most, all_within, detector_limit, route_limit, limits_of};
+ghost use Rattle.layout_text.specs.Limits.{at_most, all_within, detector_limit, route_limit, limits_of};
 ghost use Rattle.layout_text.specs.declared.fault.TableName.TheVariants as named;
 
-use layout_text::{
-    LayoutFault, Place, Step, TableName, WrittenDetector, WrittenLayout, WrittenRoute, each,
-};
+use crate::entries::{WrittenDetector, WrittenLayout, WrittenRoute};
+use crate::fault::{LayoutFault, Place, TableName};
+use crate::steps::{Step, each};
 use std::alloc::Global;
 
 const MOST_SECTIONS: usize = 64;
@@ -46,7 +46,7 @@ fn at_most(limit: usize, table: TableName, entries: usize) -> Result<(), LayoutF
 struct DetectorLimit;
 
 impl Step for DetectorLimit {
-    ghost use Rattle.layout.specs.Limits.{detector_limit};
+    ghost use Rattle.layout_text.specs.Limits.{detector_limit};
 
     type From = WrittenDetector;
 
@@ -75,7 +75,7 @@ impl Step for DetectorLimit {
 struct RouteLimit;
 
 impl Step for RouteLimit {
-    ghost use Rattle.layout.specs.Limits.{route_limit};
+    ghost use Rattle.layout_text.specs.Limits.{route_limit};
 
     type From = WrittenRoute;
 
@@ -107,9 +107,10 @@ fn routes_within(alloc: Global, routes: &[WrittenRoute]) -> Result<(), LayoutFau
     Ok(())
 }
 
-/// Tests the limits, table after table.
+/// Tests the limits, table after table: at most 64 sections, 128 tracks, 32 points, 16 borders and 32 signals, 16 detection
+/// controllers of 1 to 16 sections, and 64 routes with paths of at most 64 elements. The fault names the first entry too many.
 #[tactic(auto, unfolding(crate::specs::Limits::limits_of))]
-pub(crate) fn within_limits(alloc: Global, written: &WrittenLayout) -> Result<(), LayoutFault>
+pub fn within_limits(alloc: Global, written: &WrittenLayout) -> Result<(), LayoutFault>
     ensures { Gives (λ u. u) result (limits_of written.now) }
 {
     at_most(MOST_SECTIONS, TableName::Section, written.sections.len())?;
