@@ -4,8 +4,7 @@ use Rattle.std.specs.Prelude.{◌==◌, ◌&&◌, Some, None, slice_get}
 use Rattle.std.proofs.lemmas.List.{drop_all}
 use Rattle.ixl_rules.specs.State.{RouteState}
 use Rattle.ixl_rules.specs.Table.{Row}
-use Rattle.ixl_rules.specs.View.{has_authority}
-use Rattle.ixl.specs.Interlocking.{authority_from}
+use Rattle.ixl_rules.specs.View.{authority_from, has_authority}
 
 drop_at : {A : Type 0} (list : List A) (place : ℕ) (one : A) → slice_get list place ≡ Some one → drop place list ≡ one ∷ drop (suc place) list
 drop_at [] place one is = cc

@@ -2,14 +2,14 @@
 use Rattle.std.proofs.Common.{◌≡◌, ℕ, ◌+◌, arith, refl, sym, ◌∙◌, subst}
 use Rattle.rasta_pdu.specs.declared.key.Key.{Key}
 use Rattle.rasta_core.specs.Outbox.{OutboxState}
-use Rattle.ixl_rules.specs.Part.{Part, begun_with, over}
+use Rattle.ixl_rules.specs.Part.{Part, begun_with, empty_outbox, over}
 use Rattle.ixl_rules.specs.Rules.{count, ruled}
 use Rattle.ixl_rules.specs.State.{IxlState}
 use Rattle.ixl_rules.specs.Step.{Commands, Datagram, Input, Reply, Tick, all_clocked, given, reply, stepped, ticked, watching}
 use Rattle.ixl_rules.specs.Table.{Table}
 use Rattle.ixl_table.specs.Table.{PlannedTable}
 use Rattle.ixl_state.specs.First.{key_of}
-use Rattle.ixl.specs.Interlocking.{HasStepped, InterlockingState, empty_outbox, step_of}
+use Rattle.ixl.specs.Interlocking.{HasStepped, InterlockingState, step_of}
 use Rattle.ixl_state.specs.State.{Goes, StateView}
 use Rattle.ixl.specs.inside.Parts.{Passes, answer_in}
 use Rattle.ixl.proofs.Chaining.{goes_then, leads_at, part_at, passed_plan}

@@ -1,22 +1,15 @@
 -- An interlocking: what it keeps, and the datagrams of its last step.
-use Rattle.std.specs.Prelude.{◌≡◌, ℕ, suc, ◌==◌, ◌&&◌, List, [], ◌∷◌, Option, Some, None, if◌then◌else◌}
+use Rattle.std.specs.Prelude.{◌≡◌, ℕ}
 use Rattle.rasta_core.specs.Outbox.{OutboxState}
-use Rattle.ixl_rules.specs.Part.{Part, begun_with}
-use Rattle.ixl_rules.specs.State.{RouteState}
+use Rattle.ixl_rules.specs.Part.{Part, begun_with, empty_outbox}
 use Rattle.ixl_rules.specs.Step.{Input, Reply, reply, stepped}
 use Rattle.ixl_rules.specs.Step as step
-use Rattle.ixl_rules.specs.Table.{Row}
-use Rattle.ixl_rules.specs.View.{has_authority}
 use Rattle.ixl_state.specs.First.{key_of}
 use Rattle.ixl_state.specs.State.{AllAt, StateView}
 use Rattle.ixl.specs.declared.input.Input.{Input as GivenInput}
 use Rattle.ixl.specs.declared.input.Input.TheVariants as inputs
 use Rattle.ixl.specs.declared.input.Reply.{Reply as GivenReply}
 use Rattle.ixl.specs.declared.input.Reply.TheVariants as replies
-
--- an empty outbox for all links that a station can have
-abbrev pub empty_outbox : OutboxState
-empty_outbox = record { datagrams = []; capacity = 5120 }
 
 pub record InterlockingState : Type 0 where
   pub state : StateView
@@ -35,13 +28,6 @@ pub record HasStepped (now : ℕ) (input : Input) (old new : InterlockingState) 
   pub outbox : new.outbox ≡ (step_of now input old.state).outbox
   pub clock : AllAt now new.state
   pub answered : answer ≡ reply now old.state.planned.table (key_of old.state.planned.plan) input old.state.ixl
-
--- the first route of the table, from this number on, that has authority from a signal
-abbrev pub authority_from : ℕ → ℕ → List Row → List RouteState → Option ℕ
-authority_from signal number [] routes = None
-authority_from signal number (row ∷ rows) [] = None
-authority_from signal number (row ∷ rows) (route ∷ routes) =
-    if row.entry == signal && has_authority route.phase then Some number else authority_from signal (suc number) rows routes
 
 -- the input and the answer of the code, as the definitions of a step have them
 abbrev pub meant : GivenInput → Input

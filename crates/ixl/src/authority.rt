@@ -1,8 +1,7 @@
 //! Which route has authority from a signal.
 
 ghost use Rattle.std.specs.Prelude.{◌≡◌, ◌==◌, ◌&&◌, ◌<◌, length};
-ghost use Rattle.ixl_rules.specs.View.{has_authority};
-ghost use Rattle.ixl.specs.Interlocking.{authority_from};
+ghost use Rattle.ixl_rules.specs.View.{authority_from, has_authority};
 ghost use Rattle.ixl_state.specs.State.{AtRoute};
 
 use ixl_state::State;

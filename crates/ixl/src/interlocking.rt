@@ -5,9 +5,10 @@ ghost use Rattle.std.specs.Option.{option_map};
 ghost use Rattle.bit_row.specs.Places.{Has};
 ghost use Rattle.layout.specs.declared.ids.RouteId.{RouteId};
 ghost use Rattle.ixl_rules.specs.Due.{HoldsSection};
-ghost use Rattle.ixl_rules.specs.View.{is_holding, is_set};
+ghost use Rattle.ixl_rules.specs.View.{authority_from, is_holding, is_set};
 ghost use Rattle.ixl_state.specs.State.{AtRoute, MayStepAll};
-ghost use Rattle.ixl.specs.Interlocking.{HasStepped, authority_from, empty_outbox, meant, told};
+ghost use Rattle.ixl_rules.specs.Part.{empty_outbox};
+ghost use Rattle.ixl.specs.Interlocking.{HasStepped, meant, told};
 ghost use Rattle.ixl_state.specs.First.{new_ixl};
 
 use crate::authority::authority;

@@ -1,6 +1,8 @@
 -- What a step has done so far at one client. Each part of a step leads from one to the next.
 use Rattle.std.specs.Prelude.{◌≡◌, ℕ, List, [], ◌∷◌, ◌++◌}
 use Rattle.rasta_core.specs.Calls.{opening, ticking, closing_by, sending_item, receiving}
+use Rattle.rasta_core.specs.Ends as ends
+use Rattle.rasta_core.specs.Ends.{Call}
 use Rattle.rasta_core.specs.Outbox.{OutboxState, posted}
 use Rattle.rasta_core.specs.Sending.{Step}
 use Rattle.rasta_core.specs.State.{LinkState}
@@ -15,6 +17,14 @@ pub data LinkCall : Type 0 where
   Closes : Reason → LinkCall
   Sends : List ℕ → LinkCall
   Receives : List ℕ → LinkCall
+
+-- as a call of an end; what is received was sent in this connection
+abbrev pub as_call : ℕ → LinkCall → Call
+as_call connection Opens = ends.Opens
+as_call connection Ticks = ends.Ticks
+as_call connection (Closes why) = ends.Closes why
+as_call connection (Sends item) = ends.Sends item
+as_call connection (Receives bytes) = ends.Receives bytes connection
 
 -- what a call does at a clock reading
 abbrev pub call_made : ℕ → LinkCall → LinkState → Step

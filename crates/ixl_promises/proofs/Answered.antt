@@ -13,13 +13,13 @@ use Rattle.ixl_client.specs.declared.stage.Stage.{Stage}
 use Rattle.ixl_client.specs.declared.stage.Stage.TheVariants as stage
 use Rattle.ixl_client_laws.specs.Saying.{items_said, items_sent}
 use Rattle.ixl_rules.specs.Due.{Known}
-use Rattle.ixl_rules.specs.Part.{Part, Point, begun_with, over}
+use Rattle.ixl_rules.specs.Part.{Part, Point, begun_with, empty_outbox, over}
 use Rattle.ixl_rules.specs.Rules.{count, ruled}
 use Rattle.ixl_rules.specs.State.{IxlState, SwitchState}
 use Rattle.ixl_rules.specs.Step.{Input, Reply, all_clocked, clocked_switch, given, stepped, watching}
 use Rattle.ixl_rules.specs.Table.{Table}
 use Rattle.ixl_state.specs.First.{Beginning, key_of, new_ixl, new_switch_of}
-use Rattle.ixl.specs.Interlocking.{HasStepped, InterlockingState, empty_outbox, step_of}
+use Rattle.ixl.specs.Interlocking.{HasStepped, InterlockingState, step_of}
 use Rattle.ixl_promises.specs.Answered.{GoesOnAnswered, IsAnswered, IsCounted, IsOfPoint, kept_by, last_told, move_items, told_in}
 use Rattle.ixl_promises.specs.Nodes.{of_node}
 use Rattle.ixl_promises.proofs.Answering.{Begins, Hears, Says, SaysNoMore, SoFar, available_completed, given_stays, ruled_stays, seen_stays, switch_none, switch_side, ticked_stays}

@@ -5,7 +5,7 @@ use Rattle.rasta_core.specs.State.{LinkState}
 use Rattle.rasta_pdu.specs.declared.pdu.Pdu.{Pdu}
 use Rattle.ixl_client.specs.Made.{AreOwn, link_after, outbox_after}
 use Rattle.ixl_client.specs.Part.{LinkCall, Closes, Opens, Receives, Sends, Ticks, call_made}
-use Rattle.ixl.specs.Interlocking.{empty_outbox}
+use Rattle.ixl_rules.specs.Part.{empty_outbox}
 use Rattle.ixl_promises.specs.Called.{datagrams_of, items_taken, taken_by}
 
 pub links_joined : (now : ℕ) (some more : List LinkCall) (link : LinkState) → link_after now (some ++ more) link ≡ link_after now more (link_after now some link)

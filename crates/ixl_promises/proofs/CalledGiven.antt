@@ -5,7 +5,7 @@ use Rattle.rasta_pdu.specs.Reading.{reading}
 use Rattle.ixl_client.specs.Part.{begun}
 use Rattle.ixl_client.specs.Step.{hearing}
 use Rattle.ixl_rules.specs.Commands.{commanded_by, obeyed, refusal, unmoved_for}
-use Rattle.ixl_rules.specs.Part.{Detector, Node, Part, Point, Signal, begun_with, detector_after, lamp_after, switch_after, with_one}
+use Rattle.ixl_rules.specs.Part.{Detector, Node, Part, Point, Signal, begun_with, detector_after, empty_outbox, lamp_after, switch_after, with_one}
 use Rattle.ixl_rules.specs.State.{DetectorState, IxlState, LampState, SwitchState, changed}
 use Rattle.ixl_rules.specs.Step.{Commands, Datagram, Input, Tick, addressed, all_clocked, client_at, detector_hearing, given, lamp_hearing, looking, looks, node_hearing, occupied_heard, side_heard, switch_hearing}
 use Rattle.ixl_rules.specs.Table.{Table}
@@ -13,7 +13,7 @@ use Rattle.ixl_rules.specs.declared.command.Command.{Command}
 use Rattle.ixl_rules.specs.declared.command.Command.TheVariants as commands
 use Rattle.ixl_rules.specs.declared.command.Refusal.{Refusal}
 use Rattle.ixl_state.specs.First.{key_of}
-use Rattle.ixl.specs.Interlocking.{InterlockingState, empty_outbox}
+use Rattle.ixl.specs.Interlocking.{InterlockingState}
 use Rattle.ixl_promises.specs.Called.{receipt_at, receipt_by}
 use Rattle.ixl_promises.proofs.CalledReceipt.{nobody, nothing_called, received, unlisted}
 use Rattle.ixl_promises.proofs.CalledSoFar.{SoFar, same_clients}

@@ -9,11 +9,10 @@ use Rattle.ixl_client.specs.Made.{ActsOn, MakesAfterReceipt, link_after, outbox_
 use Rattle.ixl_client.specs.Part as client
 use Rattle.ixl_client.specs.Part.{LinkCall, Receives, begun}
 use Rattle.ixl_client.specs.Step.{hearing}
-use Rattle.ixl_rules.specs.Part.{Node, Part, begun_with, noted}
+use Rattle.ixl_rules.specs.Part.{Node, Part, begun_with, empty_outbox, noted}
 use Rattle.ixl_rules.specs.State.{IxlState}
 use Rattle.ixl_rules.specs.Step.{client_at}
 use Rattle.ixl_rules.specs.Table.{Table}
-use Rattle.ixl.specs.Interlocking.{empty_outbox}
 use Rattle.ixl_promises.specs.Called.{datagrams_of, is_listed, items_taken, receipt_by}
 use Rattle.ixl_promises.specs.Nodes.{is_node, of_node}
 use Rattle.ixl_promises.proofs.CallLists.{own_take_nothing}

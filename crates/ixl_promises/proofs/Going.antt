@@ -7,7 +7,7 @@ use Rattle.rasta_pdu.specs.declared.key.Key.{Key}
 use Rattle.ixl_rules.specs.Commands.{commanded_by, locking_refusal, obeyed, refusal, refused_where, request_refusal, set_anew}
 use Rattle.ixl_client.specs.Part.{begun}
 use Rattle.ixl_client.specs.Step.{hearing}
-use Rattle.ixl_rules.specs.Part.{Detector, Node, Part, Point, Signal, along, at_route, begun_with, detector_after, giving_aspect, giving_move, noted, over, with_detector, with_one, with_route}
+use Rattle.ixl_rules.specs.Part.{Detector, Node, Part, Point, Signal, along, at_route, begun_with, detector_after, empty_outbox, giving_aspect, giving_move, noted, over, with_detector, with_one, with_route}
 use Rattle.ixl_rules.specs.Rules.{authorised, come_to, count, ending_authority, freed, freeing_by_cancel, freeing_by_passage, freeing_next, frees_cancelled, frees_next, is_move_due, is_proceed_due, is_proceeding, is_stop_due, is_waiting, is_withdrawn, moving, moving_one, one_freed, proceeding, repeated, ruled, stopped, withdrawing}
 use Rattle.ixl_rules.specs.State.{DetectorState, IxlState, RouteState, changed}
 use Rattle.ixl_rules.specs.Step.{Commands, Datagram, Input, Reply, Tick, Accepted, addressed, all_clocked, answer_by, detector_hearing, detector_ticking, given, lamp_hearing, lamp_ticking, looking, looking_by, looks, node_hearing, occupied_heard, reply, route_looks, stepped, switch_hearing, switch_ticking, ticked, watching}
@@ -21,7 +21,7 @@ use Rattle.ixl_rules.specs.declared.phase.Phase.{Phase}
 use Rattle.ixl_rules.specs.declared.phase.Phase.TheVariants as phase
 use Rattle.layout.specs.declared.ids.RouteId.{RouteId}
 use Rattle.ixl_state.specs.First.{key_of}
-use Rattle.ixl.specs.Interlocking.{HasStepped, InterlockingState, empty_outbox}
+use Rattle.ixl.specs.Interlocking.{HasStepped, InterlockingState}
 use Rattle.ixl_promises.specs.Onward.{GoesOn, IsOnward}
 use Rattle.ixl_promises.proofs.Onward.{OnwardAll, all_same, all_then, one_changes, onward_same, onward_then, to_free}
 use Rattle.ixl_promises.proofs.Picking.{both, either, none_is, picked, some_is, some_same}

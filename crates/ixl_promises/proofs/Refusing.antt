@@ -4,7 +4,7 @@ use Rattle.std.specs.Prelude.{Option, Some, None}
 use Rattle.std.proofs.lemmas.Bool.{false≢true}
 use Rattle.rasta_pdu.specs.Reading.{reading}
 use Rattle.ixl_rules.specs.Commands.{commanded_by, refusal}
-use Rattle.ixl_rules.specs.Part.{Node, Part, begun_with, over, with_one}
+use Rattle.ixl_rules.specs.Part.{Node, Part, begun_with, empty_outbox, over, with_one}
 use Rattle.ixl_rules.specs.Rules.{count, ruled}
 use Rattle.ixl_rules.specs.State.{IxlState}
 use Rattle.ixl_rules.specs.Step.{Accepted, Commands, Datagram, Received, Refused, Reply, Ticked, addressed, all_clocked, answer_by, given, node_hearing, reply, stepped, ticked, watching}
@@ -12,7 +12,7 @@ use Rattle.ixl_rules.specs.Table.{Table}
 use Rattle.ixl_rules.specs.declared.command.Command.{Command}
 use Rattle.ixl_rules.specs.declared.command.Refusal.{Refusal}
 use Rattle.ixl_state.specs.First.{key_of}
-use Rattle.ixl.specs.Interlocking.{HasStepped, InterlockingState, empty_outbox}
+use Rattle.ixl.specs.Interlocking.{HasStepped, InterlockingState}
 use Rattle.ixl_promises.specs.Refused.{IsWithoutInput, step_without_input}
 
 is_refused : Reply → Bool

@@ -21,13 +21,13 @@ use Rattle.ixl_client.specs.Step.{acting_all, clocked, ending, fallen, hearing, 
 use Rattle.ixl_client.specs.declared.indication.Indication.{Indication}
 use Rattle.ixl_client.specs.declared.stage.Stage.{Stage}
 use Rattle.ixl_client.specs.declared.stage.Stage.TheVariants as stage
-use Rattle.ixl_rules.specs.Part.{Detector, Node, Part, Point, Signal, along, begun_with, detector_after, lamp_after, noted, over, switch_after, with_detector, with_lamp, with_one, with_switch}
+use Rattle.ixl_rules.specs.Part.{Detector, Node, Part, Point, Signal, along, begun_with, detector_after, empty_outbox, lamp_after, noted, over, switch_after, with_detector, with_lamp, with_one, with_switch}
 use Rattle.ixl_rules.specs.Rules.{count, ruled}
 use Rattle.ixl_rules.specs.State.{DetectorState, IxlState, LampState, SwitchState, changed}
 use Rattle.ixl_rules.specs.Step.{Accepted, Datagram, Received, Refused, Reply, Ticked, addressed, all_clocked, client_at, client_of, clocked_detector, clocked_lamp, clocked_switch, detector_hearing, given, lamp_hearing, looking, looks, node_hearing, occupied_heard, reply, side_heard, stepped, switch_hearing, ticked, verdict_at, verdict_of, watching}
 use Rattle.ixl_rules.specs.Table.{Table}
 use Rattle.ixl_state.specs.First.{key_of}
-use Rattle.ixl.specs.Interlocking.{HasStepped, InterlockingState, empty_outbox}
+use Rattle.ixl.specs.Interlocking.{HasStepped, InterlockingState}
 use Rattle.ixl_promises.specs.Refused.{IsWithoutInput, MayHear, step_without_input}
 use Rattle.ixl_promises.proofs.Blind.{Alike, seen_and_ruled}
 use Rattle.ixl_promises.proofs.Clients.{detector_client, lamp_client, switch_client}

@@ -7,11 +7,11 @@ use Rattle.rasta_pdu.specs.Reading.{reading}
 use Rattle.ixl_client.specs.Client.{ClientState}
 use Rattle.ixl_client.specs.Made.{AreOwn, outbox_after}
 use Rattle.ixl_client.specs.Part.{LinkCall, Closes, Opens, Receives, Sends, Ticks, call_made}
-use Rattle.ixl_rules.specs.Part.{Detector, Node, Point, Signal}
+use Rattle.ixl_rules.specs.Part.{Detector, Node, Point, Signal, empty_outbox}
 use Rattle.ixl_rules.specs.Step.{Commands, Datagram, Input, Tick, addressed, all_clocked, client_at}
 use Rattle.ixl_rules.specs.Table.{Table}
 use Rattle.ixl_state.specs.First.{key_of}
-use Rattle.ixl.specs.Interlocking.{InterlockingState, empty_outbox, step_of}
+use Rattle.ixl.specs.Interlocking.{InterlockingState, step_of}
 use Rattle.ixl_promises.specs.Nodes.{is_node, of_node}
 
 -- ---- what calls take and hand out

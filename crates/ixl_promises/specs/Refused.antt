@@ -2,12 +2,12 @@
 use Rattle.std.specs.Prelude.{◌≡◌, ◌<◌, ℕ}
 use Rattle.rasta_core.specs.Parameters.{connection_limit}
 use Rattle.ixl_client.specs.Client.{ClientState, IsClient}
-use Rattle.ixl_rules.specs.Part.{Part, begun_with, over}
+use Rattle.ixl_rules.specs.Part.{Part, begun_with, empty_outbox, over}
 use Rattle.ixl_rules.specs.Rules.{count, ruled}
 use Rattle.ixl_rules.specs.State.{IxlState}
 use Rattle.ixl_rules.specs.Step.{all_clocked, watching}
 use Rattle.ixl_rules.specs.Table.{Table}
-use Rattle.ixl.specs.Interlocking.{InterlockingState, empty_outbox}
+use Rattle.ixl.specs.Interlocking.{InterlockingState}
 
 -- the clock, what is seen of routes with authority, and the six rules
 abbrev pub step_without_input : ℕ → Table → IxlState → Part

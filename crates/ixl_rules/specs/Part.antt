@@ -27,6 +27,10 @@ pub record Part : Type 0 where
   pub calls : List (Node × LinkCall)
   pub acted : List (Node × List ℕ)
 
+-- an empty outbox for all links that a station can have
+abbrev pub empty_outbox : OutboxState
+empty_outbox = record { datagrams = []; capacity = 5120 }
+
 -- a step that has done nothing yet
 abbrev pub begun_with : IxlState → OutboxState → Part
 begun_with ixl outbox = record { ixl = ixl; outbox = outbox; calls = []; acted = [] }

@@ -113,6 +113,13 @@ has_authority phase.Proceeding = true
 has_authority phase.Withdrawn = true
 has_authority _ = false
 
+-- the first route of the table, from this number on, that has authority from a signal
+abbrev pub authority_from : ℕ → ℕ → List Row → List RouteState → Option ℕ
+authority_from signal number [] routes = None
+authority_from signal number (row ∷ rows) [] = None
+authority_from signal number (row ∷ rows) (route ∷ routes) =
+    if row.entry == signal && has_authority route.phase then Some number else authority_from signal (suc number) rows routes
+
 -- a set route holds its sections from the first one that isn't freed on
 abbrev pub holds_section : Row → Phase → ℕ → Bool
 holds_section row phase section = is_set phase && list_any (λ other. other == section) (drop (freed_sections phase) row.sections)

@@ -23,7 +23,7 @@ use Rattle.rasta_core.specs.Steps.{all_made, made_by}
 use Rattle.rasta_core.specs.identity.Role.TheVariants as role
 use Rattle.ixl_client.specs.Client.{PeerState}
 use Rattle.ixl_client.specs.Made.{link_after}
-use Rattle.ixl_client.specs.Part.{LinkCall, Opens, Ticks, Closes, Sends, Receives, call_made}
+use Rattle.ixl_client.specs.Part.{LinkCall, Opens, Ticks, Closes, Sends, Receives, call_made, as_call}
 use Rattle.ixl_client.specs.Step.{telegram_to}
 use Rattle.ixl_rules.specs.Step.{Input, Datagram}
 use Rattle.simulator_links.specs.Flows.{begins, given_after, given_by, has_begun, taken_after, taken_by}
@@ -32,7 +32,7 @@ use Rattle.simulator_rules_seen.specs.Calls.{Items, items_after, items_by}
 use Rattle.simulator_rules_seen.specs.Facts.{AreCallsIn}
 use Rattle.simulator_rules_seen.specs.Telegrams.{item_of}
 use Rattle.simulator_far_ends.specs.At.{HasNames}
-use Rattle.simulator_far_ends.specs.Calls.{as_call, as_calls}
+use Rattle.simulator_far_ends.specs.Calls.{as_calls}
 
 made_same : (now connection : ℕ) (call : LinkCall) (link : LinkState) → (made_by now (as_call connection call) link).link ≡ (call_made now call link).link
 unfolding made_by

@@ -9,9 +9,8 @@ use Rattle.rasta_core.specs.phase.Phase.{Phase}
 use Rattle.rasta_core.specs.phase.Phase.TheVariants as phase
 use Rattle.rasta_core.specs.phase.State.{State}
 use Rattle.rasta_core.specs.phase.State.TheVariants as state
-use Rattle.simulator_links.specs.Picture as picture
-use Rattle.simulator_links.specs.Picture.{client_of}
-use Rattle.simulator_rules_seen.specs.Link.{client_at, client_in}
+use Rattle.simulator_links.specs.Picture.{client_in, client_of}
+use Rattle.simulator_rules_seen.specs.Link.{client_at}
 
 -- the state by whether the link is open, its phase and its deadline
 abbrev of_parts : Bool → Phase → ℕ → ℕ → State
@@ -52,15 +51,7 @@ settled_state now link = by (is_open link.phase) (nat_le (deadline link) now) re
       ∙ sym (parts_are now link ∙ ap (λ o. of_parts o link.phase (deadline link) now) is
       ∙ ap (λ b. if b then open_state link.phase else if nat_lt now (deadline link + quiet_time) then state.Quiet else state.Down) (not_before (deadline link) now at))
 
-same_client : (s : State) → picture.client_in s ≡ client_in s
-same_client state.Quiet = refl
-same_client state.Down = refl
-same_client state.Start = refl
-same_client state.Up = refl
-same_client state.RetransmissionRequested = refl
-same_client state.RetransmissionRunning = refl
-
 pub client_is : (now : ℕ) (link : LinkState) (end : EndState) → reading_of end.clock ≡ now → end.link ≡ settled now link → client_of end ≡ client_at now link
 client_is now link end clock link_is =
-    same_client (state_at (reading_of end.clock) end.link) ∙ ap (λ n. client_in (state_at n end.link)) clock
+    ap (λ n. client_in (state_at n end.link)) clock
     ∙ ap (λ (l : LinkState). client_in (state_at now l)) link_is ∙ ap client_in (settled_state now link)

@@ -8,7 +8,7 @@ use Rattle.std.proofs.lemmas.List.Elements.{All-contains}
 use Rattle.rasta_core.specs.Ends.{reading_of}
 use Rattle.ixl_rules.specs.State.{IxlState, RouteState}
 use Rattle.ixl_rules.specs.Table.{Row, Table}
-use Rattle.ixl_rules.specs.View.{has_authority, is_holding}
+use Rattle.ixl_rules.specs.View.{authority_from, has_authority, is_holding}
 use Rattle.ixl_rules.specs.declared.phase.Phase.{Phase}
 use Rattle.ixl_rules.specs.declared.phase.Phase.TheVariants as phase
 use Rattle.simulator_machine.specs.Invariant.{Invariant}
@@ -18,7 +18,7 @@ use Rattle.simulator_machine.specs.Table.{IsSound}
 use Rattle.simulator_rules_seen.specs.Nodes.{phase_seen, route_seen}
 use Rattle.simulator_rules_seen.specs.Rows.{machine_table, row_at}
 use Rattle.simulator_world_run.specs.State.{StationState}
-use Rattle.simulator_world_run.specs.Station.{authorities, authority_from, held_of, pair_then}
+use Rattle.simulator_world_run.specs.Station.{authorities, held_of, pair_then}
 use Rattle.simulator_world_snapshot.specs.declared.snapshot.Held.{Held}
 use Rattle.simulator_picture.specs.Seen.{AreHeldPairs, pair_of}
 use Rattle.simulator_picture.proofs.Lists.{contains_cases, contains_here, contains_none, contains_there, get_below, get_contains, get_inside, none_some, some_injective}

@@ -5,20 +5,13 @@ use Rattle.std.proofs.lemmas.Bool.Decides.{nat_tests}
 use Rattle.layout.specs.Entries.{Plan}
 use Rattle.rasta_core.specs.Ends.{Call}
 use Rattle.rasta_core.specs.Nodes.{at_link}
-use Rattle.ixl_client.specs.Part.{LinkCall, Opens, Ticks, Closes, Sends, Receives}
+use Rattle.ixl_client.specs.Part.{LinkCall, as_call}
 use Rattle.ixl_rules.specs.Part.{Node, Signal, Point, Detector}
 use Rattle.simulator_machine.specs.Lists.{is_same}
-use Rattle.simulator_far_ends.specs.Calls as far
+use Rattle.simulator_far_ends.specs.Calls.{as_calls}
 use Rattle.simulator_rules_seen.specs.Calls.{calls_at, is_node}
-use Rattle.simulator_world_links.specs.Calls.{AreOfNodes, IsNodeOf, as_call, link_at, node_call}
+use Rattle.simulator_world_links.specs.Calls.{AreOfNodes, IsNodeOf, link_at, node_call}
 use Rattle.simulator_world_run.specs.Nodes.{point_link}
-
-same_call : (connection : ℕ) (call : LinkCall) → as_call connection call ≡ far.as_call connection call
-same_call connection Opens = refl
-same_call connection Ticks = refl
-same_call connection (Closes why) = refl
-same_call connection (Sends item) = refl
-same_call connection (Receives bytes) = refl
 
 -- ---- nodes by their links
 
@@ -58,23 +51,23 @@ point_test plan place within (Detector other) is = apart (length plan.signals + 
 -- ---- the calls at one of them
 
 module _ (plan : Plan) (connection link : ℕ) (at : Node) (test : (node : Node) → IsNodeOf plan node → (link == link_at plan node) ≡ is_node at node) where
-  pub calls_here : (calls : List (Node × LinkCall)) → AreOfNodes plan calls → at_link link (map (node_call plan connection) calls) ≡ far.as_calls connection (calls_at at calls)
+  pub calls_here : (calls : List (Node × LinkCall)) → AreOfNodes plan calls → at_link link (map (node_call plan connection) calls) ≡ as_calls connection (calls_at at calls)
   unfolding calls_at
   calls_here [] are = refl
   calls_here (first ∷ others) are =
       ap (λ b. if b then as_call connection first.1 ∷ at_link link (map (node_call plan connection) others) else at_link link (map (node_call plan connection) others)) (test first.0 are.0)
       ∙ cases (is_node at first.0) (calls_here others are.1)
     where
-      cases : (b : Bool) → at_link link (map (node_call plan connection) others) ≡ far.as_calls connection (calls_at at others)
+      cases : (b : Bool) → at_link link (map (node_call plan connection) others) ≡ as_calls connection (calls_at at others)
           → (if b then as_call connection first.1 ∷ at_link link (map (node_call plan connection) others) else at_link link (map (node_call plan connection) others))
-          ≡ far.as_calls connection (if b then first.1 ∷ calls_at at others else calls_at at others)
-      cases true same = ap (λ (c : Call). c ∷ at_link link (map (node_call plan connection) others)) (same_call connection first.1) ∙ ap (λ (l : List Call). far.as_call connection first.1 ∷ l) same
+          ≡ as_calls connection (if b then first.1 ∷ calls_at at others else calls_at at others)
+      cases true same = ap (λ (l : List Call). as_call connection first.1 ∷ l) same
       cases false same = same
 
 pub signal_calls : (plan : Plan) (connection place : ℕ) → place < length plan.signals → (calls : List (Node × LinkCall)) → AreOfNodes plan calls
-    → at_link place (map (node_call plan connection) calls) ≡ far.as_calls connection (calls_at (Signal place) calls)
+    → at_link place (map (node_call plan connection) calls) ≡ as_calls connection (calls_at (Signal place) calls)
 signal_calls plan connection place within = calls_here plan connection place (Signal place) (signal_test plan place within)
 
 pub point_calls : (plan : Plan) (connection place : ℕ) → place < length plan.points → (calls : List (Node × LinkCall)) → AreOfNodes plan calls
-    → at_link (point_link plan place) (map (node_call plan connection) calls) ≡ far.as_calls connection (calls_at (Point place) calls)
+    → at_link (point_link plan place) (map (node_call plan connection) calls) ≡ as_calls connection (calls_at (Point place) calls)
 point_calls plan connection place within = calls_here plan connection (point_link plan place) (Point place) (point_test plan place within)

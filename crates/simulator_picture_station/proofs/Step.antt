@@ -20,7 +20,7 @@ use Rattle.rasta_pdu.specs.declared.key.Key.{Key}
 use Rattle.point_ctl.specs.Drive.{PointState}
 use Rattle.signal_ctl.specs.Signal.{SignalState}
 use Rattle.ixl_client.specs.Client.{ClientState, PeerState}
-use Rattle.ixl_rules.specs.Part.{Part, Point, Signal, begun_with}
+use Rattle.ixl_rules.specs.Part.{Part, Point, Signal, begun_with, empty_outbox}
 use Rattle.ixl_rules.specs.State.{IxlState, LampState, SwitchState}
 use Rattle.ixl_rules.specs.Step as ixl
 use Rattle.ixl_rules.specs.Table.{Need, Table}
@@ -50,7 +50,7 @@ use Rattle.simulator_world_run.specs.Happens.{station_stepped}
 use Rattle.simulator_world_run.specs.Links.{AreLinksOf, names_at}
 use Rattle.simulator_world_run.specs.Nodes.{key_of, links, point_link}
 use Rattle.simulator_world_run.specs.State.{ServerState, WorldState}
-use Rattle.simulator_world_run.specs.Station.{empty_outbox, station_step}
+use Rattle.simulator_world_run.specs.Station.{station_step}
 use Rattle.simulator_picture.specs.Picture.{AreFrozen, ArePointsSeen, AreSignalsSeen, IsNetworkOf, IsPictured, given_in, items_of}
 use Rattle.simulator_picture.specs.Seen.{AreHeldPairs}
 use Rattle.simulator_picture_station.proofs.Calls.{point_calls, signal_calls}

@@ -18,7 +18,8 @@ use Rattle.simulator_machine.specs.Point.{Point}
 use Rattle.simulator_machine.specs.Signal.{Signal}
 use Rattle.simulator_rules_seen.specs.Calls.{Items}
 use Rattle.simulator_rules_seen.specs.Facts.{LinkFacts, PointFacts, SignalFacts}
-use Rattle.simulator_rules_seen.specs.Link.{client_at, client_in}
+use Rattle.simulator_links.specs.Picture.{client_in}
+use Rattle.simulator_rules_seen.specs.Link.{client_at}
 use Rattle.simulator_rules_seen.specs.Nodes.{openings}
 use Rattle.simulator_rules_seen.proofs.Tests.{by_test, both_true}
 use Rattle.simulator_rules_seen.proofs.Phases.{Goes, goes_then, stays_open}

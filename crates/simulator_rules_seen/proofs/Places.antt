@@ -9,7 +9,8 @@ use Rattle.rasta_core.specs.phase.Phase.{Phase}
 use Rattle.rasta_core.specs.phase.Phase.TheVariants as phase
 use Rattle.rasta_core.specs.phase.State.TheVariants as state
 use Rattle.simulator_machine.specs.Link.{Client, Quiet, Down, Start, Up}
-use Rattle.simulator_rules_seen.specs.Link.{client_at, client_in, is_inside}
+use Rattle.simulator_links.specs.Picture.{client_in}
+use Rattle.simulator_rules_seen.specs.Link.{client_at, is_inside}
 use Rattle.simulator_rules_seen.proofs.Tests.{by_test, both_true, true_both}
 
 open_place : (P : Client → Type 0) (p : Phase) → is_open p ≡ true → (is_up p ≡ true → P Up) → (is_up p ≡ false → P Start) → P (client_in (open_state p))

@@ -7,7 +7,8 @@ use Rattle.rasta_core.specs.Parameters.{quiet_time}
 use Rattle.rasta_core.specs.State.{LinkState, confirmed_items, is_open, is_up}
 use Rattle.rasta_core.specs.phase.Phase.TheVariants as link_phase
 use Rattle.rasta_core.specs.phase.State.TheVariants as state
-use Rattle.simulator_rules_seen.specs.Link.{client_at, client_in, is_inside}
+use Rattle.simulator_links.specs.Picture.{client_in}
+use Rattle.simulator_rules_seen.specs.Link.{client_at, is_inside}
 use Rattle.simulator_rules_seen.proofs.Tests.{by_test, both_true}
 
 -- a link whose time has come isn't in a connection

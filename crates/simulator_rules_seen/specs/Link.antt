@@ -2,21 +2,12 @@
 use Rattle.std.specs.Prelude.{◌≡◌, ℕ, nat_lt, ◌&&◌, Bool, true, false, List, []}
 use Rattle.rasta_core.specs.Clock.{deadline, state_at}
 use Rattle.rasta_core.specs.State.{LinkState, is_open}
-use Rattle.rasta_core.specs.phase.State.{State}
-use Rattle.rasta_core.specs.phase.State.TheVariants as state
 use Rattle.ixl_client.specs.Client.{ClientState, IsClient, is_ready}
 use Rattle.ixl_client.specs.declared.command.Command.{Command}
-use Rattle.simulator_machine.specs.Link.{Client, Quiet, Down, Start, Up}
+use Rattle.simulator_links.specs.Picture.{client_in}
+use Rattle.simulator_machine.specs.Link.{Client}
 use Rattle.simulator_rules_seen.specs.Calls.{Items}
 use Rattle.simulator_rules_seen.specs.Telegrams.{given_by}
-
-abbrev pub client_in : State → Client
-client_in state.Quiet = Quiet
-client_in state.Down = Down
-client_in state.Start = Start
-client_in state.Up = Up
-client_in state.RetransmissionRequested = Up
-client_in state.RetransmissionRunning = Up
 
 -- where a client is by its clock
 abbrev pub client_at : ℕ → LinkState → Client

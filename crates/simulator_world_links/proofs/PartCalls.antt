@@ -2,7 +2,7 @@
 use Rattle.std.proofs.Common.{◌≡◌, ◌≢◌, ℕ, ◌<◌, List, [], ◌∷◌, map, refl, sym, ap, subst, ◌∙◌}
 use Rattle.layout.specs.Entries.{Plan}
 use Rattle.ixl_client.specs.Made.{AreOwn, link_after, outbox_after}
-use Rattle.ixl_client.specs.Part.{LinkCall, Opens, Ticks, Closes, Sends, Receives, call_made}
+use Rattle.ixl_client.specs.Part.{LinkCall, Opens, Ticks, Closes, Sends, Receives, call_made, as_call}
 use Rattle.rasta_core.specs.Each.{Each}
 use Rattle.rasta_core.specs.Ends.{Call, reading_of}
 use Rattle.rasta_core.specs.Links.{AreLinks, CallsOn, Links, LinksEvent, MayCallOn, MayRunLinks, happened_to, run_links}
@@ -20,7 +20,6 @@ use Rattle.simulator_world_links.proofs.Asking.{Tells, call_tells, clock_next, l
 use Rattle.simulator_world_links.proofs.ClientItems.{AreSendable}
 use Rattle.simulator_world_links.proofs.Controllers.{may_later}
 use Rattle.simulator_world_links.proofs.Laws.{ClientLaws, LinkLaws}
-use Rattle.simulator_world_links.specs.Calls.{as_call}
 
 -- ---- one call
 

@@ -6,7 +6,7 @@ use Rattle.layout.specs.Entries.{Plan}
 use Rattle.ixl_client.specs.Client.{ClientState}
 use Rattle.ixl_client.specs.Made.{Makes, link_after, outbox_after}
 use Rattle.ixl_client.specs.Part as client
-use Rattle.ixl_client.specs.Part.{LinkCall, Opens, Ticks, Closes, Sends, Receives, begun}
+use Rattle.ixl_client.specs.Part.{LinkCall, Opens, Ticks, Closes, Sends, Receives, begun, as_call}
 use Rattle.ixl_rules.specs.Part.{Node, Part, noted}
 use Rattle.ixl_rules.specs.State.{IxlState}
 use Rattle.rasta_core.specs.Ends.{reading_of}
@@ -21,7 +21,7 @@ use Rattle.simulator_world_links.proofs.Asking.{Tells}
 use Rattle.simulator_world_links.proofs.Laws.{ClientLaws, LinkLaws}
 use Rattle.simulator_world_links.proofs.Lists.{get_set, get_set_other, same_or_other, within_some}
 use Rattle.simulator_world_links.proofs.PartCalls.{AllMayMake, Leads, all_later, calls_lead, events_at}
-use Rattle.simulator_world_links.specs.Calls.{AreOfNodes, IsNodeOf, as_call, link_at, node_call}
+use Rattle.simulator_world_links.specs.Calls.{AreOfNodes, IsNodeOf, link_at, node_call}
 use Rattle.simulator_world_links.specs.Whole.{IsPeer, client_states}
 
 -- ---- lists of events

@@ -4,7 +4,7 @@ use Rattle.std.proofs.lemmas.Option.{same_Some}
 use Rattle.layout.specs.Entries.{Plan}
 use Rattle.ixl_client.specs.Client.{ClientState}
 use Rattle.ixl_client.specs.Step.{clocked, fallen}
-use Rattle.ixl_rules.specs.Part.{Part, begun_with}
+use Rattle.ixl_rules.specs.Part.{Part, begun_with, empty_outbox}
 use Rattle.ixl_rules.specs.State.{DetectorState, IxlState, LampState, SwitchState}
 use Rattle.ixl_rules.specs.Step as ixl
 use Rattle.ixl_rules.specs.Step.{all_clocked, clocked_detector, clocked_lamp, clocked_switch}
@@ -21,7 +21,7 @@ use Rattle.rasta_core.specs.identity.Role.TheVariants as role
 use Rattle.simulator_world_run.specs.Happens.{station_stepped}
 use Rattle.simulator_world_run.specs.Links.{AreLinksOf, IsClientAt, IsServerAt, client_links, names_at, server_ends}
 use Rattle.simulator_world_run.specs.Nodes.{key_of, links, partners}
-use Rattle.simulator_world_run.specs.Station.{Sending, empty_outbox, sending_all, station_step}
+use Rattle.simulator_world_run.specs.Station.{Sending, sending_all, station_step}
 use Rattle.simulator_world_run.specs.State.{WorldState}
 use Rattle.simulator_world_links.proofs.Asking.{Tells}
 use Rattle.simulator_world_links.proofs.Laws.{ClientLaws, LinkLaws}

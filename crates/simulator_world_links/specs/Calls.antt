@@ -1,20 +1,10 @@
 -- The calls that a client of the interlocking makes of its link, as calls of an end of it.
 use Rattle.std.specs.Prelude.{ℕ, ◌<◌, List, [], ◌∷◌, length}
 use Rattle.layout.specs.Entries.{Plan}
-use Rattle.ixl_client.specs.Part.{LinkCall, Opens, Ticks, Closes, Sends, Receives}
+use Rattle.ixl_client.specs.Part.{LinkCall, as_call}
 use Rattle.ixl_rules.specs.Part.{Node, Signal, Point, Detector}
-use Rattle.rasta_core.specs.Ends as calls
-use Rattle.rasta_core.specs.Ends.{Call}
 use Rattle.rasta_core.specs.Nodes.{NodeCall}
 use Rattle.simulator_world_run.specs.Nodes.{detector_link, point_link}
-
--- a call; what is received was sent in this connection
-abbrev pub as_call : ℕ → LinkCall → Call
-as_call connection Opens = calls.Opens
-as_call connection Ticks = calls.Ticks
-as_call connection (Closes why) = calls.Closes why
-as_call connection (Sends item) = calls.Sends item
-as_call connection (Receives bytes) = calls.Receives bytes connection
 
 -- a controller of the layout
 abbrev pub IsNodeOf : Plan → Node → Type 0

@@ -7,20 +7,16 @@ use Rattle.rasta_core.specs.Ends.{handed_out, reading_of}
 use Rattle.rasta_core.specs.Links.{OnLink, sent_on}
 use Rattle.rasta_core.specs.Outbox.{OutboxState}
 use Rattle.rasta_core.specs.identity.Role.TheVariants as role
-use Rattle.ixl_rules.specs.Part.{Part, begun_with}
+use Rattle.ixl_rules.specs.Part.{Part, begun_with, empty_outbox}
 use Rattle.ixl_rules.specs.State.{IxlState, RouteState}
 use Rattle.ixl_rules.specs.Step as ixl
-use Rattle.ixl_rules.specs.Table.{Row, Table}
-use Rattle.ixl_rules.specs.View.{has_authority, is_holding}
+use Rattle.ixl_rules.specs.Table.{Table}
+use Rattle.ixl_rules.specs.View.{authority_from, is_holding}
 use Rattle.simulator_world_snapshot.specs.declared.snapshot.Held.{Held}
 use Rattle.simulator_world_run.specs.Nodes.{key_of, partners}
 use Rattle.simulator_world_run.specs.State.{StationState}
 
 -- ---- a step
-
--- an empty outbox for all links that a station can have
-abbrev pub empty_outbox : OutboxState
-empty_outbox = record { datagrams = []; capacity = 5120 }
 
 -- what a step does at the station's clock
 abbrev pub station_step : Plan → Table → ixl.Input → StationState → Part
@@ -63,13 +59,6 @@ sending_all plan time [] sending = sending
 sending_all plan time (first ∷ others) sending = sending_all plan time others (sending_one plan time first sending)
 
 -- ---- what is held
-
--- the route that has authority from a signal, looked for from this number on in table order
-abbrev pub authority_from : ℕ → ℕ → List Row → List RouteState → Option ℕ
-authority_from signal number [] routes = None
-authority_from signal number (row ∷ rows) [] = None
-authority_from signal number (row ∷ rows) (route ∷ routes) =
-    if row.entry == signal && has_authority route.phase then Some number else authority_from signal (suc number) rows routes
 
 abbrev pub pair_then : ℕ → Option ℕ → List Held → List Held
 pair_then signal None others = others

@@ -1,20 +1,11 @@
 -- The pairs of signal and route that have authority, signal after signal.
-use Rattle.std.proofs.Common.{◌≡◌, refl, sym, ap, ◌∙◌, ℕ, suc, ◌+◌, ◌-◌, ◌<◌, if◌then◌else◌, List, [], ◌∷◌, ◌++◌, Option, Some, None, arith}
+use Rattle.std.proofs.Common.{◌≡◌, refl, sym, ap, ◌∙◌, ℕ, suc, ◌+◌, ◌-◌, ◌<◌, List, [], ◌∷◌, ◌++◌, Option, Some, None, arith}
 use Rattle.std.proofs.lemmas.List.{append_assoc}
-use Rattle.std.specs.Prelude.{◌==◌, ◌&&◌}
-use Rattle.ixl_rules.specs.State.{IxlState, RouteState}
-use Rattle.ixl_rules.specs.Table.{Row, Table}
-use Rattle.ixl_rules.specs.View.{has_authority}
-use Rattle.ixl.specs.Interlocking as ixl
-use Rattle.simulator_world_run.specs.Station.{authorities, authority_from, pair_then}
+use Rattle.ixl_rules.specs.State.{IxlState}
+use Rattle.ixl_rules.specs.Table.{Table}
+use Rattle.ixl_rules.specs.View.{authority_from}
+use Rattle.simulator_world_run.specs.Station.{authorities, pair_then}
 use Rattle.simulator_world_snapshot.specs.declared.snapshot.Held.{Held}
-
--- the interlocking and the world tell authority in the same words
-pub same_authority : (signal number : ℕ) (rows : List Row) (routes : List RouteState) → ixl.authority_from signal number rows routes ≡ authority_from signal number rows routes
-same_authority signal number [] routes = refl
-same_authority signal number (row ∷ rows) [] = refl
-same_authority signal number (row ∷ rows) (route ∷ routes) =
-    ap (λ rest. if row.entry == signal && has_authority route.phase then Some number else rest) (same_authority signal (suc number) rows routes)
 
 pair_first : (signal : ℕ) (route : Option ℕ) (others : List Held) → pair_then signal route others ≡ pair_then signal route [] ++ others
 pair_first signal None others = refl

@@ -6,10 +6,10 @@ ghost use Rattle.layout.specs.Entries.{Plan};
 ghost use Rattle.layout.specs.declared.ids.RouteId.{RouteId};
 ghost use Rattle.rasta_core.specs.Ends.{reading_of};
 ghost use Rattle.ixl.specs.Interlocking.{meant, told};
-ghost use Rattle.ixl_rules.specs.View.{is_holding, is_set};
+ghost use Rattle.ixl_rules.specs.View.{authority_from, is_holding, is_set};
 ghost use Rattle.ixl_state.specs.State.{AtRoute};
 ghost use Rattle.simulator_world_run.specs.First.{at_zero, first_world, new_ixl};
-ghost use Rattle.simulator_world_run.specs.Station.{authority_from, sending_all, station_anew};
+ghost use Rattle.simulator_world_run.specs.Station.{sending_all, station_anew};
 ghost use Rattle.simulator_world_station.specs.Station.{HasStepped};
 ghost use Rattle.simulator_world_station.specs.inside.Connections.{AreOf, sending_by};
 
