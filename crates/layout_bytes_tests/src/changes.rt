@@ -1,13 +1,7 @@
 //! Changes of a text, drawn from a seed.
 
-ghost use Rattle.std.specs.Prelude.{◌<◌};
-
-use rand_core::utils::NextWord;
-use rand_pcg::Pcg32;
+use chance::Chance;
 use std::alloc::{AllocError, Global};
-
-/// Which of the generator's streams is drawn from.
-const STREAM: u64 = 1;
 
 /// Words that layouts have, or nearly.
 const WORDS: [&str; 32] = [
@@ -45,10 +39,10 @@ const WORDS: [&str; 32] = [
     "aspect=\"slow\"",
 ];
 
-/// Numbers that come again where the seed is the same.
+/// Changes that come again where the seed is the same.
 #[derive(Drop)]
-pub(crate) struct Chance {
-    words: Pcg32,
+pub(crate) struct Changes {
+    chance: Chance,
 }
 
 /// A text in three parts: the middle one begins with a bracket, and the last one with the bracket that closes it.
@@ -68,33 +62,20 @@ fn joined(alloc: Global, parts: &[&[u8]]) -> Result<Vec<u8>, AllocError> {
     Ok(whole)
 }
 
-impl Chance {
-    pub(crate) fn seeded(seed: u64) -> Chance {
-        Chance {
-            words: Pcg32::new(seed, STREAM),
+impl Changes {
+    pub(crate) fn seeded(seed: u64) -> Changes {
+        Changes {
+            chance: Chance::seeded(seed),
         }
-    }
-
-    /// A number below this one, and 0 below 0.
-    fn below(&mut self, limit: usize) -> usize
-        ensures { 0 < limit → result < limit }
-    {
-        let word = self.words.next_word() as usize;
-        word.checked_rem(limit).unwrap_or(0)
-    }
-
-    fn byte(&mut self) -> u8 {
-        let [byte, _, _, _] = self.words.next_word().to_le_bytes();
-        byte
     }
 
     /// A text with up to two changes. Some bytes are left out, and a word, or bytes from elsewhere, stand in their place; or a
     /// list or an entry is emptied, or stands twice.
     pub(crate) fn changed(&mut self, alloc: Global, text: &str) -> Result<Vec<u8>, AllocError> {
         let mut bytes = Vec::from_slice(alloc, text.as_bytes())?;
-        let changes = 1 + self.below(2);
+        let changes = 1 + self.chance.below(2);
         for _ in 0..changes {
-            bytes = match self.below(8) {
+            bytes = match self.chance.below(8) {
                 0 => self.with_part_emptied(alloc, &bytes)?,
                 1 => self.with_part_twice(alloc, &bytes)?,
                 _ => self.with_change(alloc, &bytes)?,
@@ -122,7 +103,7 @@ impl Chance {
 
     /// Some list or entry of a text that has no further one in it, as a rule.
     fn part<'a>(&mut self, bytes: &'a [u8]) -> Part<'a> {
-        let (open, close) = if self.below(2) == 0 {
+        let (open, close) = if self.chance.below(2) == 0 {
             (b'[', b']')
         } else {
             (b'{', b'}')
@@ -137,14 +118,14 @@ impl Chance {
 
     fn with_change(&mut self, alloc: Global, bytes: &[u8]) -> Result<Vec<u8>, AllocError> {
         let (front, rest) = self.parted(bytes);
-        let left_out = self.below(12).min(rest.len());
+        let left_out = self.chance.place(12).min(rest.len());
         let (_, back) = rest.split_at(left_out);
         let mut changed = Vec::from_slice(alloc, front)?;
-        match self.below(8) {
+        match self.chance.below(8) {
             0 => changed.extend_from_slice(self.piece(bytes))?,
-            1 => changed.push(self.byte())?,
+            1 => changed.push(self.chance.byte())?,
             2 | 3 => {}
-            _ => changed.extend_from_slice(WORDS[self.below(32) % 32].as_bytes())?,
+            _ => changed.extend_from_slice(WORDS[self.chance.place(32) % 32].as_bytes())?,
         }
         changed.extend_from_slice(back)?;
         Ok(changed)
@@ -152,14 +133,14 @@ impl Chance {
 
     /// Bytes in two parts.
     fn parted<'a>(&mut self, bytes: &'a [u8]) -> (&'a [u8], &'a [u8]) {
-        let place = self.below(bytes.len()).min(bytes.len());
+        let place = self.chance.place(bytes.len()).min(bytes.len());
         bytes.split_at(place)
     }
 
     /// Some bytes of a text.
     fn piece<'a>(&mut self, bytes: &'a [u8]) -> &'a [u8] {
         let (_, rest) = self.parted(bytes);
-        let length = self.below(80).min(rest.len());
+        let length = self.chance.place(80).min(rest.len());
         let (piece, _) = rest.split_at(length);
         piece
     }

@@ -1,6 +1,6 @@
 //! Texts that were changed are read.
 
-use crate::changes::Chance;
+use crate::changes::Changes;
 use control_table::{TableFault, check};
 use layout::{Layout, LayoutFault};
 use std::alloc::Global;
@@ -71,10 +71,10 @@ fn outcome(rt: &impl Abort, alloc: Global, bytes: &[u8]) -> usize {
 #[test]
 fn changed_texts_are_layouts_or_have_a_fault(rt: HostRuntime) {
     let alloc = rt.alloc();
-    let mut chance = Chance::seeded(3);
+    let mut changes = Changes::seeded(3);
     let mut counts = [0u32; 10];
     for _ in 0..CHANGES {
-        let text = chance.changed(alloc, SMALL).expect(&rt, "there is memory");
+        let text = changes.changed(alloc, SMALL).expect(&rt, "there is memory");
         let place = outcome(&rt, alloc, &text);
         if let Some(count) = counts.as_mut_slice().get_mut(place) {
             *count = count.saturating_add(1);

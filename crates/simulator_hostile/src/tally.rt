@@ -1,6 +1,6 @@
 //! How often what happened in the runs of a station.
 
-use crate::station_events::Drawn;
+use crate::events::Drawn;
 
 /// How often what happened.
 #[derive(Clone, Copy, Debug)]

@@ -3,7 +3,7 @@
 #![tactic(auto)]
 
 #[cfg(test)]
-mod chance;
+mod changes;
 #[cfg(test)]
 mod digests;
 #[cfg(test)]

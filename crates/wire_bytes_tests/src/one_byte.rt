@@ -1,6 +1,6 @@
 //! The beginnings of a PDU, and all changes of one byte of it.
 
-use crate::chance::copied;
+use crate::changes::copied;
 use rasta_pdu::{Body, Item, Items, Key, Pdu, PduFault, read, write};
 use sci_telegram::{Aspect, Message, Name, SignalMessage, Telegram};
 use std::test::Fail;

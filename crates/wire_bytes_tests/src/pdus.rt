@@ -1,7 +1,8 @@
 //! PDUs that are changed and given their length and code anew.
 
-use crate::chance::{Bytes, Chance, Tally, copied};
+use crate::changes::{Bytes, Tally, change, copied};
 use crate::one_byte::{KEY, data, pdu, proceed};
+use chance::Chance;
 use rasta_pdu::{Body, Datagram, Item, Opening, PduFault, read, write};
 use std::process::Abort;
 use std::test::Fail;
@@ -76,10 +77,10 @@ fn what_is_read_of_changed_pdus_is_written_as_they_came(rt: HostRuntime) -> Resu
     let mut chance = Chance::seeded(1);
     let mut tally = Tally::new();
     for _ in 0..CHANGES {
-        let sample = &samples[chance.below(10) % 10];
+        let sample = &samples[chance.place(10) % 10];
         let (text, _) = sample.split_at(sample.len().saturating_sub(8));
         let mut bytes = copied(text);
-        chance.change(&mut bytes);
+        change(&mut chance, &mut bytes);
         let bytes = sealed(&mut chance, bytes);
         let fault = try_bytes(&rt, &bytes);
         tally.count(fault.map_or(0, |fault| fault as usize));

@@ -1,7 +1,8 @@
 //! Telegrams that are changed.
 
-use crate::chance::{Chance, Tally, copied};
+use crate::changes::{Tally, change, copied};
 use crate::one_byte::proceed;
+use chance::Chance;
 use rasta_pdu::Item;
 use sci_telegram::{
     Agreement, Aspect, DetectionMessage, Initialisation, Message, Occupancy, PointMessage,
@@ -53,8 +54,8 @@ fn what_is_read_of_changed_telegrams_is_written_as_they_came(rt: HostRuntime) ->
     let mut chance = Chance::seeded(2);
     let mut tally = Tally::new();
     for _ in 0..CHANGES {
-        let mut bytes = copied(samples[chance.below(11) % 11].bytes());
-        chance.change(&mut bytes);
+        let mut bytes = copied(samples[chance.place(11) % 11].bytes());
+        change(&mut chance, &mut bytes);
         let fault = try_bytes(&rt, &bytes);
         tally.count(fault.map_or(0, |fault| fault as usize));
     }

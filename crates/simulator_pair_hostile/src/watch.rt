@@ -1,6 +1,6 @@
 //! The sentences of the theorem, evaluated on what a pair stores.
 
-use crate::pair_events::{TURN, partner};
+use crate::events::{TURN, partner};
 use simulator_pair::{
     Aspect, Item, Pair, PairAnswer, PairEvent, PairReply, Refused, Role, SendFault, Sent,
 };

@@ -1,7 +1,7 @@
 //! Hostile runs, each from its own seed.
 
-use crate::pair_events::Hostile;
-use crate::pair_watch::{Tally, Watch};
+use crate::events::Hostile;
+use crate::watch::{Tally, Watch};
 use simulator_pair::Pair;
 use std::alloc::Global;
 use std::process::Abort;

@@ -2,8 +2,8 @@
 
 ghost use Rattle.std.specs.Prelude.{◌<◌};
 
-use crate::chance::Chance;
 use crate::trains::Train;
+use chance::Chance;
 use control_table::Checked;
 use ixl_rules::Command;
 use layout::{Layout, PointId, RouteId, SectionId};

@@ -1,6 +1,6 @@
 //! Events as a hostile world would have them.
 
-use crate::chance::Chance;
+use chance::Chance;
 use simulator_pair::{Bytes, Item, Pair, PairEvent, Reason, Role, Sent};
 
 /// How many microseconds a millisecond has.

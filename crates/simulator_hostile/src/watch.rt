@@ -1,7 +1,7 @@
 //! What is seen of a station after each event, and what is asked of it.
 
+use crate::events::is_open;
 use crate::promise::{are_alike, are_lately_heard, aspect_of, is_kept};
-use crate::station_events::is_open;
 use crate::tally::{Tally, once_more, once_more_at};
 use ixl_rules::Command;
 use layout::RouteId;

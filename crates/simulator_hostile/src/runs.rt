@@ -1,9 +1,9 @@
 //! Hostile runs of whole stations, each from its own seed.
 
+use crate::events::{Hostile, node_count};
 use crate::layouts::{JUNCTION, LOOP, SMALL};
-use crate::station_events::{Hostile, node_count};
-use crate::station_watch::Watch;
 use crate::tally::{Tally, once_more};
+use crate::watch::Watch;
 use control_table::check;
 use layout::Layout;
 use simulator_world::World;
