@@ -28,7 +28,7 @@ def tried(crate, files, node):
 def main():
     every = int(sys.argv[1]) if len(sys.argv) > 1 else 1
     jobs = []
-    for crate in ("station_restarts", "passage_restarts", "junction_restarts"):
+    for crate in ("station_restarts", "junction_restarts", "junction_passage_restarts"):
         with open(f"{CRATES}/{crate}/data/runs") as runs:
             for line in runs.read().splitlines():
                 files, nodes = line.split(": ")

@@ -1,5 +1,4 @@
-//! Makes each node of a junction anew after each 20th event of three lists: a signal comes to proceed, a stop is lost, and a
-//! train passes.
+//! Makes each node of a junction anew after each 20th event of two lists: a signal comes to proceed, and a stop is lost.
 #![tactic(auto)]
 
 use restart_runs::make_anew;

@@ -1,4 +1,4 @@
-//! Makes each node of the small station anew after every event of a list in which a train passes.
+//! Makes each node of a junction anew after each 20th event of a list in which a train passes.
 #![tactic(auto)]
 
 use restart_runs::make_anew;
