@@ -67,7 +67,7 @@ def table(notes):
     for crate, spent in sorted(times.items()):
         print(f"| `{crate}` |", " | ".join(f"{spent[kind]:.0f}" for kind in kinds), f"| {memory[crate] / 1e6:.1f} GB |")
     sums = [sum(spent[kind] for spent in times.values()) for kind in kinds]
-    print("| all |", " | ".join(f"{it:.0f}" for it in sums), f"| {max(memory.values()) / 1e6:.1f} GB |")
+    print("| all |", " | ".join(f"{it:.0f}" for it in sums), f"| {max(memory.values(), default=0) / 1e6:.1f} GB |")
     print(f"\n{sum(sums) / 60:.0f} minutes of processor time", flush=True)
 
 
