@@ -1,7 +1,7 @@
 //! Numbers drawn from a seed, for tests.
 #![tactic(auto)]
 
-ghost use Rattle.std.specs.Prelude.{◌≡◌, ◌%◌, ◌<◌, ◌==◌};
+ghost use Rattle.std.specs.Prelude.{◌≡◌, ◌%◌, ◌<◌, ◌==◌, IsTrue};
 ghost use Rattle.rand_pcg.specs.Lcg.{increment_of, started};
 ghost use Rattle.rand_pcg.specs.Pcg.{multiplier_64, pcg32};
 
@@ -74,9 +74,10 @@ impl Chance {
         (self.word() as usize).checked_rem(length).unwrap_or(0)
     }
 
-    /// Whether a number below this one is 0: true once in so many times.
+    /// Whether a number below this one is 0: true once in so many times, and always where it is 0.
     pub fn once_in(&mut self, times: u32) -> bool
         ensures value { 0 < times → result ≡ ((pcg32 self.old).0 % times == 0) }
+        ensures zero { times ≡ 0 → IsTrue result }
         ensures next { self.new ≡ (pcg32 self.old).1 }
     {
         self.below(times) == 0
