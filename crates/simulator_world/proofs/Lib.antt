@@ -2,8 +2,10 @@ mod Below
 mod Coming
 mod Few
 mod Going
+mod Lines
 mod Memory
 mod Reading
 mod Runs
+mod Whole
 mod Within
 mod Promise

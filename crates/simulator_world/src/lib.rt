@@ -6,11 +6,13 @@ mod applying;
 mod happening;
 mod nodes;
 mod parts;
+mod picture;
 mod restarting;
 mod seeing;
 mod stepping;
 mod testing;
 mod timing;
+mod words;
 mod world;
 
 pub use world::World;

@@ -136,6 +136,14 @@ impl Bench {
         bench
     }
 
+    /// The text of the picture.
+    pub(crate) fn picture(&self, rt: &impl Abort) -> String {
+        match self.world.picture(self.alloc) {
+            Ok(text) => text,
+            Err(_) => self.world.picture(self.alloc).expect(rt, "there is memory"),
+        }
+    }
+
     fn come_up(&mut self, rt: &impl Abort) {
         self.pass(rt, HOLD);
         self.flow(rt, 12);

@@ -1,9 +1,31 @@
 //! What is seen of a station whose signals show more than stop, and what would be unsafe there.
 
-use crate::bench::Bench;
+use crate::bench::{Bench, SMALL};
 use layout::{RouteId, SignalId};
 use sci_telegram::{Aspect, Position, Side};
 use simulator_world_snapshot::{Held, Shown, Stands};
+
+/// The picture of a station to which nothing has happened yet.
+const FIRST: &str = "time 0
+signal S1 stop -
+signal S3 stop -
+signal S4 stop -
+point P1 left
+section GA clear
+section GP clear
+section G1 clear
+section G2 clear
+route R1 free
+route R2 free
+route R3 free
+safe";
+
+#[test]
+fn a_picture_has_a_line_for_each_thing_in_the_order_of_the_layout(rt: HostRuntime) {
+    let bench = Bench::new(&rt, rt.alloc(), SMALL);
+    let text = bench.picture(&rt);
+    assert!(rt; text.as_str() == FIRST);
+}
 
 #[test]
 fn a_signal_shows_the_aspect_of_its_route_over_the_point_at_the_right(rt: HostRuntime) {

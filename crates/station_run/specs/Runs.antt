@@ -5,6 +5,7 @@ use Rattle.layout.specs.Entries.{Plan}
 use Rattle.replay_lines.specs.Text.{FailsAt}
 use Rattle.replay_session.specs.Script.{script}
 use Rattle.simulator_event.specs.declared.event.Event.{Event}
+use Rattle.simulator_world.specs.World.{IsPicture}
 use Rattle.station_check.specs.Report.{IsSound}
 use Rattle.station_drive.specs.Doings.{Stops}
 use Rattle.station_drive.specs.Drives.{Driven}
@@ -17,7 +18,7 @@ use Rattle.station_run.specs.Worlds.{driven_worlds}
 use Rattle.station_run.specs.declared.failure.RunFailure.{RunFailure}
 use Rattle.station_run.specs.declared.failure.RunFailure.TheVariants.{Failed, CannotRun}
 use Rattle.station_sim.specs.Simulated.{AllSafe}
-use Rattle.station_sim.specs.World.{IsFirst, IsPicture, Played}
+use Rattle.station_sim.specs.World.{IsFirst, Played}
 
 -- ---- the texts
 
@@ -52,7 +53,7 @@ pub record IsRun (first : Played) (lines : List (ℕ × Event)) (for_ms : ℕ) (
   pub last : Played
   pub driven : Driven driven_worlds first.planned.plan lines for_ms first last readings_old readings_new calls_old calls_new text_old text_new
   pub picture : List ℕ
-  pub picture_is : IsPicture last picture
+  pub picture_is : IsPicture last.planned last.run picture
   pub written : Appends out_old out_new (picture ++ codes "\n")
 
 -- The station didn't run to its end.

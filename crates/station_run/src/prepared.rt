@@ -3,12 +3,12 @@
 ghost use Rattle.std.specs.Prelude.{◌≡◌, ◌≤◌, ◌++◌, List, ℕ, codes, IfErr, IfOk, IsErr, OnErr, OnOk, length};
 ghost use Rattle.std.specs.Io.KnownBytes.{Appends};
 ghost use Rattle.replay_names.specs.Names.{node_names};
+ghost use Rattle.simulator_world.specs.World.{IsPicture};
 ghost use Rattle.station_run.specs.Failures.{Leaves, Tells};
 ghost use Rattle.station_run.specs.Inside.{IsLate};
 ghost use Rattle.station_run.specs.Runs.{CanRun, EndsEarly, ExplainsTexts, IsPrepared, IsRun};
 ghost use Rattle.station_run.specs.Worlds.{played};
 ghost use Rattle.station_run.specs.declared.failure.RunFailure.{RunFailure as Why};
-ghost use Rattle.station_sim.specs.World.{IsPicture};
 
 use crate::failure::{RunFailure, tell_run};
 use crate::running::Running;
@@ -18,7 +18,7 @@ use simulator_event::Event;
 use simulator_world::World;
 use station_drive::{Clock, Datagrams, Station, drive};
 use station_failure::{Failure, table_of};
-use station_sim::{picture_text, played_worlds_are_safe};
+use station_sim::played_worlds_are_safe;
 use std::alloc::Global;
 use std::io::Write;
 
@@ -111,10 +111,10 @@ fn go<N: Datagrams, C: Clock, W: Write, O: Write>(
 
 /// Writes the picture of a station.
 fn write_picture<O: Write>(alloc: Global, station: &Running, out: &mut O) -> Result<(), Failure>
-    ensures done { OnOk result ((picture : List ℕ) × IsPicture (played station.now.0) picture × Appends (O.contents out.old) (O.contents out.new) (picture ++ codes "\n")) }
+    ensures done { OnOk result ((picture : List ℕ) × IsPicture station.now.0.planned station.now.0.run picture × Appends (O.contents out.old) (O.contents out.new) (picture ++ codes "\n")) }
     ensures failed { IfErr result (IsLate out.old out.new) }
 {
-    let picture = picture_text(alloc, &station.0)?;
+    let picture = station.0.picture(alloc)?;
     out.writeln(picture.as_str())?;
     out.flush()?;
     Ok(())

@@ -1,4 +1,2 @@
 pub mod Applying
-pub mod Lines
 pub mod Safety
-pub mod Whole

@@ -13,9 +13,9 @@ use Rattle.simulator_event.specs.declared.event.Event.{Event}
 use Rattle.simulator_event.specs.declared.event.NodeId.{NodeId}
 use Rattle.simulator_event.specs.declared.refused.Refused.{Refused}
 use Rattle.simulator_event.specs.declared.reply.Answer.{Answer}
+use Rattle.simulator_world.specs.World.{IsPicture}
 use Rattle.simulator_world_run.specs.First.{first_world}
 use Rattle.simulator_world_run.specs.Happens.{answered, happens}
-use Rattle.simulator_world_run.specs.Picture.{picture_text}
 use Rattle.simulator_world_run.specs.Refusals.{driven_at, refusal}
 use Rattle.simulator_world_run.specs.Seen.{IsSnapshotOf}
 use Rattle.simulator_world_run.specs.State.{WorldState}
@@ -83,13 +83,6 @@ driven world point = if nat_lt point.0 (length world.planned.plan.points) then d
 abbrev pub IsSafe : Played → Type 0
 IsSafe world = (seen : Snapshot) → IsSnapshotOf world.planned.table world.run seen → Safe world.planned.plan seen
 
--- A text is the picture, whose last word is `safe`, and what is seen is safe.
-pub record IsPicture (world : Played) (text : List ℕ) : Type 0 where
-  pub text_is : text ≡ picture_text world.planned.plan world.planned.table true world.run
-  pub seen : Snapshot
-  pub seen_is : IsSnapshotOf world.planned.table world.run seen
-  pub safe : Safe world.planned.plan seen
-
 abbrev pub sight_of_worlds : Sight Played
 sight_of_worlds = record {
   IsFirst = IsFirst;
@@ -99,7 +92,7 @@ sight_of_worlds = record {
   sent = λ world. length world.run.sent;
   arrival = λ world place. arriving (slice_get world.run.sent place);
   driven = driven;
-  IsText = IsPicture;
+  IsText = λ world. IsPicture world.planned world.run;
 }
 
 -- ---- events one after another

@@ -3,12 +3,9 @@
 #![tactic(auto)]
 
 mod laws;
-mod picture;
 mod sim;
 mod simulated;
-mod words;
 
 pub use laws::{played_worlds_are_safe, worlds_are_safe};
-pub use picture::picture_text;
 pub use sim::{replay_text, sim_text};
 pub use simulated::{Simulated, receiver};

@@ -5,7 +5,6 @@ ghost use Rattle.std.specs.Option.{option_map};
 ghost use Rattle.simulator_world_bag.specs.declared.sent_on.SentOn.{SentOn};
 ghost use Rattle.station_sim.specs.World.{receiver};
 
-use crate::picture::picture_text;
 use control_table::Checked;
 use layout::{Layout, PointId};
 use rasta_core::Role;
@@ -73,6 +72,6 @@ impl Playable for Simulated {
     }
 
     fn picture_text(&self, alloc: Global) -> Result<String, AllocError> {
-        picture_text(alloc, &self.0)
+        self.0.picture(alloc)
     }
 }

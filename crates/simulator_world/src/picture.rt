@@ -1,37 +1,40 @@
-//! The text of a picture.
+//! The text of a world's picture.
 
 ghost use Rattle.std.specs.Prelude.{◌≡◌, ◌++◌, IfOk, OnOk, length, string_bytes};
 ghost use Rattle.simulator_world_run.specs.Picture.{point_lines, route_lines, section_lines, signal_lines};
 ghost use Rattle.simulator_world_run.specs.Station.{held_of};
-ghost use Rattle.station_sim.specs.World.{IsPicture};
-ghost use Rattle.station_sim.specs.inside.Lines.{point_line, route_line, section_line, signal_line};
+ghost use Rattle.simulator_world.specs.World.{IsPicture};
+ghost use Rattle.simulator_world.specs.inside.Lines.{point_line, route_line, section_line, signal_line};
 
 use crate::words::{
     aspect_word, authority, driven_words, occupancy_word, position_word, safe_word, set_word,
 };
+use crate::world::World;
 use layout::{PointId, RouteId, SectionId, SignalId};
 use sci_telegram::{Aspect, Name, Occupancy, Position, Side};
-use simulator_world::World;
 use std::alloc::{AllocError, Global};
 
 /// How many microseconds a millisecond has.
 const MICROS: u64 = 1000;
 
-/// The text of the picture of a world: true time in whole milliseconds, a line for each signal, point, section and route in
-/// the order of the layout, and last whether what is seen is safe.
-pub fn picture_text(alloc: Global, world: &World) -> Result<String, AllocError>
-    ensures { IfOk result (λ text. IsPicture (record { planned = world.now.planned; run = world.now.run }) (string_bytes text)) }
-{
-    let is_safe = world.safe();
-    let millis = world.time() / MICROS;
-    let mut text = format!(in alloc; "time {millis}")?;
-    push_signals(&mut text, world)?;
-    push_points(&mut text, world)?;
-    push_sections(&mut text, world)?;
-    push_routes(&mut text, world)?;
-    let last = safe_word(is_safe);
-    write!(text, "\n{last}")?;
-    Ok(text)
+impl World {
+    /// The text of the picture: true time in whole milliseconds, a line for each signal, point, section and route in the
+    /// order of the layout, and last whether what is seen is safe. It is, so the last line is `safe`. The last line has no
+    /// line feed behind it.
+    pub fn picture(&self, alloc: Global) -> Result<String, AllocError>
+        ensures { IfOk result (λ text. IsPicture self.now.planned self.now.run (string_bytes text)) }
+    {
+        let is_safe = self.safe();
+        let millis = self.time() / MICROS;
+        let mut text = format!(in alloc; "time {millis}")?;
+        push_signals(&mut text, self)?;
+        push_points(&mut text, self)?;
+        push_sections(&mut text, self)?;
+        push_routes(&mut text, self)?;
+        let last = safe_word(is_safe);
+        write!(text, "\n{last}")?;
+        Ok(text)
+    }
 }
 
 /// Adds the lines of the signals.

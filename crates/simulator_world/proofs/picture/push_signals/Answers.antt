@@ -4,9 +4,9 @@ use Rattle.layout.specs.declared.entries.Signal.{Signal}
 use Rattle.simulator_world_snapshot.specs.declared.snapshot.Held.{Held}
 use Rattle.simulator_world_run.specs.Picture.{authority_text}
 use Rattle.simulator_world_run.specs.Station.{held_of}
-use Rattle.station_sim.specs.inside.Lines.{signal_line}
-use Rattle.station_sim.proofs.Lines.{signals-add, signals-all}
-use Rattle.station_sim.proofs.picture.push_signals.Goals as goal
+use Rattle.simulator_world.specs.inside.Lines.{signal_line}
+use Rattle.simulator_world.proofs.Lines.{signals-add, signals-all}
+use Rattle.simulator_world.proofs.picture.push_signals.Goals as goal
 
 pub loop-place-preserved : goal.loop-place-preserved
 loop-place-preserved c =

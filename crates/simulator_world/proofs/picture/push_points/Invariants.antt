@@ -1,6 +1,6 @@
 use Rattle.std.proofs.Common.{◌≡◌, ◌++◌, drop, string_bytes}
 use Rattle.simulator_world_run.specs.Picture.{point_lines}
-use Rattle.station_sim.proofs.picture.push_points.Given as goal
+use Rattle.simulator_world.proofs.picture.push_points.Given as goal
 
 -- what was added so far, and behind it the lines that are left
 abbrev pub invariant-loop-place : goal.invariant-loop-place

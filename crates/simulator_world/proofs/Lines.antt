@@ -20,7 +20,7 @@ use Rattle.simulator_world_run.specs.Picture.{aspect_text, authority_text, drive
 use Rattle.simulator_world_run.specs.Refusals.{driven_at, driven_by}
 use Rattle.simulator_world_run.specs.Seen.{shown_by}
 use Rattle.simulator_world_run.specs.State.{ServerState}
-use Rattle.station_sim.specs.inside.Lines.{point_line, route_line, section_line, signal_line}
+use Rattle.simulator_world.specs.inside.Lines.{point_line, route_line, section_line, signal_line}
 
 one_more : (n : ℕ) → suc n ≡ n + 1
 one_more n = omega arith

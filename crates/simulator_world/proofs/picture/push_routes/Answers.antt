@@ -1,8 +1,8 @@
 use Rattle.std.proofs.Common.{◌≡◌, ◌∙◌, ◌++◌, ◌<◌, ◌≤◌, ap, subst, List, ℕ, get_or, length, string_bytes}
 use Rattle.layout.specs.Entries.{Plan, RouteEntry}
-use Rattle.station_sim.specs.inside.Lines.{route_line}
-use Rattle.station_sim.proofs.Lines.{routes-add, routes-all}
-use Rattle.station_sim.proofs.picture.push_routes.Goals as goal
+use Rattle.simulator_world.specs.inside.Lines.{route_line}
+use Rattle.simulator_world.proofs.Lines.{routes-add, routes-all}
+use Rattle.simulator_world.proofs.picture.push_routes.Goals as goal
 
 pub loop-place-preserved : goal.loop-place-preserved
 loop-place-preserved c =

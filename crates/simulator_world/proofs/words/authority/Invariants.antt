@@ -1,6 +1,6 @@
 use Rattle.std.proofs.Common.{◌≡◌, drop}
 use Rattle.simulator_world_run.specs.Picture.{authority_text}
-use Rattle.station_sim.proofs.words.authority.Given as goal
+use Rattle.simulator_world.proofs.words.authority.Given as goal
 
 -- the first pair of the signal is among those that are left
 abbrev pub invariant-loop-place : goal.invariant-loop-place

@@ -1,9 +1,9 @@
 use Rattle.std.proofs.Common.{◌≡◌, ◌∙◌, ◌<◌, ◌≤◌, ◌++◌, ap, sym, subst, List, get_or, length, string_bytes}
 use Rattle.layout.specs.Entries.{Plan}
 use Rattle.layout.specs.declared.entries.Point.{Point}
-use Rattle.station_sim.specs.inside.Lines.{point_line}
-use Rattle.station_sim.proofs.Lines.{points-add, points-all}
-use Rattle.station_sim.proofs.picture.push_points.Goals as goal
+use Rattle.simulator_world.specs.inside.Lines.{point_line}
+use Rattle.simulator_world.proofs.Lines.{points-add, points-all}
+use Rattle.simulator_world.proofs.picture.push_points.Goals as goal
 
 pub loop-place-preserved : goal.loop-place-preserved
 loop-place-preserved c =

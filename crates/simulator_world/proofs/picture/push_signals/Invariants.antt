@@ -1,7 +1,7 @@
 use Rattle.std.proofs.Common.{◌≡◌, ◌++◌, drop, string_bytes}
 use Rattle.simulator_world_run.specs.Picture.{signal_lines}
 use Rattle.simulator_world_run.specs.Station.{held_of}
-use Rattle.station_sim.proofs.picture.push_signals.Given as goal
+use Rattle.simulator_world.proofs.picture.push_signals.Given as goal
 
 -- what was added so far, and behind it the lines that are left
 abbrev pub invariant-loop-place : goal.invariant-loop-place

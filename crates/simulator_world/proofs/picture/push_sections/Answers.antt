@@ -1,7 +1,7 @@
 use Rattle.std.proofs.Common.{◌≡◌, ◌∙◌, ◌<◌, ◌≤◌, ap, subst, List, ℕ, get_or, length, string_bytes}
 use Rattle.layout.specs.Entries.{Plan}
-use Rattle.station_sim.proofs.Lines.{sections-add, sections-all}
-use Rattle.station_sim.proofs.picture.push_sections.Goals as goal
+use Rattle.simulator_world.proofs.Lines.{sections-add, sections-all}
+use Rattle.simulator_world.proofs.picture.push_sections.Goals as goal
 
 pub loop-place-preserved : goal.loop-place-preserved
 loop-place-preserved c =

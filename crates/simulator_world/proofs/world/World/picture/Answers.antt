@@ -1,18 +1,18 @@
 use Rattle.std.proofs.Common.{◌∙◌, ◌++◌, ◌/◌, ap, List, ℕ, Bool, codes, string_bytes}
 use Rattle.std.specs.Fmt.{decimal}
 use Rattle.simulator_world_run.specs.Picture.{safe_text}
-use Rattle.station_sim.proofs.Whole.{all_points, whole}
-use Rattle.station_sim.proofs.picture.picture_text.Goals as goal
+use Rattle.simulator_world.proofs.Whole.{all_points, whole}
+use Rattle.simulator_world.proofs.world.World.picture.Goals as goal
 
 pub push_points-requires : goal.push_points-requires
 push_points-requires c =
-    let world = c.args.world.now
+    let world = c.args.self.now
     in let seen = c.safe-is_safe.ensures.seen
     in all_points world.planned.plan world.planned.table world.run seen.0 seen.1 (seen.2.0 c.safe-is_safe.ensures.always)
 
 pub returns : goal.returns
 returns c =
-    let world = c.args.world.now
+    let world = c.args.self.now
     in let seen = c.safe-is_safe.ensures.seen
     in let routes = string_bytes c.push_routes.new.text
     in record {

@@ -1,8 +1,8 @@
 use Rattle.std.proofs.Common.{◌≡◌, ◌∙◌, refl, sym, subst, length, List, Some, None, slice_get}
 use Rattle.std.proofs.lemmas.Option.{slice_get_past, slice_get_read}
 use Rattle.layout.specs.Entries.{RouteEntry}
-use Rattle.station_sim.proofs.Lines.{named, unnamed}
-use Rattle.station_sim.proofs.words.route_name.Goals as goal
+use Rattle.simulator_world.proofs.Lines.{named, unnamed}
+use Rattle.simulator_world.proofs.words.route_name.Goals as goal
 
 pub returns-in-Some : goal.returns-in-Some
 returns-in-Some c =

@@ -1,2 +1,0 @@
--- What contracts inside the crate say. No promise names any of it.
-pub mod Lines
