@@ -71,6 +71,8 @@ impl Bench {
         if let Err(Refused::OutOfMemory) = reply {
             assert!(rt; self.stored() == before);
             reply = self.pair.apply(event);
+            let is_lacking = matches!(reply, Err(Refused::OutOfMemory));
+            assert!(rt; !is_lacking, "there is memory");
         }
         match reply {
             Ok(reply) => {
@@ -411,7 +413,7 @@ fn a_run_goes_on_after_refusals_and_counts_what_was_accepted(rt: HostRuntime) {
         time(LIMIT),
     ];
     if bench.pair.reserve(events.len()).is_err() {
-        assert!(rt; bench.pair.reserve(events.len()).is_ok());
+        assert!(rt; bench.pair.reserve(events.len()).is_ok(), "there is memory");
     }
     assert!(rt; bench.pair.run(&events) == 3);
     assert!(rt; bench.pair.sent().len() == 1);
@@ -431,6 +433,7 @@ fn a_run_goes_on_where_memory_is_lacking(rt: HostRuntime) {
     let first = bench.pair.run(&events);
     let accepted = first.saturating_add(bench.pair.run(&events));
     let passed = bench.pair.time();
+    assert!(rt; accepted >= 9, "there is memory");
     assert!(rt; matches!((accepted, passed), (10, 6000) | (9, 5000 | 6000)));
     bench.does(&rt, &time(7000 - passed));
     assert!(rt; bench.pair.time() == 7000);
@@ -442,7 +445,7 @@ fn events_use_the_room_that_was_reserved(rt: HostRuntime) {
     assert!(rt; bench.pair.room() == 0);
     if bench.pair.reserve(3).is_err() {
         assert!(rt; bench.pair.room() == 0);
-        assert!(rt; bench.pair.reserve(3).is_ok());
+        assert!(rt; bench.pair.reserve(3).is_ok(), "there is memory");
     }
     assert!(rt; bench.pair.room() >= 3);
     bench.does(&rt, &time(1000));
