@@ -1,6 +1,8 @@
 -- Why a station doesn't run to its end, and what is told of that.
-use Rattle.std.specs.Prelude.{◌≡◌, ℕ, List, take, codes, Option}
+use Rattle.std.specs.Prelude.{◌≡◌, ◌≢◌, ◌⊎◌, ℕ, List, take, codes, Option}
 use Rattle.std.specs.Io.KnownBytes.{Appends}
+use Rattle.std.specs.declared.io.ErrorKind.{ErrorKind}
+use Rattle.std.specs.declared.io.ErrorKind.TheVariants as kinds
 use Rattle.station_drive.specs.declared.fault.DriveFault.{DriveFault}
 use Rattle.station_drive.specs.declared.fault.DriveFault.TheVariants as drive
 use Rattle.station_failure.specs.Failures.{told_line as failure_line}
@@ -19,6 +21,11 @@ of_opening opening.NoSocket = CannotRun
 abbrev pub of_drive : DriveFault → RunFailure
 of_drive drive.OutOfMemory = Failed why.OutOfMemory
 of_drive drive.WriteFailed = CannotRun
+
+-- why it doesn't run where the system refuses something: it lacks memory, or it is anything else
+abbrev pub IsOfSystem : ErrorKind → RunFailure → Type 0
+IsOfSystem kind failure =
+    ((kind ≡ kinds.OutOfMemory) × (failure ≡ Failed why.OutOfMemory)) ⊎ ((kind ≢ kinds.OutOfMemory) × (failure ≡ CannotRun))
 
 -- The machine gives too little: memory, a socket, or a place for the record.
 abbrev pub IsOfMachine : RunFailure → Type 0

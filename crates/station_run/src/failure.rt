@@ -58,14 +58,16 @@ impl From<DriveFault> for RunFailure {
 
 /// The system doesn't give what a run needs.
 impl From<io::Error> for RunFailure {
-    ghost use Rattle.station_run.specs.Failures.{IsOfMachine};
+    ghost use Rattle.std.specs.IoError.{error_kind};
+    ghost use Rattle.station_run.specs.Failures.{IsOfSystem};
 
-    ghost from_gives = { λ _ failure. IsOfMachine failure };
+    ghost from_gives = { λ error failure. IsOfSystem (error_kind error) failure };
 
     fn from(error: io::Error) -> RunFailure {
-        match error.kind() {
-            io::ErrorKind::OutOfMemory => RunFailure::Failed(Failure::OutOfMemory),
-            _ => RunFailure::CannotRun,
+        if error.kind() == io::ErrorKind::OutOfMemory {
+            RunFailure::Failed(Failure::OutOfMemory)
+        } else {
+            RunFailure::CannotRun
         }
     }
 }
