@@ -1,25 +1,26 @@
 #!/usr/bin/env python3
-"""Makes each node of a station anew after every event of every list of the crates *_restarts, with the programs of these crates:
-the gate takes each 20th event of the junction and of the lists in which stamps wrap. The station is looked at after each single
-event from its beginning on. The lists are shared out to the processors, node by node.
+"""Makes each node of a station anew after every event of every list of the crate station_restarts, with the crate's program:
+the gate takes each 3rd event of the small station's lists, each 20th of those in which stamps wrap, and each 60th of the
+junction's. The station is looked at after each single event from its beginning on. The lists are shared out to the
+processors, node by node.
 
-usage: python3 bench/every_restart.py [EVERY]. After every EVERYth event, 1 where none is told. The programs are those that
-`rt run` leaves in out/ of each crate."""
+usage: python3 bench/every_restart.py [EVERY]. After every EVERYth event, 1 where none is told. The program is the one that
+`rt run` leaves in out/ of the crate."""
 import os, subprocess, sys, tempfile
 from concurrent.futures import ThreadPoolExecutor
 
-CRATES = os.path.join(os.path.dirname(os.path.dirname(os.path.abspath(__file__))), "crates")
+CRATE = os.path.join(os.path.dirname(os.path.dirname(os.path.abspath(__file__))), "crates", "station_restarts")
 
 
-def tried(crate, files, node):
-    """Makes one node anew in all runs of one list, and answers what the crate's program tells of it."""
+def tried(files, node):
+    """Makes one node anew in all runs of one list, and answers what the program tells of it."""
     with tempfile.TemporaryDirectory() as room:
-        for name in os.listdir(f"{CRATES}/{crate}/data"):
+        for name in os.listdir(f"{CRATE}/data"):
             if name != "runs":
-                os.symlink(f"{CRATES}/{crate}/data/{name}", f"{room}/{name}")
+                os.symlink(f"{CRATE}/data/{name}", f"{room}/{name}")
         with open(f"{room}/runs", "w") as runs:
             runs.write(f"{files}: {node}\n")
-        ran = subprocess.run([f"{CRATES}/{crate}/out/{crate}"], cwd=room, capture_output=True, text=True)
+        ran = subprocess.run([f"{CRATE}/out/station_restarts"], cwd=room, capture_output=True, text=True)
     if ran.returncode:
         raise SystemExit(f"{files}: {node}: status {ran.returncode}: {ran.stderr}")
     return ran.stdout.splitlines()[-1]
@@ -28,12 +29,11 @@ def tried(crate, files, node):
 def main():
     every = int(sys.argv[1]) if len(sys.argv) > 1 else 1
     jobs = []
-    for crate in ("station_restarts", "junction_restarts", "junction_passage_restarts"):
-        with open(f"{CRATES}/{crate}/data/runs") as runs:
-            for line in runs.read().splitlines():
-                files, nodes = line.split(": ")
-                files = files.rsplit(" ", 1)[0]
-                jobs += [(crate, f"{files} {every}", node) for node in nodes.split()]
+    with open(f"{CRATE}/data/runs") as runs:
+        for line in runs.read().splitlines():
+            files, nodes = line.split(": ")
+            files = files.rsplit(" ", 1)[0]
+            jobs += [(f"{files} {every}", node) for node in nodes.split()]
     with ThreadPoolExecutor(os.cpu_count()) as pool:
         for told in pool.map(lambda job: tried(*job), jobs):
             print(told, flush=True)

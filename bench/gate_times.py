@@ -1,17 +1,21 @@
 #!/usr/bin/env python3
 """The gate with its times: runs `rt ci` at the top of the repository, tells the verdict of each wrong body as it comes,
 and writes at the end, crate by crate, the processor time in seconds of the proof, the tests and the wrong bodies,
-and the most memory that one process took.
+and the most memory that one process took; and then the prover's time by itself, the time of all that `rt ci` took, its own
+and that of every process that it started, and the time on the clock.
 
     python3 bench/gate_times.py [CRATE ..]      with names: the wrong bodies of these crates alone (rt must-fail)
 """
 import collections
 import importlib.machinery
 import importlib.util
+import inspect
 import os
+import resource
 import shutil
 import sys
 import tempfile
+import time
 
 # what is noted of a run of the prover that is for no crate
 NO_CRATE = "-"
@@ -68,7 +72,13 @@ def table(notes):
         print(f"| `{crate}` |", " | ".join(f"{spent[kind]:.0f}" for kind in kinds), f"| {memory[crate] / 1e6:.1f} GB |")
     sums = [sum(spent[kind] for spent in times.values()) for kind in kinds]
     print("| all |", " | ".join(f"{it:.0f}" for it in sums), f"| {max(memory.values(), default=0) / 1e6:.1f} GB |")
-    print(f"\n{sum(sums) / 60:.0f} minutes of processor time", flush=True)
+    return sum(sums)
+
+
+def used():
+    """The processor time of this process and of all that it started, in seconds."""
+    whose = resource.RUSAGE_SELF, resource.RUSAGE_CHILDREN
+    return sum(it.ru_utime + it.ru_stime for it in map(resource.getrusage, whose))
 
 
 def main(names):
@@ -81,9 +91,15 @@ def main(names):
         os.chmod(prover, 0o755)
         open(notes, "w").close()
         rt.rtlib.RATTLE = prover
-        status = rt.edits_alone(names) if names else rt.ci(anew=False)
+        begun = time.monotonic()
+        # some kits keep what passed in an earlier run, unless they are told not to
+        anew = {"anew": True} if "anew" in inspect.signature(rt.ci).parameters else {}
+        status = rt.edits_alone(names) if names else rt.ci(**anew)
         with open(notes) as it:
-            table(it)
+            proving = table(it)
+    print(f"\nprover: {proving / 60:.0f} minutes of processor time")
+    print(f"all in: {used() / 60:.0f} minutes of processor time")
+    print(f"on the clock: {(time.monotonic() - begun) / 60:.0f} minutes", flush=True)
     return status
 
 

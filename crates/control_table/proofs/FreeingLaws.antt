@@ -13,7 +13,7 @@ use Rattle.layout.specs.declared.ids.SectionId.{SectionId}
 use Rattle.layout.specs.declared.ids.PointId.{PointId}
 use Rattle.layout.specs.declared.ids.RouteId.{RouteId}
 use Rattle.layout.specs.declared.port.Element.TheVariants as element
-use Rattle.layout.specs.Entries.{RouteEntry, Plan}
+use Rattle.layout.specs.Entries.{RouteEntry, Site}
 use Rattle.layout.specs.Once.{Once}
 use Rattle.layout.specs.Station.{IsStation}
 use Rattle.bit_row.specs.Places.{Places, Has}
@@ -52,7 +52,7 @@ with-decides (Some t) row s =
 abbrev guard : PointId → PointId → FlankProtection
 guard q p = record { flank = q; point = p }
 
-module _ (l : Plan) (p : PointId) (s : SectionId) where
+module _ (l : Site) (p : PointId) (s : SectionId) where
   abbrev Guarded : List FlankProtection → Type 0
   Guarded flanks = (q : PointId) × Contains flanks (guard p q) × InSection l q s
 
@@ -79,7 +79,7 @@ module _ (l : Plan) (p : PointId) (s : SectionId) where
 
 -- ---- the points on a path are written under `points`
 
-on-route-decides : (l : Plan) → Once l → Sound l → (a : RouteId) (r : RouteEntry) → IsRoute l a r → (p : PointId) → Decides (names_point r.points p) (OnRoute l a p)
+on-route-decides : (l : Site) → Once l → Sound l → (a : RouteId) (r : RouteEntry) → IsRoute l a r → (p : PointId) → Decides (names_point r.points p) (OnRoute l a p)
 on-route-decides l once sound a r at p =
     let h = sound a r at in
     let one = one-beyond l once in
@@ -92,7 +92,7 @@ on-route-decides l once sound a r at p =
     (on.1, (h.writes.points p on.1).1 ((on.0, on.2, inl on.3), on)))
     (names-decides r.points p)
 
-module _ (l : Plan) (a : RouteId) (r : RouteEntry) (flanks : List FlankProtection) (p : PointId) (s : SectionId) (at : IsRoute l a r) (are : AreProtections l a flanks) where
+module _ (l : Site) (a : RouteId) (r : RouteEntry) (flanks : List FlankProtection) (p : PointId) (s : SectionId) (at : IsRoute l a r) (are : AreProtections l a flanks) where
   awaits-by : (b : Bool) → Decides b (OnRoute l a p)
       → Decides (contains (if b then with_section (section_of l (element.Point p)) empty else guarded_sections l p flanks) s.0) (Awaits l a p s)
   awaits-by true d =
@@ -112,10 +112,10 @@ module _ (l : Plan) (a : RouteId) (r : RouteEntry) (flanks : List FlankProtectio
 
 -- ---- what is required awaits a section of the route
 
-on-path-section : (l : Plan) → IsStation l → (a : RouteId) (p : PointId) → OnRoute l a p → (s : SectionId) × InSection l p s × LeadsOver l a s
+on-path-section : (l : Site) → IsStation l → (a : RouteId) (p : PointId) → OnRoute l a p → (s : SectionId) × InSection l p s × LeadsOver l a s
 on-path-section l station a p h = point-section l station a h.0 h.1 p h.2 h.3 h.4
 
-awaits-some : (l : Plan) → IsStation l → (a : RouteId) (p : PointId) (t : Side) → RouteRequires l a p t → (b : Bool) → Decides b (OnRoute l a p) → (s : SectionId) × Awaits l a p s × LeadsOver l a s
+awaits-some : (l : Site) → IsStation l → (a : RouteId) (p : PointId) (t : Side) → RouteRequires l a p t → (b : Bool) → Decides b (OnRoute l a p) → (s : SectionId) × Awaits l a p s × LeadsOver l a s
 awaits-some l station a p t need true d = let h = on-path-section l station a p (d.0 refl) in (h.0, inl (d.0 refl, h.1), h.2)
 awaits-some l station a p t need false d =
     let off : OnRoute l a p → ⊥ = λ on. false≢true (d.1 on) in
@@ -127,6 +127,6 @@ awaits-some l station a p t need false d =
     (h.0, inr (off, (flank.0, (need.0, need.1, need.2, need.3, flank.1, t, (needed.0, needed.1, flank.2), flank.3), h.1)), h.2))
     needed.2
 
-pub requires-awaits : (l : Plan) → IsStation l → Once l → Sound l → (a : RouteId) (p : PointId) (t : Side) → RouteRequires l a p t → (s : SectionId) × Awaits l a p s × LeadsOver l a s
+pub requires-awaits : (l : Site) → IsStation l → Once l → Sound l → (a : RouteId) (p : PointId) (t : Side) → RouteRequires l a p t → (s : SectionId) × Awaits l a p s × LeadsOver l a s
 requires-awaits l station once sound a p t need =
     awaits-some l station a p t need (names_point need.0.points p) (on-route-decides l once sound a need.0 need.2 p)

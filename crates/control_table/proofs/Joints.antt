@@ -5,7 +5,7 @@ use Rattle.std.specs.Option.{option_or}
 use Rattle.std.specs.List.{Contains}
 use Rattle.layout.specs.declared.port.Port.{Port}
 use Rattle.layout.specs.declared.entries.Joint.{Joint}
-use Rattle.layout.specs.Entries.{Plan}
+use Rattle.layout.specs.Entries.{Site}
 use Rattle.layout.specs.Once.{Distinct, joined_ports, Once}
 use Rattle.control_table.specs.Topology.{Joins, Joined}
 use Rattle.control_table.specs.inside.Judging.{is_port, other_port, joined_to}
@@ -33,7 +33,7 @@ found-in : (joints : List Joint) (p q : Port) → joined_to joints p ≡ Some q 
 found-in [] p q e = absurd (none-some q e)
 found-in (joint ∷ joints) p q e = found-or joint joints p q (other_port joint p) refl (found-in joints p q) e
 
-pub joined-found : (l : Plan) (p q : Port) → joined_to l.joints p ≡ Some q → Joined l p q
+pub joined-found : (l : Site) (p q : Port) → joined_to l.joints p ≡ Some q → Joined l p q
 joined-found l p q e = found-in l.joints p q e
 
 -- ---- what is joined is found, where no port is joined twice
@@ -86,8 +86,8 @@ only-in (joint ∷ joints) d p q h =
     ⊎_elim here later (contains-cases joint h.0 joints h.1)
 
 -- A port leads to one other port at most.
-abbrev pub OneBeyond : Plan → Type 0
+abbrev pub OneBeyond : Site → Type 0
 OneBeyond l = (p q : Port) → Joined l p q → joined_to l.joints p ≡ Some q
 
-pub one-beyond : (l : Plan) → Once l → OneBeyond l
+pub one-beyond : (l : Site) → Once l → OneBeyond l
 one-beyond l once p q h = only-in l.joints once.joined p q h

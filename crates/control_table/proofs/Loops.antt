@@ -5,7 +5,7 @@ use Rattle.layout.specs.declared.port.Port.{Port}
 use Rattle.layout.specs.declared.entries.Joint.{Joint}
 use Rattle.layout.specs.declared.entries.Signal.{Signal}
 use Rattle.layout.specs.declared.entries.Exit.{Exit}
-use Rattle.layout.specs.Entries.{RouteEntry, Plan}
+use Rattle.layout.specs.Entries.{RouteEntry, Site}
 use Rattle.std.specs.List.{list_any}
 use Rattle.control_table.specs.declared.fault.TableFault.{TableFault}
 use Rattle.control_table.specs.declared.fault.TableFault.TheVariants.{PathBroken, PathRepeats, PointMissing, PointWrong, FlankMissing, FlankOpen, FlankContradicts, SignalPlace, NotSymmetric, OutOfMemory}
@@ -100,7 +100,7 @@ failed (FlankContradicts p) read total h then = then h
 failed (SignalPlace p) read total h then = then h
 failed (NotSymmetric p) read total h then = then h
 
-module _ (l : Plan) (front : List TableRow) (routes : List RouteEntry) (i : ℕ) (total : Result (List TableRow) TableFault) where
+module _ (l : Site) (front : List TableRow) (routes : List RouteEntry) (i : ℕ) (total : Result (List TableRow) TableFault) where
   pub rows-goes_on : (r : RouteEntry) (name : List ℕ) (row : TableRow) → i < length routes → r ≡ get_or routes i r → name ≡ r.name → row_of (record { id = record { 0 = i }; name = name }) l r ≡ Ok row
       → with_front front (rows_from l i (drop i routes)) ≡ total → with_front (front ++ row ∷ []) (rows_from l (i + 1) (drop (i + 1) routes)) ≡ total
   unfolding rows_from

@@ -14,7 +14,7 @@ use Rattle.sci_telegram.specs.declared.message.Side.TheVariants as side
 use Rattle.layout.specs.declared.ids.SectionId.{SectionId}
 use Rattle.layout.specs.declared.ids.PointId.{PointId}
 use Rattle.layout.specs.declared.ids.RouteId.{RouteId}
-use Rattle.layout.specs.Entries.{RouteEntry, Plan}
+use Rattle.layout.specs.Entries.{RouteEntry, Site}
 use Rattle.layout.specs.declared.ids.SignalId.{SignalId}
 use Rattle.layout.specs.Once.{Once}
 use Rattle.layout.specs.Station.{HasSection, HasPoint, HasRoute, IsRouteOf, IsStation}
@@ -80,7 +80,7 @@ point_row-decides t ns p = Decides-at _ _ (point-has t empty ns p ∙ from_none 
 
 -- ---- the masks of a route
 
-pub masks-are : (l : Plan) (one : OneBeyond l) (a : RouteId) (r : RouteEntry) (row : TableRow) → IsRoute l a r → RowFacts l a r row → AreMasks l a (masks_of r row)
+pub masks-are : (l : Site) (one : OneBeyond l) (a : RouteId) (r : RouteEntry) (row : TableRow) → IsRoute l a r → RowFacts l a r row → AreMasks l a (masks_of r row)
 masks-are l one a r row at h = record {
   entry = λ q also. ap (λ (x : RouteEntry). x.entry) (some-injective r q (sym at ∙ also));
   sections = λ s. both (section_row-decides row.sections s) (leads-is l one a r row at h s);
@@ -107,7 +107,7 @@ each-within [] rows each = tt
 each-within (r ∷ routes) [] each = tt
 each-within (r ∷ routes) (row ∷ rows) each = (each 0 r row refl refl, each-within routes rows (λ i. each (suc i)))
 
-pub station-within : (l : Plan) → IsStation l → (one : OneBeyond l) → (rows : List TableRow) → rows_of l ≡ Ok rows → AreWithin l.routes rows
+pub station-within : (l : Site) → IsStation l → (one : OneBeyond l) → (rows : List TableRow) → rows_of l ≡ Ok rows → AreWithin l.routes rows
 station-within l station one rows e = each-within l.routes rows (λ i r row at here.
     let a : RouteId = record { 0 = i } in
     let facts = row-facts l one a r row at (rows, e, here) in
@@ -128,9 +128,9 @@ get_or-is [] i x d e = absurd (none-some x e)
 get_or-is (w ∷ xs) zero x d e = some-injective w x e
 get_or-is (w ∷ xs) (suc i) x d e = get_or-is xs i x d e
 
-module _ (l v : Plan) (rows : List TableRow) (masks : List RouteMasks) (a : RouteId) (same : l ≡ v) (once : Once l) (e : rows_of l ≡ Ok rows) (kept : masks ≡ all_masks l.routes rows) (lt : a.0 < length v.routes) where
+module _ (l v : Site) (rows : List TableRow) (masks : List RouteMasks) (a : RouteId) (same : l ≡ v) (once : Once l) (e : rows_of l ≡ Ok rows) (kept : masks ≡ all_masks l.routes rows) (lt : a.0 < length v.routes) where
   below : a.0 < length l.routes
-  below = subst (λ (p : Plan). a.0 < length p.routes) (sym same) lt
+  below = subst (λ (p : Site). a.0 < length p.routes) (sym same) lt
 
   kept-at : (m : RouteMasks) × (slice_get masks a.0 ≡ Some m) × AreMasks l a m
   kept-at =
@@ -144,11 +144,11 @@ module _ (l v : Plan) (rows : List TableRow) (masks : List RouteMasks) (a : Rout
   kept-inside = get-inside masks a.0 kept-at.0 kept-at.1
 
   pub kept-are : (m : RouteMasks) → m ≡ get_or masks a.0 m → AreMasks v a m
-  kept-are m at = subst (λ (p : Plan). AreMasks p a m) same (subst (AreMasks l a) (sym (at ∙ get_or-is masks a.0 kept-at.0 m kept-at.1)) kept-at.2)
+  kept-are m at = subst (λ (p : Site). AreMasks p a m) same (subst (AreMasks l a) (sym (at ∙ get_or-is masks a.0 kept-at.0 m kept-at.1)) kept-at.2)
 
 -- ---- conflicts
 
-module _ (l : Plan) (a b : RouteId) (r q : RouteEntry) (at : IsRoute l a r) (also : IsRoute l b q) (m n : RouteMasks) (first : AreMasks l a m) (second : AreMasks l b n) where
+module _ (l : Site) (a b : RouteId) (r q : RouteEntry) (at : IsRoute l a r) (also : IsRoute l b q) (m n : RouteMasks) (first : AreMasks l a m) (second : AreMasks l b n) where
   entries : m.entry.0 ≡ n.entry.0 → SameEntry l a b
   entries e = (r, q, at, also, sym (first.entry r at) ∙ (λ i. record { 0 = e i }) ∙ second.entry q also)
 
@@ -197,7 +197,7 @@ module _ (l : Plan) (a b : RouteId) (r q : RouteEntry) (at : IsRoute l a r) (als
         h.1,
   )
 
-pub conflict-is : (l : Plan) (a b : RouteId) (m n : RouteMasks) (result : Bool) → a.0 < length l.routes → b.0 < length l.routes → AreMasks l a m → AreMasks l b n
+pub conflict-is : (l : Site) (a b : RouteId) (m n : RouteMasks) (result : Bool) → a.0 < length l.routes → b.0 < length l.routes → AreMasks l a m → AreMasks l b n
     → IsTrue result ↔ MasksConflict a b m n → IsTrue result ↔ Conflict l a b
 conflict-is l a b m n result below also first second is =
     let r = get-below l.routes a.0 below in

@@ -17,7 +17,7 @@ use Rattle.layout.specs.declared.entries.Joint.{Joint}
 use Rattle.layout.specs.declared.entries.Signal.{Signal}
 use Rattle.layout.specs.declared.entries.Exit.{Exit}
 use Rattle.layout.specs.declared.entries.Exit.TheVariants as exit
-use Rattle.layout.specs.Entries.{RouteEntry, Plan}
+use Rattle.layout.specs.Entries.{RouteEntry, Site}
 use Rattle.layout.specs.Once.{Distinct}
 use Rattle.control_table.specs.declared.fault.FaultyRoute.{FaultyRoute}
 use Rattle.control_table.specs.declared.fault.TableFault.{TableFault}
@@ -77,7 +77,7 @@ passage-is joints before g joined passes =
     ap (λ o. passage_from o g.left) joined ∙ ap (λ b. if b then Some g else None) ((passes-decides g.entered g.left).1 passes)
 
 -- the passages that are computed lead on from joint to joint
-pub passages-lead : (place : FaultyRoute) (l : Plan) (from : Port) (ports : List Port) (path : List Passage) → passages place l.joints from ports ≡ Ok path → Leads l from path × (ports ≡ map (λ g. g.left) path)
+pub passages-lead : (place : FaultyRoute) (l : Site) (from : Port) (ports : List Port) (path : List Passage) → passages place l.joints from ports ≡ Ok path → Leads l from path × (ports ≡ map (λ g. g.left) path)
 unfolding passages
 passages-lead place l from [] path e =
     let P : List Passage → Type 0 = λ path. Leads l from path × ([] ≡ map (λ g. g.left) path) in
@@ -92,7 +92,7 @@ passages-lead place l from (left ∷ ports) path e =
     subst P (ok-injective (a.0 ∷ b.0) path b.2) ((joined-found l from a.0.entered found.0, found.2, subst on found.1 rest.0), λ i. found.1 i ∷ rest.1 i)
 
 -- and what leads on so is computed
-pub leading-found : (place : FaultyRoute) (l : Plan) (one : OneBeyond l) (from : Port) (path : List Passage) → Leads l from path → passages place l.joints from (map (λ g. g.left) path) ≡ Ok path
+pub leading-found : (place : FaultyRoute) (l : Site) (one : OneBeyond l) (from : Port) (path : List Passage) → Leads l from path → passages place l.joints from (map (λ g. g.left) path) ≡ Ok path
 unfolding passages
 leading-found place l one from [] h = refl
 leading-found place l one from (g ∷ path) h =
@@ -119,7 +119,7 @@ some-ports [] [] same some = absurd (some refl)
 some-ports [] (g ∷ path) same some = absurd (omega (arith, ap length same))
 some-ports (p ∷ ports) path same some = false-from (length (p ∷ ports) == 0) (λ h. absurd (omega (arith, (Decides-eqb (length (p ∷ ports)) 0).0 h)))
 
-pub path-follows : (place : FaultyRoute) (l : Plan) (r : RouteEntry) (path : List Passage) → path_of place l r ≡ Ok path → Follows l r path
+pub path-follows : (place : FaultyRoute) (l : Site) (r : RouteEntry) (path : List Passage) → path_of place l r ≡ Ok path → Follows l r path
 unfolding path_of
 path-follows place l r path e =
     let some = not_stopped (length r.path == 0) (PathBroken place) (ok_or (port_of l.signals r.entry) (PathBroken place) >>= λ start. passages place l.joints start r.path) path e in
@@ -127,7 +127,7 @@ path-follows place l r path e =
     let lead = passages-lead place l a.0 r.path path a.2 in
     record { ports = lead.1; some = not_empty r.path path some.0 lead.1; begins = (a.0, ok-some (port_of l.signals r.entry) (PathBroken place) a.0 a.1, lead.0) }
 
-pub following-found : (place : FaultyRoute) (l : Plan) (one : OneBeyond l) (r : RouteEntry) (path : List Passage) → Follows l r path → path_of place l r ≡ Ok path
+pub following-found : (place : FaultyRoute) (l : Site) (one : OneBeyond l) (r : RouteEntry) (path : List Passage) → Follows l r path → path_of place l r ≡ Ok path
 unfolding path_of
 following-found place l one r path h =
     let b = h.begins in
@@ -136,7 +136,7 @@ following-found place l one r path h =
     ∙ ap (λ ports. passages place l.joints b.0 ports) h.ports
     ∙ leading-found place l one b.0 path b.2
 
-pub path-broken : (place : FaultyRoute) (l : Plan) (one : OneBeyond l) (r : RouteEntry) (f : TableFault) → path_of place l r ≡ Err f → (PathBroken place ≡ f) × ((path : List Passage) → Follows l r path → ⊥)
+pub path-broken : (place : FaultyRoute) (l : Site) (one : OneBeyond l) (r : RouteEntry) (f : TableFault) → path_of place l r ≡ Err f → (PathBroken place ≡ f) × ((path : List Passage) → Follows l r path → ⊥)
 unfolding path_of
 path-broken place l one r f e =
     let rest = ok_or (port_of l.signals r.entry) (PathBroken place) >>= λ start. passages place l.joints start r.path in
@@ -147,7 +147,7 @@ path-broken place l one r f e =
     (which, λ path h. err-ok f path (sym e ∙ following-found place l one r path h))
 
 -- a route has one path at most
-pub one-path : (l : Plan) (one : OneBeyond l) (r : RouteEntry) (place : FaultyRoute) (path other : List Passage) → Follows l r path → Follows l r other → path ≡ other
+pub one-path : (l : Site) (one : OneBeyond l) (r : RouteEntry) (place : FaultyRoute) (path other : List Passage) → Follows l r path → Follows l r other → path ≡ other
 one-path l one r place path other h k = ok-injective path other (sym (following-found place l one r path h) ∙ following-found place l one r other k)
 
 -- ---- what comes once
@@ -159,7 +159,7 @@ different-decides same each (x ∷ xs) =
     Decides-like (all_different same (x ∷ xs)) (λ h. distinct-cons x xs h.0 h.1) (λ d. (λ c. distinct-first x x xs d c refl, distinct-rest x xs d))
     (Decides-and (not (list_any (λ y. same y x) xs)) (all_different same xs) (Decides-not (list_any (λ y. same y x) xs) (has-decides same each xs x)) (different-decides same each xs))
 
-pub once-decides : (l : Plan) (path : List Passage) → Decides (all_different is_element (elements path) && all_different same_section (sections l path)) (ComesOnce l path)
+pub once-decides : (l : Site) (path : List Passage) → Decides (all_different is_element (elements path) && all_different same_section (sections l path)) (ComesOnce l path)
 once-decides l path =
     let e = different-decides is_element element-decides (elements path) in
     let s = different-decides same_section section-decides (sections l path) in
@@ -177,14 +177,14 @@ stands-decides signals s p =
     let P : Port → Type 0 = λ at. at ≡ p in
     Decides-like (stands_at signals s p) (λ h. h.1 ∙ ap Some h.2) (λ e. (p, e, refl)) (some_and-decides (λ at. is_port at p) P (λ at. port-decides at p) (port_of signals s))
 
-exit_at-decides : (l : Plan) (one : OneBeyond l) (x : Exit) (p : Port) → Decides (is_exit l x p) (ExitAt l x p)
+exit_at-decides : (l : Site) (one : OneBeyond l) (x : Exit) (p : Port) → Decides (is_exit l x p) (ExitAt l x p)
 exit_at-decides l one (exit.Signal s) p = stands-decides l.signals s p
 exit_at-decides l one (exit.Border b) p =
     let P : Port → Type 0 = λ beyond. beyond.element ≡ of.Border b in
     Decides-like (is_exit l (exit.Border b) p) (λ h. (h.0, joined-found l p h.0 h.1, h.2)) (λ h. (h.0, one p h.0 h.1, h.2))
     (some_and-decides (λ beyond. is_element beyond.element (of.Border b)) P (λ beyond. element-decides beyond.element (of.Border b)) (joined_to l.joints p))
 
-pub ends-decides : (l : Plan) (one : OneBeyond l) (x : Exit) (path : List Passage) → Decides (ends_at_exit l x path) (EndsAt l x path)
+pub ends-decides : (l : Site) (one : OneBeyond l) (x : Exit) (path : List Passage) → Decides (ends_at_exit l x path) (EndsAt l x path)
 unfolding ends_at_exit
 ends-decides l one x [] = never (λ h. h)
 ends-decides l one x (g ∷ []) = exit_at-decides l one x g.left
@@ -241,7 +241,7 @@ no_other-decides n (s ∷ signals) x p =
     let id : SignalId = record { 0 = n } in
     first_or (is_other_at s id x p) (no_other_at (suc n) signals x p) n s signals x p (other_at-decides s id x p) (no_other-decides (suc n) signals x p)
 
-pub signals-decide : (l : Plan) (one : OneBeyond l) (r : RouteEntry) (path : List Passage) → Decides (signals_placed l r path) (SignalsPlaced l r path)
+pub signals-decide : (l : Site) (one : OneBeyond l) (r : RouteEntry) (path : List Passage) → Decides (signals_placed l r path) (SignalsPlaced l r path)
 unfolding signals_placed
 signals-decide l one r path =
     let x = r.exit in

@@ -6,7 +6,7 @@ use Rattle.sci_telegram.specs.declared.message.Side.TheVariants as side
 use Rattle.layout.specs.declared.ids.PointId.{PointId}
 use Rattle.layout.specs.declared.ids.SectionId.{SectionId}
 use Rattle.layout.specs.declared.ids.RouteId.{RouteId}
-use Rattle.layout.specs.Entries.{RouteEntry, Plan}
+use Rattle.layout.specs.Entries.{RouteEntry, Site}
 use Rattle.layout.specs.Once.{Once}
 use Rattle.control_table.specs.declared.fault.FaultyRoute.{FaultyRoute}
 use Rattle.control_table.specs.Path.{Passage, Path, Follows, sections}
@@ -16,24 +16,24 @@ use Rattle.control_table.proofs.Members.{some-injective}
 use Rattle.control_table.proofs.Joints.{one-beyond}
 use Rattle.control_table.proofs.PathLaws.{one-path}
 
-abbrev Reasons : Plan → RouteId → RouteId → Type 0
+abbrev Reasons : Site → RouteId → RouteId → Type 0
 Reasons l a b = SameEntry l a b ⊎ ShareSection l a b ⊎ RequireDifferently l a b ⊎ Lists l a b ⊎ Lists l b a
 
-turned : (l : Plan) (a b : RouteId) → Reasons l a b → Reasons l b a
+turned : (l : Site) (a b : RouteId) → Reasons l a b → Reasons l b a
 turned l a b (inl s) = inl (s.1, s.0, s.3, s.2, sym s.4)
 turned l a b (inr (inl s)) = inr (inl (s.0, s.2, s.1))
 turned l a b (inr (inr (inl d))) = inr (inr (inl (d.0, d.2, d.1, (λ same. d.3 (sym same)), d.5, d.4)))
 turned l a b (inr (inr (inr (inl e)))) = inr (inr (inr (inr e)))
 turned l a b (inr (inr (inr (inr e)))) = inr (inr (inr (inl e)))
 
-pub conflict-turned : (l : Plan) (a b : RouteId) → Conflict l a b → Conflict l b a
+pub conflict-turned : (l : Site) (a b : RouteId) → Conflict l a b → Conflict l b a
 conflict-turned l a b h = ((λ same. h.0 (sym same)), turned l a b h.1)
 
-pub entry-conflicts : (l : Plan) (a b : RouteId) → a ≢ b → SameEntry l a b → Conflict l a b
+pub entry-conflicts : (l : Site) (a b : RouteId) → a ≢ b → SameEntry l a b → Conflict l a b
 entry-conflicts l a b other same = (other, inl same)
 
 -- what one path of a route requires, the other does, since they are one
-pub one-side : (l : Plan) (a : RouteId) (p : PointId) → Once l → Sound l → RouteRequires l a p side.Left → RouteRequires l a p side.Right → ⊥
+pub one-side : (l : Site) (a : RouteId) (p : PointId) → Once l → Sound l → RouteRequires l a p side.Left → RouteRequires l a p side.Right → ⊥
 one-side l a p once sound left right =
     let one = one-beyond l once in
     let same : left.0 ≡ right.0 = some-injective left.0 right.0 (sym left.2 ∙ right.2) in
@@ -46,7 +46,7 @@ one-side l a p once sound left right =
     (subst (λ (path : List Passage). Requires l path p side.Right) of_right right.4)
 
 -- what one path of a route leads over, the other does
-pub over-its-sections : (l : Plan) → Once l → (a : RouteId) (ss : List SectionId) → AreSections l a ss → (s : SectionId) → Contains ss s ↔ LeadsOver l a s
+pub over-its-sections : (l : Site) → Once l → (a : RouteId) (ss : List SectionId) → AreSections l a ss → (s : SectionId) → Contains ss s ↔ LeadsOver l a s
 over-its-sections l once a ss are s =
     let r = are.0 in
     let path = are.1 in

@@ -16,7 +16,7 @@ use Rattle.layout.specs.declared.port.Element.TheVariants as element
 use Rattle.layout_text.specs.declared.entries.End.{End}
 use Rattle.layout_text.specs.declared.entries.End.TheVariants as end
 use Rattle.layout.specs.declared.entries.Signal.{Signal}
-use Rattle.layout.specs.Entries.{RouteEntry, Plan}
+use Rattle.layout.specs.Entries.{RouteEntry, Site}
 use Rattle.control_table.specs.Path.{Passage}
 use Rattle.control_table.specs.declared.sides.FlankProtection.{FlankProtection}
 use Rattle.control_table.specs.declared.sides.Protection.{Protection}
@@ -158,7 +158,7 @@ by-from true None n c = absurd (contains-none n c)
 by-from false None n c = absurd (contains-none n c)
 by-from b (Some m) n c = ⊎_elim (λ e. (m, refl, e)) (λ later. absurd (contains-none n later)) (contains-cases (m.0, other m.1) n [] c)
 
-from-from : (l : Plan) (p : PointId) (s : Side) (from : Port) (n : PointId × Side) → Joined l (leg p (other s)) from → Contains (flank_need (protection_from l p from)) n → Guards l n.0 n.1 p s
+from-from : (l : Site) (p : PointId) (s : Side) (from : Port) (n : PointId × Side) → Joined l (leg p (other s)) from → Contains (flank_need (protection_from l p from)) n → Guards l n.0 n.1 p s
 unfolding protection_from
 from-from l p s from n joined c =
     let a = by-from (has_signal l.signals from) (leg_of_another p from) n c in
@@ -169,15 +169,15 @@ from-from l p s from n joined c =
     let S : Side → Type 0 = λ t. Joined l (leg p (other s)) (leg m.0 t) in
     subst G a.2 (b.0, subst S (sym (other-other m.1)) (subst J b.1 joined))
 
-behind-from : (l : Plan) (p : PointId) (s : Side) (o : Option Port) (n : PointId × Side) → joined_to l.joints (leg p (other s)) ≡ o → Contains (flank_need (protection_behind l p o)) n → Guards l n.0 n.1 p s
+behind-from : (l : Site) (p : PointId) (s : Side) (o : Option Port) (n : PointId × Side) → joined_to l.joints (leg p (other s)) ≡ o → Contains (flank_need (protection_behind l p o)) n → Guards l n.0 n.1 p s
 behind-from l p s None n joined c = absurd (contains-none n c)
 behind-from l p s (Some from) n joined c = from-from l p s from n (joined-found l (leg p (other s)) from joined) c
 
-pub flank-from : (l : Plan) (p : PointId) (s : Side) (n : PointId × Side) → Contains (flank_need (protection_of l p s)) n → Guards l n.0 n.1 p s
+pub flank-from : (l : Site) (p : PointId) (s : Side) (n : PointId × Side) → Contains (flank_need (protection_of l p s)) n → Guards l n.0 n.1 p s
 unfolding protection_of
 flank-from l p s n c = behind-from l p s (joined_to l.joints (leg p (other s))) n refl c
 
-pub flank-to : (l : Plan) (one : OneBeyond l) (p : PointId) (s : Side) (q : PointId) (t : Side) → Guards l q t p s → Contains (flank_need (protection_of l p s)) (q, t)
+pub flank-to : (l : Site) (one : OneBeyond l) (p : PointId) (s : Side) (q : PointId) (t : Side) → Guards l q t p s → Contains (flank_need (protection_of l p s)) (q, t)
 unfolding protection_of protection_from
 flank-to l one p s q t h =
     let is : protection_of l p s ≡ protection.By q t =
@@ -203,7 +203,7 @@ guard-to p (m ∷ ns) n c =
     let H : FlankProtection → Type 0 = λ y. Contains (map (guard p) (m ∷ ns)) y in
     ⊎_elim (λ e. subst H (ap (guard p) e) (contains-here (guard p m) (map (guard p) ns))) (λ later. contains-there (guard p m) (guard p n) (map (guard p) ns) (guard-to p ns n later)) (contains-cases m n ns c)
 
-guards-at : (l : Plan) (g : Passage) (o : Option (PointId × Side)) (x : FlankProtection) → used g ≡ o → Contains (protections_at l o) x → (s : Side) × (t : Side) × Uses g x.point s × Guards l x.flank t x.point s
+guards-at : (l : Site) (g : Passage) (o : Option (PointId × Side)) (x : FlankProtection) → used g ≡ o → Contains (protections_at l o) x → (s : Side) × (t : Side) × Uses g x.point s × Guards l x.flank t x.point s
 guards-at l g None x u c = absurd (contains-none x c)
 guards-at l g (Some n) x u c =
     let on = guard-from n.0 (flank_need (protection_of l n.0 n.1)) x c in
@@ -211,14 +211,14 @@ guards-at l g (Some n) x u c =
     let is = subst G on.2 (used-uses g n u, flank-from l n.0 n.1 (x.flank, on.0) on.1) in
     (n.1, on.0, is.0, is.1)
 
-pub protections-from : (l : Plan) (path : List Passage) (x : FlankProtection) → Contains (protections l path) x → (s : Side) × (t : Side) × PathUses path x.point s × Guards l x.flank t x.point s
+pub protections-from : (l : Site) (path : List Passage) (x : FlankProtection) → Contains (protections l path) x → (s : Side) × (t : Side) × PathUses path x.point s × Guards l x.flank t x.point s
 unfolding protections
 protections-from l path x c =
     let a = flat_map-from (λ g. protections_at l (used g)) path x c in
     let is = guards-at l a.0 (used a.0) x refl a.2 in
     (is.0, is.1, (a.0, a.1, is.2), is.3)
 
-pub protections-to : (l : Plan) (one : OneBeyond l) (path : List Passage) (q p : PointId) (s t : Side) → PathUses path p s → Guards l q t p s → Contains (protections l path) (record { flank = q; point = p })
+pub protections-to : (l : Site) (one : OneBeyond l) (path : List Passage) (q p : PointId) (s t : Side) → PathUses path p s → Guards l q t p s → Contains (protections l path) (record { flank = q; point = p })
 unfolding protections
 protections-to l one path q p s t uses guards =
     let g = uses.0 in
@@ -229,20 +229,20 @@ protections-to l one path q p s t uses guards =
 
 -- ---- all that a path requires
 
-at-from : (l : Plan) (g : Passage) (o : Option (PointId × Side)) (n : PointId × Side) → used g ≡ o → Contains (needs_at l o) n
+at-from : (l : Site) (g : Passage) (o : Option (PointId × Side)) (n : PointId × Side) → used g ≡ o → Contains (needs_at l o) n
     → Uses g n.0 n.1 ⊎ ((p : PointId) × (s : Side) × Uses g p s × Guards l n.0 n.1 p s)
 at-from l g None n u c = absurd (contains-none n c)
 at-from l g (Some m) n u c =
     let U : PointId × Side → Type 0 = λ n. Uses g n.0 n.1 in
     ⊎_elim (λ e. inl (subst U e (used-uses g m u))) (λ later. inr (m.0, m.1, used-uses g m u, flank-from l m.0 m.1 n later)) (contains-cases m n (flank_need (protection_of l m.0 m.1)) c)
 
-pub needs-from : (l : Plan) (path : List Passage) (n : PointId × Side) → Contains (needs l path) n → Requires l path n.0 n.1
+pub needs-from : (l : Site) (path : List Passage) (n : PointId × Side) → Contains (needs l path) n → Requires l path n.0 n.1
 unfolding needs
 needs-from l path n c =
     let a = flat_map-from (λ g. needs_at l (used g)) path n c in
     (a.0, a.1, at-from l a.0 (used a.0) n refl a.2)
 
-pub needs-to : (l : Plan) (one : OneBeyond l) (path : List Passage) (q : PointId) (t : Side) → Requires l path q t → Contains (needs l path) (q, t)
+pub needs-to : (l : Site) (one : OneBeyond l) (path : List Passage) (q : PointId) (t : Side) → Requires l path q t → Contains (needs l path) (q, t)
 unfolding needs
 needs-to l one path q t h =
     let g = h.0 in
@@ -255,14 +255,14 @@ needs-to l one path q t h =
 pub has_need-decides : (ns : List (PointId × Side)) (n : PointId × Side) → Decides (has_need ns n) (Contains ns n)
 has_need-decides ns n = has-decides same_need need-decides ns n
 
-pub requires-decides : (l : Plan) (one : OneBeyond l) (path : List Passage) (n : PointId × Side) → Decides (has_need (needs l path) n) (Requires l path n.0 n.1)
+pub requires-decides : (l : Site) (one : OneBeyond l) (path : List Passage) (n : PointId × Side) → Decides (has_need (needs l path) n) (Requires l path n.0 n.1)
 requires-decides l one path n = Decides-like (has_need (needs l path) n) (needs-from l path n) (needs-to l one path n.0 n.1) (has_need-decides (needs l path) n)
 
-at_both : (l : Plan) (path : List Passage) → NoneAtBothSides l path → (p : PointId) (s : Side) → Requires l path p s → Requires l path p (other s) → ⊥
+at_both : (l : Site) (path : List Passage) → NoneAtBothSides l path → (p : PointId) (s : Side) → Requires l path p s → Requires l path p (other s) → ⊥
 at_both l path h p side.Left a b = h p a b
 at_both l path h p side.Right a b = h p b a
 
-pub consistent-decides : (l : Plan) (one : OneBeyond l) (path : List Passage) → Decides (consistent (needs l path)) (NoneAtBothSides l path)
+pub consistent-decides : (l : Site) (one : OneBeyond l) (path : List Passage) → Decides (consistent (needs l path)) (NoneAtBothSides l path)
 unfolding consistent
 consistent-decides l one path =
     let P : PointId × Side → Type 0 = λ n. Requires l path n.0 (other n.1) → ⊥ in
@@ -274,7 +274,7 @@ consistent-decides l one path =
 
 -- ---- flanks
 
-pub has_signal-decides : (l : Plan) (p : Port) → Decides (has_signal l.signals p) ((s : SignalId) × StandsAt l s p)
+pub has_signal-decides : (l : Site) (p : Port) → Decides (has_signal l.signals p) ((s : SignalId) × StandsAt l s p)
 has_signal-decides l p =
     let P : Signal → Type 0 = λ s. s.at ≡ p in
     let up : ((s : Signal) × Contains l.signals s × P s) → (s : SignalId) × StandsAt l s p = λ h.
@@ -286,7 +286,7 @@ has_signal-decides l p =
     (a.0, get-contains l.signals h.0.0 a.0 a.1, a.2) in
     Decides-like (has_signal l.signals p) up down (any-decides (λ s. is_port s.at p) P (λ s. port-decides s.at p) l.signals)
 
-guarded-none : (l : Plan) (one : OneBeyond l) (p : PointId) (s : Side) (from : Port) → joined_to l.joints (leg p (other s)) ≡ Some from → leg_of_another p from ≡ None → Decides (has_signal l.signals from) (IsGuarded l p s)
+guarded-none : (l : Site) (one : OneBeyond l) (p : PointId) (s : Side) (from : Port) → joined_to l.joints (leg p (other s)) ≡ Some from → leg_of_another p from ≡ None → Decides (has_signal l.signals from) (IsGuarded l p s)
 guarded-none l one p s from joined no_leg =
     let signal : Type 0 = (i : SignalId) × StandsAt l i from in
     let up : signal → IsGuarded l p s = λ h at j.
@@ -301,28 +301,28 @@ closed : (b : Bool) → not (is_open_leg (guarded_by b)) ≡ b
 closed true = refl
 closed false = refl
 
-guarded-by : (l : Plan) (one : OneBeyond l) (p : PointId) (s : Side) (from : Port) (o : Option (PointId × Side)) → joined_to l.joints (leg p (other s)) ≡ Some from → leg_of_another p from ≡ o → Decides (not (is_open_leg (protection_by (has_signal l.signals from) o))) (IsGuarded l p s)
+guarded-by : (l : Site) (one : OneBeyond l) (p : PointId) (s : Side) (from : Port) (o : Option (PointId × Side)) → joined_to l.joints (leg p (other s)) ≡ Some from → leg_of_another p from ≡ o → Decides (not (is_open_leg (protection_by (has_signal l.signals from) o))) (IsGuarded l p s)
 guarded-by l one p s from None joined no_leg = Decides-at (not (is_open_leg (guarded_by (has_signal l.signals from)))) (has_signal l.signals from) (closed (has_signal l.signals from)) (guarded-none l one p s from joined no_leg)
 guarded-by l one p s from (Some n) joined is_leg =
     let a = leg_of_another-some p from n is_leg in
     (λ h at j. inl (n.0, n.1, a.0, some-injective at from (sym (one (leg p (other s)) at j) ∙ joined) ∙ a.1), λ h. refl)
 
-guarded-behind : (l : Plan) (one : OneBeyond l) (p : PointId) (s : Side) (o : Option Port) → joined_to l.joints (leg p (other s)) ≡ o → Decides (not (is_open_leg (protection_behind l p o))) (IsGuarded l p s)
+guarded-behind : (l : Site) (one : OneBeyond l) (p : PointId) (s : Side) (o : Option Port) → joined_to l.joints (leg p (other s)) ≡ o → Decides (not (is_open_leg (protection_behind l p o))) (IsGuarded l p s)
 unfolding protection_from
 guarded-behind l one p s None joined = (λ h from j. absurd (none-some from (sym joined ∙ one (leg p (other s)) from j)), λ h. refl)
 guarded-behind l one p s (Some from) joined = guarded-by l one p s from (leg_of_another p from) joined refl
 
-pub guarded-decides : (l : Plan) (one : OneBeyond l) (p : PointId) (s : Side) → Decides (not (is_open_leg (protection_of l p s))) (IsGuarded l p s)
+pub guarded-decides : (l : Site) (one : OneBeyond l) (p : PointId) (s : Side) → Decides (not (is_open_leg (protection_of l p s))) (IsGuarded l p s)
 unfolding protection_of
 guarded-decides l one p s = guarded-behind l one p s (joined_to l.joints (leg p (other s))) refl
 
-open-decides : (l : Plan) (one : OneBeyond l) (o : Option (PointId × Side)) → Decides (not (is_open_at l o)) ((n : PointId × Side) → o ≡ Some n → IsGuarded l n.0 n.1)
+open-decides : (l : Site) (one : OneBeyond l) (o : Option (PointId × Side)) → Decides (not (is_open_at l o)) ((n : PointId × Side) → o ≡ Some n → IsGuarded l n.0 n.1)
 open-decides l one None = (λ h n e. absurd (none-some n e), λ h. refl)
 open-decides l one (Some m) =
     let G : PointId × Side → Type 0 = λ n. IsGuarded l n.0 n.1 in
     Decides-like (not (is_open_leg (protection_of l m.0 m.1))) (λ h n e. subst G (some-injective m n e) h) (λ h. h m refl) (guarded-decides l one m.0 m.1)
 
-pub flanks-decide : (l : Plan) (one : OneBeyond l) (path : List Passage) → Decides (flanks_guarded l path) (FlanksGuarded l path)
+pub flanks-decide : (l : Site) (one : OneBeyond l) (path : List Passage) → Decides (flanks_guarded l path) (FlanksGuarded l path)
 unfolding flanks_guarded
 flanks-decide l one path =
     let P : Passage → Type 0 = λ g. (n : PointId × Side) → used g ≡ Some n → IsGuarded l n.0 n.1 in
@@ -333,7 +333,7 @@ flanks-decide l one path =
 
 -- ---- what is written
 
-pub right-decides : (l : Plan) (one : OneBeyond l) (r : RouteEntry) (path : List Passage) → Decides (points_right r path (needs l path) && flank_right r path (needs l path)) (WritesOnlyRequired l r path)
+pub right-decides : (l : Site) (one : OneBeyond l) (r : RouteEntry) (path : List Passage) → Decides (points_right r path (needs l path) && flank_right r path (needs l path)) (WritesOnlyRequired l r path)
 unfolding points_right flank_right
 right-decides l one r path =
     let ns = needs l path in
@@ -350,7 +350,7 @@ either : {A B : Type 0} (b : Bool) → Decides b A → ((A → ⊥) → B) → A
 either true d h = inl (d.0 refl)
 either false d h = inr (h (λ a. false≢true (d.1 a)))
 
-pub flank_written-decides : (l : Plan) (one : OneBeyond l) (r : RouteEntry) (path : List Passage) → Decides (flank_written r path (needs l path)) (FlankNamed l r path)
+pub flank_written-decides : (l : Site) (one : OneBeyond l) (r : RouteEntry) (path : List Passage) → Decides (flank_written r path (needs l path)) (FlankNamed l r path)
 unfolding flank_written
 flank_written-decides l one r path =
     let ns = needs l path in

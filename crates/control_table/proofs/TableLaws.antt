@@ -9,7 +9,7 @@ use Rattle.sci_telegram.specs.declared.message.Side.{Side}
 use Rattle.layout.specs.declared.ids.SectionId.{SectionId}
 use Rattle.layout.specs.declared.ids.PointId.{PointId}
 use Rattle.layout.specs.declared.ids.RouteId.{RouteId}
-use Rattle.layout.specs.Entries.{RouteEntry, Plan}
+use Rattle.layout.specs.Entries.{RouteEntry, Site}
 use Rattle.control_table.specs.declared.fault.FaultyRoute.{FaultyRoute}
 use Rattle.control_table.specs.declared.fault.TableFault.{TableFault}
 use Rattle.control_table.specs.declared.fault.TableFault.TheVariants.{PathBroken, PathRepeats, PointMissing, PointWrong, FlankMissing, FlankOpen, FlankContradicts, SignalPlace, NotSymmetric, OutOfMemory}
@@ -29,13 +29,13 @@ use Rattle.control_table.proofs.OrderLaws.{one-side}
 
 -- ---- extra conflicts
 
-pub lists-decides : (l : Plan) (a b : RouteId) → Decides (lists l.routes a b) (Lists l a b)
+pub lists-decides : (l : Site) (a b : RouteId) → Decides (lists l.routes a b) (Lists l a b)
 unfolding lists
 lists-decides l a b =
     let P : RouteEntry → Type 0 = λ r. Contains r.extra b in
     some_and-decides (λ r. names_route r.extra b) P (λ r. has-decides (λ c d. c.0 == d.0) route-decides r.extra b) (slice_get l.routes a.0)
 
-pub extras-decide : (l : Plan) (a : RouteId) (r : RouteEntry) → Decides (extras_listed l.routes a r.extra) (ExtrasListed l a r)
+pub extras-decide : (l : Site) (a : RouteId) (r : RouteEntry) → Decides (extras_listed l.routes a r.extra) (ExtrasListed l a r)
 unfolding extras_listed
 extras-decide l a r =
     let P : RouteId → Type 0 = λ b. (b ≡ a → ⊥) × Lists l b a in
@@ -44,7 +44,7 @@ extras-decide l a r =
 
 -- ---- what is written is what is required
 
-pub writes-all : (l : Plan) (r : RouteEntry) (path : List Passage) → PointsNamed r path → WritesOnlyRequired l r path → FlankNamed l r path → NoneAtBothSides l path → WritesRequired l r path
+pub writes-all : (l : Site) (r : RouteEntry) (path : List Passage) → PointsNamed r path → WritesOnlyRequired l r path → FlankNamed l r path → NoneAtBothSides l path → WritesRequired l r path
 writes-all l r path points only flank none =
     let P : PointId → Side → Type 0 = λ p s. Contains r.points (p, s) in
     let F : PointId → Side → Type 0 = λ p s. Contains r.flank (p, s) in
@@ -53,13 +53,13 @@ writes-all l r path points only flank none =
       flank = λ p s. (only.flank p s, λ h. let named = flank p s h.0 h.1 in subst (F p) (one-side l path none p named.0 s (only.flank p named.0 named.1).0 h.0) named.1);
     }
 
-pub all-named : (l : Plan) (r : RouteEntry) (path : List Passage) → WritesRequired l r path → PointsNamed r path
+pub all-named : (l : Site) (r : RouteEntry) (path : List Passage) → WritesRequired l r path → PointsNamed r path
 all-named l r path h p on = (on.1, (h.points p on.1).1 ((on.0, on.2, inl on.3), on))
 
-pub only-required : (l : Plan) (r : RouteEntry) (path : List Passage) → WritesRequired l r path → WritesOnlyRequired l r path
+pub only-required : (l : Site) (r : RouteEntry) (path : List Passage) → WritesRequired l r path → WritesOnlyRequired l r path
 only-required l r path h = record { points = λ p s. (h.points p s).0; flank = λ p s. (h.flank p s).0 }
 
-pub flank-named : (l : Plan) (r : RouteEntry) (path : List Passage) → WritesRequired l r path → FlankNamed l r path
+pub flank-named : (l : Site) (r : RouteEntry) (path : List Passage) → WritesRequired l r path → FlankNamed l r path
 flank-named l r path h p s needed off = (s, (h.flank p s).1 (needed, off))
 
 -- ---- one route
@@ -76,14 +76,14 @@ false-not : {P : Type 0} (b : Bool) → Decides b P → b ≡ false → P → �
 false-not b d e p = false≢true (sym e ∙ d.1 p)
 
 -- what the tests of points and flanks say of a path
-pub record Protected (l : Plan) (r : RouteEntry) (path : List Passage) : Type 0 where
+pub record Protected (l : Site) (r : RouteEntry) (path : List Passage) : Type 0 where
   pub points : PointsNamed r path
   pub only : WritesOnlyRequired l r path
   pub flank : FlankNamed l r path
   pub guarded : FlanksGuarded l path
   pub consistent : NoneAtBothSides l path
 
-pub required-found : (place : FaultyRoute) (l : Plan) (one : OneBeyond l) (r : RouteEntry) (path : List Passage) (ns : List (PointId × Side)) → required_of place l r path ≡ Ok ns → Protected l r path × (in_layout_order (needs l path) ≡ ns)
+pub required-found : (place : FaultyRoute) (l : Site) (one : OneBeyond l) (r : RouteEntry) (path : List Passage) (ns : List (PointId × Side)) → required_of place l r path ≡ Ok ns → Protected l r path × (in_layout_order (needs l path) ≡ ns)
 unfolding required_of
 required-found place l one r path ns e =
     let last : Result (List (PointId × Side)) TableFault = Ok (in_layout_order (needs l path)) in
@@ -107,7 +107,7 @@ required-found place l one r path ns e =
     )
 
 -- a fault of the points and flanks of a path that comes once
-pub required-fault : (place : FaultyRoute) (l : Plan) (one : OneBeyond l) (r : RouteEntry) (path : List Passage) (f : TableFault) (C : TableFault → Type 0) → required_of place l r path ≡ Err f → BeforePointMissing l r path
+pub required-fault : (place : FaultyRoute) (l : Site) (one : OneBeyond l) (r : RouteEntry) (path : List Passage) (f : TableFault) (C : TableFault → Type 0) → required_of place l r path ≡ Err f → BeforePointMissing l r path
     → ((g : TableFault) → IsFaultOf l place r g → C g) → C f
 unfolding required_of
 required-fault place l one r path f C e so_far told =
@@ -133,7 +133,7 @@ required-fault place l one r path f C e so_far told =
     (failed_or_passed (points_written r path) (PointMissing place) f e4 e)
 
 -- what the row of a route says
-pub record RowFacts (l : Plan) (a : RouteId) (r : RouteEntry) (row : TableRow) : Type 0 where
+pub record RowFacts (l : Site) (a : RouteId) (r : RouteEntry) (row : TableRow) : Type 0 where
   pub path : List Passage
   pub is_path : Path l r path
   pub protected : Protected l r path
@@ -142,19 +142,19 @@ pub record RowFacts (l : Plan) (a : RouteId) (r : RouteEntry) (row : TableRow) :
   pub required : row.required ≡ in_layout_order (needs l path)
   pub protections : row.protections ≡ protections l path
 
-abbrev row_listed : FaultyRoute → Plan → RouteEntry → TableRow → Result TableRow TableFault
+abbrev row_listed : FaultyRoute → Site → RouteEntry → TableRow → Result TableRow TableFault
 row_listed place l r row = if not (extras_listed l.routes place.id r.extra) then Err (NotSymmetric place) else Ok row
 
-abbrev row_placed : FaultyRoute → Plan → RouteEntry → List Passage → TableRow → Result TableRow TableFault
+abbrev row_placed : FaultyRoute → Site → RouteEntry → List Passage → TableRow → Result TableRow TableFault
 row_placed place l r path row = if not (signals_placed l r path) then Err (SignalPlace place) else row_listed place l r row
 
-abbrev row_with : FaultyRoute → Plan → RouteEntry → List Passage → List SectionId → Result TableRow TableFault
+abbrev row_with : FaultyRoute → Site → RouteEntry → List Passage → List SectionId → Result TableRow TableFault
 row_with place l r path ss = required_of place l r path >>= λ ns. row_placed place l r path (record { sections = ss; required = ns; protections = protections l path })
 
-abbrev row_on : FaultyRoute → Plan → RouteEntry → List Passage → Result TableRow TableFault
+abbrev row_on : FaultyRoute → Site → RouteEntry → List Passage → Result TableRow TableFault
 row_on place l r path = sections_of place l path >>= λ ss. row_with place l r path ss
 
-pub row-found : (place : FaultyRoute) (l : Plan) (one : OneBeyond l) (r : RouteEntry) (row : TableRow) → row_of place l r ≡ Ok row → RowFacts l place.id r row
+pub row-found : (place : FaultyRoute) (l : Site) (one : OneBeyond l) (r : RouteEntry) (row : TableRow) → row_of place l r ≡ Ok row → RowFacts l place.id r row
 unfolding row_of sections_of
 row-found place l one r row e =
     let a = ok-from (path_of place l r) (row_on place l r) row e in
@@ -177,7 +177,7 @@ row-found place l one r row e =
       protections = ap (λ (x : TableRow). x.protections) (sym same);
     }
 
-pub row-fault : (place : FaultyRoute) (l : Plan) (one : OneBeyond l) (r : RouteEntry) (f : TableFault) (C : TableFault → Type 0) → row_of place l r ≡ Err f → ((g : TableFault) → IsFaultOf l place r g → C g) → C f
+pub row-fault : (place : FaultyRoute) (l : Site) (one : OneBeyond l) (r : RouteEntry) (f : TableFault) (C : TableFault → Type 0) → row_of place l r ≡ Err f → ((g : TableFault) → IsFaultOf l place r g → C g) → C f
 unfolding row_of sections_of
 row-fault place l one r f C e told =
     ⊎_elim (λ h. let broken = path-broken place l one r f h in subst C broken.0 (told (PathBroken place) (refl, broken.1))) (λ a.
@@ -198,7 +198,7 @@ row-fault place l one r f C e told =
     (err-from (sections_of place l path) (row_with place l r path) f a.2))
     (err-from (path_of place l r) (row_on place l r) f e)
 
-pub row-sound : (l : Plan) (a : RouteId) (r : RouteEntry) (row : TableRow) → RowFacts l a r row → SoundRoute l a r
+pub row-sound : (l : Site) (a : RouteId) (r : RouteEntry) (row : TableRow) → RowFacts l a r row → SoundRoute l a r
 row-sound l a r row h =
     let k = h.protected in
     record { path = h.path; is_path = h.is_path; writes = writes-all l r h.path k.points k.only k.flank k.consistent; consistent = k.consistent; guarded = k.guarded; listed = h.listed }
@@ -208,11 +208,11 @@ row-sound l a r row h =
 abbrev pub place_at : ℕ → List ℕ → FaultyRoute
 place_at n name = record { id = record { 0 = n }; name = name }
 
-abbrev rows_after : Plan → ℕ → List RouteEntry → TableRow → Result (List TableRow) TableFault
+abbrev rows_after : Site → ℕ → List RouteEntry → TableRow → Result (List TableRow) TableFault
 rows_after l n routes row = rows_from l (suc n) routes >>= λ rows. Ok (row ∷ rows)
 
 -- each route has its row
-pub each-row : (l : Plan) (n : ℕ) (routes : List RouteEntry) (rows : List TableRow) → rows_from l n routes ≡ Ok rows → (k : ℕ) (r : RouteEntry) → slice_get routes k ≡ Some r
+pub each-row : (l : Site) (n : ℕ) (routes : List RouteEntry) (rows : List TableRow) → rows_from l n routes ≡ Ok rows → (k : ℕ) (r : RouteEntry) → slice_get routes k ≡ Some r
     → (row : TableRow) × (slice_get rows k ≡ Some row) × (row_of (place_at (n + k) r.name) l r ≡ Ok row)
 unfolding rows_from
 each-row l n [] rows e k r at = absurd (none-some r at)
@@ -230,7 +230,7 @@ each-row l n (q ∷ routes) rows e (suc k) r at =
     let R : ℕ → Type 0 = λ i. row_of (place_at i r.name) l r ≡ Ok later.0 in
     (later.0, ap (λ rows. slice_get rows (suc k)) (sym (ok-injective (a.0 ∷ b.0) rows b.2)) ∙ later.1, subst R m later.2)
 
-pub rows-length : (l : Plan) (n : ℕ) (routes : List RouteEntry) (rows : List TableRow) → rows_from l n routes ≡ Ok rows → length rows ≡ length routes
+pub rows-length : (l : Site) (n : ℕ) (routes : List RouteEntry) (rows : List TableRow) → rows_from l n routes ≡ Ok rows → length rows ≡ length routes
 unfolding rows_from
 rows-length l n [] rows e = ap length (sym (ok-injective [] rows e))
 rows-length l n (q ∷ routes) rows e =
@@ -239,14 +239,14 @@ rows-length l n (q ∷ routes) rows e =
     ap length (sym (ok-injective (a.0 ∷ b.0) rows b.2)) ∙ ap suc (rows-length l (suc n) routes b.0 b.1)
 
 -- the first route that has none
-pub record FirstWithout (l : Plan) (n : ℕ) (routes : List RouteEntry) (f : TableFault) : Type 0 where
+pub record FirstWithout (l : Site) (n : ℕ) (routes : List RouteEntry) (f : TableFault) : Type 0 where
   pub at : ℕ
   pub route : RouteEntry
   pub there : slice_get routes at ≡ Some route
   pub fault : row_of (place_at (n + at) route.name) l route ≡ Err f
   pub before : (k : ℕ) (q : RouteEntry) → k < at → slice_get routes k ≡ Some q → (row : TableRow) × (row_of (place_at (n + k) q.name) l q ≡ Ok row)
 
-without_before : (l : Plan) (n : ℕ) (q : RouteEntry) (routes : List RouteEntry) (f : TableFault) (row : TableRow) → row_of (place_at n q.name) l q ≡ Ok row → (w : FirstWithout l (suc n) routes f)
+without_before : (l : Site) (n : ℕ) (q : RouteEntry) (routes : List RouteEntry) (f : TableFault) (row : TableRow) → row_of (place_at n q.name) l q ≡ Ok row → (w : FirstWithout l (suc n) routes f)
     → (k : ℕ) (x : RouteEntry) → k < suc w.at → slice_get (q ∷ routes) k ≡ Some x → (row : TableRow) × (row_of (place_at (n + k) x.name) l x ≡ Ok row)
 without_before l n q routes f row found w zero x lt at =
     let m : n ≡ n + 0 = omega arith in
@@ -259,13 +259,13 @@ without_before l n q routes f row found w (suc k) x lt at =
     let R : ℕ → Type 0 = λ i. row_of (place_at i x.name) l x ≡ Ok h.0 in
     (h.0, subst R m h.1)
 
-without_later : (l : Plan) (n : ℕ) (q : RouteEntry) (routes : List RouteEntry) (f : TableFault) (row : TableRow) → row_of (place_at n q.name) l q ≡ Ok row → FirstWithout l (suc n) routes f → FirstWithout l n (q ∷ routes) f
+without_later : (l : Site) (n : ℕ) (q : RouteEntry) (routes : List RouteEntry) (f : TableFault) (row : TableRow) → row_of (place_at n q.name) l q ≡ Ok row → FirstWithout l (suc n) routes f → FirstWithout l n (q ∷ routes) f
 without_later l n q routes f row found w =
     let m : suc n + w.at ≡ n + suc w.at = omega arith in
     let R : ℕ → Type 0 = λ i. row_of (place_at i w.route.name) l w.route ≡ Err f in
     record { at = suc w.at; route = w.route; there = w.there; fault = subst R m w.fault; before = without_before l n q routes f row found w }
 
-pub first-without : (l : Plan) (n : ℕ) (routes : List RouteEntry) (f : TableFault) → rows_from l n routes ≡ Err f → FirstWithout l n routes f
+pub first-without : (l : Site) (n : ℕ) (routes : List RouteEntry) (f : TableFault) → rows_from l n routes ≡ Err f → FirstWithout l n routes f
 unfolding rows_from
 first-without l n [] f e = absurd (err-ok f [] (sym e))
 first-without l n (q ∷ routes) f e =
@@ -280,7 +280,7 @@ first-without l n (q ∷ routes) f e =
 
 -- ---- the table
 
-pub table-row : (l : Plan) (one : OneBeyond l) (rows : List TableRow) → rows_of l ≡ Ok rows → (a : RouteId) (r : RouteEntry) → IsRoute l a r → (row : TableRow) × (slice_get rows a.0 ≡ Some row) × RowFacts l a r row
+pub table-row : (l : Site) (one : OneBeyond l) (rows : List TableRow) → rows_of l ≡ Ok rows → (a : RouteId) (r : RouteEntry) → IsRoute l a r → (row : TableRow) × (slice_get rows a.0 ≡ Some row) × RowFacts l a r row
 unfolding rows_of
 table-row l one rows e a r at =
     let h = each-row l 0 l.routes rows e a.0 r at in
@@ -288,10 +288,10 @@ table-row l one rows e a r at =
     let R : ℕ → Type 0 = λ i. row_of (place_at i r.name) l r ≡ Ok h.0 in
     (h.0, h.1, row-found (place_at a.0 r.name) l one r h.0 (subst R m h.2))
 
-pub table-sound : (l : Plan) (one : OneBeyond l) (rows : List TableRow) → rows_of l ≡ Ok rows → Sound l
+pub table-sound : (l : Site) (one : OneBeyond l) (rows : List TableRow) → rows_of l ≡ Ok rows → Sound l
 table-sound l one rows e a r at = let h = table-row l one rows e a r at in row-sound l a r h.0 h.2
 
-first-told : (l : Plan) (one : OneBeyond l) (f g : TableFault) (w : FirstWithout l 0 l.routes f) → IsFaultOf l (place_at w.at w.route.name) w.route g → ToldAt l (place_at w.at w.route.name) g
+first-told : (l : Site) (one : OneBeyond l) (f g : TableFault) (w : FirstWithout l 0 l.routes f) → IsFaultOf l (place_at w.at w.route.name) w.route g → ToldAt l (place_at w.at w.route.name) g
 first-told l one f g w h =
     record {
       route = w.route;
@@ -305,7 +305,7 @@ first-told l one f g w h =
           row-sound l b q k.0 (row-found (place_at b.0 q.name) l one q k.0 (subst R m k.1));
     }
 
-is-first : (l : Plan) (f : TableFault) → ((at : FaultyRoute) × ToldAt l at f) → IsFirstFault l f
+is-first : (l : Site) (f : TableFault) → ((at : FaultyRoute) × ToldAt l at f) → IsFirstFault l f
 is-first l (PathBroken told) h = h
 is-first l (PathRepeats told) h = h
 is-first l (PointMissing told) h = h
@@ -317,7 +317,7 @@ is-first l (SignalPlace told) h = h
 is-first l (NotSymmetric told) h = h
 is-first l OutOfMemory h = tt
 
-pub table-fault : (l : Plan) (one : OneBeyond l) (f : TableFault) → rows_of l ≡ Err f → IsFirstFault l f
+pub table-fault : (l : Site) (one : OneBeyond l) (f : TableFault) → rows_of l ≡ Err f → IsFirstFault l f
 unfolding rows_of
 table-fault l one f e =
     let w = first-without l 0 l.routes f e in
@@ -326,7 +326,7 @@ table-fault l one f e =
     row-fault (place_at w.at w.route.name) l one w.route f (IsFirstFault l) (subst R m w.fault) (λ g h. is-first l g (place_at w.at w.route.name, first-told l one f g w h))
 
 -- a sound route has no fault
-sound-faultless : (l : Plan) (one : OneBeyond l) (at : FaultyRoute) (r : RouteEntry) (f : TableFault) → SoundRoute l at.id r → IsFaultOf l at r f → ⊥
+sound-faultless : (l : Site) (one : OneBeyond l) (at : FaultyRoute) (r : RouteEntry) (f : TableFault) → SoundRoute l at.id r → IsFaultOf l at r f → ⊥
 sound-faultless l one at r (PathBroken told) s h = h.1 s.path s.is_path.follows
 sound-faultless l one at r (PathRepeats told) s h = h.3 (subst (ComesOnce l) (one-path l one r at s.path h.1 s.is_path.follows h.2) s.is_path.once)
 sound-faultless l one at r (PointMissing told) s h = h.3 (subst (PointsNamed r) (one-path l one r at s.path h.1 s.is_path.follows h.2.0) (all-named l r s.path s.writes))
@@ -338,10 +338,10 @@ sound-faultless l one at r (SignalPlace told) s h = h.3 (subst (SignalsPlaced l 
 sound-faultless l one at r (NotSymmetric told) s h = h.3 s.listed
 sound-faultless l one at r OutOfMemory s h = h
 
-told-unsound : (l : Plan) (one : OneBeyond l) (f : TableFault) → ((at : FaultyRoute) × ToldAt l at f) → Sound l → ⊥
+told-unsound : (l : Site) (one : OneBeyond l) (f : TableFault) → ((at : FaultyRoute) × ToldAt l at f) → Sound l → ⊥
 told-unsound l one f h s = let t = h.1 in sound-faultless l one h.0 t.route f (s h.0.id t.route t.in_table) t.fault
 
-pub only-memory : (l : Plan) (one : OneBeyond l) (f : TableFault) → IsFirstFault l f → Sound l → f ≡ OutOfMemory
+pub only-memory : (l : Site) (one : OneBeyond l) (f : TableFault) → IsFirstFault l f → Sound l → f ≡ OutOfMemory
 only-memory l one OutOfMemory h s = refl
 only-memory l one (PathBroken told) h s = absurd (told-unsound l one (PathBroken told) h s)
 only-memory l one (PathRepeats told) h s = absurd (told-unsound l one (PathRepeats told) h s)
@@ -354,7 +354,7 @@ only-memory l one (SignalPlace told) h s = absurd (told-unsound l one (SignalPla
 only-memory l one (NotSymmetric told) h s = absurd (told-unsound l one (NotSymmetric told) h s)
 
 -- what a function answered that fails as the rows do
-pub fails-first : (l : Plan) (one : OneBeyond l) (f : TableFault) → Fails f (rows_of l) → IsFirstFault l f
+pub fails-first : (l : Site) (one : OneBeyond l) (f : TableFault) → Fails f (rows_of l) → IsFirstFault l f
 fails-first l one OutOfMemory h = tt
 fails-first l one (PathBroken told) h = table-fault l one (PathBroken told) h
 fails-first l one (PathRepeats told) h = table-fault l one (PathRepeats told) h

@@ -19,7 +19,7 @@ use Rattle.layout.specs.declared.port.Element.{Element}
 use Rattle.layout.specs.declared.port.Element.TheVariants as of
 use Rattle.layout_text.specs.declared.entries.End.{End}
 use Rattle.layout_text.specs.declared.entries.End.TheVariants as end
-use Rattle.layout.specs.Entries.{RouteEntry, Plan}
+use Rattle.layout.specs.Entries.{RouteEntry, Site}
 use Rattle.layout.specs.Resolving.{has_port}
 use Rattle.layout.specs.Station.{HasSection, HasPoint, HasElement, HasPort, IsRouteOf, IsStation}
 use Rattle.control_table.specs.Topology.{Joined, section_of, IsRoute}
@@ -32,7 +32,7 @@ use Rattle.control_table.proofs.ConflictLaws.{get-below}
 
 -- ---- ports
 
-joins-there : (l : Plan) → IsStation l → (p q : Port) → Joined l p q → HasPort l p × HasPort l q
+joins-there : (l : Site) → IsStation l → (p q : Port) → Joined l p q → HasPort l p × HasPort l q
 joins-there l station p q h =
     let both = All-contains (λ j. HasPort l j.first × HasPort l j.second) l.joints h.0 station.joints h.1 in
     ⊎_elim
@@ -53,14 +53,14 @@ border-end b end.Left h = search (rules, h)
 border-end b end.Right h = search (rules, h)
 
 -- no train passes a border
-no-border : (l : Plan) (g : Passage) (b : BorderId) → HasPort l g.entered → HasPort l g.left → Passes g → g.left.element ≡ of.Border b → ⊥
+no-border : (l : Site) (g : Passage) (b : BorderId) → HasPort l g.entered → HasPort l g.left → Passes g → g.left.element ≡ of.Border b → ⊥
 no-border l g b entered left passes is =
     let here : IsTrue (has_port (of.Border b) g.left.end) = subst (λ e. IsTrue (has_port e g.left.end)) is left.end in
     let there : IsTrue (has_port (of.Border b) g.entered.end) = subst (λ e. IsTrue (has_port e g.entered.end)) (passes.element ∙ is) entered.end in
     passes.ports (border-end b g.entered.end there ∙ sym (border-end b g.left.end here))
 
 -- the section of an element that isn't a border
-in_section : (l : Plan) → IsStation l → (e : Element) → HasElement l e → ((b : BorderId) → e ≡ of.Border b → ⊥) → (s : SectionId) × (section_of l e ≡ Some s) × HasSection l s
+in_section : (l : Site) → IsStation l → (e : Element) → HasElement l e → ((b : BorderId) → e ≡ of.Border b → ⊥) → (s : SectionId) × (section_of l e ≡ Some s) × HasSection l s
 in_section l station (of.Track t) there none =
     let x = get-below l.tracks t.0 there in
     (x.0.section, ap (λ o. elim o [ None ↦ None | Some track ↦ Some track.section ]) x.1, All-contains (λ t. HasSection l t.section) l.tracks x.0 station.tracks (get-contains l.tracks t.0 x.0 x.1))
@@ -70,10 +70,10 @@ in_section l station (of.Point p) there none =
 in_section l station (of.Border b) there none = absurd (none b refl)
 
 -- each element of a path lies in a section
-abbrev InSection : Plan → Passage → Type 0
+abbrev InSection : Site → Passage → Type 0
 InSection l g = HasPort l g.left × ((s : SectionId) × (section_of l g.left.element ≡ Some s) × HasSection l s)
 
-lead-there : (l : Plan) → IsStation l → (from : Port) (path : List Passage) → Leads l from path → All (HasPort l) (map (λ g. g.left) path) → All (InSection l) path
+lead-there : (l : Site) → IsStation l → (from : Port) (path : List Passage) → Leads l from path → All (HasPort l) (map (λ g. g.left) path) → All (InSection l) path
 lead-there l station from [] leads ports = All-nil (InSection l)
 lead-there l station from (g ∷ path) leads ports =
     let left = All-head (HasPort l) g.left (map (λ g. g.left) path) ports in
@@ -81,15 +81,15 @@ lead-there l station from (g ∷ path) leads ports =
     let inside = in_section l station g.left.element left.element (λ b is. no-border l g b entered left leads.1 is) in
     All-cons (InSection l) g path (left, inside) (lead-there l station g.left path leads.2 (All-tail (HasPort l) g.left (map (λ g. g.left) path) ports))
 
-route-there : (l : Plan) → IsStation l → (a : RouteId) (r : RouteEntry) → IsRoute l a r → IsRouteOf l r
+route-there : (l : Site) → IsStation l → (a : RouteId) (r : RouteEntry) → IsRoute l a r → IsRouteOf l r
 route-there l station a r at = All-contains (IsRouteOf l) l.routes r station.routes (get-contains l.routes a.0 r at)
 
-path-there : (l : Plan) → IsStation l → (a : RouteId) (r : RouteEntry) (path : List Passage) → IsRoute l a r → Path l r path → All (InSection l) path
+path-there : (l : Site) → IsStation l → (a : RouteId) (r : RouteEntry) (path : List Passage) → IsRoute l a r → Path l r path → All (InSection l) path
 path-there l station a r path at is =
     let begins = is.follows.begins in
     lead-there l station begins.0 path begins.2 (subst (All (HasPort l)) is.follows.ports (route-there l station a r at).path)
 
-pub route-goes : (l : Plan) → IsStation l → (i : ℕ) (d r : RouteEntry) → i < length l.routes → r ≡ get_or l.routes i d → HasAspect l (record { 0 = i }) r.aspect × (r.aspect ≢ Stop)
+pub route-goes : (l : Site) → IsStation l → (i : ℕ) (d r : RouteEntry) → i < length l.routes → r ≡ get_or l.routes i d → HasAspect l (record { 0 = i }) r.aspect × (r.aspect ≢ Stop)
 route-goes l station i d r lt at =
     let is = slice_get-get_or l.routes i d lt in
     let there : slice_get l.routes i ≡ Some r = is ∙ ap Some (sym at) in
@@ -97,7 +97,7 @@ route-goes l station i d r lt at =
 
 -- ---- sections
 
-filtered-there : (l : Plan) (path : List Passage) → All (InSection l) path → All (HasSection l) (filter_map (section_of l) (elements path))
+filtered-there : (l : Site) (path : List Passage) → All (InSection l) path → All (HasSection l) (filter_map (section_of l) (elements path))
 filtered-there l [] h = All-nil (HasSection l)
 filtered-there l (g ∷ path) h =
     let here = All-head (InSection l) g path h in
@@ -143,7 +143,7 @@ dedup_some : {A : Type 0} (same : A → A → Bool) (xs : List A) → 1 ≤ leng
 dedup_some same [] h = h
 dedup_some same (x ∷ xs) h = dedup_from-some same x xs
 
-filtered-some : (l : Plan) (path : List Passage) → All (InSection l) path → path ≢ [] → 1 ≤ length (filter_map (section_of l) (elements path))
+filtered-some : (l : Site) (path : List Passage) → All (InSection l) path → path ≢ [] → 1 ≤ length (filter_map (section_of l) (elements path))
 filtered-some l [] h some = absurd (some refl)
 filtered-some l (g ∷ path) h some =
     let here = All-head (InSection l) g path h in
@@ -151,7 +151,7 @@ filtered-some l (g ∷ path) h some =
     let e : cons_option (section_of l g.left.element) rest ≡ here.1.0 ∷ rest = ap (λ o. cons_option o rest) here.1.1 in
     subst (λ xs. 1 ≤ length xs) (sym e) (omega arith)
 
-pub sections-there : (l : Plan) → IsStation l → (a : RouteId) (ss : List SectionId) → AreSections l a ss → (1 ≤ length ss) × (length ss ≤ 64) × All (HasSection l) ss
+pub sections-there : (l : Site) → IsStation l → (a : RouteId) (ss : List SectionId) → AreSections l a ss → (1 ≤ length ss) × (length ss ≤ 64) × All (HasSection l) ss
 sections-there l station a ss h =
     let r = h.0 in
     let path = h.1 in
@@ -168,12 +168,12 @@ sections-there l station a ss h =
 
 -- ---- points
 
-used-there : (l : Plan) → IsStation l → (a : RouteId) (r : RouteEntry) (path : List Passage) (g : Passage) (p : PointId) (s : Side) → IsRoute l a r → Path l r path → Contains path g → Uses g p s → HasPoint l p
+used-there : (l : Site) → IsStation l → (a : RouteId) (r : RouteEntry) (path : List Passage) (g : Passage) (p : PointId) (s : Side) → IsRoute l a r → Path l r path → Contains path g → Uses g p s → HasPoint l p
 used-there l station a r path g p s at is on used =
     let there = All-contains (InSection l) path g (path-there l station a r path at is) on in
     subst (HasElement l) used.0 there.0.element
 
-pub required-there : (l : Plan) → IsStation l → (a : RouteId) (p : PointId) (s : Side) → RouteRequires l a p s → HasPoint l p
+pub required-there : (l : Site) → IsStation l → (a : RouteId) (p : PointId) (s : Side) → RouteRequires l a p s → HasPoint l p
 required-there l station a p s h =
     let path = h.1 in
     let needed = h.4 in
@@ -183,7 +183,7 @@ required-there l station a p s h =
     needed.2
 
 -- the section of a point on a path is one of the path
-filtered-has : (l : Plan) (path : List Passage) (g : Passage) (s : SectionId) → Contains path g → section_of l g.left.element ≡ Some s → Contains (filter_map (section_of l) (elements path)) s
+filtered-has : (l : Site) (path : List Passage) (g : Passage) (s : SectionId) → Contains path g → section_of l g.left.element ≡ Some s → Contains (filter_map (section_of l) (elements path)) s
 filtered-has l [] g s on is = absurd (omega (arith, on.1))
 filtered-has l (x ∷ path) g s on is =
     let rest = filter_map (section_of l) (elements path) in
@@ -199,7 +199,7 @@ filtered-has l (x ∷ path) g s on is =
 sections_equiv : IsEquivalence same_section
 sections_equiv = record { refl = λ s. nat_eq_equiv.refl s.0; symm = λ s t. nat_eq_equiv.symm s.0 t.0; congr = λ s t u. nat_eq_equiv.congr s.0 t.0 u.0 }
 
-pub point-section : (l : Plan) → IsStation l → (a : RouteId) (r : RouteEntry) (path : List Passage) (p : PointId) → IsRoute l a r → Path l r path → OnPath path p → (s : SectionId) × (section_of l (of.Point p) ≡ Some s) × LeadsOver l a s
+pub point-section : (l : Site) → IsStation l → (a : RouteId) (r : RouteEntry) (path : List Passage) (p : PointId) → IsRoute l a r → Path l r path → OnPath path p → (s : SectionId) × (section_of l (of.Point p) ≡ Some s) × LeadsOver l a s
 point-section l station a r path p at is h =
     let g = h.0 in
     let there = All-contains (InSection l) path g (path-there l station a r path at is) h.2 in

@@ -16,8 +16,8 @@ ghost use Rattle.control_table.specs.declared.fault.TableFault.TheVariants.{OutO
 
 use crate::conflicts::conflicts;
 use crate::fault::TableFault;
-use crate::freeing::awaited;
 use crate::masks::{RouteMasks, all_masks};
+use crate::point_release::awaited;
 use crate::row::{Row, copy_rows, rows};
 use crate::sides::FlankProtection;
 use bit_row::BitRow;
@@ -36,12 +36,12 @@ pub struct Checked {
 
 impl Model for Checked {
     ghost use Rattle.std.specs.Prelude.{◌≡◌, Ok};
-    ghost use Rattle.layout.specs.Entries.{Plan};
+    ghost use Rattle.layout.specs.Entries.{Site};
     ghost use Rattle.layout.specs.Once.{Once};
     ghost use Rattle.layout.specs.Station.{IsStation};
     ghost use Rattle.control_table.specs.inside.Judging.{all_masks, rows_of};
 
-    ghost Value = { Plan };
+    ghost Value = { Site };
 
     ghost view = { λ c. c.layout };
 

@@ -5,11 +5,11 @@
 mod checked;
 mod conflicts;
 mod fault;
-mod freeing;
 mod laws;
 mod masks;
 mod order;
 mod passage;
+mod point_release;
 mod row;
 mod sections;
 mod sides;
@@ -27,3 +27,8 @@ pub use laws::{
 };
 pub use masks::RouteMasks;
 pub use sides::FlankProtection;
+
+// What crates above need of the crates below.
+pub use bit_row;
+pub use layout;
+pub use sci_telegram;

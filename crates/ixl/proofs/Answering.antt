@@ -1,13 +1,13 @@
 -- What a step answers.
 use Rattle.std.proofs.Common.{◌≡◌, ◌∙◌, ℕ, ◌≤◌, arith, refl, ap, sym}
 use Rattle.std.specs.Prelude.{Option, Some, None}
-use Rattle.rasta_pdu.specs.declared.key.Key.{Key}
-use Rattle.ixl_rules.specs.Commands.{refusal}
-use Rattle.ixl_rules.specs.State.{IxlState}
-use Rattle.ixl_rules.specs.Step.{Accepted, Commands, Refused, Reply, all_clocked, answer_by, reply}
-use Rattle.ixl_rules.specs.Table.{Table}
-use Rattle.ixl_rules.specs.declared.command.Command.{Command}
-use Rattle.ixl_rules.specs.declared.command.Refusal.{Refusal}
+use Rattle.ixl_state.specs.rasta_pdu.declared.key.Key.{Key}
+use Rattle.ixl_state.specs.ixl_rules.Commands.{refusal}
+use Rattle.ixl_state.specs.ixl_rules.State.{IxlState}
+use Rattle.ixl_state.specs.ixl_rules.Step.{Accepted, Commands, Refused, Reply, all_clocked, answer_by, reply}
+use Rattle.ixl_state.specs.ixl_rules.Table.{Table}
+use Rattle.ixl_state.specs.ixl_rules.declared.command.Command.{Command}
+use Rattle.ixl_state.specs.ixl_rules.declared.command.Refusal.{Refusal}
 use Rattle.ixl_state.specs.State.{AllAt, MayStepAll, StateView}
 
 answer_accepts : (found : Option Refusal) → answer_by found ≡ Accepted → found ≡ None
@@ -35,7 +35,7 @@ refused_is now table key command ixl answer cause is refuses = answer_refuses (r
 
 pub may_follow : (now later : ℕ) (state : StateView) → AllAt now state → now ≤ later → MayStepAll later state
 may_follow now later state at within = record {
-  lamps = λ k d inside. let here = at.lamps k d inside in omega (arith, here, within);
-  switches = λ k d inside. let here = at.switches k d inside in omega (arith, here, within);
+  known_signals = λ k d inside. let here = at.known_signals k d inside in omega (arith, here, within);
+  known_points = λ k d inside. let here = at.known_points k d inside in omega (arith, here, within);
   detectors = λ k d inside. let here = at.detectors k d inside in omega (arith, here, within);
 }

@@ -3,12 +3,12 @@ use Rattle.std.proofs.Common.{◌≡◌, ℕ, zero, suc, ◌<◌, Bool, true, fa
 use Rattle.std.specs.Prelude.{◌&&◌, ◌||◌, Option, Some, None, slice_get}
 use Rattle.std.specs.List.{list_all}
 use Rattle.std.proofs.lemmas.Bool.{true≢false, false≢true}
-use Rattle.ixl_rules.specs.Commands.{cancel_refusal, conflict_told, first_failing, is_point_wanting, locking_refusal, refused_where, request_refusal}
-use Rattle.ixl_rules.specs.State.{IxlState, RouteState}
-use Rattle.ixl_rules.specs.Table.{Need, Row, Table}
-use Rattle.ixl_rules.specs.View.{first_blocking, is_at_known_stop, is_holding, is_occupied, is_set, is_signal_ready, is_unknown}
-use Rattle.ixl_rules.specs.declared.command.Refusal.{Refusal}
-use Rattle.ixl_rules.specs.declared.command.Refusal.TheVariants as refusals
+use Rattle.ixl_state.specs.ixl_rules.Commands.{cancel_refusal, conflict_told, first_failing, is_point_wanting, locking_refusal, refused_where, request_refusal}
+use Rattle.ixl_state.specs.ixl_rules.State.{IxlState, RouteState}
+use Rattle.ixl_state.specs.ixl_rules.Table.{Need, Row, Table}
+use Rattle.ixl_state.specs.ixl_rules.View.{first_blocking, is_at_known_stop, is_holding, is_occupied, is_set, is_signal_ready, is_unknown}
+use Rattle.ixl_state.specs.ixl_rules.declared.command.Refusal.{Refusal}
+use Rattle.ixl_state.specs.ixl_rules.declared.command.Refusal.TheVariants as refusals
 use Rattle.ixl.specs.inside.Parts.{first_where}
 
 abbrev is_there : {A : Type 0} → Option A → Bool

@@ -1,14 +1,14 @@
 -- What each kind of input does.
 use Rattle.std.proofs.Common.{◌≡◌, ℕ, List, arith, refl, sym, subst}
 use Rattle.std.specs.Prelude.{Ok, Err}
-use Rattle.rasta_core.specs.Outbox.{OutboxState}
-use Rattle.rasta_pdu.specs.Reading.{reading}
-use Rattle.rasta_pdu.specs.declared.fault.PduFault.{PduFault}
-use Rattle.rasta_pdu.specs.declared.key.Key.{Key}
-use Rattle.rasta_pdu.specs.declared.pdu.Pdu.{Pdu}
-use Rattle.ixl_rules.specs.Step.{Commands, Datagram, Tick, given, ticked}
-use Rattle.ixl_rules.specs.Table.{Table}
-use Rattle.ixl_rules.specs.declared.command.Command.{Command}
+use Rattle.ixl_state.specs.rasta_core.Outbox.{OutboxState}
+use Rattle.ixl_state.specs.rasta_pdu.Reading.{reading}
+use Rattle.ixl_state.specs.rasta_pdu.declared.fault.PduFault.{PduFault}
+use Rattle.ixl_state.specs.rasta_pdu.declared.key.Key.{Key}
+use Rattle.ixl_state.specs.rasta_pdu.declared.pdu.Pdu.{Pdu}
+use Rattle.ixl_state.specs.ixl_rules.Step.{Commands, Datagram, Tick, given, ticked}
+use Rattle.ixl_state.specs.ixl_rules.Table.{Table}
+use Rattle.ixl_state.specs.ixl_rules.declared.command.Command.{Command}
 use Rattle.ixl.specs.Interlocking.{meant}
 use Rattle.ixl.specs.declared.input.Input.{Input as GivenInput}
 use Rattle.ixl.specs.declared.input.Input.TheVariants as inputs

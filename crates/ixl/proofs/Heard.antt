@@ -4,47 +4,47 @@ use Rattle.std.specs.Prelude.{Option, Some, None, slice_get, IfSome}
 use Rattle.std.specs.FinSet.{empty}
 use Rattle.std.specs.List.{position}
 use Rattle.std.proofs.lemmas.List.Quantifiers.{position-Some}
-use Rattle.bit_row.specs.Places.{Places}
-use Rattle.rasta_core.specs.Calls.{receiving}
-use Rattle.rasta_core.specs.Outbox.{OutboxState}
-use Rattle.rasta_core.specs.verdict.Verdict.{Verdict}
-use Rattle.rasta_core.specs.verdict.Verdict.TheVariants as verdicts
-use Rattle.ixl_client.specs.Client.{ClientState, is_outside, is_ready}
-use Rattle.ixl_client.specs.Part.{begun}
-use Rattle.ixl_client.specs.Part as client
-use Rattle.ixl_client.specs.Step.{hearing}
-use Rattle.ixl_client.specs.declared.indication.Indication.{Indication}
-use Rattle.ixl_rules.specs.Part.{Node, Signal, Point, Detector, Part, along, detector_after}
-use Rattle.ixl_rules.specs.State.{DetectorState, IxlState, LampState, SwitchState, changed}
-use Rattle.ixl_rules.specs.Step.{client_of, detector_hearing, lamp_hearing, looking, looks, node_hearing, node_of, occupied_heard, partner_at, switch_hearing, told_before, told_now, verdict_at}
-use Rattle.ixl_rules.specs.Table.{Table}
-use Rattle.ixl_field.specs.Field.{FieldState, detector_hearing_alone}
+use Rattle.ixl_state.specs.bit_row.Places.{Places}
+use Rattle.ixl_state.specs.rasta_core.Calls.{receiving}
+use Rattle.ixl_state.specs.rasta_core.Outbox.{OutboxState}
+use Rattle.ixl_state.specs.rasta_core.verdict.Verdict.{Verdict}
+use Rattle.ixl_state.specs.rasta_core.verdict.Verdict.TheVariants as verdicts
+use Rattle.ixl_state.specs.ixl_client.Client.{ClientState, is_outside, is_ready}
+use Rattle.ixl_state.specs.ixl_client.ClientSoFar.{begun}
+use Rattle.ixl_state.specs.ixl_client.ClientSoFar as client
+use Rattle.ixl_state.specs.ixl_client.Step.{hearing}
+use Rattle.ixl_state.specs.ixl_client.declared.indication.Indication.{Indication}
+use Rattle.ixl_state.specs.ixl_rules.StepSoFar.{Node, Signal, Point, Detector, StepSoFar, along, detector_after}
+use Rattle.ixl_state.specs.ixl_rules.State.{KnownDetectorState, IxlState, KnownSignalState, KnownPointState, changed}
+use Rattle.ixl_state.specs.ixl_rules.Step.{client_of, detector_hearing, known_signal_hearing, looking, looks, node_hearing, node_of, occupied_heard, partner_at, known_point_hearing, told_before, told_now, verdict_at}
+use Rattle.ixl_state.specs.ixl_rules.Table.{Table}
+use Rattle.ixl_state.specs.ixl_field.Field.{FieldState, detector_hearing_alone}
 use Rattle.ixl_state.specs.State.{AllAt, Goes, StateView, field_of}
-use Rattle.ixl_nodes.specs.Nodes.{AreHeardBy}
-use Rattle.ixl_table.specs.Table.{PlannedTable}
+use Rattle.ixl_state.specs.ixl_field.Nodes.{AreHeardBy}
+use Rattle.ixl_state.specs.ixl_table.Table.{SitedTable}
 use Rattle.ixl.specs.inside.Parts.{Passes, heard_from, told_since}
 use Rattle.ixl.proofs.Causes.{get_inside}
 use Rattle.ixl.proofs.Chaining.{Comes, goes_nowhere, goes_then, goes_as, leads_at, part_at}
 
 -- ---- the node of a sender
 
-pub signal_node : (id : ℕ) (ixl : IxlState) (place : ℕ) → position (λ (lamp : LampState). partner_at id lamp.client) ixl.lamps ≡ Some place → node_of id ixl ≡ Some (Signal place)
+pub signal_node : (id : ℕ) (ixl : IxlState) (place : ℕ) → position (λ (known_signal : KnownSignalState). partner_at id known_signal.client) ixl.known_signals ≡ Some place → node_of id ixl ≡ Some (Signal place)
 unfolding node_of
 signal_node id ixl place is = rw is
 
-pub point_node : (id : ℕ) (ixl : IxlState) (place : ℕ) → position (λ (lamp : LampState). partner_at id lamp.client) ixl.lamps ≡ None →
-    position (λ (switch : SwitchState). partner_at id switch.client) ixl.switches ≡ Some place → node_of id ixl ≡ Some (Point place)
+pub point_node : (id : ℕ) (ixl : IxlState) (place : ℕ) → position (λ (known_signal : KnownSignalState). partner_at id known_signal.client) ixl.known_signals ≡ None →
+    position (λ (known_point : KnownPointState). partner_at id known_point.client) ixl.known_points ≡ Some place → node_of id ixl ≡ Some (Point place)
 unfolding node_of
 point_node id ixl place none is = rw (none, is)
 
-pub detector_node : (id : ℕ) (ixl : IxlState) (place : ℕ) → position (λ (lamp : LampState). partner_at id lamp.client) ixl.lamps ≡ None →
-    position (λ (switch : SwitchState). partner_at id switch.client) ixl.switches ≡ None → position (λ (detector : DetectorState). partner_at id detector.client) ixl.detectors ≡ Some place →
+pub detector_node : (id : ℕ) (ixl : IxlState) (place : ℕ) → position (λ (known_signal : KnownSignalState). partner_at id known_signal.client) ixl.known_signals ≡ None →
+    position (λ (known_point : KnownPointState). partner_at id known_point.client) ixl.known_points ≡ None → position (λ (detector : KnownDetectorState). partner_at id detector.client) ixl.detectors ≡ Some place →
     node_of id ixl ≡ Some (Detector place)
 unfolding node_of
 detector_node id ixl place none nothing is = rw (none, nothing, is)
 
-pub no_node : (id : ℕ) (ixl : IxlState) → position (λ (lamp : LampState). partner_at id lamp.client) ixl.lamps ≡ None →
-    position (λ (switch : SwitchState). partner_at id switch.client) ixl.switches ≡ None → position (λ (detector : DetectorState). partner_at id detector.client) ixl.detectors ≡ None →
+pub no_node : (id : ℕ) (ixl : IxlState) → position (λ (known_signal : KnownSignalState). partner_at id known_signal.client) ixl.known_signals ≡ None →
+    position (λ (known_point : KnownPointState). partner_at id known_point.client) ixl.known_points ≡ None → position (λ (detector : KnownDetectorState). partner_at id detector.client) ixl.detectors ≡ None →
     node_of id ixl ≡ None
 unfolding node_of
 no_node id ixl none nothing neither = rw (none, nothing, neither)
@@ -56,12 +56,12 @@ heard_at now most table bytes id node old box new out is goes = goes_as now most
     (λ leads. leads_at (heard_from now table bytes id) old.ixl box new.ixl out (λ calls acted. rw is (leads (part_at old.ixl box calls acted) refl refl))) goes
 
 pub signal_heard : (now most : ℕ) (table : Table) (bytes : List ℕ) (id place : ℕ) (old : StateView) (box : OutboxState) (new : StateView) (out : OutboxState) →
-    node_of id old.ixl ≡ Some (Signal place) → Goes now most (lamp_hearing now bytes place) old box new out → Goes now most (heard_from now table bytes id) old box new out
+    node_of id old.ixl ≡ Some (Signal place) → Goes now most (known_signal_hearing now bytes place) old box new out → Goes now most (heard_from now table bytes id) old box new out
 unfolding node_hearing
 signal_heard now most table bytes id place old box new out is goes = heard_at now most table bytes id (Signal place) old box new out is goes
 
 pub point_heard : (now most : ℕ) (table : Table) (bytes : List ℕ) (id place : ℕ) (old : StateView) (box : OutboxState) (new : StateView) (out : OutboxState) →
-    node_of id old.ixl ≡ Some (Point place) → Goes now most (switch_hearing now bytes place) old box new out → Goes now most (heard_from now table bytes id) old box new out
+    node_of id old.ixl ≡ Some (Point place) → Goes now most (known_point_hearing now bytes place) old box new out → Goes now most (heard_from now table bytes id) old box new out
 unfolding node_hearing
 point_heard now most table bytes id place old box new out is goes = heard_at now most table bytes id (Point place) old box new out is goes
 
@@ -77,41 +77,41 @@ heard_nowhere now most table bytes id old box at none = goes_nowhere now most (h
 
 -- ---- what its link says of it
 
-pub signal_says : (now : ℕ) (bytes : List ℕ) (id place : ℕ) (ixl : IxlState) (lamp : LampState) (verdict : Verdict) → node_of id ixl ≡ Some (Signal place) → slice_get ixl.lamps place ≡ Some lamp →
-    verdict ≡ (receiving now bytes lamp.client.link).verdict → verdict ≡ verdict_at now bytes (client_of (node_of id ixl) ixl)
-signal_says now bytes id place ixl lamp verdict node is says = rw (node, is) says
+pub signal_says : (now : ℕ) (bytes : List ℕ) (id place : ℕ) (ixl : IxlState) (known_signal : KnownSignalState) (verdict : Verdict) → node_of id ixl ≡ Some (Signal place) → slice_get ixl.known_signals place ≡ Some known_signal →
+    verdict ≡ (receiving now bytes known_signal.client.link).verdict → verdict ≡ verdict_at now bytes (client_of (node_of id ixl) ixl)
+signal_says now bytes id place ixl known_signal verdict node is says = rw (node, is) says
 
-pub point_says : (now : ℕ) (bytes : List ℕ) (id place : ℕ) (ixl : IxlState) (switch : SwitchState) (verdict : Verdict) → node_of id ixl ≡ Some (Point place) → slice_get ixl.switches place ≡ Some switch →
-    verdict ≡ (receiving now bytes switch.client.link).verdict → verdict ≡ verdict_at now bytes (client_of (node_of id ixl) ixl)
-point_says now bytes id place ixl switch verdict node is says = rw (node, is) says
+pub point_says : (now : ℕ) (bytes : List ℕ) (id place : ℕ) (ixl : IxlState) (known_point : KnownPointState) (verdict : Verdict) → node_of id ixl ≡ Some (Point place) → slice_get ixl.known_points place ≡ Some known_point →
+    verdict ≡ (receiving now bytes known_point.client.link).verdict → verdict ≡ verdict_at now bytes (client_of (node_of id ixl) ixl)
+point_says now bytes id place ixl known_point verdict node is says = rw (node, is) says
 
-pub detector_says : (now : ℕ) (bytes : List ℕ) (id place : ℕ) (ixl : IxlState) (detector : DetectorState) (verdict : Verdict) → node_of id ixl ≡ Some (Detector place) → slice_get ixl.detectors place ≡ Some detector →
+pub detector_says : (now : ℕ) (bytes : List ℕ) (id place : ℕ) (ixl : IxlState) (detector : KnownDetectorState) (verdict : Verdict) → node_of id ixl ≡ Some (Detector place) → slice_get ixl.detectors place ≡ Some detector →
     verdict ≡ (receiving now bytes detector.client.link).verdict → verdict ≡ verdict_at now bytes (client_of (node_of id ixl) ixl)
 detector_says now bytes id place ixl detector verdict node is says = rw (node, is) says
 
 -- ---- a detector
 
 -- what comes of hearing it
-abbrev pub done_by : ℕ → List ℕ → DetectorState → OutboxState → client.Part
+abbrev pub done_by : ℕ → List ℕ → KnownDetectorState → OutboxState → client.ClientSoFar
 done_by now bytes detector box = hearing now bytes (begun detector.client box)
 
-pub alone_is : (now : ℕ) (table : Table) (bytes : List ℕ) (place : ℕ) (sections : List ℕ) (detector : DetectorState) (part : Part) → slice_get table.detectors place ≡ Some sections →
+pub alone_is : (now : ℕ) (table : Table) (bytes : List ℕ) (place : ℕ) (sections : List ℕ) (detector : KnownDetectorState) (part : StepSoFar) → slice_get table.detectors place ≡ Some sections →
     slice_get part.ixl.detectors place ≡ Some detector →
     detector_hearing now table bytes place part ≡ along (looking table) (looks sections detector (done_by now bytes detector part.outbox).heard (done_by now bytes detector part.outbox).client)
     (detector_hearing_alone now bytes place part)
 unfolding detector_hearing detector_hearing_alone
 alone_is now table bytes place sections detector part has is = rw (has, is)
 
-pub detector_looks : (now : ℕ) (bytes : List ℕ) (place : ℕ) (sections : List ℕ) (detector : DetectorState) (old : StateView) (box : OutboxState) (mid : StateView) (between : OutboxState) (new : StateView) →
-    slice_get old.planned.table.detectors place ≡ Some sections → slice_get old.ixl.detectors place ≡ Some detector →
+pub detector_looks : (now : ℕ) (bytes : List ℕ) (place : ℕ) (sections : List ℕ) (detector : KnownDetectorState) (old : StateView) (box : OutboxState) (mid : StateView) (between : OutboxState) (new : StateView) →
+    slice_get old.sited.table.detectors place ≡ Some sections → slice_get old.ixl.detectors place ≡ Some detector →
     Goes now 30 (detector_hearing_alone now bytes place) old box mid between →
-    Passes now (along (looking old.planned.table) (looks sections detector (done_by now bytes detector box).heard (done_by now bytes detector box).client)) mid new →
-    Goes now 30 (detector_hearing now old.planned.table bytes place) old box new between
+    Passes now (along (looking old.sited.table) (looks sections detector (done_by now bytes detector box).heard (done_by now bytes detector box).client)) mid new →
+    Goes now 30 (detector_hearing now old.sited.table bytes place) old box new between
 detector_looks now bytes place sections detector old box mid between new has is hears passes =
-    goes_as now 30 (λ part. along (looking old.planned.table) (looks sections detector (done_by now bytes detector box).heard (done_by now bytes detector box).client) (detector_hearing_alone now bytes place part))
-    (detector_hearing now old.planned.table bytes place) old box new between
-    (λ leads. leads_at (detector_hearing now old.planned.table bytes place) old.ixl box new.ixl between
-    (λ calls acted. subst (λ (p : Part). Comes p new.ixl between) (sym (alone_is now old.planned.table bytes place sections detector (part_at old.ixl box calls acted) has is))
+    goes_as now 30 (λ part. along (looking old.sited.table) (looks sections detector (done_by now bytes detector box).heard (done_by now bytes detector box).client) (detector_hearing_alone now bytes place part))
+    (detector_hearing now old.sited.table bytes place) old box new between
+    (λ leads. leads_at (detector_hearing now old.sited.table bytes place) old.ixl box new.ixl between
+    (λ calls acted. subst (λ (p : StepSoFar). Comes p new.ixl between) (sym (alone_is now old.sited.table bytes place sections detector (part_at old.ixl box calls acted) has is))
     (leads (part_at old.ixl box calls acted) refl refl)))
     (goes_then now 30 0 (detector_hearing_alone now bytes place) _ old box mid between new between hears (passes between))
 
@@ -121,7 +121,7 @@ get_changed [] place one new is = cc
 get_changed (first ∷ others) zero one new is = refl
 get_changed (first ∷ others) (suc place) one new is = get_changed others place one new is
 
-abbrev detector_of : ClientState → Places → DetectorState
+abbrev detector_of : ClientState → Places → KnownDetectorState
 detector_of c occupied = record { client = c; occupied = occupied }
 
 detector_client : (occupied : Places) (c : ClientState) → (detector_after occupied c).client ≡ c
@@ -131,24 +131,24 @@ detector_client occupied c = cases (is_outside c.stage) where
   cases true = refl
   cases false = refl
 
-abbrev pub heard_detector : ℕ → List ℕ → DetectorState → OutboxState → DetectorState
+abbrev pub heard_detector : ℕ → List ℕ → KnownDetectorState → OutboxState → KnownDetectorState
 heard_detector now bytes detector box = detector_after (occupied_heard (done_by now bytes detector box).heard detector.occupied) (done_by now bytes detector box).client
 
-pub alone_leaves : (now : ℕ) (bytes : List ℕ) (place : ℕ) (detector : DetectorState) (old : StateView) (box : OutboxState) (mid : StateView) (between : OutboxState) →
+pub alone_leaves : (now : ℕ) (bytes : List ℕ) (place : ℕ) (detector : KnownDetectorState) (old : StateView) (box : OutboxState) (mid : StateView) (between : OutboxState) →
     slice_get old.ixl.detectors place ≡ Some detector → Goes now 30 (detector_hearing_alone now bytes place) old box mid between →
     slice_get mid.ixl.detectors place ≡ Some (heard_detector now bytes detector box)
 unfolding detector_hearing_alone
 alone_leaves now bytes place detector old box mid between is hears =
     let after : (detector_hearing_alone now bytes place (part_at old.ixl box [] [])).ixl ≡ mid.ixl = (hears.leads (part_at old.ixl box [] []) refl refl).0
-    in let changes : changed (λ (one : DetectorState). heard_detector now bytes detector box) place old.ixl.detectors ≡ mid.ixl.detectors = ap (λ (i : IxlState). i.detectors) (rw is at after)
+    in let changes : changed (λ (one : KnownDetectorState). heard_detector now bytes detector box) place old.ixl.detectors ≡ mid.ixl.detectors = ap (λ (i : IxlState). i.detectors) (rw is at after)
     in ap (λ list. slice_get list place) (sym changes) ∙ get_changed old.ixl.detectors place detector (heard_detector now bytes detector box) is
 
-pub ready_after : (now : ℕ) (bytes : List ℕ) (place : ℕ) (detector : DetectorState) (old : StateView) (box : OutboxState) (mid : StateView) (between : OutboxState) (ready : Bool) →
+pub ready_after : (now : ℕ) (bytes : List ℕ) (place : ℕ) (detector : KnownDetectorState) (old : StateView) (box : OutboxState) (mid : StateView) (between : OutboxState) (ready : Bool) →
     slice_get old.ixl.detectors place ≡ Some detector → Goes now 30 (detector_hearing_alone now bytes place) old box mid between →
-    IfSome (slice_get mid.ixl.detectors place) (λ (d : DetectorState). ready ≡ is_ready d.client.stage) → ready ≡ is_ready (done_by now bytes detector box).client.stage
+    IfSome (slice_get mid.ixl.detectors place) (λ (d : KnownDetectorState). ready ≡ is_ready d.client.stage) → ready ≡ is_ready (done_by now bytes detector box).client.stage
 ready_after now bytes place detector old box mid between ready is hears told =
-    let there : IfSome (Some (heard_detector now bytes detector box)) (λ (d : DetectorState). ready ≡ is_ready d.client.stage) =
-    subst (λ (o : Option DetectorState). IfSome o (λ (d : DetectorState). ready ≡ is_ready d.client.stage)) (alone_leaves now bytes place detector old box mid between is hears) told
+    let there : IfSome (Some (heard_detector now bytes detector box)) (λ (d : KnownDetectorState). ready ≡ is_ready d.client.stage) =
+    subst (λ (o : Option KnownDetectorState). IfSome o (λ (d : KnownDetectorState). ready ≡ is_ready d.client.stage)) (alone_leaves now bytes place detector old box mid between is hears) told
     in there ∙ ap (λ (c : ClientState). is_ready c.stage) (detector_client (occupied_heard (done_by now bytes detector box).heard detector.occupied) (done_by now bytes detector box).client)
 
 -- ---- what is there
@@ -162,105 +162,105 @@ pub found_inside : {A : Type 0} (passes : A → Bool) (list : List A) (place : �
 found_inside passes [] place is = cc
 found_inside passes (first ∷ others) place is = (position-Some passes (first ∷ others) place first is).0
 
-pub signal_told : (now : ℕ) (bytes : List ℕ) (id place : ℕ) (ixl : IxlState) (verdict : Verdict) → node_of id ixl ≡ Some (Signal place) → place < length ixl.lamps →
-    IfSome (slice_get ixl.lamps place) (λ (lamp : LampState). verdict ≡ (receiving now bytes lamp.client.link).verdict) → verdict ≡ verdict_at now bytes (client_of (node_of id ixl) ixl)
+pub signal_told : (now : ℕ) (bytes : List ℕ) (id place : ℕ) (ixl : IxlState) (verdict : Verdict) → node_of id ixl ≡ Some (Signal place) → place < length ixl.known_signals →
+    IfSome (slice_get ixl.known_signals place) (λ (known_signal : KnownSignalState). verdict ≡ (receiving now bytes known_signal.client.link).verdict) → verdict ≡ verdict_at now bytes (client_of (node_of id ixl) ixl)
 signal_told now bytes id place ixl verdict node within says =
-    let there = get_below ixl.lamps place within
-    in signal_says now bytes id place ixl there.0 verdict node there.1 (subst (λ (o : Option LampState). IfSome o (λ (lamp : LampState). verdict ≡ (receiving now bytes lamp.client.link).verdict)) there.1 says)
+    let there = get_below ixl.known_signals place within
+    in signal_says now bytes id place ixl there.0 verdict node there.1 (subst (λ (o : Option KnownSignalState). IfSome o (λ (known_signal : KnownSignalState). verdict ≡ (receiving now bytes known_signal.client.link).verdict)) there.1 says)
 
-pub point_told : (now : ℕ) (bytes : List ℕ) (id place : ℕ) (ixl : IxlState) (verdict : Verdict) → node_of id ixl ≡ Some (Point place) → place < length ixl.switches →
-    IfSome (slice_get ixl.switches place) (λ (switch : SwitchState). verdict ≡ (receiving now bytes switch.client.link).verdict) → verdict ≡ verdict_at now bytes (client_of (node_of id ixl) ixl)
+pub point_told : (now : ℕ) (bytes : List ℕ) (id place : ℕ) (ixl : IxlState) (verdict : Verdict) → node_of id ixl ≡ Some (Point place) → place < length ixl.known_points →
+    IfSome (slice_get ixl.known_points place) (λ (known_point : KnownPointState). verdict ≡ (receiving now bytes known_point.client.link).verdict) → verdict ≡ verdict_at now bytes (client_of (node_of id ixl) ixl)
 point_told now bytes id place ixl verdict node within says =
-    let there = get_below ixl.switches place within
-    in point_says now bytes id place ixl there.0 verdict node there.1 (subst (λ (o : Option SwitchState). IfSome o (λ (switch : SwitchState). verdict ≡ (receiving now bytes switch.client.link).verdict)) there.1 says)
+    let there = get_below ixl.known_points place within
+    in point_says now bytes id place ixl there.0 verdict node there.1 (subst (λ (o : Option KnownPointState). IfSome o (λ (known_point : KnownPointState). verdict ≡ (receiving now bytes known_point.client.link).verdict)) there.1 says)
 
 pub detector_told : (now : ℕ) (bytes : List ℕ) (id place : ℕ) (ixl : IxlState) (verdict : Verdict) → node_of id ixl ≡ Some (Detector place) → place < length ixl.detectors →
-    IfSome (slice_get ixl.detectors place) (λ (detector : DetectorState). verdict ≡ (receiving now bytes detector.client.link).verdict) → verdict ≡ verdict_at now bytes (client_of (node_of id ixl) ixl)
+    IfSome (slice_get ixl.detectors place) (λ (detector : KnownDetectorState). verdict ≡ (receiving now bytes detector.client.link).verdict) → verdict ≡ verdict_at now bytes (client_of (node_of id ixl) ixl)
 detector_told now bytes id place ixl verdict node within says =
     let there = get_below ixl.detectors place within
-    in detector_says now bytes id place ixl there.0 verdict node there.1 (subst (λ (o : Option DetectorState). IfSome o (λ (detector : DetectorState). verdict ≡ (receiving now bytes detector.client.link).verdict)) there.1 says)
+    in detector_says now bytes id place ixl there.0 verdict node there.1 (subst (λ (o : Option KnownDetectorState). IfSome o (λ (detector : KnownDetectorState). verdict ≡ (receiving now bytes detector.client.link).verdict)) there.1 says)
 
 pub nobody_told : (now : ℕ) (bytes : List ℕ) (id : ℕ) (ixl : IxlState) → node_of id ixl ≡ None → verdicts.WrongSender ≡ verdict_at now bytes (client_of (node_of id ixl) ixl)
 nobody_told now bytes id ixl none = rw none
 
 -- ---- where a sender is found in the field
 
-pub signal_found : (id place : ℕ) (field : FieldState) (state : StateView) → field ≡ field_of state → Some place ≡ position (λ (lamp : LampState). partner_at id lamp.client) field.lamps →
-    position (λ (lamp : LampState). partner_at id lamp.client) state.ixl.lamps ≡ Some place
-signal_found id place field state same is = sym (is ∙ ap (λ (f : FieldState). position (λ (lamp : LampState). partner_at id lamp.client) f.lamps) same)
+pub signal_found : (id place : ℕ) (field : FieldState) (state : StateView) → field ≡ field_of state → Some place ≡ position (λ (known_signal : KnownSignalState). partner_at id known_signal.client) field.known_signals →
+    position (λ (known_signal : KnownSignalState). partner_at id known_signal.client) state.ixl.known_signals ≡ Some place
+signal_found id place field state same is = sym (is ∙ ap (λ (f : FieldState). position (λ (known_signal : KnownSignalState). partner_at id known_signal.client) f.known_signals) same)
 
-pub no_signal : (id : ℕ) (field : FieldState) (state : StateView) → field ≡ field_of state → None ≡ position (λ (lamp : LampState). partner_at id lamp.client) field.lamps →
-    position (λ (lamp : LampState). partner_at id lamp.client) state.ixl.lamps ≡ None
-no_signal id field state same is = sym (is ∙ ap (λ (f : FieldState). position (λ (lamp : LampState). partner_at id lamp.client) f.lamps) same)
+pub no_signal : (id : ℕ) (field : FieldState) (state : StateView) → field ≡ field_of state → None ≡ position (λ (known_signal : KnownSignalState). partner_at id known_signal.client) field.known_signals →
+    position (λ (known_signal : KnownSignalState). partner_at id known_signal.client) state.ixl.known_signals ≡ None
+no_signal id field state same is = sym (is ∙ ap (λ (f : FieldState). position (λ (known_signal : KnownSignalState). partner_at id known_signal.client) f.known_signals) same)
 
-pub point_found : (id place : ℕ) (field : FieldState) (state : StateView) → field ≡ field_of state → Some place ≡ position (λ (switch : SwitchState). partner_at id switch.client) field.switches →
-    position (λ (switch : SwitchState). partner_at id switch.client) state.ixl.switches ≡ Some place
-point_found id place field state same is = sym (is ∙ ap (λ (f : FieldState). position (λ (switch : SwitchState). partner_at id switch.client) f.switches) same)
+pub point_found : (id place : ℕ) (field : FieldState) (state : StateView) → field ≡ field_of state → Some place ≡ position (λ (known_point : KnownPointState). partner_at id known_point.client) field.known_points →
+    position (λ (known_point : KnownPointState). partner_at id known_point.client) state.ixl.known_points ≡ Some place
+point_found id place field state same is = sym (is ∙ ap (λ (f : FieldState). position (λ (known_point : KnownPointState). partner_at id known_point.client) f.known_points) same)
 
-pub no_point : (id : ℕ) (field : FieldState) (state : StateView) → field ≡ field_of state → None ≡ position (λ (switch : SwitchState). partner_at id switch.client) field.switches →
-    position (λ (switch : SwitchState). partner_at id switch.client) state.ixl.switches ≡ None
-no_point id field state same is = sym (is ∙ ap (λ (f : FieldState). position (λ (switch : SwitchState). partner_at id switch.client) f.switches) same)
+pub no_point : (id : ℕ) (field : FieldState) (state : StateView) → field ≡ field_of state → None ≡ position (λ (known_point : KnownPointState). partner_at id known_point.client) field.known_points →
+    position (λ (known_point : KnownPointState). partner_at id known_point.client) state.ixl.known_points ≡ None
+no_point id field state same is = sym (is ∙ ap (λ (f : FieldState). position (λ (known_point : KnownPointState). partner_at id known_point.client) f.known_points) same)
 
-pub detector_found : (id place : ℕ) (field : FieldState) (state : StateView) → field ≡ field_of state → Some place ≡ position (λ (detector : DetectorState). partner_at id detector.client) field.detectors →
-    position (λ (detector : DetectorState). partner_at id detector.client) state.ixl.detectors ≡ Some place
-detector_found id place field state same is = sym (is ∙ ap (λ (f : FieldState). position (λ (detector : DetectorState). partner_at id detector.client) f.detectors) same)
+pub detector_found : (id place : ℕ) (field : FieldState) (state : StateView) → field ≡ field_of state → Some place ≡ position (λ (detector : KnownDetectorState). partner_at id detector.client) field.detectors →
+    position (λ (detector : KnownDetectorState). partner_at id detector.client) state.ixl.detectors ≡ Some place
+detector_found id place field state same is = sym (is ∙ ap (λ (f : FieldState). position (λ (detector : KnownDetectorState). partner_at id detector.client) f.detectors) same)
 
-pub no_detector : (id : ℕ) (field : FieldState) (state : StateView) → field ≡ field_of state → None ≡ position (λ (detector : DetectorState). partner_at id detector.client) field.detectors →
-    position (λ (detector : DetectorState). partner_at id detector.client) state.ixl.detectors ≡ None
-no_detector id field state same is = sym (is ∙ ap (λ (f : FieldState). position (λ (detector : DetectorState). partner_at id detector.client) f.detectors) same)
+pub no_detector : (id : ℕ) (field : FieldState) (state : StateView) → field ≡ field_of state → None ≡ position (λ (detector : KnownDetectorState). partner_at id detector.client) field.detectors →
+    position (λ (detector : KnownDetectorState). partner_at id detector.client) state.ixl.detectors ≡ None
+no_detector id field state same is = sym (is ∙ ap (λ (f : FieldState). position (λ (detector : KnownDetectorState). partner_at id detector.client) f.detectors) same)
 
 -- ---- all that comes of hearing a detector
 
 at_some : {A : Type 0} (found : Option A) (one : A) (holds : A → Type 0) → found ≡ Some one → IfSome found holds → holds one
 at_some found one holds is told = subst (λ o. IfSome o holds) is told
 
-looks_ready : (sections : List ℕ) (old : DetectorState) (heard : List Indication) (c : ClientState) → is_ready c.stage ≡ true → looks sections old heard c ≡ told_since (is_ready old.client.stage) old.occupied sections heard
+looks_ready : (sections : List ℕ) (old : KnownDetectorState) (heard : List Indication) (c : ClientState) → is_ready c.stage ≡ true → looks sections old heard c ≡ told_since (is_ready old.client.stage) old.occupied sections heard
 looks_ready sections old heard c is =
     ap (λ b. if not b then [] else (if is_ready old.client.stage then told_now sections heard else told_before old.occupied 0 sections ++ told_now sections heard)) is
 
-looks_not_ready : (sections : List ℕ) (old : DetectorState) (heard : List Indication) (c : ClientState) → is_ready c.stage ≡ false → looks sections old heard c ≡ []
+looks_not_ready : (sections : List ℕ) (old : KnownDetectorState) (heard : List Indication) (c : ClientState) → is_ready c.stage ≡ false → looks sections old heard c ≡ []
 looks_not_ready sections old heard c is =
     ap (λ b. if not b then [] else (if is_ready old.client.stage then told_now sections heard else told_before old.occupied 0 sections ++ told_now sections heard)) is
 
 -- what was asked of a detector and of what it told
 pub record IsHeard (now : ℕ) (bytes : List ℕ) (place : ℕ) (old : StateView) (box : OutboxState) (mid : StateView) (between : OutboxState) (was is_now : Bool) (were : Places) (told : List Indication) : Type 0 where
   pub there : place < length old.ixl.detectors
-  pub each : length old.ixl.detectors ≡ length old.planned.table.detectors
-  pub was_ready : IfSome (slice_get old.ixl.detectors place) (λ (d : DetectorState). was ≡ is_ready d.client.stage)
-  pub occupied : IfSome (slice_get old.ixl.detectors place) (λ (d : DetectorState). were ≡ d.occupied)
-  pub heard : IfSome (slice_get old.ixl.detectors place) (λ (d : DetectorState). AreHeardBy now bytes d box told)
+  pub each : length old.ixl.detectors ≡ length old.sited.table.detectors
+  pub was_ready : IfSome (slice_get old.ixl.detectors place) (λ (d : KnownDetectorState). was ≡ is_ready d.client.stage)
+  pub occupied : IfSome (slice_get old.ixl.detectors place) (λ (d : KnownDetectorState). were ≡ d.occupied)
+  pub heard : IfSome (slice_get old.ixl.detectors place) (λ (d : KnownDetectorState). AreHeardBy now bytes d box told)
   pub goes : Goes now 30 (detector_hearing_alone now bytes place) old box mid between
-  pub ready : IfSome (slice_get mid.ixl.detectors place) (λ (d : DetectorState). is_now ≡ is_ready d.client.stage)
+  pub ready : IfSome (slice_get mid.ixl.detectors place) (λ (d : KnownDetectorState). is_now ≡ is_ready d.client.stage)
 
 pub ready_heard : (now : ℕ) (bytes : List ℕ) (place : ℕ) (old : StateView) (box : OutboxState) (mid : StateView) (between : OutboxState) (new : StateView) (was_ready ready : Bool) (occupied : Places) (heard : List Indication) →
     IsHeard now bytes place old box mid between was_ready ready occupied heard → ready ≡ true →
-    IfSome (slice_get mid.planned.table.detectors place) (λ sections. Passes now (along (looking mid.planned.table) (told_since was_ready occupied sections heard)) mid new) →
-    Goes now 30 (detector_hearing now old.planned.table bytes place) old box new between
+    IfSome (slice_get mid.sited.table.detectors place) (λ sections. Passes now (along (looking mid.sited.table) (told_since was_ready occupied sections heard)) mid new) →
+    Goes now 30 (detector_hearing now old.sited.table bytes place) old box new between
 ready_heard now bytes place old box mid between new was_ready ready occupied heard is holds passes =
     let one = get_below old.ixl.detectors place is.there
-    in let list = get_below old.planned.table.detectors place (omega (arith, is.there, is.each))
-    in let was : was_ready ≡ is_ready one.0.client.stage = at_some (slice_get old.ixl.detectors place) one.0 (λ (d : DetectorState). was_ready ≡ is_ready d.client.stage) one.1 is.was_ready
-    in let were : occupied ≡ one.0.occupied = at_some (slice_get old.ixl.detectors place) one.0 (λ (d : DetectorState). occupied ≡ d.occupied) one.1 is.occupied
-    in let told : heard ≡ (done_by now bytes one.0 box).heard = at_some (slice_get old.ixl.detectors place) one.0 (λ (d : DetectorState). AreHeardBy now bytes d box heard) one.1 is.heard
+    in let list = get_below old.sited.table.detectors place (omega (arith, is.there, is.each))
+    in let was : was_ready ≡ is_ready one.0.client.stage = at_some (slice_get old.ixl.detectors place) one.0 (λ (d : KnownDetectorState). was_ready ≡ is_ready d.client.stage) one.1 is.was_ready
+    in let were : occupied ≡ one.0.occupied = at_some (slice_get old.ixl.detectors place) one.0 (λ (d : KnownDetectorState). occupied ≡ d.occupied) one.1 is.occupied
+    in let told : heard ≡ (done_by now bytes one.0 box).heard = at_some (slice_get old.ixl.detectors place) one.0 (λ (d : KnownDetectorState). AreHeardBy now bytes d box heard) one.1 is.heard
     in let is_now : is_ready (done_by now bytes one.0 box).client.stage ≡ true = sym (ready_after now bytes place one.0 old box mid between ready one.1 is.goes is.ready) ∙ holds
-    in let here : Passes now (along (looking old.planned.table) (told_since was_ready occupied list.0 heard)) mid new =
-    subst (λ (p : PlannedTable). Passes now (along (looking p.table) (told_since was_ready occupied list.0 heard)) mid new) is.goes.planned
-    (at_some (slice_get mid.planned.table.detectors place) list.0 (λ sections. Passes now (along (looking mid.planned.table) (told_since was_ready occupied sections heard)) mid new)
-    (ap (λ (p : PlannedTable). slice_get p.table.detectors place) is.goes.planned ∙ list.1) passes)
+    in let here : Passes now (along (looking old.sited.table) (told_since was_ready occupied list.0 heard)) mid new =
+    subst (λ (p : SitedTable). Passes now (along (looking p.table) (told_since was_ready occupied list.0 heard)) mid new) is.goes.sited
+    (at_some (slice_get mid.sited.table.detectors place) list.0 (λ sections. Passes now (along (looking mid.sited.table) (told_since was_ready occupied sections heard)) mid new)
+    (ap (λ (p : SitedTable). slice_get p.table.detectors place) is.goes.sited ∙ list.1) passes)
     in let same : told_since was_ready occupied list.0 heard ≡ looks list.0 one.0 (done_by now bytes one.0 box).heard (done_by now bytes one.0 box).client =
     ap (λ b. told_since b occupied list.0 heard) was ∙ ap (λ o. told_since (is_ready one.0.client.stage) o list.0 heard) were ∙ ap (told_since (is_ready one.0.client.stage) one.0.occupied list.0) told
     ∙ sym (looks_ready list.0 one.0 (done_by now bytes one.0 box).heard (done_by now bytes one.0 box).client is_now)
-    in detector_looks now bytes place list.0 one.0 old box mid between new list.1 one.1 is.goes (subst (λ told_list. Passes now (along (looking old.planned.table) told_list) mid new) same here)
+    in detector_looks now bytes place list.0 one.0 old box mid between new list.1 one.1 is.goes (subst (λ told_list. Passes now (along (looking old.sited.table) told_list) mid new) same here)
 
 pub unready_heard : (now : ℕ) (bytes : List ℕ) (place : ℕ) (old : StateView) (box : OutboxState) (mid : StateView) (between : OutboxState) (was_ready ready : Bool) (occupied : Places) (heard : List Indication) →
-    IsHeard now bytes place old box mid between was_ready ready occupied heard → ready ≡ false → Goes now 30 (detector_hearing now old.planned.table bytes place) old box mid between
+    IsHeard now bytes place old box mid between was_ready ready occupied heard → ready ≡ false → Goes now 30 (detector_hearing now old.sited.table bytes place) old box mid between
 unready_heard now bytes place old box mid between was_ready ready occupied heard is fails =
     let one = get_below old.ixl.detectors place is.there
-    in let list = get_below old.planned.table.detectors place (omega (arith, is.there, is.each))
+    in let list = get_below old.sited.table.detectors place (omega (arith, is.there, is.each))
     in let is_not : is_ready (done_by now bytes one.0 box).client.stage ≡ false = sym (ready_after now bytes place one.0 old box mid between ready one.1 is.goes is.ready) ∙ fails
     in detector_looks now bytes place list.0 one.0 old box mid between mid list.1 one.1 is.goes
-    (subst (λ told_list. Passes now (along (looking old.planned.table) told_list) mid mid) (sym (looks_not_ready list.0 one.0 (done_by now bytes one.0 box).heard (done_by now bytes one.0 box).client is_not))
-    (λ out. goes_nowhere now 0 (along (looking old.planned.table) []) mid out is.goes.clock (λ part is_ixl is_box. (is_ixl, is_box))))
+    (subst (λ told_list. Passes now (along (looking old.sited.table) told_list) mid mid) (sym (looks_not_ready list.0 one.0 (done_by now bytes one.0 box).heard (done_by now bytes one.0 box).client is_not))
+    (λ out. goes_nowhere now 0 (along (looking old.sited.table) []) mid out is.goes.clock (λ part is_ixl is_box. (is_ixl, is_box))))
 
 pub still_there : (now : ℕ) (bytes : List ℕ) (place : ℕ) (old : StateView) (box : OutboxState) (mid : StateView) (between : OutboxState) → place < length old.ixl.detectors →
     Goes now 30 (detector_hearing_alone now bytes place) old box mid between → place < length mid.ixl.detectors

@@ -1,3 +1,7 @@
+pub mod AtRest
+pub mod Going
+pub mod RowLaws
+pub mod Rules
 pub mod Answering
 pub mod Giver
 pub mod Causes

@@ -1,16 +1,16 @@
 -- What the controllers tell, as facts of all that is kept.
 use Rattle.std.proofs.Common.{◌≡◌, ◌∙◌, ℕ, zero, suc, ◌<◌, Bool, true, false, not, List, [], ◌∷◌, length, get_or, refl, ap, sym, subst, arith}
 use Rattle.std.specs.Prelude.{◌&&◌, Some, slice_get}
-use Rattle.ixl_rules.specs.State.{IxlState}
-use Rattle.ixl_rules.specs.Table.{Row, Table}
-use Rattle.ixl_table.specs.Table.{PlannedTable}
-use Rattle.ixl_field.specs.Field.{FieldState, Rest, kept}
+use Rattle.ixl_state.specs.ixl_rules.State.{IxlState}
+use Rattle.ixl_state.specs.ixl_rules.Table.{Row, Table}
+use Rattle.ixl_state.specs.ixl_table.Table.{SitedTable}
+use Rattle.ixl_state.specs.ixl_field.Field.{FieldState, Rest, kept}
 use Rattle.ixl_state.specs.State.{StateView, field_of, rest_of}
 
 pub in_state : (holds : Table → IxlState → Type 0) (state : StateView) (field : FieldState) → field ≡ field_of state →
-    ((table : Table) (rest : Rest) → table.reporters ≡ field.reporters → holds table (kept field rest)) → holds state.planned.table state.ixl
+    ((table : Table) (rest : Rest) → table.reporters ≡ field.reporters → holds table (kept field rest)) → holds state.sited.table state.ixl
 in_state holds state field is says =
-    (subst (λ (f : FieldState). (table : Table) (rest : Rest) → table.reporters ≡ f.reporters → holds table (kept f rest)) is says) state.planned.table (rest_of state) refl
+    (subst (λ (f : FieldState). (table : Table) (rest : Rest) → table.reporters ≡ f.reporters → holds table (kept f rest)) is says) state.sited.table (rest_of state) refl
 
 pub of_nodes : (holds : IxlState → Type 0) (state : StateView) (field : FieldState) → field ≡ field_of state → ((rest : Rest) → holds (kept field rest)) → holds state.ixl
 of_nodes holds state field is says = (subst (λ (f : FieldState). (rest : Rest) → holds (kept f rest)) is says) (rest_of state)
@@ -35,9 +35,9 @@ get_read (first ∷ others) zero one found is read = cc
 get_read (first ∷ others) (suc place) one found is read = get_read others place one found is read
 
 -- the row of a route
-pub row_read : (planned seen : PlannedTable) (rows : List Row) (number : ℕ) (one row : Row) → rows ≡ seen.table.rows → seen ≡ planned → one ≡ get_or rows number one → slice_get planned.table.rows number ≡ Some row → one ≡ row
-row_read planned seen rows number one row is same read there =
-    get_read planned.table.rows number one row there (subst (λ (list : List Row). one ≡ get_or list number one) (is ∙ ap (λ (p : PlannedTable). p.table.rows) same) read)
+pub row_read : (sited seen : SitedTable) (rows : List Row) (number : ℕ) (one row : Row) → rows ≡ seen.table.rows → seen ≡ sited → one ≡ get_or rows number one → slice_get sited.table.rows number ≡ Some row → one ≡ row
+row_read sited seen rows number one row is same read there =
+    get_read sited.table.rows number one row there (subst (λ (list : List Row). one ≡ get_or list number one) (is ∙ ap (λ (p : SitedTable). p.table.rows) same) read)
 
 pub get_within : {A : Type 0} (list : List A) (place : ℕ) (d : A) → place < length list → slice_get list place ≡ Some (get_or list place d)
 get_within [] place d within = absurd (omega (arith, within))

@@ -1,9 +1,9 @@
 -- An interlocking: what it keeps, and the datagrams of its last step.
 use Rattle.std.specs.Prelude.{◌≡◌, ℕ}
-use Rattle.rasta_core.specs.Outbox.{OutboxState}
-use Rattle.ixl_rules.specs.Part.{Part, begun_with, empty_outbox}
-use Rattle.ixl_rules.specs.Step.{Input, Reply, reply, stepped}
-use Rattle.ixl_rules.specs.Step as step
+use Rattle.ixl_state.specs.rasta_core.Outbox.{OutboxState}
+use Rattle.ixl_state.specs.ixl_rules.StepSoFar.{StepSoFar, begun_with, empty_outbox}
+use Rattle.ixl_state.specs.ixl_rules.Step.{Input, Reply, reply, stepped}
+use Rattle.ixl_state.specs.ixl_rules.Step as step
 use Rattle.ixl_state.specs.First.{key_of}
 use Rattle.ixl_state.specs.State.{AllAt, StateView}
 use Rattle.ixl.specs.declared.input.Input.{Input as GivenInput}
@@ -16,18 +16,18 @@ pub record InterlockingState : Type 0 where
   pub outbox : OutboxState
 
 -- what a step does
-abbrev pub step_of : ℕ → Input → StateView → Part
+abbrev pub step_of : ℕ → Input → StateView → StepSoFar
 step_of now input state =
-    stepped now state.planned.table (key_of state.planned.plan) input (begun_with state.ixl empty_outbox)
+    stepped now state.sited.table (key_of state.sited.site) input (begun_with state.ixl empty_outbox)
 
 -- A step was made at a clock reading: what is kept is as behind it, the outbox has its datagrams alone, and this was
 -- answered.
 pub record HasStepped (now : ℕ) (input : Input) (old new : InterlockingState) (answer : Reply) : Type 0 where
-  pub planned : new.state.planned ≡ old.state.planned
+  pub sited : new.state.sited ≡ old.state.sited
   pub ixl : new.state.ixl ≡ (step_of now input old.state).ixl
   pub outbox : new.outbox ≡ (step_of now input old.state).outbox
   pub clock : AllAt now new.state
-  pub answered : answer ≡ reply now old.state.planned.table (key_of old.state.planned.plan) input old.state.ixl
+  pub answered : answer ≡ reply now old.state.sited.table (key_of old.state.sited.site) input old.state.ixl
 
 -- the input and the answer of the code, as the definitions of a step have them
 abbrev pub meant : GivenInput → Input

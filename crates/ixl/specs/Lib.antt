@@ -1,2 +1,2 @@
-pub mod Interlocking
 pub mod inside
+pub mod Interlocking

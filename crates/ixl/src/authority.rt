@@ -1,14 +1,14 @@
 //! Which route has authority from a signal.
 
 ghost use Rattle.std.specs.Prelude.{◌≡◌, ◌==◌, ◌&&◌, ◌<◌, length};
-ghost use Rattle.ixl_rules.specs.View.{authority_from, has_authority};
+ghost use Rattle.ixl_state.specs.ixl_rules.View.{authority_from, has_authority};
 ghost use Rattle.ixl_state.specs.State.{AtRoute};
 
 use ixl_state::State;
 
 /// Whether a route begins at a signal.
 fn begins_at(state: &State, number: usize, signal: usize) -> bool
-    requires { number < length state.now.planned.table.rows }
+    requires { number < length state.now.sited.table.rows }
     ensures { AtRoute state.now number (λ row route. result ≡ (row.entry == signal)) }
 {
     state.table().rows()[number].entry() == signal
@@ -16,7 +16,7 @@ fn begins_at(state: &State, number: usize, signal: usize) -> bool
 
 /// Whether a route has authority from a signal.
 fn has_authority_from(state: &State, number: usize, signal: usize) -> bool
-    requires { number < length state.now.planned.table.rows }
+    requires { number < length state.now.sited.table.rows }
     ensures { AtRoute state.now number (λ row route. result ≡ (row.entry == signal && has_authority route.phase)) }
 {
     begins_at(state, number, signal) && state.route(number).has_authority()
@@ -24,7 +24,7 @@ fn has_authority_from(state: &State, number: usize, signal: usize) -> bool
 
 /// The route that has authority from a signal: the first of the table.
 pub(crate) fn authority(state: &State, signal: usize) -> Option<usize>
-    ensures { result ≡ authority_from signal 0 state.now.planned.table.rows state.now.ixl.routes }
+    ensures { result ≡ authority_from signal 0 state.now.sited.table.rows state.now.ixl.routes }
 {
     for number in 0..state.table().rows().len() {
         if has_authority_from(state, number, signal) {

@@ -2,26 +2,26 @@
 
 ghost use Rattle.std.specs.Prelude.{◌≡◌, ◌<◌, ◌≤◌, ◌↔◌, ℕ, [], drop, length, slice_get, IsTrue, IfOk, OnErr, OnOk};
 ghost use Rattle.std.specs.Option.{option_map};
-ghost use Rattle.bit_row.specs.Places.{Has};
-ghost use Rattle.layout.specs.declared.ids.RouteId.{RouteId};
-ghost use Rattle.ixl_rules.specs.Due.{HoldsSection};
-ghost use Rattle.ixl_rules.specs.View.{authority_from, is_holding, is_set};
+ghost use Rattle.ixl_state.specs.bit_row.Places.{Has};
+ghost use Rattle.ixl_state.specs.layout.declared.ids.RouteId.{RouteId};
+ghost use Rattle.ixl_state.specs.ixl_rules.Due.{HoldsSection};
+ghost use Rattle.ixl_state.specs.ixl_rules.View.{authority_from, is_holding, is_set};
 ghost use Rattle.ixl_state.specs.State.{AtRoute, MayStepAll};
-ghost use Rattle.ixl_rules.specs.Part.{empty_outbox};
+ghost use Rattle.ixl_state.specs.ixl_rules.StepSoFar.{empty_outbox};
 ghost use Rattle.ixl.specs.Interlocking.{HasStepped, meant, told};
 ghost use Rattle.ixl_state.specs.First.{new_ixl};
 
 use crate::authority::authority;
 use crate::input::{Input, Reply};
-use crate::refusing::is_holding;
-use crate::stepping::step;
-use bit_row::BitRow;
-use control_table::Checked;
+use crate::refusals::is_holding;
+use crate::step::step;
+use ixl_state::bit_row::BitRow;
+use ixl_state::control_table::Checked;
+use ixl_state::ixl_table::Table;
+use ixl_state::layout::{RouteId, SignalId};
+use ixl_state::rasta_core::{Millis, Outbox};
+use ixl_state::rasta_pdu::{Datagram, Key};
 use ixl_state::{State, key_of};
-use ixl_table::Table;
-use layout::{RouteId, SignalId};
-use rasta_core::{Millis, Outbox};
-use rasta_pdu::{Datagram, Key};
 use std::alloc::{AllocError, Global};
 use std::marker::Model;
 
@@ -40,7 +40,7 @@ pub struct Interlocking {
 impl Model for Interlocking {
     ghost use Rattle.std.specs.Prelude.{◌≡◌};
     ghost use Rattle.std.specs.Coded.{codes};
-    ghost use Rattle.bit_row.specs.Places.{places_code};
+    ghost use Rattle.ixl_state.specs.bit_row.Places.{places_code};
     ghost use Rattle.ixl_state.specs.First.{key_of};
     ghost use Rattle.ixl.specs.Interlocking.{InterlockingState};
 
@@ -50,7 +50,7 @@ impl Model for Interlocking {
 
     ghost view = { λ i. record { state = i.state; outbox = i.outbox } };
 
-    ghost invariant = { λ i. (i.key ≡ key_of i.state.planned.plan) × (i.outbox.capacity ≡ 5120) };
+    ghost invariant = { λ i. (i.key ≡ key_of i.state.sited.site) × (i.outbox.capacity ≡ 5120) };
 }
 
 /// Takes out all datagrams.
@@ -69,8 +69,8 @@ impl Interlocking {
         first_sn: u32,
         now: Millis,
     ) -> Result<Interlocking, AllocError>
-        ensures plan { IfOk result (λ i. i.state.planned.plan ≡ checked) }
-        ensures ixl { IfOk result (λ i. i.state.ixl ≡ new_ixl i.state.planned.plan i.state.planned.table (record { clock = now; first = first_sn })) }
+        ensures site { IfOk result (λ i. i.state.sited.site ≡ checked) }
+        ensures ixl { IfOk result (λ i. i.state.ixl ≡ new_ixl i.state.sited.site i.state.sited.table (record { clock = now; first = first_sn })) }
         ensures outbox { IfOk result (λ i. i.outbox ≡ empty_outbox) }
     {
         let key = key_of(checked.layout());
@@ -82,8 +82,8 @@ impl Interlocking {
     /// All but the table is made anew, as `new` makes it: no route is set, and every link is in no connection. The outbox is
     /// empty then. Where there is no memory for that, nothing changes.
     pub fn restart(&mut self, alloc: Global, first_sn: u32, now: Millis) -> Result<(), AllocError>
-        ensures planned { self.new.state.planned ≡ self.old.state.planned }
-        ensures ixl { OnOk result (self.new.state.ixl ≡ new_ixl self.old.state.planned.plan self.old.state.planned.table (record { clock = now; first = first_sn })) }
+        ensures sited { self.new.state.sited ≡ self.old.state.sited }
+        ensures ixl { OnOk result (self.new.state.ixl ≡ new_ixl self.old.state.sited.site self.old.state.sited.table (record { clock = now; first = first_sn })) }
         ensures outbox { OnOk result (self.new.outbox ≡ empty_outbox) }
         ensures unchanged { OnErr result (self.new ≡ self.old) }
     {
@@ -103,7 +103,7 @@ impl Interlocking {
     /// each for all routes in table order, and on a tick the heartbeats and openings of the links. The outbox then has the
     /// datagrams of this step alone.
     ///
-    /// What the rules come to at each route of the table, in the state that the step has reached there, `ixl_laws` says:
+    /// What the rules come to at each route of the table, in the state that the step has reached there, `ixl_rules` says:
     /// `stop_is_given_where_due`, `authority_ends_at_known_stop`, `section_is_freed_where_passage_lets_it_go`,
     /// `passage_frees_all_that_it_may`, `route_is_freed_where_cancel_lets_it_go`, `move_is_given_where_due` and
     /// `proceed_is_given_where_due`. Of requests `requests_are_accepted_where_admissible` says it here.
@@ -135,9 +135,9 @@ impl Interlocking {
 
     /// The control table, as the rules read it. A route is kept of each of its rows, and what is known of each signal.
     pub fn table(&self) -> &Table
-        ensures planned { result.now ≡ self.now.state.planned }
-        ensures each { length self.now.state.ixl.routes ≡ length self.now.state.planned.table.rows }
-        ensures lamps { length self.now.state.ixl.lamps ≡ length self.now.state.planned.plan.signals }
+        ensures sited { result.now ≡ self.now.state.sited }
+        ensures each { length self.now.state.ixl.routes ≡ length self.now.state.sited.table.rows }
+        ensures known_signals { length self.now.state.ixl.known_signals ≡ length self.now.state.sited.site.signals }
     {
         self.state.table()
     }
@@ -151,7 +151,7 @@ impl Interlocking {
 
     /// Whether a route is set.
     pub fn is_set(&self, route: RouteId) -> bool
-        requires { route.0 < length self.now.state.planned.table.rows }
+        requires { route.0 < length self.now.state.sited.table.rows }
         ensures { AtRoute self.now.state route.0 (λ row kept. result ≡ is_set kept.phase) }
     {
         self.state.route(route.0).is_set()
@@ -159,7 +159,7 @@ impl Interlocking {
 
     /// The sections that a route locks.
     pub fn locked(&self, route: RouteId) -> BitRow
-        requires { route.0 < length self.now.state.planned.table.rows }
+        requires { route.0 < length self.now.state.sited.table.rows }
         ensures { AtRoute self.now.state route.0 (λ row kept. (section : ℕ) → Has result section ↔ HoldsSection row kept.phase section) }
     {
         self.state.locked(route.0)
@@ -167,7 +167,7 @@ impl Interlocking {
 
     /// The route that has authority from a signal: its aspect was given, and its authority isn't ended.
     pub fn authority(&self, signal: SignalId) -> Option<RouteId>
-        ensures { option_map (λ (r : RouteId). r.0) result ≡ authority_from signal.0 0 self.now.state.planned.table.rows self.now.state.ixl.routes }
+        ensures { option_map (λ (r : RouteId). r.0) result ≡ authority_from signal.0 0 self.now.state.sited.table.rows self.now.state.ixl.routes }
     {
         authority(&self.state, signal.0).map(RouteId)
     }

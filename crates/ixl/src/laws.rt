@@ -1,24 +1,24 @@
 //! What a step comes to.
 
 ghost use Rattle.std.specs.Prelude.{◌≡◌, ◌↔◌, ◌≤◌, ℕ};
-ghost use Rattle.layout.specs.declared.ids.RouteId.{RouteId};
-ghost use Rattle.ixl_rules.specs.Due.{Admissible};
-ghost use Rattle.ixl_rules.specs.Step.{Accepted, Commands, Refused, Reply, all_clocked};
-ghost use Rattle.ixl_rules.specs.declared.command.Command.TheVariants as commands;
-ghost use Rattle.ixl_rules.specs.declared.command.Refusal.{Refusal};
-ghost use Rattle.ixl_laws.specs.Refusals.{IsRequestRefused};
+ghost use Rattle.ixl_state.specs.layout.declared.ids.RouteId.{RouteId};
+ghost use Rattle.ixl_state.specs.ixl_rules.Due.{Admissible};
+ghost use Rattle.ixl_state.specs.ixl_rules.Step.{Accepted, Commands, Refused, Reply, all_clocked};
+ghost use Rattle.ixl_state.specs.ixl_rules.declared.command.Command.TheVariants as commands;
+ghost use Rattle.ixl_state.specs.ixl_rules.declared.command.Refusal.{Refusal};
+ghost use Rattle.ixl_state.specs.ixl_rules.Refusals.{IsRequestRefused};
 ghost use Rattle.ixl.specs.Interlocking.{HasStepped, InterlockingState};
 ghost use Rattle.ixl_state.specs.State.{AllAt, MayStepAll, StateView};
 
-use ixl_laws::request_is_accepted_where_admissible;
+use ixl_state::ixl_rules::request_is_accepted_where_admissible;
 
 /// A request is accepted exactly where it is admissible once the clock has acted, and refused for the first cause that is
 /// given.
 pub fn requests_are_accepted_where_admissible()
     ensures accepted { (now : ℕ) (route : RouteId) (old new : InterlockingState) (answer : Reply) → HasStepped now (Commands (commands.Request route)) old new answer
-        → answer ≡ Accepted ↔ Admissible now old.state.planned.table (all_clocked now old.state.ixl) route.0 }
+        → answer ≡ Accepted ↔ Admissible now old.state.sited.table (all_clocked now old.state.ixl) route.0 }
     ensures refused { (now : ℕ) (route : RouteId) (old new : InterlockingState) (answer : Reply) (cause : Refusal) → HasStepped now (Commands (commands.Request route)) old new answer
-        → answer ≡ Refused cause → IsRequestRefused now old.state.planned.table (all_clocked now old.state.ixl) route.0 cause }
+        → answer ≡ Refused cause → IsRequestRefused now old.state.sited.table (all_clocked now old.state.ixl) route.0 cause }
 {
     request_is_accepted_where_admissible();
 }

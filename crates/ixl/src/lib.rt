@@ -1,17 +1,28 @@
 //! The interlocking of a station: which routes are set, when a point is moved, and when a signal may show more than stop.
 #![tactic(auto)]
 
+mod approaches_seen;
 mod authority;
-mod commanding;
-mod hearing;
+mod authority_end;
+mod cancel_rule;
+mod commands;
+mod datagrams_heard;
+mod field_known;
+mod idle_routes;
 mod input;
 mod interlocking;
 mod laws;
-mod refusing;
-mod stepping;
-mod watching;
+mod passage;
+mod point_moves;
+mod proceed_rule;
+mod refusals;
+mod six_rules;
+mod step;
+mod withdrawal;
 
+pub use field_known::is_approach_clear;
 pub use input::{Input, Reply};
 pub use interlocking::Interlocking;
-pub use ixl_rules::{Command, Refusal};
+pub use ixl_state::ixl_rules::{Command, Refusal};
 pub use laws::{requests_are_accepted_where_admissible, steps_may_follow_at_later_clocks};
+pub use six_rules::apply_rules;

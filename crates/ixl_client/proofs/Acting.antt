@@ -11,7 +11,7 @@ use Rattle.sci_telegram.specs.declared.message.Message.{Message}
 use Rattle.ixl_client.specs.declared.command.Command.{Command}
 use Rattle.ixl_client.specs.declared.stage.Stage.{Stage}
 use Rattle.ixl_client.specs.declared.stage.Stage.TheVariants as stage
-use Rattle.ixl_client.specs.Part.{Opens, Part, Receives, Seen, Ticks, calling, seen}
+use Rattle.ixl_client.specs.ClientSoFar.{Opens, ClientSoFar, Receives, Seen, Ticks, calling, seen}
 use Rattle.ixl_client.specs.Step.{acting, acting_all, at_stage, commanding, ending, fallen, hearing, message_of, posting, rising, stage_after_command, ticking}
 use Rattle.ixl_client.specs.Way.{Goes}
 use Rattle.ixl_client.proofs.Going.{going_as, going_more, going_nowhere, going_then, part_at, staged}
@@ -85,7 +85,7 @@ fallen_link client = cases (is_up client.link.phase) where
   cases false = refl
 
 -- the client is outside behind a part that left its link so
-pub falls : (now most : ℕ) (does : Part → Part) (a b : Seen) (new : ClientState) → Goes now most does a b → new ≡ fallen b.client →
+pub falls : (now most : ℕ) (does : ClientSoFar → ClientSoFar) (a b : Seen) (new : ClientState) → Goes now most does a b → new ≡ fallen b.client →
     Goes now most (λ part. ending (does part)) a (record { client = new; outbox = b.outbox; heard = b.heard })
 falls now most does a b new way is =
     let link_is : new.link ≡ b.client.link = ap (λ (c : ClientState). c.link) is ∙ fallen_link b.client
@@ -110,7 +110,7 @@ hears now bytes items a b c d new received risen items-are acted is =
     (λ calls done. ap (λ is. seen (ending (acting_all now is (rising now (calling now (Receives bytes) (part_at a calls done)))))) (sym items-are))
     (falls now 30 (λ part. acting_all now items (rising now (calling now (Receives bytes) part))) a d new all is)
 
-pub from_none : (now most : ℕ) (does : Part → Part) (client : ClientState) (box : OutboxState) (heard : List Indication) (b : Seen) → heard ≡ [] →
+pub from_none : (now most : ℕ) (does : ClientSoFar → ClientSoFar) (client : ClientState) (box : OutboxState) (heard : List Indication) (b : Seen) → heard ≡ [] →
     Goes now most does (record { client = client; outbox = box; heard = heard }) b → Goes now most does (record { client = client; outbox = box; heard = [] }) b
 from_none now most does client box heard b none way = subst (λ (h : List Indication). Goes now most does (record { client = client; outbox = box; heard = h }) b) none way
 
@@ -133,6 +133,6 @@ ticks now a b c new ticked opened is =
     falls now 2 (λ part. calling now Opens (calling now Ticks part)) a c new (going_then now 1 1 (calling now Ticks) (calling now Opens) a b c ticked opened) is
 
 -- the same client by another name
-pub from_same : (now most : ℕ) (does : Part → Part) (client same : ClientState) (box : OutboxState) (heard : List Indication) (b : Seen) → client ≡ same →
+pub from_same : (now most : ℕ) (does : ClientSoFar → ClientSoFar) (client same : ClientState) (box : OutboxState) (heard : List Indication) (b : Seen) → client ≡ same →
     Goes now most does (record { client = client; outbox = box; heard = heard }) b → Goes now most does (record { client = same; outbox = box; heard = heard }) b
 from_same now most does client same box heard b is way = subst (λ (c : ClientState). Goes now most does (record { client = c; outbox = box; heard = heard }) b) is way

@@ -19,12 +19,12 @@ use Rattle.rasta_core.specs.phase.Phase.TheVariants as phase
 use Rattle.rasta_core.specs.reason.Reason.{Reason}
 use Rattle.rasta_core.specs.reason.Reason.TheVariants as reason
 use Rattle.ixl_client.specs.Client.{ClientState, PeerState, is_outside}
-use Rattle.ixl_client.specs.Course.{course, course_of, initial_course, is_for_client, is_in_turn, is_in_version, is_match, place_of, report_course, state_in}
+use Rattle.ixl_client.specs.Meaning.{meaning, meaning_of, initial_meaning, is_for_client, is_in_turn, is_in_version, is_match, place_of, report_meaning, state_in}
 use Rattle.ixl_client.specs.Made.{ActsOn, told_by, told_by_all, told_of}
-use Rattle.ixl_client.specs.Part.{Closes, Part, Receives, Sends, calling}
-use Rattle.ixl_client.specs.Step.{acted_on, acting, acting_all, at_stage, course_of_item, ending, fallen, following, hearing, is_refused_by_window, posting, rising, saying, telegram_to}
-use Rattle.ixl_client.specs.declared.course.Course.{Course}
-use Rattle.ixl_client.specs.declared.course.Course.TheVariants as courses
+use Rattle.ixl_client.specs.ClientSoFar.{Closes, ClientSoFar, Receives, Sends, calling}
+use Rattle.ixl_client.specs.Step.{acted_on, acting, acting_all, at_stage, meaning_of_item, ending, fallen, following, hearing, is_refused_by_window, posting, rising, saying, telegram_to}
+use Rattle.ixl_client.specs.declared.meaning.Meaning.{Meaning}
+use Rattle.ixl_client.specs.declared.meaning.Meaning.TheVariants as meanings
 use Rattle.ixl_client.specs.declared.indication.Indication.{Indication}
 use Rattle.ixl_client.specs.declared.indication.ObjectState.{ObjectState}
 use Rattle.ixl_client.specs.declared.stage.Stage.{Stage}
@@ -50,27 +50,27 @@ closes now why link = cases (is_open (entered now link).link.phase) refl where
 -- ---- what a course says of its telegram
 
 -- what is heard where an item comes to this course
-abbrev pub heard_in : Course → List Indication
-heard_in (courses.Indicates indication) = indication ∷ []
+abbrev pub heard_in : Meaning → List Indication
+heard_in (meanings.Indicates indication) = indication ∷ []
 heard_in _ = []
 
 -- a course by which the item is acted on
-abbrev pub is_acted_on : Course → Bool
-is_acted_on courses.Differs = false
-is_acted_on courses.Violates = false
+abbrev pub is_acted_on : Meaning → Bool
+is_acted_on meanings.Differs = false
+is_acted_on meanings.Violates = false
 is_acted_on _ = true
 
-report_tells : (peer : PeerState) (place : Option ℕ) (state : Option ObjectState) (s : Stage) → is_acted_on (report_course peer place state s) ≡ true →
-    heard_in (report_course peer place state s) ≡ told_of place state
+report_tells : (peer : PeerState) (place : Option ℕ) (state : Option ObjectState) (s : Stage) → is_acted_on (report_meaning peer place state s) ≡ true →
+    heard_in (report_meaning peer place state s) ≡ told_of place state
 report_tells peer None state s acts = absurd (true≢false (sym acts))
 report_tells peer (Some place) None s acts = absurd (true≢false (sym acts))
 report_tells peer (Some place) (Some state) s acts = cases (is_in_turn peer place state s && is_in_version peer.version state) acts where
-  cases : (b : Bool) → is_acted_on (if b then courses.Indicates (record { place = place; state = state }) else courses.Violates) ≡ true →
-      heard_in (if b then courses.Indicates (record { place = place; state = state }) else courses.Violates) ≡ record { place = place; state = state } ∷ []
+  cases : (b : Bool) → is_acted_on (if b then meanings.Indicates (record { place = place; state = state }) else meanings.Violates) ≡ true →
+      heard_in (if b then meanings.Indicates (record { place = place; state = state }) else meanings.Violates) ≡ record { place = place; state = state } ∷ []
   cases true acted = refl
   cases false acted = absurd (true≢false (sym acted))
 
-initial_tells : (peer : PeerState) (initialisation : Initialisation) (s : Stage) → heard_in (initial_course peer initialisation s) ≡ []
+initial_tells : (peer : PeerState) (initialisation : Initialisation) (s : Stage) → heard_in (initial_meaning peer initialisation s) ≡ []
 initial_tells peer InitialisationRequest stage.Outside = refl
 initial_tells peer InitialisationRequest stage.AwaitsAnswer = refl
 initial_tells peer InitialisationRequest stage.AwaitsStart = refl
@@ -87,7 +87,7 @@ initial_tells peer InitialisationCompleted stage.Outside = refl
 initial_tells peer InitialisationCompleted stage.AwaitsAnswer = refl
 initial_tells peer InitialisationCompleted stage.AwaitsStart = refl
 initial_tells peer InitialisationCompleted (stage.AwaitsStatus left) = cases (left == 0) where
-  cases : (b : Bool) → heard_in (if b then courses.Completes else courses.Violates) ≡ []
+  cases : (b : Bool) → heard_in (if b then meanings.Completes else meanings.Violates) ≡ []
   cases true = refl
   cases false = refl
 initial_tells peer InitialisationCompleted stage.Completed = refl
@@ -100,7 +100,7 @@ initial_tells peer (VersionCheck version) stage.Completed = refl
 initial_tells peer (VersionCheck version) stage.AwaitsReport = refl
 initial_tells peer (VersionAnswer agreement version) stage.Outside = refl
 initial_tells peer (VersionAnswer agreement version) stage.AwaitsAnswer = cases (is_match agreement && version == peer.version) where
-  cases : (b : Bool) → heard_in (if b then courses.Agrees else courses.Differs) ≡ []
+  cases : (b : Bool) → heard_in (if b then meanings.Agrees else meanings.Differs) ≡ []
   cases true = refl
   cases false = refl
 initial_tells peer (VersionAnswer agreement version) stage.AwaitsStart = refl
@@ -108,101 +108,101 @@ initial_tells peer (VersionAnswer agreement version) (stage.AwaitsStatus left) =
 initial_tells peer (VersionAnswer agreement version) stage.Completed = refl
 initial_tells peer (VersionAnswer agreement version) stage.AwaitsReport = refl
 
-course_tells : (peer : PeerState) (sender : List ℕ) (told : Message) (s : Stage) → is_acted_on (course_of peer sender told s) ≡ true →
-    heard_in (course_of peer sender told s) ≡ told_of (place_of peer sender) (state_in told)
-course_tells peer sender (message.Initialisation protocol initialisation) s acts = cases (bytes_eq sender peer.name) acts where
+meaning_tells : (peer : PeerState) (sender : List ℕ) (told : Message) (s : Stage) → is_acted_on (meaning_of peer sender told s) ≡ true →
+    heard_in (meaning_of peer sender told s) ≡ told_of (place_of peer sender) (state_in told)
+meaning_tells peer sender (message.Initialisation protocol initialisation) s acts = cases (bytes_eq sender peer.name) acts where
   none : (place : Option ℕ) → told_of place None ≡ []
   none None = refl
   none (Some place) = refl
 
-  cases : (b : Bool) → is_acted_on (if b then initial_course peer initialisation s else courses.Violates) ≡ true →
-      heard_in (if b then initial_course peer initialisation s else courses.Violates) ≡ told_of (place_of peer sender) None
+  cases : (b : Bool) → is_acted_on (if b then initial_meaning peer initialisation s else meanings.Violates) ≡ true →
+      heard_in (if b then initial_meaning peer initialisation s else meanings.Violates) ≡ told_of (place_of peer sender) None
   cases true acted = initial_tells peer initialisation s ∙ sym (none (place_of peer sender))
   cases false acted = absurd (true≢false (sym acted))
-course_tells peer sender (message.Point told) s acts = report_tells peer (place_of peer sender) (state_in (message.Point told)) s acts
-course_tells peer sender (message.Signal told) s acts = report_tells peer (place_of peer sender) (state_in (message.Signal told)) s acts
-course_tells peer sender (message.Detection told) s acts = report_tells peer (place_of peer sender) (state_in (message.Detection told)) s acts
+meaning_tells peer sender (message.Point told) s acts = report_tells peer (place_of peer sender) (state_in (message.Point told)) s acts
+meaning_tells peer sender (message.Signal told) s acts = report_tells peer (place_of peer sender) (state_in (message.Signal told)) s acts
+meaning_tells peer sender (message.Detection told) s acts = report_tells peer (place_of peer sender) (state_in (message.Detection told)) s acts
 
-telegram_tells : (peer : PeerState) (telegram : Telegram) (s : Stage) → is_acted_on (course peer telegram s) ≡ true →
-    heard_in (course peer telegram s) ≡ told_of (place_of peer telegram.sender) (state_in telegram.message)
-unfolding course
+telegram_tells : (peer : PeerState) (telegram : Telegram) (s : Stage) → is_acted_on (meaning peer telegram s) ≡ true →
+    heard_in (meaning peer telegram s) ≡ told_of (place_of peer telegram.sender) (state_in telegram.message)
+unfolding meaning
 telegram_tells peer telegram s = cases (is_for_client peer telegram) where
-  cases : (b : Bool) → is_acted_on (if b then course_of peer telegram.sender telegram.message s else courses.Violates) ≡ true →
-      heard_in (if b then course_of peer telegram.sender telegram.message s else courses.Violates) ≡ told_of (place_of peer telegram.sender) (state_in telegram.message)
-  cases true acts = course_tells peer telegram.sender telegram.message s acts
+  cases : (b : Bool) → is_acted_on (if b then meaning_of peer telegram.sender telegram.message s else meanings.Violates) ≡ true →
+      heard_in (if b then meaning_of peer telegram.sender telegram.message s else meanings.Violates) ≡ told_of (place_of peer telegram.sender) (state_in telegram.message)
+  cases true acts = meaning_tells peer telegram.sender telegram.message s acts
   cases false acts = absurd (true≢false (sym acts))
 
-item_tells : (peer : PeerState) (s : Stage) (read : Result Telegram SciFault) → is_acted_on (course_of_item peer s read) ≡ true →
-    heard_in (course_of_item peer s read) ≡ told_by peer read
+item_tells : (peer : PeerState) (s : Stage) (read : Result Telegram SciFault) → is_acted_on (meaning_of_item peer s read) ≡ true →
+    heard_in (meaning_of_item peer s read) ≡ told_by peer read
 item_tells peer s (Ok telegram) acts = telegram_tells peer telegram s acts
 item_tells peer s (Err fault) acts = absurd (true≢false (sym acts))
 
 -- ---- the items of a datagram
 
 -- what became of an item: it was acted on, or it closed the link
-data Fate (item : List ℕ) (before after : Part) : Type 0 where
+data Fate (item : List ℕ) (before after : ClientSoFar) : Type 0 where
   obeyed : after.acted ≡ before.acted ++ item ∷ [] → after.heard ≡ before.heard ++ told_by before.client.peer (reading item) → Fate item before after
   refused : after.acted ≡ before.acted → after.heard ≡ before.heard → is_open after.client.link.phase ≡ false → Fate item before after
 
-posting_acted : (now : ℕ) (told : Message) (a : Part) → (posting now told a).acted ≡ a.acted
+posting_acted : (now : ℕ) (told : Message) (a : ClientSoFar) → (posting now told a).acted ≡ a.acted
 unfolding posting calling
 posting_acted now told a = cases (is_refused_by_window (answer_to_send now a.client.link)) where
-  sent : Part
+  sent : ClientSoFar
   sent = calling now (Sends (writing (telegram_to a.client.peer told))) a
 
   cases : (b : Bool) → (if b then calling now (Closes reason.Window) sent else sent).acted ≡ a.acted
   cases true = refl
   cases false = refl
 
-posting_heard : (now : ℕ) (told : Message) (a : Part) → (posting now told a).heard ≡ a.heard
+posting_heard : (now : ℕ) (told : Message) (a : ClientSoFar) → (posting now told a).heard ≡ a.heard
 unfolding posting calling
 posting_heard now told a = cases (is_refused_by_window (answer_to_send now a.client.link)) where
-  sent : Part
+  sent : ClientSoFar
   sent = calling now (Sends (writing (telegram_to a.client.peer told))) a
 
   cases : (b : Bool) → (if b then calling now (Closes reason.Window) sent else sent).heard ≡ a.heard
   cases true = refl
   cases false = refl
 
-pub posting_peer : (now : ℕ) (told : Message) (a : Part) → (posting now told a).client.peer ≡ a.client.peer
+pub posting_peer : (now : ℕ) (told : Message) (a : ClientSoFar) → (posting now told a).client.peer ≡ a.client.peer
 unfolding posting calling
 posting_peer now told a = cases (is_refused_by_window (answer_to_send now a.client.link)) where
-  sent : Part
+  sent : ClientSoFar
   sent = calling now (Sends (writing (telegram_to a.client.peer told))) a
 
   cases : (b : Bool) → (if b then calling now (Closes reason.Window) sent else sent).client.peer ≡ a.client.peer
   cases true = refl
   cases false = refl
 
-following_fate : (now : ℕ) (item : List ℕ) (c : Course) (a : Part) → (is_acted_on c ≡ true → heard_in c ≡ told_by a.client.peer (reading item)) → Fate item a (following now item c a)
+following_fate : (now : ℕ) (item : List ℕ) (c : Meaning) (a : ClientSoFar) → (is_acted_on c ≡ true → heard_in c ≡ told_by a.client.peer (reading item)) → Fate item a (following now item c a)
 unfolding following calling
-following_fate now item courses.Agrees a tells =
+following_fate now item meanings.Agrees a tells =
     obeyed (posting_acted now _ (acted_on item a)) (posting_heard now _ (acted_on item a) ∙ sym (append-nil a.heard) ∙ ap (λ hs. a.heard ++ hs) (tells refl))
-following_fate now item courses.Starts a tells = obeyed refl (sym (append-nil a.heard) ∙ ap (λ hs. a.heard ++ hs) (tells refl))
-following_fate now item (courses.Indicates indication) a tells = obeyed refl (ap (λ hs. a.heard ++ hs) (tells refl))
-following_fate now item courses.Completes a tells = obeyed refl (sym (append-nil a.heard) ∙ ap (λ hs. a.heard ++ hs) (tells refl))
-following_fate now item courses.Differs a tells = refused refl refl (closes now reason.Version a.client.link)
-following_fate now item courses.Violates a tells = refused refl refl (closes now reason.State a.client.link)
+following_fate now item meanings.Starts a tells = obeyed refl (sym (append-nil a.heard) ∙ ap (λ hs. a.heard ++ hs) (tells refl))
+following_fate now item (meanings.Indicates indication) a tells = obeyed refl (ap (λ hs. a.heard ++ hs) (tells refl))
+following_fate now item meanings.Completes a tells = obeyed refl (sym (append-nil a.heard) ∙ ap (λ hs. a.heard ++ hs) (tells refl))
+following_fate now item meanings.Differs a tells = refused refl refl (closes now reason.Version a.client.link)
+following_fate now item meanings.Violates a tells = refused refl refl (closes now reason.State a.client.link)
 
-following_peer : (now : ℕ) (item : List ℕ) (c : Course) (a : Part) → (following now item c a).client.peer ≡ a.client.peer
+following_peer : (now : ℕ) (item : List ℕ) (c : Meaning) (a : ClientSoFar) → (following now item c a).client.peer ≡ a.client.peer
 unfolding following calling
-following_peer now item courses.Agrees a = posting_peer now _ (acted_on item a)
-following_peer now item courses.Starts a = refl
-following_peer now item (courses.Indicates indication) a = refl
-following_peer now item courses.Completes a = refl
-following_peer now item courses.Differs a = refl
-following_peer now item courses.Violates a = refl
+following_peer now item meanings.Agrees a = posting_peer now _ (acted_on item a)
+following_peer now item meanings.Starts a = refl
+following_peer now item (meanings.Indicates indication) a = refl
+following_peer now item meanings.Completes a = refl
+following_peer now item meanings.Differs a = refl
+following_peer now item meanings.Violates a = refl
 
-acting_fate : (now : ℕ) (item : List ℕ) (a : Part) → Fate item a (acting now item a)
+acting_fate : (now : ℕ) (item : List ℕ) (a : ClientSoFar) → Fate item a (acting now item a)
 unfolding acting
 acting_fate now item a = following_fate now item _ a (item_tells a.client.peer a.client.stage (reading item))
 
-pub acting_peer : (now : ℕ) (item : List ℕ) (a : Part) → (acting now item a).client.peer ≡ a.client.peer
+pub acting_peer : (now : ℕ) (item : List ℕ) (a : ClientSoFar) → (acting now item a).client.peer ≡ a.client.peer
 unfolding acting
 acting_peer now item a = following_peer now item _ a
 
 -- items acted on one after another
-record Acted (items : List (List ℕ)) (before after : Part) : Type 0 where
+record Acted (items : List (List ℕ)) (before after : ClientSoFar) : Type 0 where
   pub done : List (List ℕ)
   pub acted : after.acted ≡ before.acted ++ done
   pub dropped : List (List ℕ)
@@ -210,16 +210,16 @@ record Acted (items : List (List ℕ)) (before after : Part) : Type 0 where
   pub whole : is_open after.client.link.phase ≡ true → dropped ≡ []
   pub heard : after.heard ≡ before.heard ++ told_by_all before.client.peer done
 
-acted_none : (items : List (List ℕ)) (a : Part) → (is_open a.client.link.phase ≡ true → items ≡ []) → Acted items a a
+acted_none : (items : List (List ℕ)) (a : ClientSoFar) → (is_open a.client.link.phase ≡ true → items ≡ []) → Acted items a a
 unfolding told_by_all
 acted_none items a whole = record { done = []; acted = sym (append-nil a.acted); dropped = items; beginning = refl; whole = whole; heard = sym (append-nil a.heard) }
 
-closed_rests : (now : ℕ) (items : List (List ℕ)) (a : Part) → is_open a.client.link.phase ≡ false → acting_all now items a ≡ a
+closed_rests : (now : ℕ) (items : List (List ℕ)) (a : ClientSoFar) → is_open a.client.link.phase ≡ false → acting_all now items a ≡ a
 unfolding acting_all
 closed_rests now [] a closed = refl
 closed_rests now (item ∷ others) a closed = rw closed refl
 
-acts_more : (now : ℕ) (item : List ℕ) (others : List (List ℕ)) (a b : Part) → b.client.peer ≡ a.client.peer → Fate item a b → Acted others b (acting_all now others b) →
+acts_more : (now : ℕ) (item : List ℕ) (others : List (List ℕ)) (a b : ClientSoFar) → b.client.peer ≡ a.client.peer → Fate item a b → Acted others b (acting_all now others b) →
     Acted (item ∷ others) a (acting_all now others b)
 unfolding told_by_all
 acts_more now item others a b peer (obeyed acted heard) more = record {
@@ -235,14 +235,14 @@ acts_more now item others a b peer (refused acted heard closed) more =
     let rests : acting_all now others b ≡ b = closed_rests now others b closed
     in record {
       done = [];
-      acted = ap (λ (p : Part). p.acted) rests ∙ acted ∙ sym (append-nil a.acted);
+      acted = ap (λ (p : ClientSoFar). p.acted) rests ∙ acted ∙ sym (append-nil a.acted);
       dropped = item ∷ others;
       beginning = refl;
-      whole = λ opened. absurd (true≢false (sym opened ∙ ap (λ (p : Part). is_open p.client.link.phase) rests ∙ closed));
-      heard = ap (λ (p : Part). p.heard) rests ∙ heard ∙ sym (append-nil a.heard);
+      whole = λ opened. absurd (true≢false (sym opened ∙ ap (λ (p : ClientSoFar). is_open p.client.link.phase) rests ∙ closed));
+      heard = ap (λ (p : ClientSoFar). p.heard) rests ∙ heard ∙ sym (append-nil a.heard);
     }
 
-acting_all_acts : (now : ℕ) (items : List (List ℕ)) (a : Part) → Acted items a (acting_all now items a)
+acting_all_acts : (now : ℕ) (items : List (List ℕ)) (a : ClientSoFar) → Acted items a (acting_all now items a)
 unfolding acting_all
 acting_all_acts now [] a = acted_none [] a (λ opened. refl)
 acting_all_acts now (item ∷ others) a = cases (is_open a.client.link.phase) refl (acting_all_acts now others (acting now item a)) where
@@ -251,32 +251,32 @@ acting_all_acts now (item ∷ others) a = cases (is_open a.client.link.phase) re
   cases true is more = acts_more now item others a (acting now item a) (acting_peer now item a) (acting_fate now item a) more
   cases false is more = acted_none (item ∷ others) a (λ opened. absurd (true≢false (sym opened ∙ is)))
 
-rising_acted : (now : ℕ) (a : Part) → (rising now a).acted ≡ a.acted
+rising_acted : (now : ℕ) (a : ClientSoFar) → (rising now a).acted ≡ a.acted
 unfolding rising
 rising_acted now a = cases (is_outside a.client.stage && is_up a.client.link.phase) where
   cases : (b : Bool) → (if b then at_stage stage.AwaitsAnswer (saying now (VersionCheck a.client.peer.version) a) else a).acted ≡ a.acted
   cases true = posting_acted now _ a
   cases false = refl
 
-rising_heard : (now : ℕ) (a : Part) → (rising now a).heard ≡ a.heard
+rising_heard : (now : ℕ) (a : ClientSoFar) → (rising now a).heard ≡ a.heard
 unfolding rising
 rising_heard now a = cases (is_outside a.client.stage && is_up a.client.link.phase) where
   cases : (b : Bool) → (if b then at_stage stage.AwaitsAnswer (saying now (VersionCheck a.client.peer.version) a) else a).heard ≡ a.heard
   cases true = posting_heard now _ a
   cases false = refl
 
-rising_peer : (now : ℕ) (a : Part) → (rising now a).client.peer ≡ a.client.peer
+rising_peer : (now : ℕ) (a : ClientSoFar) → (rising now a).client.peer ≡ a.client.peer
 unfolding rising
 rising_peer now a = cases (is_outside a.client.stage && is_up a.client.link.phase) where
   cases : (b : Bool) → (if b then at_stage stage.AwaitsAnswer (saying now (VersionCheck a.client.peer.version) a) else a).client.peer ≡ a.client.peer
   cases true = posting_peer now _ a
   cases false = refl
 
-pub hearing_acts : (now : ℕ) (bytes : List ℕ) (a : Part) → ActsOn now bytes a (hearing now bytes a)
+pub hearing_acts : (now : ℕ) (bytes : List ℕ) (a : ClientSoFar) → ActsOn now bytes a (hearing now bytes a)
 unfolding hearing calling
 hearing_acts now bytes a =
-    let received : Part = calling now (Receives bytes) a
-    in let risen : Part = rising now received
+    let received : ClientSoFar = calling now (Receives bytes) a
+    in let risen : ClientSoFar = rising now received
     in let items = (receiving now bytes a.client.link).items
     in let done = acting_all_acts now items risen
     in record {

@@ -3,8 +3,8 @@ use Rattle.std.specs.Prelude.{◌&&◌}
 use Rattle.sci_telegram.specs.Reading.{reading}
 use Rattle.sci_telegram.specs.declared.message.Initialisation.TheVariants.{InitialisationRequest, VersionCheck}
 use Rattle.rasta_core.specs.State.{is_up}
-use Rattle.ixl_client.specs.declared.course.Course.{Course}
-use Rattle.ixl_client.specs.declared.course.Course.TheVariants as courses
+use Rattle.ixl_client.specs.declared.meaning.Meaning.{Meaning}
+use Rattle.ixl_client.specs.declared.meaning.Meaning.TheVariants as meanings
 use Rattle.ixl_client.specs.declared.stage.Stage.TheVariants as stage
 use Rattle.std.proofs.Common.{◌≡◌, ℕ, ◌+◌, ◌≤◌, Bool, true, false, List, [], ◌∷◌, ◌++◌, length, arith, refl, ap, sym, ◌∙◌, subst}
 use Rattle.std.proofs.lemmas.List.{length-append, length-map}
@@ -14,14 +14,14 @@ use Rattle.rasta_core.specs.State.{LinkState}
 use Rattle.rasta_pdu.specs.declared.key.Key.{Key}
 use Rattle.rasta_pdu.specs.declared.pdu.Pdu.{Pdu}
 use Rattle.ixl_client.specs.Client.{ClientState, PeerState, is_outside}
-use Rattle.ixl_client.specs.Part.{LinkCall, Sends, Closes, Part, Seen, Leads, call_made, calling, seen}
+use Rattle.ixl_client.specs.ClientSoFar.{LinkCall, Sends, Closes, ClientSoFar, Seen, Leads, call_made, calling, seen}
 use Rattle.sci_telegram.specs.Telegrams.{writing}
 use Rattle.sci_telegram.specs.declared.message.Message.{Message}
 use Rattle.sci_telegram.specs.declared.message.Message.TheVariants as message
 use Rattle.sci_telegram.specs.declared.message.Initialisation.{Initialisation}
 use Rattle.rasta_core.specs.Calls.{answer_to_send}
 use Rattle.rasta_core.specs.reason.Reason.TheVariants as reason
-use Rattle.ixl_client.specs.Step.{acted_on, acting, at_stage, course_of_item, following, is_refused_by_window, posting, rising, saying, stage_after_report, telegram_to}
+use Rattle.ixl_client.specs.Step.{acted_on, acting, at_stage, meaning_of_item, following, is_refused_by_window, posting, rising, saying, stage_after_report, telegram_to}
 use Rattle.ixl_client.specs.Way.{Goes}
 use Rattle.ixl_client.specs.declared.indication.Indication.{Indication}
 use Rattle.ixl_client.specs.declared.stage.Stage.{Stage}
@@ -35,10 +35,10 @@ unfolding posted
 capacity-posted key pdus box = refl
 
 -- a part that is seen so
-abbrev pub part_at : Seen → List LinkCall → List (List ℕ) → Part
+abbrev pub part_at : Seen → List LinkCall → List (List ℕ) → ClientSoFar
 part_at view calls acted = record { client = view.client; outbox = view.outbox; heard = view.heard; calls = calls; acted = acted }
 
-pub leads_at : (does : Part → Part) (before after : Seen) → ((calls : List LinkCall) (acted : List (List ℕ)) → seen (does (part_at before calls acted)) ≡ after) → Leads does before after
+pub leads_at : (does : ClientSoFar → ClientSoFar) (before after : Seen) → ((calls : List LinkCall) (acted : List (List ℕ)) → seen (does (part_at before calls acted)) ≡ after) → Leads does before after
 leads_at does before after leads part is =
     subst (λ view. seen (does (part_at view part.calls part.acted)) ≡ after) (sym is) (leads part.calls part.acted)
 
@@ -72,7 +72,7 @@ called_in now most call old link stage peer new box out heard old-is is at posts
     (ap (λ (l : LinkState). record { link = l; stage = stage; peer = peer }) is) at posts few)
 
 -- one after another
-pub going_then : (now some more : ℕ) (first second : Part → Part) (a b c : Seen) → Goes now some first a b → Goes now more second b c →
+pub going_then : (now some more : ℕ) (first second : ClientSoFar → ClientSoFar) (a b c : Seen) → Goes now some first a b → Goes now more second b c →
     Goes now (some + more) (λ part. second (first part)) a c
 going_then now some more first second a b c one next = record {
   leads = λ part is. next.leads (first part) (one.leads part is);
@@ -83,7 +83,7 @@ going_then now some more first second a b c one next = record {
 }
 
 -- the same by another name
-pub going_as : (now most more : ℕ) (does same : Part → Part) (a b : Seen) → most ≤ more →
+pub going_as : (now most more : ℕ) (does same : ClientSoFar → ClientSoFar) (a b : Seen) → most ≤ more →
     ((calls : List LinkCall) (acted : List (List ℕ)) → seen (same (part_at a calls acted)) ≡ seen (does (part_at a calls acted))) →
     Goes now most does a b → Goes now more same a b
 going_as now most more does same a b fits is way = record {
@@ -127,7 +127,7 @@ says now initialisation a b way =
     going_as now 2 2 (posting now (message.Initialisation a.client.peer.protocol initialisation)) (saying now initialisation) a b (omega arith) (λ calls acted. refl) way
 
 -- the stage is set behind a part
-pub staged : (now most : ℕ) (does : Part → Part) (to : Stage) (a : Seen) (old new : ClientState) (box : OutboxState) (heard : List Indication) →
+pub staged : (now most : ℕ) (does : ClientSoFar → ClientSoFar) (to : Stage) (a : Seen) (old new : ClientState) (box : OutboxState) (heard : List Indication) →
     Goes now most does a (record { client = old; outbox = box; heard = heard }) → new ≡ record old { stage = to } →
     Goes now most (λ part. at_stage to (does part)) a (record { client = new; outbox = box; heard = heard })
 staged now most does to a old new box heard way is = record {
@@ -140,7 +140,7 @@ staged now most does to a old new box heard way is = record {
 }
 
 -- an item is acted on before a part
-pub acted_before : (now most : ℕ) (does : Part → Part) (item : List ℕ) (a b : Seen) → Goes now most does a b → Goes now most (λ part. does (acted_on item part)) a b
+pub acted_before : (now most : ℕ) (does : ClientSoFar → ClientSoFar) (item : List ℕ) (a b : Seen) → Goes now most does a b → Goes now most (λ part. does (acted_on item part)) a b
 acted_before now most does item a b way = record {
   leads = λ part is. way.leads (acted_on item part) is;
   clock = way.clock;
@@ -150,7 +150,7 @@ acted_before now most does item a b way = record {
 }
 
 -- what may be done more
-pub going_more : (now some more : ℕ) (does : Part → Part) (a b : Seen) → some ≤ more → Goes now some does a b → Goes now more does a b
+pub going_more : (now some more : ℕ) (does : ClientSoFar → ClientSoFar) (a b : Seen) → some ≤ more → Goes now some does a b → Goes now more does a b
 going_more now some more does a b fits way = going_as now some more does does a b fits (λ calls acted. refl) way
 
 -- a connection that didn't come up, and one that did
@@ -160,36 +160,36 @@ stays_down now a at not_risen =
     going_as now 0 2 (λ part. part) (rising now) a a (omega arith) (λ calls acted. rw not_risen refl) (going_nowhere now a at)
 
 -- what follows an item
-pub follows : (now : ℕ) (item : List ℕ) (c course : Course) (a b : Seen) → c ≡ course → Goes now 2 (following now item course) a b → Goes now 2 (following now item c) a b
-follows now item c course a b is way = subst (λ k. Goes now 2 (following now item k) a b) (sym is) way
+pub follows : (now : ℕ) (item : List ℕ) (c meaning : Meaning) (a b : Seen) → c ≡ meaning → Goes now 2 (following now item meaning) a b → Goes now 2 (following now item c) a b
+follows now item c meaning a b is way = subst (λ k. Goes now 2 (following now item k) a b) (sym is) way
 
 pub agrees : (now : ℕ) (item : List ℕ) (a : Seen) (old new : ClientState) (box : OutboxState) (heard : List Indication) →
     Goes now 2 (saying now InitialisationRequest) a (record { client = old; outbox = box; heard = heard }) → new ≡ record old { stage = stage.AwaitsStart } →
-    Goes now 2 (following now item courses.Agrees) a (record { client = new; outbox = box; heard = heard })
+    Goes now 2 (following now item meanings.Agrees) a (record { client = new; outbox = box; heard = heard })
 unfolding following
 agrees now item a old new box heard way is =
     staged now 2 (λ part. saying now InitialisationRequest (acted_on item part)) stage.AwaitsStart a old new box heard (acted_before now 2 (saying now InitialisationRequest) item a _ way) is
 
 pub starts : (now : ℕ) (item : List ℕ) (a : Seen) (new : ClientState) → a.client.link.clock ≡ now → new ≡ record a.client { stage = stage.AwaitsStatus (length a.client.peer.objects) } →
-    Goes now 2 (following now item courses.Starts) a (record { client = new; outbox = a.outbox; heard = a.heard })
+    Goes now 2 (following now item meanings.Starts) a (record { client = new; outbox = a.outbox; heard = a.heard })
 unfolding following
 starts now item a new at is =
-    going_as now 0 2 (at_stage (stage.AwaitsStatus (length a.client.peer.objects))) (following now item courses.Starts) a _ (omega arith) (λ calls acted. refl)
+    going_as now 0 2 (at_stage (stage.AwaitsStatus (length a.client.peer.objects))) (following now item meanings.Starts) a _ (omega arith) (λ calls acted. refl)
     (staged now 0 (λ part. part) (stage.AwaitsStatus (length a.client.peer.objects)) a a.client new a.outbox a.heard (going_nowhere now a at) is)
 
 pub completes : (now : ℕ) (item : List ℕ) (a : Seen) (new : ClientState) → a.client.link.clock ≡ now → new ≡ record a.client { stage = stage.Completed } →
-    Goes now 2 (following now item courses.Completes) a (record { client = new; outbox = a.outbox; heard = a.heard })
+    Goes now 2 (following now item meanings.Completes) a (record { client = new; outbox = a.outbox; heard = a.heard })
 unfolding following
 completes now item a new at is =
-    going_as now 0 2 (at_stage stage.Completed) (following now item courses.Completes) a _ (omega arith) (λ calls acted. refl)
+    going_as now 0 2 (at_stage stage.Completed) (following now item meanings.Completes) a _ (omega arith) (λ calls acted. refl)
     (staged now 0 (λ part. part) stage.Completed a a.client new a.outbox a.heard (going_nowhere now a at) is)
 
 pub indicates : (now : ℕ) (item : List ℕ) (indication : Indication) (a : Seen) (new : ClientState) (heard : List Indication) → a.client.link.clock ≡ now →
     new ≡ record a.client { stage = stage_after_report a.client.stage } → heard ≡ a.heard ++ indication ∷ [] →
-    Goes now 2 (following now item (courses.Indicates indication)) a (record { client = new; outbox = a.outbox; heard = heard })
+    Goes now 2 (following now item (meanings.Indicates indication)) a (record { client = new; outbox = a.outbox; heard = heard })
 unfolding following
 indicates now item indication a new heard at is more = record {
-  leads = leads_at (following now item (courses.Indicates indication)) a (record { client = new; outbox = a.outbox; heard = heard })
+  leads = leads_at (following now item (meanings.Indicates indication)) a (record { client = new; outbox = a.outbox; heard = heard })
       (λ calls acted. ap (λ (c : ClientState). record { client = c; outbox = a.outbox; heard = a.heard ++ indication ∷ [] }) (sym is)
       ∙ ap (λ (h : List Indication). record { client = new; outbox = a.outbox; heard = h }) (sym more));
   clock = ap (λ (c : ClientState). c.link.clock) is ∙ at;
@@ -198,19 +198,19 @@ indicates now item indication a new heard at is more = record {
   few = omega arith;
 }
 
-pub differs : (now : ℕ) (item : List ℕ) (a b : Seen) → Goes now 1 (calling now (Closes reason.Version)) a b → Goes now 2 (following now item courses.Differs) a b
+pub differs : (now : ℕ) (item : List ℕ) (a b : Seen) → Goes now 1 (calling now (Closes reason.Version)) a b → Goes now 2 (following now item meanings.Differs) a b
 unfolding following
 differs now item a b way = going_more now 1 2 (calling now (Closes reason.Version)) a b (omega arith) way
 
-pub violates : (now : ℕ) (item : List ℕ) (a b : Seen) → Goes now 1 (calling now (Closes reason.State)) a b → Goes now 2 (following now item courses.Violates) a b
+pub violates : (now : ℕ) (item : List ℕ) (a b : Seen) → Goes now 1 (calling now (Closes reason.State)) a b → Goes now 2 (following now item meanings.Violates) a b
 unfolding following
 violates now item a b way = going_more now 1 2 (calling now (Closes reason.State)) a b (omega arith) way
 
-pub acts : (now : ℕ) (item : List ℕ) (course : Course) (a b : Seen) → course ≡ course_of_item a.client.peer a.client.stage (reading item) →
-    Goes now 2 (following now item course) a b → Goes now 2 (acting now item) a b
+pub acts : (now : ℕ) (item : List ℕ) (meaning : Meaning) (a b : Seen) → meaning ≡ meaning_of_item a.client.peer a.client.stage (reading item) →
+    Goes now 2 (following now item meaning) a b → Goes now 2 (acting now item) a b
 unfolding acting
-acts now item course a b is way =
-    going_as now 2 2 (following now item course) (acting now item) a b (omega arith)
+acts now item meaning a b is way =
+    going_as now 2 2 (following now item meaning) (acting now item) a b (omega arith)
     (λ calls acted. ap (λ k. seen (following now item k (part_at a calls acted))) (sym is)) way
 
 pub comes_up : (now : ℕ) (a : Seen) (old new : ClientState) (version : ℕ) (box : OutboxState) (heard : List Indication) →

@@ -4,3 +4,8 @@ pub mod Steady
 pub mod Made
 pub mod Acts
 pub mod Partner
+pub mod Closing
+pub mod Deviating
+pub mod Opening
+pub mod Picking
+pub mod Saying

@@ -4,7 +4,7 @@ use Rattle.std.specs.Prelude.{◌&&◌}
 use Rattle.sci_telegram.specs.declared.message.Initialisation.TheVariants.{VersionCheck}
 use Rattle.rasta_core.specs.State.{is_open, is_up}
 use Rattle.ixl_client.specs.Client.{ClientState, is_outside}
-use Rattle.ixl_client.specs.Part.{Part, calling}
+use Rattle.ixl_client.specs.ClientSoFar.{ClientSoFar, calling}
 use Rattle.ixl_client.specs.Step.{acting, acting_all, at_stage, clocked, commanding, fallen, hearing, rising, saying, ticking}
 use Rattle.ixl_client.specs.declared.command.Command.{Command}
 use Rattle.ixl_client.specs.declared.stage.Stage.TheVariants as stage
@@ -21,7 +21,7 @@ pub clocked_peer : (now : ℕ) (client : ClientState) → (clocked now client).p
 unfolding clocked
 clocked_peer now client = fallen_peer _
 
-acting_all_peer : (now : ℕ) (items : List (List ℕ)) (a : Part) → (acting_all now items a).client.peer ≡ a.client.peer
+acting_all_peer : (now : ℕ) (items : List (List ℕ)) (a : ClientSoFar) → (acting_all now items a).client.peer ≡ a.client.peer
 unfolding acting_all
 acting_all_peer now [] a = refl
 acting_all_peer now (item ∷ others) a = cases (is_open a.client.link.phase) (acting_all_peer now others (acting now item a) ∙ acting_peer now item a) where
@@ -29,21 +29,21 @@ acting_all_peer now (item ∷ others) a = cases (is_open a.client.link.phase) (a
   cases true others_keep = others_keep
   cases false others_keep = refl
 
-rising_peer : (now : ℕ) (a : Part) → (rising now a).client.peer ≡ a.client.peer
+rising_peer : (now : ℕ) (a : ClientSoFar) → (rising now a).client.peer ≡ a.client.peer
 unfolding rising
 rising_peer now a = cases (is_outside a.client.stage && is_up a.client.link.phase) where
   cases : (b : Bool) → (if b then at_stage stage.AwaitsAnswer (saying now (VersionCheck a.client.peer.version) a) else a).client.peer ≡ a.client.peer
   cases true = posting_peer now _ a
   cases false = refl
 
-pub hearing_peer : (now : ℕ) (bytes : List ℕ) (a : Part) → (hearing now bytes a).client.peer ≡ a.client.peer
+pub hearing_peer : (now : ℕ) (bytes : List ℕ) (a : ClientSoFar) → (hearing now bytes a).client.peer ≡ a.client.peer
 unfolding hearing calling
 hearing_peer now bytes a = fallen_peer _ ∙ acting_all_peer now _ _ ∙ rising_peer now _
 
-pub commanding_peer : (now : ℕ) (command : Command) (a : Part) → (commanding now command a).client.peer ≡ a.client.peer
+pub commanding_peer : (now : ℕ) (command : Command) (a : ClientSoFar) → (commanding now command a).client.peer ≡ a.client.peer
 unfolding commanding
 commanding_peer now command a = fallen_peer _ ∙ posting_peer now _ a
 
-pub ticking_peer : (now : ℕ) (a : Part) → (ticking now a).client.peer ≡ a.client.peer
+pub ticking_peer : (now : ℕ) (a : ClientSoFar) → (ticking now a).client.peer ≡ a.client.peer
 unfolding ticking calling
 ticking_peer now a = fallen_peer _

@@ -18,13 +18,13 @@ use Rattle.rasta_core.specs.identity.Identity.{Identity}
 use Rattle.rasta_core.specs.reason.Reason.{Reason}
 use Rattle.rasta_core.specs.reason.Reason.TheVariants as reason
 use Rattle.ixl_client.specs.Client.{ClientState, IsClient, PeerState, is_outside}
-use Rattle.ixl_client.specs.Part.{Closes, Opens, Part, Receives, Seen, Sends, Ticks, calling}
-use Rattle.ixl_client.specs.Step.{acted_on, acting, acting_all, at_stage, clocked, commanding, course_of_item, ending, fallen, following, hearing, is_refused_by_window, message_of, posting, rising, saying, stage_after_command, stage_after_report, telegram_to, ticking}
+use Rattle.ixl_client.specs.ClientSoFar.{Closes, Opens, ClientSoFar, Receives, Seen, Sends, Ticks, calling}
+use Rattle.ixl_client.specs.Step.{acted_on, acting, acting_all, at_stage, clocked, commanding, meaning_of_item, ending, fallen, following, hearing, is_refused_by_window, message_of, posting, rising, saying, stage_after_command, stage_after_report, telegram_to, ticking}
 use Rattle.ixl_client.specs.Way.{Goes}
 use Rattle.ixl_client.specs.declared.command.Command.{Command}
 use Rattle.ixl_client.specs.declared.command.Command.TheVariants as commands
-use Rattle.ixl_client.specs.declared.course.Course.{Course}
-use Rattle.ixl_client.specs.declared.course.Course.TheVariants as courses
+use Rattle.ixl_client.specs.declared.meaning.Meaning.{Meaning}
+use Rattle.ixl_client.specs.declared.meaning.Meaning.TheVariants as meanings
 use Rattle.ixl_client.specs.declared.stage.Stage.{Stage}
 use Rattle.ixl_client.specs.declared.stage.Stage.TheVariants as stage
 
@@ -125,7 +125,7 @@ outside_where_down client is = cases (is_up client.link.phase) refl where
     one (inr down) = absurd (true≢false (sym up ∙ down))
   cases false down = sym (ap not down)
 
-posting_down : (now : ℕ) (told : Message) (part : Part) → IsDown part.client.link → IsDown (posting now told part).client.link
+posting_down : (now : ℕ) (told : Message) (part : ClientSoFar) → IsDown part.client.link → IsDown (posting now told part).client.link
 unfolding posting calling
 posting_down now told part down = cases (is_refused_by_window (answer_to_send now part.client.link)) where
   item : List ℕ
@@ -139,7 +139,7 @@ either_false : (a b : Bool) → a && b ≡ false → (a ≡ false) ⊎ (b ≡ fa
 either_false true b is = inr is
 either_false false b is = inl refl
 
-rising_steady : (now : ℕ) (part : Part) → IsSteady (rising now part).client
+rising_steady : (now : ℕ) (part : ClientSoFar) → IsSteady (rising now part).client
 unfolding rising
 rising_steady now part = cases (is_outside part.client.stage && is_up part.client.link.phase) refl where
   cases : (b : Bool) → is_outside part.client.stage && is_up part.client.link.phase ≡ b →
@@ -155,24 +155,24 @@ reported_inside (stage.AwaitsStatus left) = refl
 reported_inside stage.Completed = refl
 reported_inside stage.AwaitsReport = refl
 
-closing_steady : (now : ℕ) (why : Reason) (part : Part) → IsSteady (calling now (Closes why) part).client
+closing_steady : (now : ℕ) (why : Reason) (part : ClientSoFar) → IsSteady (calling now (Closes why) part).client
 unfolding calling
 closing_steady now why part = inr (closes_down now why part.client.link)
 
-following_steady : (now : ℕ) (item : List ℕ) (course : Course) (part : Part) → IsSteady (following now item course part).client
+following_steady : (now : ℕ) (item : List ℕ) (meaning : Meaning) (part : ClientSoFar) → IsSteady (following now item meaning part).client
 unfolding following
-following_steady now item courses.Agrees part = inl refl
-following_steady now item courses.Starts part = inl refl
-following_steady now item (courses.Indicates indication) part = inl (reported_inside part.client.stage)
-following_steady now item courses.Completes part = inl refl
-following_steady now item courses.Differs part = closing_steady now reason.Version part
-following_steady now item courses.Violates part = closing_steady now reason.State part
+following_steady now item meanings.Agrees part = inl refl
+following_steady now item meanings.Starts part = inl refl
+following_steady now item (meanings.Indicates indication) part = inl (reported_inside part.client.stage)
+following_steady now item meanings.Completes part = inl refl
+following_steady now item meanings.Differs part = closing_steady now reason.Version part
+following_steady now item meanings.Violates part = closing_steady now reason.State part
 
-acting_steady : (now : ℕ) (items : List (List ℕ)) (part : Part) → IsSteady part.client → IsSteady (acting_all now items part).client
+acting_steady : (now : ℕ) (items : List (List ℕ)) (part : ClientSoFar) → IsSteady part.client → IsSteady (acting_all now items part).client
 unfolding acting_all acting
 acting_steady now [] part is = is
 acting_steady now (item ∷ others) part is =
-    cases (is_open part.client.link.phase) (acting_steady now others (acting now item part) (following_steady now item (course_of_item part.client.peer part.client.stage (reading item)) part))
+    cases (is_open part.client.link.phase) (acting_steady now others (acting now item part) (following_steady now item (meaning_of_item part.client.peer part.client.stage (reading item)) part))
   where
     cases : (b : Bool) → IsSteady (acting_all now others (acting now item part)).client → IsSteady (if b then acting_all now others (acting now item part) else part).client
     cases true next = next
@@ -190,24 +190,24 @@ commanded_inside (commands.Move side) stage.AwaitsReport inside = refl
 -- ---- the step
 
 -- the client behind a part is outside exactly where its link isn't up
-abbrev pub Rests : Part → Type 0
+abbrev pub Rests : ClientSoFar → Type 0
 Rests part = is_outside part.client.stage ≡ not (is_up part.client.link.phase)
 
-pub hearing_rests : (now : ℕ) (bytes : List ℕ) (part : Part) → Rests (hearing now bytes part)
+pub hearing_rests : (now : ℕ) (bytes : List ℕ) (part : ClientSoFar) → Rests (hearing now bytes part)
 unfolding hearing
 hearing_rests now bytes part =
     let begun = rising now (calling now (Receives bytes) part)
     in let items = (receiving now bytes part.client.link).items
     in outside_where_down (acting_all now items begun).client (acting_steady now items begun (rising_steady now (calling now (Receives bytes) part)))
 
-pub commanding_rests : (now : ℕ) (command : Command) (part : Part) → IsSteady part.client → Rests (commanding now command part)
+pub commanding_rests : (now : ℕ) (command : Command) (part : ClientSoFar) → IsSteady part.client → Rests (commanding now command part)
 unfolding commanding
 commanding_rests now command part is = outside_where_down _ (stays is) where
   stays : IsSteady part.client → IsSteady (at_stage (stage_after_command command part.client.stage) (posting now (message_of command) part)).client
   stays (inl inside) = inl (commanded_inside command part.client.stage inside)
   stays (inr down) = inr (posting_down now (message_of command) part down)
 
-pub ticking_rests : (now : ℕ) (part : Part) → IsSteady part.client → Rests (ticking now part)
+pub ticking_rests : (now : ℕ) (part : ClientSoFar) → IsSteady part.client → Rests (ticking now part)
 unfolding ticking calling
 ticking_rests now part is = outside_where_down _ (stays is) where
   stays : IsSteady part.client → IsSteady (calling now Opens (calling now Ticks part)).client
@@ -221,10 +221,10 @@ clocked_rests now client is = outside_where_down _ (stays (steady client is)) wh
   stays (inl inside) = inl inside
   stays (inr down) = inr (settled_down now client.link down)
 
-pub keeps : (now most : ℕ) (does : Part → Part) (before after : Seen) → Goes now most does before after → IsClient before.client →
-    ((part : Part) → IsSteady part.client → Rests (does part)) → IsClient after.client
+pub keeps : (now most : ℕ) (does : ClientSoFar → ClientSoFar) (before after : Seen) → Goes now most does before after → IsClient before.client →
+    ((part : ClientSoFar) → IsSteady part.client → Rests (does part)) → IsClient after.client
 keeps now most does before after way is rests =
-    let part : Part = record { client = before.client; outbox = before.outbox; heard = before.heard; calls = []; acted = [] }
+    let part : ClientSoFar = record { client = before.client; outbox = before.outbox; heard = before.heard; calls = []; acted = [] }
     in let same : (does part).client ≡ after.client = ap (λ (v : Seen). v.client) (way.leads part refl)
     in record {
       outside = subst (λ (c : ClientState). is_outside c.stage ≡ not (is_up c.link.phase)) same (rests part (steady before.client is));

@@ -1,6 +1,10 @@
 pub mod Client
-pub mod Course
-pub mod Part
+pub mod Meaning
+pub mod ClientSoFar
 pub mod Step
 pub mod Way
 pub mod Made
+pub mod Closing
+pub mod Expecting
+pub mod Opening
+pub mod Saying

@@ -7,8 +7,8 @@ use Rattle.rasta_core.specs.Calls.{receiving}
 use Rattle.rasta_core.specs.Outbox.{OutboxState, posted}
 use Rattle.rasta_core.specs.State.{LinkState, is_open}
 use Rattle.ixl_client.specs.Client.{PeerState}
-use Rattle.ixl_client.specs.Course.{place_of, state_in}
-use Rattle.ixl_client.specs.Part.{LinkCall, Opens, Ticks, Closes, Sends, Receives, Part, call_made}
+use Rattle.ixl_client.specs.Meaning.{place_of, state_in}
+use Rattle.ixl_client.specs.ClientSoFar.{LinkCall, Opens, Ticks, Closes, Sends, Receives, ClientSoFar, call_made}
 use Rattle.ixl_client.specs.declared.indication.Indication.{Indication}
 use Rattle.ixl_client.specs.declared.indication.ObjectState.{ObjectState}
 
@@ -35,17 +35,17 @@ AreOwn [] = Unit {0}
 AreOwn (first ∷ others) = IsOwn first × AreOwn others
 
 -- A part of a step makes these calls: they are what it does to the link and hands out.
-pub record Makes (now : ℕ) (calls : List LinkCall) (before after : Part) : Type 0 where
+pub record Makes (now : ℕ) (calls : List LinkCall) (before after : ClientSoFar) : Type 0 where
   pub calls_are : after.calls ≡ before.calls ++ calls
   pub link_is : after.client.link ≡ link_after now calls before.client.link
   pub outbox_is : after.outbox ≡ outbox_after now calls before.client.link before.outbox
 
 -- a part of a step that takes nothing
-abbrev pub MakesOwn : ℕ → Part → Part → Type 0
+abbrev pub MakesOwn : ℕ → ClientSoFar → ClientSoFar → Type 0
 MakesOwn now before after = (calls : List LinkCall) × Makes now calls before after × AreOwn calls
 
 -- and one that receives a datagram first
-abbrev pub MakesAfterReceipt : ℕ → List ℕ → Part → Part → Type 0
+abbrev pub MakesAfterReceipt : ℕ → List ℕ → ClientSoFar → ClientSoFar → Type 0
 MakesAfterReceipt now bytes before after = (calls : List LinkCall) × Makes now (Receives bytes ∷ calls) before after × AreOwn calls
 
 -- what an item tells of an object, whenever it comes
@@ -63,7 +63,7 @@ told_by_all peer (first ∷ others) = told_by peer (reading first) ++ told_by_al
 
 -- The items acted on are a beginning of those that the datagram brought, and all of them where the link stays open. What
 -- is heard is what they tell, each once and in order.
-pub record ActsOn (now : ℕ) (bytes : List ℕ) (before after : Part) : Type 0 where
+pub record ActsOn (now : ℕ) (bytes : List ℕ) (before after : ClientSoFar) : Type 0 where
   pub items : List (List ℕ)
   pub acted : after.acted ≡ before.acted ++ items
   pub dropped : List (List ℕ)

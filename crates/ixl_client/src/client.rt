@@ -5,7 +5,7 @@ ghost use Rattle.rasta_core.specs.Calls.{MayStep, IsAt, receiving};
 ghost use Rattle.rasta_core.specs.Outbox.{HasRoomFor};
 ghost use Rattle.rasta_core.specs.State.{is_up};
 ghost use Rattle.rasta_core.specs.identity.Role.TheVariants as role;
-ghost use Rattle.ixl_client.specs.Part.{Seen};
+ghost use Rattle.ixl_client.specs.ClientSoFar.{Seen};
 ghost use Rattle.ixl_client.specs.Step.{clocked, commanding, hearing, ticking};
 ghost use Rattle.ixl_client.specs.Way.{Goes};
 ghost use Rattle.ixl_client.specs.declared.indication.Indication.{Indication};

@@ -4,7 +4,7 @@ ghost use Rattle.std.specs.Prelude.{◌≡◌, ◌≤◌, ◌+◌, List, length}
 ghost use Rattle.rasta_core.specs.Calls.{MayStep, answer_to_send};
 ghost use Rattle.rasta_core.specs.Outbox.{HasRoomFor};
 ghost use Rattle.sci_telegram.specs.Telegrams.{writing};
-ghost use Rattle.ixl_client.specs.Part.{Closes, Sends, calling};
+ghost use Rattle.ixl_client.specs.ClientSoFar.{Closes, Sends, calling};
 ghost use Rattle.ixl_client.specs.Step.{fallen, is_refused_by_window, posting, saying, telegram_to};
 ghost use Rattle.ixl_client.specs.Way.{Goes};
 ghost use Rattle.ixl_client.specs.declared.indication.Indication.{Indication};

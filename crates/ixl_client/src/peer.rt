@@ -2,7 +2,7 @@
 
 ghost use Rattle.std.specs.Prelude.{◌≡◌, ◌<◌, Some, IfSome};
 ghost use Rattle.std.specs.Option.{option_map};
-ghost use Rattle.ixl_client.specs.Course.{is_for_client, is_same_protocol, place_of};
+ghost use Rattle.ixl_client.specs.Meaning.{is_for_client, is_same_protocol, place_of};
 ghost use Rattle.sci_telegram.specs.declared.message.Message.TheVariants as message;
 ghost use Rattle.ixl_client.specs.Step.{telegram_to};
 

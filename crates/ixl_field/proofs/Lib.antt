@@ -1,3 +1,7 @@
+pub mod Fallen
+pub mod Peers
+pub mod Heard
+pub mod Went
 pub mod Renewing
 pub mod RowLaws
 pub mod Leading

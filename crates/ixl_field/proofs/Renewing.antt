@@ -6,9 +6,9 @@ use Rattle.std.specs.FinSet.{contains, insert, remove, contains-remove}
 use Rattle.std.proofs.lemmas.Bool.{ltb-true, ltb-false, eqb-true, eqb-false}
 use Rattle.std.proofs.lemmas.List.{length-set}
 use Rattle.std.proofs.lemmas.Option.{same_Some, slice_get_past, slice_get_read}
-use Rattle.bit_row.specs.Places.{Places}
-use Rattle.ixl_client.specs.Client.{is_ready}
-use Rattle.ixl_rules.specs.State.{DetectorState}
+use Rattle.ixl_rules.specs.bit_row.Places.{Places}
+use Rattle.ixl_rules.specs.ixl_client.Client.{is_ready}
+use Rattle.ixl_rules.specs.State.{KnownDetectorState}
 use Rattle.ixl_rules.specs.Table.{at, passes}
 use Rattle.ixl_field.specs.Field.{FieldState}
 use Rattle.ixl_field.specs.declared.rows.PointRows.{PointRows}
@@ -71,16 +71,16 @@ module _ (place : ℕ) (reporters : List (ℕ × ℕ)) (test : ℕ → Bool) (do
 -- ---- both rows
 
 -- what a detector tells of a section that it reports
-told_there : (reporters : List (ℕ × ℕ)) (detectors : List DetectorState) (section : ℕ) (reporter : ℕ × ℕ) (place : ℕ) (detector : DetectorState) (says : Bool → Bool → Bool) →
+told_there : (reporters : List (ℕ × ℕ)) (detectors : List KnownDetectorState) (section : ℕ) (reporter : ℕ × ℕ) (place : ℕ) (detector : KnownDetectorState) (says : Bool → Bool → Bool) →
     slice_get reporters section ≡ Some reporter → reporter.0 ≡ place → slice_get detectors place ≡ Some detector →
     at reporters section (λ reporter. at detectors reporter.0 (λ detector. says (is_ready detector.client.stage) (contains detector.occupied reporter.1))) ≡ says (is_ready detector.client.stage) (contains detector.occupied reporter.1)
 told_there reporters detectors section reporter place detector says found is there =
-    there_tests reporters (λ (reporter : ℕ × ℕ). at detectors reporter.0 (λ (detector : DetectorState). says (is_ready detector.client.stage) (contains detector.occupied reporter.1))) section reporter found
-    ∙ there_tests detectors (λ (detector : DetectorState). says (is_ready detector.client.stage) (contains detector.occupied reporter.1)) reporter.0 detector (ap (slice_get detectors) is ∙ there)
+    there_tests reporters (λ (reporter : ℕ × ℕ). at detectors reporter.0 (λ (detector : KnownDetectorState). says (is_ready detector.client.stage) (contains detector.occupied reporter.1))) section reporter found
+    ∙ there_tests detectors (λ (detector : KnownDetectorState). says (is_ready detector.client.stage) (contains detector.occupied reporter.1)) reporter.0 detector (ap (slice_get detectors) is ∙ there)
 
-module _ (place done : ℕ) (reporters : List (ℕ × ℕ)) (detectors : List DetectorState) (rows : SectionRows) (reporter : ℕ × ℕ) (found : slice_get reporters done ≡ Some reporter)
+module _ (place done : ℕ) (reporters : List (ℕ × ℕ)) (detectors : List KnownDetectorState) (rows : SectionRows) (reporter : ℕ × ℕ) (found : slice_get reporters done ≡ Some reporter)
     (so_far : AreRowsSoFar place done reporters detectors rows) where
-  pub rows_renewed : (detector : DetectorState) (new : SectionRows) (told : Places) (ready tells : Bool) → reporter.0 ≡ place → slice_get detectors place ≡ Some detector →
+  pub rows_renewed : (detector : KnownDetectorState) (new : SectionRows) (told : Places) (ready tells : Bool) → reporter.0 ≡ place → slice_get detectors place ≡ Some detector →
       ready ≡ is_ready detector.client.stage → told ≡ detector.occupied → tells ≡ contains told reporter.1 →
       ((other : ℕ) → contains new.clear other ≡ (if other == done then ready && not tells else contains rows.clear other)) →
       ((other : ℕ) → contains new.occupied other ≡ (if other == done then ready && tells else contains rows.occupied other)) →
@@ -101,7 +101,7 @@ module _ (place done : ℕ) (reporters : List (ℕ × ℕ)) (detectors : List De
     occupied = one_passed_over place reporters _ done rows.occupied reporter found apart so_far.occupied;
   }
 
-pub all_rows_renewed : (place done : ℕ) (reporters : List (ℕ × ℕ)) (detectors : List DetectorState) (rows : SectionRows) → length reporters ≤ done → AreRowsSoFar place done reporters detectors rows →
+pub all_rows_renewed : (place done : ℕ) (reporters : List (ℕ × ℕ)) (detectors : List KnownDetectorState) (rows : SectionRows) → length reporters ≤ done → AreRowsSoFar place done reporters detectors rows →
     AreSectionRows reporters detectors rows
 all_rows_renewed place done reporters detectors rows over so_far = record {
   clear = all_renewed place reporters _ done rows.clear over so_far.clear;
@@ -117,20 +117,20 @@ set_elsewhere (first ∷ others) zero (suc other) one apart = refl
 set_elsewhere (first ∷ others) (suc place) zero one apart = refl
 set_elsewhere (first ∷ others) (suc place) (suc other) one apart = set_elsewhere others place other one (λ same. apart (ap suc same))
 
-elsewhere_same : (reporters : List (ℕ × ℕ)) (detectors : List DetectorState) (place : ℕ) (new : DetectorState) (section : ℕ) (says : Bool → Bool → Bool) → IsReportedElsewhere place reporters section →
+elsewhere_same : (reporters : List (ℕ × ℕ)) (detectors : List KnownDetectorState) (place : ℕ) (new : KnownDetectorState) (section : ℕ) (says : Bool → Bool → Bool) → IsReportedElsewhere place reporters section →
     at reporters section (λ reporter. at detectors reporter.0 (λ detector. says (is_ready detector.client.stage) (contains detector.occupied reporter.1))) ≡
     at reporters section (λ reporter. at (slice_set detectors place new) reporter.0 (λ detector. says (is_ready detector.client.stage) (contains detector.occupied reporter.1)))
 unfolding at
 elsewhere_same reporters detectors place new section says elsewhere = cases (slice_get reporters section) refl where
-  tested : List DetectorState → ℕ × ℕ → Bool
-  tested list reporter = passes (λ (detector : DetectorState). says (is_ready detector.client.stage) (contains detector.occupied reporter.1)) (slice_get list reporter.0)
+  tested : List KnownDetectorState → ℕ × ℕ → Bool
+  tested list reporter = passes (λ (detector : KnownDetectorState). says (is_ready detector.client.stage) (contains detector.occupied reporter.1)) (slice_get list reporter.0)
 
   cases : (found : Option (ℕ × ℕ)) → slice_get reporters section ≡ found → passes (tested detectors) found ≡ passes (tested (slice_set detectors place new)) found
   cases None is = refl
   cases (Some reporter) is =
-      ap (λ one. passes (λ (detector : DetectorState). says (is_ready detector.client.stage) (contains detector.occupied reporter.1)) one) (sym (set_elsewhere detectors place reporter.0 new (elsewhere reporter is)))
+      ap (λ one. passes (λ (detector : KnownDetectorState). says (is_ready detector.client.stage) (contains detector.occupied reporter.1)) one) (sym (set_elsewhere detectors place reporter.0 new (elsewhere reporter is)))
 
-pub rows_elsewhere : (reporters : List (ℕ × ℕ)) (detectors : List DetectorState) (place : ℕ) (new : DetectorState) (rows : SectionRows) → AreSectionRows reporters detectors rows →
+pub rows_elsewhere : (reporters : List (ℕ × ℕ)) (detectors : List KnownDetectorState) (place : ℕ) (new : KnownDetectorState) (rows : SectionRows) → AreSectionRows reporters detectors rows →
     AreRowsSoFar place 0 reporters (slice_set detectors place new) rows
 rows_elsewhere reporters detectors place new rows are = record {
   clear = λ section which. are.clear section ∙ elsewhere_same reporters detectors place new section (λ ready told. ready && not told) (elsewhere section which);
@@ -141,9 +141,9 @@ rows_elsewhere reporters detectors place new rows are = record {
   elsewhere section (inr less) = absurd (omega (arith, less))
 
 -- the field keeps what holds of it
-pub field_renewed : (field : FieldState) (place : ℕ) (new one : DetectorState) (reporters : List (ℕ × ℕ)) (rows renewed : SectionRows) (points : PointRows) → IsField field rows points → place < length field.detectors →
+pub field_renewed : (field : FieldState) (place : ℕ) (new one : KnownDetectorState) (reporters : List (ℕ × ℕ)) (rows renewed : SectionRows) (points : PointRows) → IsField field rows points → place < length field.detectors →
     reporters ≡ field.reporters → one ≡ get_or (slice_set field.detectors place new) place one →
-    ((detectors : List DetectorState) → slice_get detectors place ≡ Some one → AreRowsSoFar place 0 reporters detectors rows → AreSectionRows reporters detectors renewed) →
+    ((detectors : List KnownDetectorState) → slice_get detectors place ≡ Some one → AreRowsSoFar place 0 reporters detectors rows → AreSectionRows reporters detectors renewed) →
     IsField (record field { detectors = slice_set field.detectors place new }) renewed points
 field_renewed field place new one reporters rows renewed points holds within same is makes = record {
   few_sections = holds.few_sections;
@@ -153,5 +153,5 @@ field_renewed field place new one reporters rows renewed points holds within sam
       (subst (λ (r : List (ℕ × ℕ)). AreRowsSoFar place 0 r after rows) (sym same) (rows_elsewhere field.reporters field.detectors place new rows holds.sections_are)));
   points_are = holds.points_are;
 } where
-  after : List DetectorState
+  after : List KnownDetectorState
   after = slice_set field.detectors place new

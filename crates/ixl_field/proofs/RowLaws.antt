@@ -6,12 +6,12 @@ use Rattle.std.specs.Cmp.{nat_cmp_total, unsigned_tied}
 use Rattle.std.specs.FinSet.{contains, empty, insert, contains-empty, contains-insert}
 use Rattle.std.proofs.lemmas.Bool.{lt-ltb, le-ltb, ltb-true, ltb-false, eqb-true, eqb-false}
 use Rattle.std.proofs.lemmas.Option.{slice_get_past, slice_get_read}
-use Rattle.bit_row.specs.Places.{Places}
-use Rattle.ixl_client.specs.Client.{is_available, is_ready}
-use Rattle.ixl_rules.specs.State.{DetectorState, SwitchState}
+use Rattle.ixl_rules.specs.bit_row.Places.{Places}
+use Rattle.ixl_rules.specs.ixl_client.Client.{is_available, is_ready}
+use Rattle.ixl_rules.specs.State.{KnownDetectorState, KnownPointState}
 use Rattle.ixl_rules.specs.Table.{at, passes}
 use Rattle.ixl_rules.specs.View.{is_side}
-use Rattle.sci_telegram.specs.declared.message.Side.TheVariants as sides
+use Rattle.ixl_rules.specs.sci_telegram.declared.message.Side.TheVariants as sides
 use Rattle.ixl_field.specs.inside.Rows.{ArePointRows, AreSectionRows, is_at, is_free, is_told_clear, is_told_occupied, told_as, told_by}
 
 pub put : (s : Places) (j k : ℕ) → contains (insert s j) k ≡ ((k == j) || contains s k)
@@ -93,7 +93,7 @@ pub says_occupied : Option Bool → Bool
 says_occupied None = false
 says_occupied (Some occupied) = occupied
 
-pub clear_by : (place : ℕ) (found : Option DetectorState) → passes (λ (detector : DetectorState). is_ready detector.client.stage && not (contains detector.occupied place)) found ≡ says_clear (told_by place found)
+pub clear_by : (place : ℕ) (found : Option KnownDetectorState) → passes (λ (detector : KnownDetectorState). is_ready detector.client.stage && not (contains detector.occupied place)) found ≡ says_clear (told_by place found)
 unfolding says_clear
 clear_by place None = refl
 clear_by place (Some detector) = cases (is_ready detector.client.stage) where
@@ -101,7 +101,7 @@ clear_by place (Some detector) = cases (is_ready detector.client.stage) where
   cases true = refl
   cases false = refl
 
-pub occupied_by : (place : ℕ) (found : Option DetectorState) → passes (λ (detector : DetectorState). is_ready detector.client.stage && contains detector.occupied place) found ≡ says_occupied (told_by place found)
+pub occupied_by : (place : ℕ) (found : Option KnownDetectorState) → passes (λ (detector : KnownDetectorState). is_ready detector.client.stage && contains detector.occupied place) found ≡ says_occupied (told_by place found)
 unfolding says_occupied
 occupied_by place None = refl
 occupied_by place (Some detector) = cases (is_ready detector.client.stage) where
@@ -109,25 +109,25 @@ occupied_by place (Some detector) = cases (is_ready detector.client.stage) where
   cases true = refl
   cases false = refl
 
-pub clear_is : (reporters : List (ℕ × ℕ)) (detectors : List DetectorState) (section : ℕ) (reporter : ℕ × ℕ) → slice_get reporters section ≡ Some reporter →
+pub clear_is : (reporters : List (ℕ × ℕ)) (detectors : List KnownDetectorState) (section : ℕ) (reporter : ℕ × ℕ) → slice_get reporters section ≡ Some reporter →
     is_told_clear reporters detectors section ≡ says_clear (told_as detectors reporter)
 unfolding at
-clear_is reporters detectors section reporter is = ap (λ found. passes (λ (reporter : ℕ × ℕ). at detectors reporter.0 (λ (detector : DetectorState). is_ready detector.client.stage && not (contains detector.occupied reporter.1))) found) is ∙ clear_by reporter.1 (slice_get detectors reporter.0)
+clear_is reporters detectors section reporter is = ap (λ found. passes (λ (reporter : ℕ × ℕ). at detectors reporter.0 (λ (detector : KnownDetectorState). is_ready detector.client.stage && not (contains detector.occupied reporter.1))) found) is ∙ clear_by reporter.1 (slice_get detectors reporter.0)
 
-pub occupied_is : (reporters : List (ℕ × ℕ)) (detectors : List DetectorState) (section : ℕ) (reporter : ℕ × ℕ) → slice_get reporters section ≡ Some reporter →
+pub occupied_is : (reporters : List (ℕ × ℕ)) (detectors : List KnownDetectorState) (section : ℕ) (reporter : ℕ × ℕ) → slice_get reporters section ≡ Some reporter →
     is_told_occupied reporters detectors section ≡ says_occupied (told_as detectors reporter)
 unfolding at
-occupied_is reporters detectors section reporter is = ap (λ found. passes (λ (reporter : ℕ × ℕ). at detectors reporter.0 (λ (detector : DetectorState). is_ready detector.client.stage && contains detector.occupied reporter.1)) found) is ∙ occupied_by reporter.1 (slice_get detectors reporter.0)
+occupied_is reporters detectors section reporter is = ap (λ found. passes (λ (reporter : ℕ × ℕ). at detectors reporter.0 (λ (detector : KnownDetectorState). is_ready detector.client.stage && contains detector.occupied reporter.1)) found) is ∙ occupied_by reporter.1 (slice_get detectors reporter.0)
 
 -- both rows, so far
-pub record HaveSections (reporters : List (ℕ × ℕ)) (detectors : List DetectorState) (done : ℕ) (clear occupied : Places) : Type 0 where
+pub record HaveSections (reporters : List (ℕ × ℕ)) (detectors : List KnownDetectorState) (done : ℕ) (clear occupied : Places) : Type 0 where
   pub clear_below : HasBelow (is_told_clear reporters detectors) done clear
   pub occupied_below : HasBelow (is_told_occupied reporters detectors) done occupied
 
-pub no_sections : (reporters : List (ℕ × ℕ)) (detectors : List DetectorState) → HaveSections reporters detectors 0 empty empty
+pub no_sections : (reporters : List (ℕ × ℕ)) (detectors : List KnownDetectorState) → HaveSections reporters detectors 0 empty empty
 no_sections reporters detectors = record { clear_below = none_below _; occupied_below = none_below _ }
 
-module _ (reporters : List (ℕ × ℕ)) (detectors : List DetectorState) (done : ℕ) (reporter : ℕ × ℕ) (clear occupied : Places)
+module _ (reporters : List (ℕ × ℕ)) (detectors : List KnownDetectorState) (done : ℕ) (reporter : ℕ × ℕ) (clear occupied : Places)
     (found : slice_get reporters done ≡ Some reporter) (so_far : HaveSections reporters detectors done clear occupied) where
   pub one_occupied : Some true ≡ told_as detectors reporter → HaveSections reporters detectors (done + 1) clear (insert occupied done)
   unfolding says_clear says_occupied
@@ -150,7 +150,7 @@ module _ (reporters : List (ℕ × ℕ)) (detectors : List DetectorState) (done 
     occupied_below = next_out _ done occupied (occupied_is reporters detectors done reporter found ∙ ap says_occupied (sym told)) so_far.occupied_below;
   }
 
-pub all_sections : (reporters : List (ℕ × ℕ)) (detectors : List DetectorState) (done : ℕ) (clear occupied : Places) → length reporters ≤ done → HaveSections reporters detectors done clear occupied →
+pub all_sections : (reporters : List (ℕ × ℕ)) (detectors : List KnownDetectorState) (done : ℕ) (clear occupied : Places) → length reporters ≤ done → HaveSections reporters detectors done clear occupied →
     AreSectionRows reporters detectors (record { clear = clear; occupied = occupied })
 all_sections reporters detectors done clear occupied over so_far = record {
   clear = all_below _ done clear (λ k beyond. beyond_fails reporters _ k (omega (arith, over, beyond))) so_far.clear_below;
@@ -159,13 +159,13 @@ all_sections reporters detectors done clear occupied over so_far = record {
 
 -- ---- points
 
-pub record HavePoints (switches : List SwitchState) (done : ℕ) (available right left : Places) : Type 0 where
-  pub available_below : HasBelow (is_free switches) done available
-  pub right_below : HasBelow (is_at sides.Right switches) done right
-  pub left_below : HasBelow (is_at sides.Left switches) done left
+pub record HavePoints (known_points : List KnownPointState) (done : ℕ) (available right left : Places) : Type 0 where
+  pub available_below : HasBelow (is_free known_points) done available
+  pub right_below : HasBelow (is_at sides.Right known_points) done right
+  pub left_below : HasBelow (is_at sides.Left known_points) done left
 
-pub no_points : (switches : List SwitchState) → HavePoints switches 0 empty empty empty
-no_points switches = record { available_below = none_below _; right_below = none_below _; left_below = none_below _ }
+pub no_points : (known_points : List KnownPointState) → HavePoints known_points 0 empty empty empty
+no_points known_points = record { available_below = none_below _; right_below = none_below _; left_below = none_below _ }
 
 abbrev pub IsWithWhere : Places → ℕ → Bool → Places → Type 0
 IsWithWhere row place passed new = (other : ℕ) → contains new other ≡ ((passed && (other == place)) || contains row other)
@@ -173,26 +173,26 @@ IsWithWhere row place passed new = (other : ℕ) → contains new other ≡ ((pa
 next_where : (test : ℕ → Bool) (done : ℕ) (row new : Places) (passed : Bool) → test done ≡ passed → HasBelow test done row → IsWithWhere row done passed new → HasBelow test (done + 1) new
 next_where test done row new passed is so_far made k = made k ∙ next_below test done row passed is so_far k
 
-pub one_point : (switches : List SwitchState) (done : ℕ) (switch : SwitchState) (available right left new_available new_right new_left : Places) (is_available_now is_right is_left : Bool) →
-    done < length switches → switch ≡ get_or switches done switch → HavePoints switches done available right left →
-    is_available_now ≡ is_available switch.client.stage →
-    is_right ≡ (is_available switch.client.stage && is_side sides.Right switch.side) → is_left ≡ (is_available switch.client.stage && is_side sides.Left switch.side) →
+pub one_point : (known_points : List KnownPointState) (done : ℕ) (known_point : KnownPointState) (available right left new_available new_right new_left : Places) (is_available_now is_right is_left : Bool) →
+    done < length known_points → known_point ≡ get_or known_points done known_point → HavePoints known_points done available right left →
+    is_available_now ≡ is_available known_point.client.stage →
+    is_right ≡ (is_available known_point.client.stage && is_side sides.Right known_point.side) → is_left ≡ (is_available known_point.client.stage && is_side sides.Left known_point.side) →
     IsWithWhere available done is_available_now new_available → IsWithWhere right done is_right new_right → IsWithWhere left done is_left new_left →
-    HavePoints switches (done + 1) new_available new_right new_left
-one_point switches done switch available right left new_available new_right new_left is_available_now is_right is_left within is so_far first second third one two three =
-    let found : slice_get switches done ≡ Some switch = slice_get_read switches (length switches) done switch refl within is
+    HavePoints known_points (done + 1) new_available new_right new_left
+one_point known_points done known_point available right left new_available new_right new_left is_available_now is_right is_left within is so_far first second third one two three =
+    let found : slice_get known_points done ≡ Some known_point = slice_get_read known_points (length known_points) done known_point refl within is
     in record {
-      available_below = next_where (is_free switches) done available new_available is_available_now (there_tests switches (λ (w : SwitchState). is_available w.client.stage) done switch found ∙ sym first) so_far.available_below one;
-      right_below = next_where (is_at sides.Right switches) done right new_right is_right (there_tests switches (λ (w : SwitchState). is_available w.client.stage && is_side sides.Right w.side) done switch found ∙ sym second) so_far.right_below two;
-      left_below = next_where (is_at sides.Left switches) done left new_left is_left (there_tests switches (λ (w : SwitchState). is_available w.client.stage && is_side sides.Left w.side) done switch found ∙ sym third) so_far.left_below three;
+      available_below = next_where (is_free known_points) done available new_available is_available_now (there_tests known_points (λ (w : KnownPointState). is_available w.client.stage) done known_point found ∙ sym first) so_far.available_below one;
+      right_below = next_where (is_at sides.Right known_points) done right new_right is_right (there_tests known_points (λ (w : KnownPointState). is_available w.client.stage && is_side sides.Right w.side) done known_point found ∙ sym second) so_far.right_below two;
+      left_below = next_where (is_at sides.Left known_points) done left new_left is_left (there_tests known_points (λ (w : KnownPointState). is_available w.client.stage && is_side sides.Left w.side) done known_point found ∙ sym third) so_far.left_below three;
     }
 
-pub all_points : (switches : List SwitchState) (done : ℕ) (available right left : Places) → length switches ≤ done → HavePoints switches done available right left →
-    ArePointRows switches (record { available = available; right = right; left = left })
-all_points switches done available right left over so_far = record {
-  available = all_below _ done available (λ k beyond. beyond_fails switches _ k (omega (arith, over, beyond))) so_far.available_below;
-  right = all_below _ done right (λ k beyond. beyond_fails switches _ k (omega (arith, over, beyond))) so_far.right_below;
-  left = all_below _ done left (λ k beyond. beyond_fails switches _ k (omega (arith, over, beyond))) so_far.left_below;
+pub all_points : (known_points : List KnownPointState) (done : ℕ) (available right left : Places) → length known_points ≤ done → HavePoints known_points done available right left →
+    ArePointRows known_points (record { available = available; right = right; left = left })
+all_points known_points done available right left over so_far = record {
+  available = all_below _ done available (λ k beyond. beyond_fails known_points _ k (omega (arith, over, beyond))) so_far.available_below;
+  right = all_below _ done right (λ k beyond. beyond_fails known_points _ k (omega (arith, over, beyond))) so_far.right_below;
+  left = all_below _ done left (λ k beyond. beyond_fails known_points _ k (omega (arith, over, beyond))) so_far.left_below;
 }
 
 pub where_passed : (row : Places) (place : ℕ) → IsWithWhere row place true (insert row place)

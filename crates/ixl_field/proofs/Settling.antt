@@ -2,22 +2,22 @@
 use Rattle.std.proofs.Common.{◌≡◌, ◌≢◌, ℕ, zero, suc, ◌+◌, ◌<◌, ◌≤◌, Bool, true, false, if◌then◌else◌, List, [], ◌∷◌, length, get_or, slice_set, take, drop, map, ◌++◌, arith, refl, ap, sym, ◌∙◌, subst, add-one}
 use Rattle.std.specs.Prelude.{◌&&◌, nat_le, Option, None}
 use Rattle.std.specs.FinSet.{empty}
-use Rattle.bit_row.specs.Places.{Places}
-use Rattle.sci_telegram.specs.declared.message.Aspect.{Aspect}
-use Rattle.sci_telegram.specs.declared.message.Side.{Side}
+use Rattle.ixl_rules.specs.bit_row.Places.{Places}
+use Rattle.ixl_rules.specs.sci_telegram.declared.message.Aspect.{Aspect}
+use Rattle.ixl_rules.specs.sci_telegram.declared.message.Side.{Side}
 use Rattle.std.specs.List.{All}
 use Rattle.std.proofs.lemmas.List.{append-nil, drop_all, get_or-set_other, length-set, take_all}
 use Rattle.std.proofs.lemmas.List.Elements.{All-map}
-use Rattle.rasta_core.specs.Calls.{MayStep}
-use Rattle.rasta_core.specs.Clock.{deadline, settled}
-use Rattle.rasta_core.specs.State.{LinkState, is_open, is_up}
-use Rattle.rasta_core.specs.phase.Phase.TheVariants as phase
-use Rattle.ixl_client.specs.Client.{ClientState, is_outside}
-use Rattle.ixl_client.specs.declared.stage.Stage.TheVariants as stage
-use Rattle.ixl_client.specs.Step.{clocked, fallen}
-use Rattle.ixl_rules.specs.State.{DetectorState, LampState, SwitchState}
-use Rattle.ixl_rules.specs.Step.{clocked_detector, clocked_lamp, clocked_switch}
-use Rattle.ixl_rules.specs.Part.{detector_after, lamp_after, switch_after}
+use Rattle.ixl_rules.specs.rasta_core.Calls.{MayStep}
+use Rattle.ixl_rules.specs.rasta_core.Clock.{deadline, settled}
+use Rattle.ixl_rules.specs.rasta_core.State.{LinkState, is_open, is_up}
+use Rattle.ixl_rules.specs.rasta_core.phase.Phase.TheVariants as phase
+use Rattle.ixl_rules.specs.ixl_client.Client.{ClientState, is_outside}
+use Rattle.ixl_rules.specs.ixl_client.declared.stage.Stage.TheVariants as stage
+use Rattle.ixl_rules.specs.ixl_client.Step.{clocked, fallen}
+use Rattle.ixl_rules.specs.State.{KnownDetectorState, KnownSignalState, KnownPointState}
+use Rattle.ixl_rules.specs.Step.{clocked_detector, clocked_known_signal, clocked_known_point}
+use Rattle.ixl_rules.specs.StepSoFar.{detector_after, known_signal_after, known_point_after}
 use Rattle.ixl_field.specs.Field.{AllAt, FieldState, field_clocked}
 
 next_mapped : {A : Type 0} (f : A → A) (xs : List A) (done : ℕ) (x : A) → done < length xs → x ≡ get_or xs done x →
@@ -71,26 +71,26 @@ clocked_at : (now : ℕ) (client : ClientState) → (clocked now client).link.cl
 unfolding clocked
 clocked_at now client = ap (λ (l : LinkState). l.clock) (fallen_link _) ∙ settled_at now client.link
 
-abbrev lamp_of : ClientState → Option Aspect → ℕ → LampState
-lamp_of client aspect number = record { client = client; aspect = aspect; number = number }
+abbrev known_signal_of : ClientState → Option Aspect → ℕ → KnownSignalState
+known_signal_of client aspect number = record { client = client; aspect = aspect; number = number }
 
-abbrev pub switch_of : ClientState → Option Side → Places → SwitchState
-switch_of client side moved = record { client = client; side = side; moved = moved }
+abbrev pub known_point_of : ClientState → Option Side → Places → KnownPointState
+known_point_of client side moved = record { client = client; side = side; moved = moved }
 
-abbrev pub detector_of : ClientState → Places → DetectorState
+abbrev pub detector_of : ClientState → Places → KnownDetectorState
 detector_of client occupied = record { client = client; occupied = occupied }
 
-lamp_client : (aspect : Option Aspect) (number : ℕ) (client : ClientState) → (lamp_after aspect number client).client ≡ client
-unfolding lamp_after
-lamp_client aspect number client = cases (is_outside client.stage) where
-  cases : (b : Bool) → (if b then lamp_of client None 0 else lamp_of client aspect number).client ≡ client
+known_signal_client : (aspect : Option Aspect) (number : ℕ) (client : ClientState) → (known_signal_after aspect number client).client ≡ client
+unfolding known_signal_after
+known_signal_client aspect number client = cases (is_outside client.stage) where
+  cases : (b : Bool) → (if b then known_signal_of client None 0 else known_signal_of client aspect number).client ≡ client
   cases true = refl
   cases false = refl
 
-pub switch_client : (side : Option Side) (moved : Places) (client : ClientState) → (switch_after side moved client).client ≡ client
-unfolding switch_after
-switch_client side moved client = cases (is_outside client.stage) where
-  cases : (b : Bool) → (if b then switch_of client None empty else switch_of client side moved).client ≡ client
+pub known_point_client : (side : Option Side) (moved : Places) (client : ClientState) → (known_point_after side moved client).client ≡ client
+unfolding known_point_after
+known_point_client side moved client = cases (is_outside client.stage) where
+  cases : (b : Bool) → (if b then known_point_of client None empty else known_point_of client side moved).client ≡ client
   cases true = refl
   cases false = refl
 
@@ -103,28 +103,28 @@ detector_client occupied client = cases (is_outside client.stage) where
 
 pub clocked_all : (now : ℕ) (field : FieldState) → AllAt now (field_clocked now field)
 clocked_all now field = record {
-  lamps = All-map (λ (l : LampState). l.client.link.clock ≡ now) (clocked_lamp now) field.lamps (λ k d within. lamp_at (get_or field.lamps k d));
-  switches = All-map (λ (s : SwitchState). s.client.link.clock ≡ now) (clocked_switch now) field.switches (λ k d within. switch_at (get_or field.switches k d));
-  detectors = All-map (λ (d : DetectorState). d.client.link.clock ≡ now) (clocked_detector now) field.detectors (λ k d within. detector_at (get_or field.detectors k d));
+  known_signals = All-map (λ (l : KnownSignalState). l.client.link.clock ≡ now) (clocked_known_signal now) field.known_signals (λ k d within. known_signal_at (get_or field.known_signals k d));
+  known_points = All-map (λ (s : KnownPointState). s.client.link.clock ≡ now) (clocked_known_point now) field.known_points (λ k d within. known_point_at (get_or field.known_points k d));
+  detectors = All-map (λ (d : KnownDetectorState). d.client.link.clock ≡ now) (clocked_detector now) field.detectors (λ k d within. detector_at (get_or field.detectors k d));
 }
   where
-    lamp_at : (lamp : LampState) → (clocked_lamp now lamp).client.link.clock ≡ now
-    lamp_at lamp = ap (λ (c : ClientState). c.link.clock) (lamp_client lamp.aspect lamp.number (clocked now lamp.client)) ∙ clocked_at now lamp.client
+    known_signal_at : (known_signal : KnownSignalState) → (clocked_known_signal now known_signal).client.link.clock ≡ now
+    known_signal_at known_signal = ap (λ (c : ClientState). c.link.clock) (known_signal_client known_signal.aspect known_signal.number (clocked now known_signal.client)) ∙ clocked_at now known_signal.client
 
-    switch_at : (switch : SwitchState) → (clocked_switch now switch).client.link.clock ≡ now
-    switch_at switch = ap (λ (c : ClientState). c.link.clock) (switch_client switch.side switch.moved (clocked now switch.client)) ∙ clocked_at now switch.client
+    known_point_at : (known_point : KnownPointState) → (clocked_known_point now known_point).client.link.clock ≡ now
+    known_point_at known_point = ap (λ (c : ClientState). c.link.clock) (known_point_client known_point.side known_point.moved (clocked now known_point.client)) ∙ clocked_at now known_point.client
 
-    detector_at : (detector : DetectorState) → (clocked_detector now detector).client.link.clock ≡ now
+    detector_at : (detector : KnownDetectorState) → (clocked_detector now detector).client.link.clock ≡ now
     detector_at detector = ap (λ (c : ClientState). c.link.clock) (detector_client detector.occupied (clocked now detector.client)) ∙ clocked_at now detector.client
 
-pub settled_all : (now : ℕ) (inside : FieldState) (lamps_were lamps : List LampState) (switches_were switches : List SwitchState) (detectors_were detectors : List DetectorState) →
-    lamps ≡ map (clocked_lamp now) lamps_were → switches ≡ map (clocked_switch now) switches_were → detectors ≡ map (clocked_detector now) detectors_were →
-    AllAt now (record inside { lamps = lamps; switches = switches; detectors = detectors })
-settled_all now inside lamps_were lamps switches_were switches detectors_were detectors first second third =
-    let all : AllAt now (field_clocked now (record inside { lamps = lamps_were; switches = switches_were; detectors = detectors_were })) =
-    clocked_all now (record inside { lamps = lamps_were; switches = switches_were; detectors = detectors_were })
+pub settled_all : (now : ℕ) (inside : FieldState) (known_signals_were known_signals : List KnownSignalState) (known_points_were known_points : List KnownPointState) (detectors_were detectors : List KnownDetectorState) →
+    known_signals ≡ map (clocked_known_signal now) known_signals_were → known_points ≡ map (clocked_known_point now) known_points_were → detectors ≡ map (clocked_detector now) detectors_were →
+    AllAt now (record inside { known_signals = known_signals; known_points = known_points; detectors = detectors })
+settled_all now inside known_signals_were known_signals known_points_were known_points detectors_were detectors first second third =
+    let all : AllAt now (field_clocked now (record inside { known_signals = known_signals_were; known_points = known_points_were; detectors = detectors_were })) =
+    clocked_all now (record inside { known_signals = known_signals_were; known_points = known_points_were; detectors = detectors_were })
     in record {
-      lamps = subst (All (λ (l : LampState). l.client.link.clock ≡ now)) (sym first) all.lamps;
-      switches = subst (All (λ (s : SwitchState). s.client.link.clock ≡ now)) (sym second) all.switches;
-      detectors = subst (All (λ (d : DetectorState). d.client.link.clock ≡ now)) (sym third) all.detectors;
+      known_signals = subst (All (λ (l : KnownSignalState). l.client.link.clock ≡ now)) (sym first) all.known_signals;
+      known_points = subst (All (λ (s : KnownPointState). s.client.link.clock ≡ now)) (sym second) all.known_points;
+      detectors = subst (All (λ (d : KnownDetectorState). d.client.link.clock ≡ now)) (sym third) all.detectors;
     }

@@ -5,15 +5,15 @@ use Rattle.std.specs.List.{All}
 use Rattle.std.proofs.lemmas.List.{length-set}
 use Rattle.std.proofs.lemmas.List.Elements.{All-set}
 use Rattle.std.proofs.lemmas.Option.{slice_get_read}
-use Rattle.rasta_core.specs.Outbox.{OutboxState}
-use Rattle.ixl_client.specs.Client.{ClientState}
-use Rattle.ixl_rules.specs.Part.{Leads, Part, over}
+use Rattle.ixl_rules.specs.rasta_core.Outbox.{OutboxState}
+use Rattle.ixl_rules.specs.ixl_client.Client.{ClientState}
+use Rattle.ixl_rules.specs.StepSoFar.{Leads, StepSoFar, over}
 use Rattle.ixl_rules.specs.State.{IxlState}
-use Rattle.ixl_nodes.specs.Nodes.{Goes}
+use Rattle.ixl_field.specs.Nodes.{Goes}
 use Rattle.ixl_field.specs.inside.Turns.{HaveTurned}
 use Rattle.ixl_field.proofs.Leading.{leads_nowhere, leads_then}
 
-module _ {A : Type 0} (list_of : IxlState → List A) (with : List A → IxlState → IxlState) (client_of : A → ClientState) (now most : ℕ) (does : ℕ → Part → Part) where
+module _ {A : Type 0} (list_of : IxlState → List A) (with : List A → IxlState → IxlState) (client_of : A → ClientState) (now most : ℕ) (does : ℕ → StepSoFar → StepSoFar) where
   pub none_turned : (old : List A) (box : OutboxState) → ((ixl : IxlState) → with (list_of ixl) ixl ≡ ixl) → All (λ one. (client_of one).link.clock ≡ now) old → HaveTurned list_of with client_of now most does 0 old box old box
   none_turned old box same at = record {
     leads = λ ixl is. subst (λ (i : IxlState). Leads (over does 0) ixl box i box) (sym (same ixl) ∙ ap (λ list. with list ixl) is) (leads_nowhere ixl box);

@@ -1,21 +1,21 @@
 -- The controllers of a station, as its interlocking knows them.
 use Rattle.std.specs.Prelude.{◌≡◌, ℕ, ◌+◌, ◌≤◌, Bool, List, length, map}
 use Rattle.std.specs.List.{All}
-use Rattle.rasta_core.specs.Calls.{MayStep}
-use Rattle.rasta_core.specs.Outbox.{OutboxState}
-use Rattle.ixl_client.specs.Client.{ClientState}
-use Rattle.ixl_client.specs.Part.{begun}
-use Rattle.ixl_client.specs.Step.{hearing}
-use Rattle.ixl_rules.specs.Part.{Detector, Leads, Part, detector_after, noted, with_detector, with_one}
-use Rattle.ixl_rules.specs.State.{DetectorState, IxlState, LampState, RouteState, SwitchState}
-use Rattle.ixl_rules.specs.Step.{clocked_detector, clocked_lamp, clocked_switch, occupied_heard}
+use Rattle.ixl_rules.specs.rasta_core.Calls.{MayStep}
+use Rattle.ixl_rules.specs.rasta_core.Outbox.{OutboxState}
+use Rattle.ixl_rules.specs.ixl_client.Client.{ClientState}
+use Rattle.ixl_rules.specs.ixl_client.ClientSoFar.{begun}
+use Rattle.ixl_rules.specs.ixl_client.Step.{hearing}
+use Rattle.ixl_rules.specs.StepSoFar.{Detector, Leads, StepSoFar, detector_after, noted, with_detector, with_one}
+use Rattle.ixl_rules.specs.State.{KnownDetectorState, IxlState, KnownSignalState, RouteState, KnownPointState}
+use Rattle.ixl_rules.specs.Step.{clocked_detector, clocked_known_signal, clocked_known_point, occupied_heard}
 use Rattle.std.specs.Prelude.{slice_get}
 
 -- its nodes, and where each section is reported
 pub record FieldState : Type 0 where
-  pub lamps : List LampState
-  pub switches : List SwitchState
-  pub detectors : List DetectorState
+  pub known_signals : List KnownSignalState
+  pub known_points : List KnownPointState
+  pub detectors : List KnownDetectorState
   pub reporters : List (ℕ × ℕ)
 
 -- what an interlocking keeps beside it
@@ -27,8 +27,8 @@ pub record Rest : Type 0 where
 -- both together
 abbrev pub kept : FieldState → Rest → IxlState
 kept field rest = record {
-  lamps = field.lamps;
-  switches = field.switches;
+  known_signals = field.known_signals;
+  known_points = field.known_points;
   detectors = field.detectors;
   routes = rest.routes;
   created = rest.created;
@@ -37,9 +37,9 @@ kept field rest = record {
 
 -- a fact of every link
 pub record OfEach (fact : ClientState → Type 0) (field : FieldState) : Type 0 where
-  pub lamps : All (λ (lamp : LampState). fact lamp.client) field.lamps
-  pub switches : All (λ (switch : SwitchState). fact switch.client) field.switches
-  pub detectors : All (λ (detector : DetectorState). fact detector.client) field.detectors
+  pub known_signals : All (λ (known_signal : KnownSignalState). fact known_signal.client) field.known_signals
+  pub known_points : All (λ (known_point : KnownPointState). fact known_point.client) field.known_points
+  pub detectors : All (λ (detector : KnownDetectorState). fact detector.client) field.detectors
 
 -- the clock of no link has fallen
 abbrev pub MayStepAll : ℕ → FieldState → Type 0
@@ -51,27 +51,27 @@ AllAt now field = OfEach (λ client. client.link.clock ≡ now) field
 
 abbrev pub field_clocked : ℕ → FieldState → FieldState
 field_clocked now field = record field {
-  lamps = map (clocked_lamp now) field.lamps;
-  switches = map (clocked_switch now) field.switches;
+  known_signals = map (clocked_known_signal now) field.known_signals;
+  known_points = map (clocked_known_point now) field.known_points;
   detectors = map (clocked_detector now) field.detectors;
 }
 
 -- A part of a step at a clock reading leads from one field to another, beside this rest, and hands out at most so many
 -- datagrams.
-pub record FieldGoes (now most : ℕ) (does : Part → Part) (rest : Rest) (old : FieldState) (box : OutboxState) (new : FieldState) (out : OutboxState) : Type 0 where
+pub record FieldGoes (now most : ℕ) (does : StepSoFar → StepSoFar) (rest : Rest) (old : FieldState) (box : OutboxState) (new : FieldState) (out : OutboxState) : Type 0 where
   pub leads : Leads does (kept old rest) box (kept new rest) out
   pub reporters : new.reporters ≡ old.reporters
-  pub lamps : length new.lamps ≡ length old.lamps
-  pub switches : length new.switches ≡ length old.switches
+  pub known_signals : length new.known_signals ≡ length old.known_signals
+  pub known_points : length new.known_points ≡ length old.known_points
   pub detectors : length new.detectors ≡ length old.detectors
   pub clock : AllAt now new
   pub capacity : out.capacity ≡ box.capacity
   pub few : length out.datagrams ≤ length box.datagrams + most
 
 -- a detector hears a datagram, without the looks at sections that it brings
-unfoldable pub detector_hearing_alone : ℕ → List ℕ → ℕ → Part → Part
+unfoldable pub detector_hearing_alone : ℕ → List ℕ → ℕ → StepSoFar → StepSoFar
 detector_hearing_alone now bytes place part = with_one (slice_get part.ixl.detectors place) hear part where
-  hear : DetectorState → Part → Part
+  hear : KnownDetectorState → StepSoFar → StepSoFar
   hear detector part =
       let done = hearing now bytes (begun detector.client part.outbox)
       in with_detector place (detector_after (occupied_heard done.heard detector.occupied) done.client) (noted (Detector place) done part)

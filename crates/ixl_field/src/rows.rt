@@ -2,12 +2,12 @@
 
 ghost use Rattle.std.specs.Prelude.{◌≡◌, ◌==◌, ◌&&◌, ◌||◌, ◌<◌, ◌≤◌, ℕ, length, slice_get, not, IsTrue, List, Some, if◌then◌else◌};
 ghost use Rattle.std.specs.FinSet.{contains};
-ghost use Rattle.ixl_rules.specs.State.{DetectorState};
+ghost use Rattle.ixl_rules.specs.State.{KnownDetectorState};
 ghost use Rattle.ixl_field.specs.inside.Rows.{ArePointRows, AreRowsSoFar, AreSectionRows, told_as};
 
-use bit_row::BitRow;
-use ixl_nodes::{Detector, Switch};
-use sci_telegram::Side;
+use crate::{KnownDetector, KnownPoint};
+use ixl_rules::bit_row::BitRow;
+use ixl_rules::sci_telegram::Side;
 
 /// The sections that are clear, and those that are occupied. The others are unknown.
 #[derive(Clone, Copy, Debug)]
@@ -26,7 +26,7 @@ pub(crate) struct PointRows {
 
 /// Whether the section that a detector reports at this place was last told as occupied; nothing where the detector isn't
 /// ready.
-fn told(detectors: &[Detector], reporter: (usize, usize)) -> Option<bool>
+fn told(detectors: &[KnownDetector], reporter: (usize, usize)) -> Option<bool>
     ensures { result ≡ told_as detectors.now reporter }
 {
     if reporter.0 >= detectors.len() || !detectors[reporter.0].is_ready() {
@@ -49,7 +49,7 @@ fn exactly_where(row: BitRow, place: usize, passes: bool) -> BitRow
 
 impl SectionRows {
     /// What the detectors tell of the sections.
-    pub(crate) fn of(reporters: &[(usize, usize)], detectors: &[Detector]) -> SectionRows
+    pub(crate) fn of(reporters: &[(usize, usize)], detectors: &[KnownDetector]) -> SectionRows
         requires { length reporters.now ≤ 64 }
         ensures { AreSectionRows reporters.now detectors.now result }
     {
@@ -81,11 +81,11 @@ impl SectionRows {
     pub(crate) fn renewed(
         self,
         place: usize,
-        detector: &Detector,
+        detector: &KnownDetector,
         reporters: &[(usize, usize)],
     ) -> SectionRows
         requires { length reporters.now ≤ 64 }
-        ensures { (detectors : List DetectorState) → slice_get detectors place ≡ Some detector.now → AreRowsSoFar place 0 reporters.now detectors self → AreSectionRows reporters.now detectors result }
+        ensures { (detectors : List KnownDetectorState) → slice_get detectors place ≡ Some detector.now → AreRowsSoFar place 0 reporters.now detectors self → AreSectionRows reporters.now detectors result }
     {
         let is_ready = detector.is_ready();
         let told = detector.occupied();
@@ -103,7 +103,7 @@ impl SectionRows {
         self,
         alike: bool,
         reporters: &[(usize, usize)],
-        detectors: &[Detector],
+        detectors: &[KnownDetector],
     ) -> SectionRows
         requires few { length reporters.now ≤ 64 }
         requires kept { IsTrue alike → AreSectionRows reporters.now detectors.now self }
@@ -127,17 +127,17 @@ fn with_where(row: BitRow, place: usize, passes: bool) -> BitRow
 
 impl PointRows {
     /// What is known of the points.
-    pub(crate) fn of(switches: &[Switch]) -> PointRows
-        requires { length switches.now ≤ 64 }
-        ensures { ArePointRows switches.now result }
+    pub(crate) fn of(known_points: &[KnownPoint]) -> PointRows
+        requires { length known_points.now ≤ 64 }
+        ensures { ArePointRows known_points.now result }
     {
         let mut available = BitRow::empty();
         let mut right = BitRow::empty();
         let mut left = BitRow::empty();
-        for (point, switch) in switches.iter().enumerate() {
-            available = with_where(available, point, switch.is_available());
-            right = with_where(right, point, switch.is_known(Side::Right));
-            left = with_where(left, point, switch.is_known(Side::Left));
+        for (point, known_point) in known_points.iter().enumerate() {
+            available = with_where(available, point, known_point.is_available());
+            right = with_where(right, point, known_point.is_known(Side::Right));
+            left = with_where(left, point, known_point.is_known(Side::Left));
         }
         PointRows {
             available,
@@ -147,11 +147,15 @@ impl PointRows {
     }
 
     /// The rows as they are where all points are known as before, else made anew.
-    pub(crate) fn kept_or_made(self, alike: bool, switches: &[Switch]) -> PointRows
-        requires few { length switches.now ≤ 64 }
-        requires kept { IsTrue alike → ArePointRows switches.now self }
-        ensures { ArePointRows switches.now result }
+    pub(crate) fn kept_or_made(self, alike: bool, known_points: &[KnownPoint]) -> PointRows
+        requires few { length known_points.now ≤ 64 }
+        requires kept { IsTrue alike → ArePointRows known_points.now self }
+        ensures { ArePointRows known_points.now result }
     {
-        if alike { self } else { PointRows::of(switches) }
+        if alike {
+            self
+        } else {
+            PointRows::of(known_points)
+        }
     }
 }

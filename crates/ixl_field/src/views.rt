@@ -3,20 +3,20 @@
 ghost use Rattle.std.specs.Prelude.{◌≡◌, ◌<◌, ℕ, length, slice_get, IfSome};
 ghost use Rattle.std.specs.FinSet.{contains};
 ghost use Rattle.std.specs.List.{position};
-ghost use Rattle.ixl_rules.specs.State.{DetectorState as DetectorAt, LampState as LampAt, SwitchState as SwitchAt};
+ghost use Rattle.ixl_rules.specs.State.{KnownDetectorState as DetectorAt, KnownSignalState as KnownSignalAt, KnownPointState as KnownPointAt};
 ghost use Rattle.ixl_rules.specs.Step.{partner_at};
-ghost use Rattle.sci_telegram.specs.declared.message.Side.TheVariants as side;
-ghost use Rattle.ixl_client.specs.Client.{is_ready};
+ghost use Rattle.ixl_rules.specs.sci_telegram.declared.message.Side.TheVariants as side;
+ghost use Rattle.ixl_rules.specs.ixl_client.Client.{is_ready};
 ghost use Rattle.ixl_rules.specs.View.{is_at_known_stop, is_clear, is_known, is_occupied, is_point_available, is_signal_ready};
 ghost use Rattle.ixl_rules.specs.Rules.{is_unmoved};
 ghost use Rattle.ixl_rules.specs.Table.{Table};
 ghost use Rattle.ixl_field.specs.Field.{Rest, kept};
 
 use crate::field::Field;
-use bit_row::BitRow;
-use ixl_client::Client;
-use rasta_core::Millis;
-use sci_telegram::Side;
+use ixl_rules::bit_row::BitRow;
+use ixl_rules::ixl_client::Client;
+use ixl_rules::rasta_core::Millis;
+use ixl_rules::sci_telegram::Side;
 
 /// Whether a client's controller has this identity.
 fn is_partner(client: &Client, id: u32) -> bool
@@ -82,35 +82,35 @@ impl Field {
     pub fn is_unmoved(&self, point: usize, route: usize) -> bool
         ensures { (rest : Rest) → result ≡ is_unmoved (kept self.now rest) point route }
     {
-        point < self.switches.len() && !self.switches[point].is_moved_for(route)
+        point < self.known_points.len() && !self.known_points[point].is_moved_for(route)
     }
 
     /// Whether the initialisation of a signal was completed in its present connection.
     pub fn is_signal_ready(&self, signal: usize) -> bool
         ensures { (rest : Rest) → result ≡ is_signal_ready (kept self.now rest) signal }
     {
-        signal < self.lamps.len() && self.lamps[signal].is_ready()
+        signal < self.known_signals.len() && self.known_signals[signal].is_ready()
     }
 
     /// Whether a signal is at known stop.
     pub fn is_at_known_stop(&self, now: Millis, signal: usize) -> bool
         ensures { (rest : Rest) → result ≡ is_at_known_stop now (kept self.now rest) signal }
     {
-        signal < self.lamps.len() && self.lamps[signal].is_at_stop(now)
+        signal < self.known_signals.len() && self.known_signals[signal].is_at_stop(now)
     }
 
     /// How many signals there are.
     pub fn signals(&self) -> usize
-        ensures { result ≡ length self.now.lamps }
+        ensures { result ≡ length self.now.known_signals }
     {
-        self.lamps.len()
+        self.known_signals.len()
     }
 
     /// How many points there are.
     pub fn points(&self) -> usize
-        ensures { result ≡ length self.now.switches }
+        ensures { result ≡ length self.now.known_points }
     {
-        self.switches.len()
+        self.known_points.len()
     }
 
     /// How many detectors there are.
@@ -138,20 +138,20 @@ impl Field {
 
     /// The signal whose controller has this identity.
     pub fn signal_of(&self, id: u32) -> Option<usize>
-        ensures { result ≡ position (λ (lamp : LampAt). partner_at id lamp.client) self.now.lamps }
+        ensures { result ≡ position (λ (known_signal : KnownSignalAt). partner_at id known_signal.client) self.now.known_signals }
     {
-        self.lamps
+        self.known_signals
             .iter()
-            .position(|lamp| is_partner(lamp.client(), id))
+            .position(|known_signal| is_partner(known_signal.client(), id))
     }
 
     /// The point whose controller has this identity.
     pub fn point_of(&self, id: u32) -> Option<usize>
-        ensures { result ≡ position (λ (switch : SwitchAt). partner_at id switch.client) self.now.switches }
+        ensures { result ≡ position (λ (known_point : KnownPointAt). partner_at id known_point.client) self.now.known_points }
     {
-        self.switches
+        self.known_points
             .iter()
-            .position(|switch| is_partner(switch.client(), id))
+            .position(|known_point| is_partner(known_point.client(), id))
     }
 
     /// The detector whose controller has this identity.

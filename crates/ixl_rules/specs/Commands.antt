@@ -2,12 +2,12 @@
 use Rattle.std.specs.Prelude.{ℕ, zero, suc, ◌+◌, ◌==◌, ◌&&◌, ◌||◌, not, Bool, true, false, List, [], ◌∷◌, length, map, Option, Some, None, slice_get, Result, Ok, Err, if◌then◌else◌}
 use Rattle.std.specs.FinSet.{empty, remove}
 use Rattle.std.specs.List.{list_all}
-use Rattle.layout.specs.declared.ids.PointId.{PointId}
-use Rattle.layout.specs.declared.ids.RouteId.{RouteId}
-use Rattle.layout.specs.declared.ids.SectionId.{SectionId}
+use Rattle.control_table.specs.layout.declared.ids.PointId.{PointId}
+use Rattle.control_table.specs.layout.declared.ids.RouteId.{RouteId}
+use Rattle.control_table.specs.layout.declared.ids.SectionId.{SectionId}
 use Rattle.release.specs.Passage.{passage_after}
 use Rattle.ixl_rules.specs.Table.{Need, Row, Table}
-use Rattle.ixl_rules.specs.State.{IxlState, RouteState, SwitchState, changed}
+use Rattle.ixl_rules.specs.State.{IxlState, RouteState, KnownPointState, changed}
 use Rattle.ixl_rules.specs.View.{first_blocking, is_at_known_stop, is_held_at, is_holding, is_occupied, is_point_available, is_set, is_signal_ready, is_unknown}
 use Rattle.ixl_rules.specs.declared.command.Command.{Command}
 use Rattle.ixl_rules.specs.declared.command.Command.TheVariants as commands
@@ -82,13 +82,13 @@ abbrev pub set_anew : RouteState → RouteState
 set_anew route = record route { phase = phase.Waiting; cancelled = false }
 
 -- a route is set: from here on each point counts as unmoved for it
-abbrev pub unmoved_for : ℕ → SwitchState → SwitchState
-unmoved_for number switch = record switch { moved = remove switch.moved number }
+abbrev pub unmoved_for : ℕ → KnownPointState → KnownPointState
+unmoved_for number known_point = record known_point { moved = remove known_point.moved number }
 
 abbrev pub route_set : ℕ → IxlState → IxlState
 route_set number ixl = record ixl {
   routes = changed set_anew number ixl.routes;
-  switches = map (unmoved_for number) ixl.switches;
+  known_points = map (unmoved_for number) ixl.known_points;
 }
 
 unfoldable pub obeyed : Command → IxlState → IxlState

@@ -2,16 +2,16 @@
 use Rattle.std.specs.Prelude.{◌≡◌, ◌≢◌, ◌⊎◌, ℕ, suc, ◌+◌, ◌<◌, ◌≤◌, Bool, true, false, List, [], ◌∷◌, length, drop, Option, Some, None, slice_get, IsTrue}
 use Rattle.std.specs.FinSet.{contains}
 use Rattle.std.specs.List.{All, Any, Contains}
-use Rattle.sci_telegram.specs.declared.message.Aspect.TheVariants as aspects
-use Rattle.sci_telegram.specs.declared.message.Side.{Side}
+use Rattle.control_table.specs.sci_telegram.declared.message.Aspect.TheVariants as aspects
+use Rattle.control_table.specs.sci_telegram.declared.message.Side.{Side}
 use Rattle.rasta_core.specs.Clock.{quiet_until}
 use Rattle.rasta_core.specs.State.{confirmed_items, is_up}
 use Rattle.release.specs.Approach.{approach_end}
 use Rattle.ixl_client.specs.Client.{is_available, is_ready}
 use Rattle.ixl_rules.specs.Table.{Need, Row, Table}
-use Rattle.ixl_rules.specs.State.{DetectorState, IxlState, LampState, RouteState, SwitchState}
+use Rattle.ixl_rules.specs.State.{KnownDetectorState, IxlState, KnownSignalState, RouteState, KnownPointState}
 use Rattle.ixl_rules.specs.View.{freed_sections, is_holding, is_set, was_authorised}
-use Rattle.ixl_rules.specs.Part.{Part}
+use Rattle.ixl_rules.specs.StepSoFar.{StepSoFar}
 use Rattle.ixl_rules.specs.declared.phase.Phase.{Phase}
 use Rattle.ixl_rules.specs.declared.phase.Phase.TheVariants as phase
 
@@ -22,7 +22,7 @@ At {A} list place holds = (one : A) × (slice_get list place ≡ Some one) × ho
 -- ---- sections, points, signals
 
 -- a fact of the detector that reports a section, and of the section's place there
-abbrev pub ReportedBy : Table → IxlState → ℕ → (DetectorState → ℕ → Type 0) → Type 0
+abbrev pub ReportedBy : Table → IxlState → ℕ → (KnownDetectorState → ℕ → Type 0) → Type 0
 ReportedBy table ixl section holds = At table.reporters section (λ reporter. At ixl.detectors reporter.0 (λ detector. holds detector reporter.1))
 
 -- its detector is ready, and last told it as clear, or as occupied
@@ -35,23 +35,23 @@ IsOccupied table ixl section = ReportedBy table ixl section (λ detector place. 
 -- a point is known at a side: its link is ready, each move given in this connection is answered, and the last report told
 -- this side
 abbrev pub Known : IxlState → ℕ → Side → Type 0
-Known ixl point side = At ixl.switches point (λ switch. (is_available switch.client.stage ≡ true) × (switch.side ≡ Some side))
+Known ixl point side = At ixl.known_points point (λ known_point. (is_available known_point.client.stage ≡ true) × (known_point.side ≡ Some side))
 
 abbrev pub IsAvailable : IxlState → ℕ → Type 0
-IsAvailable ixl point = At ixl.switches point (λ switch. (is_available switch.client.stage ≡ true))
+IsAvailable ixl point = At ixl.known_points point (λ known_point. (is_available known_point.client.stage ≡ true))
 
 abbrev pub IsSignalReady : IxlState → ℕ → Type 0
-IsSignalReady ixl signal = At ixl.lamps signal (λ lamp. (is_ready lamp.client.stage ≡ true))
+IsSignalReady ixl signal = At ixl.known_signals signal (λ known_signal. (is_ready known_signal.client.stage ≡ true))
 
--- a lamp is at known stop: its link is up, and the last aspect given in this connection is stop and its item is confirmed,
+-- a signal is at known stop: its link is up, and the last aspect given in this connection is stop and its item is confirmed,
 -- or none was given; or its link isn't up, and its quiet time is over
-abbrev pub IsLampAtStop : ℕ → LampState → Type 0
-IsLampAtStop now lamp =
-    ((is_up lamp.client.link.phase ≡ true) × ((lamp.aspect ≡ None) ⊎ ((lamp.aspect ≡ Some aspects.Stop) × (lamp.number ≤ confirmed_items lamp.client.link))))
-    ⊎ ((is_up lamp.client.link.phase ≡ false) × (quiet_until lamp.client.link ≤ now))
+abbrev pub IsKnownSignalAtStop : ℕ → KnownSignalState → Type 0
+IsKnownSignalAtStop now known_signal =
+    ((is_up known_signal.client.link.phase ≡ true) × ((known_signal.aspect ≡ None) ⊎ ((known_signal.aspect ≡ Some aspects.Stop) × (known_signal.number ≤ confirmed_items known_signal.client.link))))
+    ⊎ ((is_up known_signal.client.link.phase ≡ false) × (quiet_until known_signal.client.link ≤ now))
 
 abbrev pub KnownStop : ℕ → IxlState → ℕ → Type 0
-KnownStop now ixl signal = At ixl.lamps signal (IsLampAtStop now)
+KnownStop now ixl signal = At ixl.known_signals signal (IsKnownSignalAtStop now)
 
 -- ---- routes
 
@@ -122,7 +122,7 @@ pub record MoveDue (table : Table) (ixl : IxlState) (number : ℕ) (route : Rout
   pub elsewhere : Known ixl need.point need.side → ⊥
   pub over_clear : At table.point_sections need.point (IsClear table ixl)
   pub unheld : IsHeldWithAuthority table ixl need.point → ⊥
-  pub once : At ixl.switches need.point (λ switch. contains switch.moved number ≡ false)
+  pub once : At ixl.known_points need.point (λ known_point. contains known_point.moved number ≡ false)
 
 -- Proceed is due.
 pub record ProceedDue (now : ℕ) (table : Table) (ixl : IxlState) (row : Row) (route : RouteState) : Type 0 where
@@ -158,6 +158,6 @@ FreeByCancel now table ixl row route = (route.cancelled ≡ true)
     ⊎ ((clock : ℕ) × (freed : ℕ) × (route.phase ≡ phase.Ended clock freed) × LetsGo now table ixl row route clock))
 
 -- A part of a step does this where something is due, and else nothing.
-pub record DoesWhere (Due : Type 0) (before done after : Part) : Type 0 where
+pub record DoesWhere (Due : Type 0) (before done after : StepSoFar) : Type 0 where
   pub due : Due → after ≡ done
   pub otherwise : (Due → ⊥) → after ≡ before

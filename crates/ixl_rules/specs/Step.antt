@@ -3,7 +3,7 @@
 use Rattle.std.specs.Prelude.{ℕ, zero, suc, ◌==◌, ◌&&◌, ◌||◌, not, Bool, true, false, List, [], ◌∷◌, ◌++◌, length, map, Option, Some, None, slice_get, Result, Ok, Err, if◌then◌else◌}
 use Rattle.std.specs.FinSet.{contains, insert, remove}
 use Rattle.std.specs.List.{position}
-use Rattle.bit_row.specs.Places.{Places}
+use Rattle.control_table.specs.bit_row.Places.{Places}
 use Rattle.rasta_pdu.specs.Reading.{reading}
 use Rattle.rasta_pdu.specs.declared.fault.PduFault.{PduFault}
 use Rattle.rasta_pdu.specs.declared.key.Key.{Key}
@@ -11,22 +11,22 @@ use Rattle.rasta_pdu.specs.declared.pdu.Pdu.{Pdu}
 use Rattle.rasta_core.specs.Calls.{receiving}
 use Rattle.rasta_core.specs.verdict.Verdict.{Verdict}
 use Rattle.rasta_core.specs.verdict.Verdict.TheVariants as verdicts
-use Rattle.sci_telegram.specs.declared.message.Occupancy.TheVariants as occupancy
-use Rattle.sci_telegram.specs.declared.message.Position.{Position}
-use Rattle.sci_telegram.specs.declared.message.Position.TheVariants as positions
-use Rattle.sci_telegram.specs.declared.message.Side.{Side}
-use Rattle.sci_telegram.specs.declared.message.Side.TheVariants as sides
+use Rattle.control_table.specs.sci_telegram.declared.message.Occupancy.TheVariants as occupancy
+use Rattle.control_table.specs.sci_telegram.declared.message.Position.{Position}
+use Rattle.control_table.specs.sci_telegram.declared.message.Position.TheVariants as positions
+use Rattle.control_table.specs.sci_telegram.declared.message.Side.{Side}
+use Rattle.control_table.specs.sci_telegram.declared.message.Side.TheVariants as sides
 use Rattle.release.specs.Passage.{after_look}
 use Rattle.ixl_client.specs.Client.{ClientState, is_outside, is_ready}
-use Rattle.ixl_client.specs.Part.{begun}
+use Rattle.ixl_client.specs.ClientSoFar.{begun}
 use Rattle.ixl_client.specs.Step.{clocked, hearing, ticking}
 use Rattle.ixl_client.specs.declared.indication.Indication.{Indication}
 use Rattle.ixl_client.specs.declared.indication.ObjectState.{ObjectState}
 use Rattle.ixl_client.specs.declared.indication.ObjectState.TheVariants as states
 use Rattle.ixl_rules.specs.Table.{Row, Table}
-use Rattle.ixl_rules.specs.State.{DetectorState, IxlState, LampState, RouteState, SwitchState}
+use Rattle.ixl_rules.specs.State.{KnownDetectorState, IxlState, KnownSignalState, RouteState, KnownPointState}
 use Rattle.ixl_rules.specs.View.{is_approach_clear, place_in, was_authorised}
-use Rattle.ixl_rules.specs.Part.{Node, Signal, Point, Detector, Part, along, at_route, detector_after, lamp_after, noted, over, switch_after, with_detector, with_lamp, with_one, with_route, with_switch}
+use Rattle.ixl_rules.specs.StepSoFar.{Node, Signal, Point, Detector, StepSoFar, along, at_route, detector_after, known_signal_after, noted, over, known_point_after, with_detector, with_known_signal, with_one, with_route, with_known_point}
 use Rattle.ixl_rules.specs.Rules.{count, is_proceeding, is_withdrawn, ruled}
 use Rattle.ixl_rules.specs.Commands.{commanded_by, refusal}
 use Rattle.ixl_rules.specs.declared.command.Command.{Command}
@@ -34,19 +34,19 @@ use Rattle.ixl_rules.specs.declared.command.Refusal.{Refusal}
 
 -- ---- the clock
 
-abbrev pub clocked_lamp : ℕ → LampState → LampState
-clocked_lamp now lamp = lamp_after lamp.aspect lamp.number (clocked now lamp.client)
+abbrev pub clocked_known_signal : ℕ → KnownSignalState → KnownSignalState
+clocked_known_signal now known_signal = known_signal_after known_signal.aspect known_signal.number (clocked now known_signal.client)
 
-abbrev pub clocked_switch : ℕ → SwitchState → SwitchState
-clocked_switch now switch = switch_after switch.side switch.moved (clocked now switch.client)
+abbrev pub clocked_known_point : ℕ → KnownPointState → KnownPointState
+clocked_known_point now known_point = known_point_after known_point.side known_point.moved (clocked now known_point.client)
 
-abbrev pub clocked_detector : ℕ → DetectorState → DetectorState
+abbrev pub clocked_detector : ℕ → KnownDetectorState → KnownDetectorState
 clocked_detector now detector = detector_after detector.occupied (clocked now detector.client)
 
 unfoldable pub all_clocked : ℕ → IxlState → IxlState
 all_clocked now ixl = record ixl {
-  lamps = map (clocked_lamp now) ixl.lamps;
-  switches = map (clocked_switch now) ixl.switches;
+  known_signals = map (clocked_known_signal now) ixl.known_signals;
+  known_points = map (clocked_known_point now) ixl.known_points;
   detectors = map (clocked_detector now) ixl.detectors;
 }
 
@@ -73,19 +73,19 @@ occupied_heard (first ∷ others) occupied =
     occupied_heard others (if is_told_occupied first.state then insert occupied first.place else remove occupied first.place)
 
 -- what the signal indicates is not used: the route's rules rest on what was given and confirmed
-unfoldable pub lamp_hearing : ℕ → List ℕ → ℕ → Part → Part
-lamp_hearing now bytes signal part = with_one (slice_get part.ixl.lamps signal) hear part where
-  hear : LampState → Part → Part
-  hear lamp part =
-      let done = hearing now bytes (begun lamp.client part.outbox)
-      in with_lamp signal (lamp_after lamp.aspect lamp.number done.client) (noted (Signal signal) done part)
+unfoldable pub known_signal_hearing : ℕ → List ℕ → ℕ → StepSoFar → StepSoFar
+known_signal_hearing now bytes signal part = with_one (slice_get part.ixl.known_signals signal) hear part where
+  hear : KnownSignalState → StepSoFar → StepSoFar
+  hear known_signal part =
+      let done = hearing now bytes (begun known_signal.client part.outbox)
+      in with_known_signal signal (known_signal_after known_signal.aspect known_signal.number done.client) (noted (Signal signal) done part)
 
-unfoldable pub switch_hearing : ℕ → List ℕ → ℕ → Part → Part
-switch_hearing now bytes point part = with_one (slice_get part.ixl.switches point) hear part where
-  hear : SwitchState → Part → Part
-  hear switch part =
-      let done = hearing now bytes (begun switch.client part.outbox)
-      in with_switch point (switch_after (side_heard done.heard switch.side) switch.moved done.client) (noted (Point point) done part)
+unfoldable pub known_point_hearing : ℕ → List ℕ → ℕ → StepSoFar → StepSoFar
+known_point_hearing now bytes point part = with_one (slice_get part.ixl.known_points point) hear part where
+  hear : KnownPointState → StepSoFar → StepSoFar
+  hear known_point part =
+      let done = hearing now bytes (begun known_point.client part.outbox)
+      in with_known_point point (known_point_after (side_heard done.heard known_point.side) known_point.moved done.client) (noted (Point point) done part)
 
 -- ---- what is seen of the sections of routes with authority
 
@@ -96,12 +96,12 @@ route_looks section occupied row route = at_place (place_in section row.sections
   at_place None = route
   at_place (Some place) = record route { passage = after_look route.passage place occupied }
 
-unfoldable pub looking_by : ℕ → Bool → Table → ℕ → Part → Part
+unfoldable pub looking_by : ℕ → Bool → Table → ℕ → StepSoFar → StepSoFar
 looking_by section occupied table number = at_route table number (λ row route part.
     if was_authorised route.phase then with_route number (route_looks section occupied row) part else part)
 
 -- all routes look at a section
-abbrev pub looking : Table → ℕ × Bool → Part → Part
+abbrev pub looking : Table → ℕ × Bool → StepSoFar → StepSoFar
 looking table look part = over (looking_by look.0 look.1 table) (count table) part
 
 -- what a detector told before: each of its sections, by its place
@@ -119,24 +119,24 @@ told_now sections (first ∷ others) = one (slice_get sections first.place) (tol
 
 -- the looks that a step brings: nothing while the link isn't ready; all that it told in the initialisation once that is
 -- completed
-abbrev pub looks : List ℕ → DetectorState → List Indication → ClientState → List (ℕ × Bool)
+abbrev pub looks : List ℕ → KnownDetectorState → List Indication → ClientState → List (ℕ × Bool)
 looks sections old heard client =
     if not (is_ready client.stage) then []
     else if is_ready old.client.stage then told_now sections heard
     else told_before old.occupied 0 sections ++ told_now sections heard
 
-unfoldable pub detector_hearing : ℕ → Table → List ℕ → ℕ → Part → Part
+unfoldable pub detector_hearing : ℕ → Table → List ℕ → ℕ → StepSoFar → StepSoFar
 detector_hearing now table bytes place part =
     with_one (slice_get table.detectors place) (λ sections. with_one (slice_get part.ixl.detectors place) (hear sections)) part
   where
-    hear : List ℕ → DetectorState → Part → Part
+    hear : List ℕ → KnownDetectorState → StepSoFar → StepSoFar
     hear sections detector part =
         let done = hearing now bytes (begun detector.client part.outbox)
         in along (looking table) (looks sections detector done.heard done.client)
         (with_detector place (detector_after (occupied_heard done.heard detector.occupied) done.client) (noted (Detector place) done part))
 
 -- a route with authority watches its approach
-unfoldable pub watching : Table → ℕ → Part → Part
+unfoldable pub watching : Table → ℕ → StepSoFar → StepSoFar
 watching table number = at_route table number (λ row route part.
     if is_proceeding route.phase || is_withdrawn route.phase
     then with_route number (λ old. record old { approached = old.approached || not (is_approach_clear table part.ixl row) }) part
@@ -170,13 +170,13 @@ as_node node (Some place) = Some (node place)
 
 unfoldable pub node_of : ℕ → IxlState → Option Node
 node_of id ixl =
-    or_else (as_node Signal (position (λ (lamp : LampState). partner_at id lamp.client) ixl.lamps))
-    (or_else (as_node Point (position (λ (switch : SwitchState). partner_at id switch.client) ixl.switches))
-    (as_node Detector (position (λ (detector : DetectorState). partner_at id detector.client) ixl.detectors)))
+    or_else (as_node Signal (position (λ (known_signal : KnownSignalState). partner_at id known_signal.client) ixl.known_signals))
+    (or_else (as_node Point (position (λ (known_point : KnownPointState). partner_at id known_point.client) ixl.known_points))
+    (as_node Detector (position (λ (detector : KnownDetectorState). partner_at id detector.client) ixl.detectors)))
 
-unfoldable pub node_hearing : ℕ → Table → List ℕ → Node → Part → Part
-node_hearing now table bytes (Signal place) = lamp_hearing now bytes place
-node_hearing now table bytes (Point place) = switch_hearing now bytes place
+unfoldable pub node_hearing : ℕ → Table → List ℕ → Node → StepSoFar → StepSoFar
+node_hearing now table bytes (Signal place) = known_signal_hearing now bytes place
+node_hearing now table bytes (Point place) = known_point_hearing now bytes place
 node_hearing now table bytes (Detector place) = detector_hearing now table bytes place
 
 -- a datagram goes to the link whose partner it names as its sender
@@ -184,7 +184,7 @@ abbrev pub addressed : Result Pdu PduFault → IxlState → Option Node
 addressed (Err fault) ixl = None
 addressed (Ok pdu) ixl = node_of pdu.sender ixl
 
-unfoldable pub given : ℕ → Table → Key → Input → Part → Part
+unfoldable pub given : ℕ → Table → Key → Input → StepSoFar → StepSoFar
 given now table key Tick part = part
 given now table key (Datagram bytes) part = with_one (addressed (reading key bytes) part.ixl) (node_hearing now table bytes) part
 given now table key (Commands command) part =
@@ -192,37 +192,37 @@ given now table key (Commands command) part =
 
 -- ---- ticks
 
-unfoldable pub lamp_ticking : ℕ → ℕ → Part → Part
-lamp_ticking now signal part = with_one (slice_get part.ixl.lamps signal) tick part where
-  tick : LampState → Part → Part
-  tick lamp part =
-      let done = ticking now (begun lamp.client part.outbox)
-      in with_lamp signal (lamp_after lamp.aspect lamp.number done.client) (noted (Signal signal) done part)
+unfoldable pub known_signal_ticking : ℕ → ℕ → StepSoFar → StepSoFar
+known_signal_ticking now signal part = with_one (slice_get part.ixl.known_signals signal) tick part where
+  tick : KnownSignalState → StepSoFar → StepSoFar
+  tick known_signal part =
+      let done = ticking now (begun known_signal.client part.outbox)
+      in with_known_signal signal (known_signal_after known_signal.aspect known_signal.number done.client) (noted (Signal signal) done part)
 
-unfoldable pub switch_ticking : ℕ → ℕ → Part → Part
-switch_ticking now point part = with_one (slice_get part.ixl.switches point) tick part where
-  tick : SwitchState → Part → Part
-  tick switch part =
-      let done = ticking now (begun switch.client part.outbox)
-      in with_switch point (switch_after switch.side switch.moved done.client) (noted (Point point) done part)
+unfoldable pub known_point_ticking : ℕ → ℕ → StepSoFar → StepSoFar
+known_point_ticking now point part = with_one (slice_get part.ixl.known_points point) tick part where
+  tick : KnownPointState → StepSoFar → StepSoFar
+  tick known_point part =
+      let done = ticking now (begun known_point.client part.outbox)
+      in with_known_point point (known_point_after known_point.side known_point.moved done.client) (noted (Point point) done part)
 
-unfoldable pub detector_ticking : ℕ → ℕ → Part → Part
+unfoldable pub detector_ticking : ℕ → ℕ → StepSoFar → StepSoFar
 detector_ticking now place part = with_one (slice_get part.ixl.detectors place) tick part where
-  tick : DetectorState → Part → Part
+  tick : KnownDetectorState → StepSoFar → StepSoFar
   tick detector part =
       let done = ticking now (begun detector.client part.outbox)
       in with_detector place (detector_after detector.occupied done.client) (noted (Detector place) done part)
 
 -- a tick is each link's too: signals, points, detectors
-unfoldable pub ticked : ℕ → Input → Part → Part
+unfoldable pub ticked : ℕ → Input → StepSoFar → StepSoFar
 ticked now Tick part =
     over (detector_ticking now) (length part.ixl.detectors)
-    (over (switch_ticking now) (length part.ixl.switches) (over (lamp_ticking now) (length part.ixl.lamps) part))
+    (over (known_point_ticking now) (length part.ixl.known_points) (over (known_signal_ticking now) (length part.ixl.known_signals) part))
 ticked now _ part = part
 
 -- ---- the step
 
-unfoldable pub stepped : ℕ → Table → Key → Input → Part → Part
+unfoldable pub stepped : ℕ → Table → Key → Input → StepSoFar → StepSoFar
 stepped now table key input part =
     let begun = record part { ixl = all_clocked now part.ixl }
     in let heard = given now table key input begun
@@ -237,16 +237,16 @@ verdict_at now bytes None = verdicts.WrongSender
 verdict_at now bytes (Some client) = (receiving now bytes client.link).verdict
 
 abbrev pub client_at : Node → IxlState → Option ClientState
-client_at (Signal place) ixl = of_lamp (slice_get ixl.lamps place) where
-  of_lamp : Option LampState → Option ClientState
-  of_lamp None = None
-  of_lamp (Some lamp) = Some lamp.client
-client_at (Point place) ixl = of_switch (slice_get ixl.switches place) where
-  of_switch : Option SwitchState → Option ClientState
-  of_switch None = None
-  of_switch (Some switch) = Some switch.client
+client_at (Signal place) ixl = of_known_signal (slice_get ixl.known_signals place) where
+  of_known_signal : Option KnownSignalState → Option ClientState
+  of_known_signal None = None
+  of_known_signal (Some known_signal) = Some known_signal.client
+client_at (Point place) ixl = of_known_point (slice_get ixl.known_points place) where
+  of_known_point : Option KnownPointState → Option ClientState
+  of_known_point None = None
+  of_known_point (Some known_point) = Some known_point.client
 client_at (Detector place) ixl = of_detector (slice_get ixl.detectors place) where
-  of_detector : Option DetectorState → Option ClientState
+  of_detector : Option KnownDetectorState → Option ClientState
   of_detector None = None
   of_detector (Some detector) = Some detector.client
 

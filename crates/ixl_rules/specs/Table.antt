@@ -1,9 +1,9 @@
 -- The control table, as the rules read it. Signals, points, detectors, sections and routes are numbers: their places in
 -- the layout.
 use Rattle.std.specs.Prelude.{ℕ, Bool, true, false, ◌&&◌, List, Option, Some, None, slice_get}
-use Rattle.sci_telegram.specs.declared.message.Aspect.{Aspect}
-use Rattle.sci_telegram.specs.declared.message.Side.{Side}
-use Rattle.sci_telegram.specs.declared.message.Side.TheVariants as sides
+use Rattle.control_table.specs.sci_telegram.declared.message.Aspect.{Aspect}
+use Rattle.control_table.specs.sci_telegram.declared.message.Side.{Side}
+use Rattle.control_table.specs.sci_telegram.declared.message.Side.TheVariants as sides
 
 -- A point that a route requires. The route holds it until this many of its sections are freed: a point on the path until
 -- its own section is, and a flank point until the sections of all points that it protects are.

@@ -2,15 +2,15 @@
 use Rattle.std.specs.Prelude.{ℕ, suc, ◌+◌, ◌==◌, nat_le, nat_lt, ◌&&◌, ◌||◌, not, Bool, true, false, List, [], ◌∷◌, length, drop, Option, Some, None, slice_get, if◌then◌else◌}
 use Rattle.std.specs.FinSet.{contains}
 use Rattle.std.specs.List.{list_all, list_any, position}
-use Rattle.sci_telegram.specs.declared.message.Aspect.{Aspect}
-use Rattle.sci_telegram.specs.declared.message.Aspect.TheVariants as aspects
-use Rattle.sci_telegram.specs.declared.message.Side.{Side}
+use Rattle.control_table.specs.sci_telegram.declared.message.Aspect.{Aspect}
+use Rattle.control_table.specs.sci_telegram.declared.message.Aspect.TheVariants as aspects
+use Rattle.control_table.specs.sci_telegram.declared.message.Side.{Side}
 use Rattle.rasta_core.specs.Clock.{quiet_until}
 use Rattle.rasta_core.specs.Parameters.{stops_at_greatest}
 use Rattle.rasta_core.specs.State.{confirmed_items, is_up}
 use Rattle.ixl_client.specs.Client.{ClientState, is_available, is_ready}
 use Rattle.ixl_rules.specs.Table.{Need, Row, Table, at, is_same_side}
-use Rattle.ixl_rules.specs.State.{DetectorState, IxlState, LampState, RouteState, SwitchState}
+use Rattle.ixl_rules.specs.State.{KnownDetectorState, IxlState, KnownSignalState, RouteState, KnownPointState}
 use Rattle.ixl_rules.specs.declared.phase.Phase.{Phase}
 use Rattle.ixl_rules.specs.declared.phase.Phase.TheVariants as phase
 
@@ -24,7 +24,7 @@ is_holding now ixl = nat_lt now (stops_at_greatest (ixl.created + hold_time))
 -- ---- sections
 
 -- a test of the detector that reports a section, and of the section's place there
-abbrev pub reported_by : Table → IxlState → ℕ → (DetectorState → ℕ → Bool) → Bool
+abbrev pub reported_by : Table → IxlState → ℕ → (KnownDetectorState → ℕ → Bool) → Bool
 reported_by table ixl section test =
     at table.reporters section (λ reporter. at ixl.detectors reporter.0 (λ detector. test detector reporter.1))
 
@@ -52,7 +52,7 @@ is_approach_clear table ixl row = not (length row.approach == 0) && all_clear ta
 
 -- its link is ready, and every move given in the present connection is answered
 abbrev pub is_point_available : IxlState → ℕ → Bool
-is_point_available ixl point = at ixl.switches point (λ switch. is_available switch.client.stage)
+is_point_available ixl point = at ixl.known_points point (λ known_point. is_available known_point.client.stage)
 
 abbrev pub is_side : Side → Option Side → Bool
 is_side side None = false
@@ -60,7 +60,7 @@ is_side side (Some told) = is_same_side side told
 
 -- it is available, and its last report in the present connection told this side
 unfoldable pub is_known : IxlState → ℕ → Side → Bool
-is_known ixl point side = at ixl.switches point (λ switch. is_available switch.client.stage && is_side side switch.side)
+is_known ixl point side = at ixl.known_points point (λ known_point. is_available known_point.client.stage && is_side side known_point.side)
 
 abbrev pub all_known : IxlState → List Need → Bool
 all_known ixl needs = list_all (λ need. is_known ixl need.point need.side) needs
@@ -68,7 +68,7 @@ all_known ixl needs = list_all (λ need. is_known ixl need.point need.side) need
 -- ---- signals
 
 abbrev pub is_signal_ready : IxlState → ℕ → Bool
-is_signal_ready ixl signal = at ixl.lamps signal (λ lamp. is_ready lamp.client.stage)
+is_signal_ready ixl signal = at ixl.known_signals signal (λ known_signal. is_ready known_signal.client.stage)
 
 -- whether the controller is known to have taken stop as the last aspect given, by the number of that item and of those
 -- confirmed; or none was given
@@ -77,14 +77,14 @@ has_taken_stop None number confirmed = true
 has_taken_stop (Some aspects.Stop) number confirmed = nat_le number confirmed
 has_taken_stop (Some _) number confirmed = false
 
--- the lamp is at known stop: by what the controller has taken in the present connection, or since the link has been in
+-- the signal is at known stop: by what the controller has taken in the present connection, or since the link has been in
 -- none for its quiet time
-abbrev pub is_lamp_at_stop : ℕ → LampState → Bool
-is_lamp_at_stop now lamp =
-    if is_up lamp.client.link.phase then has_taken_stop lamp.aspect lamp.number (confirmed_items lamp.client.link) else nat_le (quiet_until lamp.client.link) now
+abbrev pub is_known_signal_at_stop : ℕ → KnownSignalState → Bool
+is_known_signal_at_stop now known_signal =
+    if is_up known_signal.client.link.phase then has_taken_stop known_signal.aspect known_signal.number (confirmed_items known_signal.client.link) else nat_le (quiet_until known_signal.client.link) now
 
 unfoldable pub is_at_known_stop : ℕ → IxlState → ℕ → Bool
-is_at_known_stop now ixl signal = at ixl.lamps signal (is_lamp_at_stop now)
+is_at_known_stop now ixl signal = at ixl.known_signals signal (is_known_signal_at_stop now)
 
 -- ---- routes
 

@@ -1,6 +1,6 @@
 //! What an interlocking is told to do, and why it refuses.
 
-use layout::{PointId, RouteId, SectionId};
+use control_table::layout::{PointId, RouteId, SectionId};
 
 /// What an interlocking is told to do.
 #[derive(Clone, Copy, Debug)]

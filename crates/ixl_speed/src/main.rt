@@ -13,8 +13,8 @@ mod station;
 
 use crate::station::{Station, Work};
 use anyhow::{Context, bail};
-use control_table::{Checked, check};
-use layout::Layout;
+use ixl_state::control_table::{Checked, check};
+use ixl_state::layout::Layout;
 use std::alloc::Global;
 use std::{env, fs};
 

@@ -2,17 +2,17 @@
 
 use crate::passes::{read, report, tick, write};
 use anyhow::{bail, ensure};
-use control_table::Checked;
 use ixl::{Command, Input as StationInput, Interlocking, Reply};
-use ixl_beginning::key_of;
-use layout::{RouteId, SignalId};
+use ixl_state::control_table::Checked;
+use ixl_state::ixl_rules::key_of;
+use ixl_state::layout::{RouteId, SignalId};
+use ixl_state::rasta_core::Millis;
+use ixl_state::rasta_pdu::{Datagram, Key, Pdu};
+use ixl_state::sci_telegram::{Occupancy, Position};
 use object_host::{Controller, Hosted, Input, Sense};
 use point_ctl::Point;
-use rasta_core::Millis;
-use rasta_pdu::{Datagram, Key, Pdu};
-use sci_telegram::{Occupancy, Position};
 use signal_ctl::Signal;
-use simulator_world_servers::{new_detector, new_point, new_signal};
+use simulator_field::{new_detector, new_point, new_signal};
 use std::alloc::{AllocError, Global};
 use tds_ctl::Detection;
 
@@ -89,7 +89,7 @@ fn report_of(
     }
     detector.step(now, Input::Sense(Sense::Section(0, occupancy)));
     let datagram = detector.take_first()?;
-    rasta_pdu::read(key, datagram.as_slice()).ok()
+    ixl_state::rasta_pdu::read(key, datagram.as_slice()).ok()
 }
 
 /// The controllers of all signals.

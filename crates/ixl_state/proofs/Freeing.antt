@@ -12,11 +12,11 @@ use Rattle.std.proofs.lemmas.Bool.{eqb-true, eq-eqb, false≢true}
 use Rattle.std.proofs.lemmas.Bool.Decides.{Decides-and, Decides-not}
 use Rattle.std.proofs.lemmas.List.{length-map}
 use Rattle.std.proofs.lemmas.Option.{same_Some, slice_get-map}
-use Rattle.layout.specs.declared.ids.RouteId.{RouteId}
-use Rattle.layout.specs.declared.ids.SectionId.{SectionId}
-use Rattle.layout.specs.Entries.{Plan}
-use Rattle.bit_row.specs.Places.{Has, Places}
-use Rattle.control_table.specs.Table.{AreSections, LeadsOver}
+use Rattle.ixl_rules.specs.layout.declared.ids.RouteId.{RouteId}
+use Rattle.ixl_rules.specs.layout.declared.ids.SectionId.{SectionId}
+use Rattle.ixl_rules.specs.layout.Entries.{Site}
+use Rattle.ixl_rules.specs.bit_row.Places.{Has, Places}
+use Rattle.ixl_rules.specs.control_table.Table.{AreSections, LeadsOver}
 use Rattle.route_lock.specs.declared.locks.LockFault.{LockFault}
 use Rattle.route_lock.specs.declared.locks.LockFault.TheVariants.{Conflict, PointHeld}
 use Rattle.route_lock.specs.Locks.{AreAllSections, Blocks, IsFault, IsSection, LockState, LocksAt, locked_by}
@@ -27,7 +27,7 @@ use Rattle.ixl_rules.specs.Table.{Row}
 use Rattle.ixl_rules.specs.declared.phase.Phase.{Phase}
 use Rattle.ixl_rules.specs.declared.phase.Phase.TheVariants as phase
 use Rattle.ixl_table.specs.Locks.{AreLocksOf, IsKeptRoute}
-use Rattle.ixl_table.specs.Table.{IsRowOf, IsTableOf, PlannedTable, as_route, as_section}
+use Rattle.ixl_table.specs.Table.{IsRowOf, IsTableOf, SitedTable, as_route, as_section}
 use Rattle.ixl_state.proofs.Lists.{after-rest, apart-after, drop-at, get-below, contains-here, rest-after}
 use Rattle.ixl_state.proofs.Sections.{sections-apart, sections-one}
 
@@ -60,17 +60,17 @@ none-held row section = ((λ h. absurd (false≢true (sym (contains-empty nat_cm
 
 -- ---- a route of the table
 
-module _ (planned : PlannedTable) (routes : List RouteState) (locks : LockState) (table : IsTableOf planned.plan planned.table) (are : AreLocksOf planned routes locks)
-    (number : ℕ) (row : Row) (old : RouteState) (is : IsKeptRoute planned.table routes number row old) where
+module _ (sited : SitedTable) (routes : List RouteState) (locks : LockState) (table : IsTableOf sited.site sited.table) (are : AreLocksOf sited routes locks)
+    (number : ℕ) (row : Row) (old : RouteState) (is : IsKeptRoute sited.table routes number row old) where
   abbrev a : RouteId
   a = as_route number
 
-  its : IsRowOf planned.plan a row
+  its : IsRowOf sited.site a row
   its = table.rows.their number row is.0
 
   -- its sections by the locks' table
   listed : (ss : List SectionId) → AreSections locks.table a ss → ss ≡ map as_section row.sections
-  listed ss sections = sections-one planned.plan a ss (map as_section row.sections) (subst (λ (l : Plan). AreSections l a ss) are.plan sections) its.sections
+  listed ss sections = sections-one sited.site a ss (map as_section row.sections) (subst (λ (l : Site). AreSections l a ss) are.site sections) its.sections
 
   at-place : (n : ℕ) (s : SectionId) → n < length row.sections → IsSection locks.table a n s → slice_get row.sections n ≡ Some s.0
   at-place n s lt section =
@@ -94,7 +94,7 @@ module _ (planned : PlannedTable) (routes : List RouteState) (locks : LockState)
     one-freed s found section =
         let at = at-place done s lt found in
         let held = are.locked number row old is section in
-        let apart = numbers-apart row.sections (sections-apart planned.plan a (map as_section row.sections) its.sections) in (
+        let apart = numbers-apart row.sections (sections-apart sited.site a (map as_section row.sections) its.sections) in (
           λ h.
               let both = (has-without (locked_by locks a) s.0 section).0 h in
               let was : HoldsSection row (phase.Ended clock done) section = subst (λ (p : Phase). HoldsSection row p section) ended (held.0 both.1) in
@@ -105,13 +105,13 @@ module _ (planned : PlannedTable) (routes : List RouteState) (locks : LockState)
               (has-without (locked_by locks a) s.0 section).1 (apart-after row.sections done s.0 section apart at rest, held.1 (subst (λ (p : Phase). HoldsSection row p section) (sym ended) was)),
         )
 
-  pub all-locked : ((ss : List SectionId) → AreSections planned.plan a ss → (s : SectionId) → Contains ss s ↔ LeadsOver planned.plan a s) → (sections : Places) → AreAllSections locks.table a sections
+  pub all-locked : ((ss : List SectionId) → AreSections sited.site a ss → (s : SectionId) → Contains ss s ↔ LeadsOver sited.site a s) → (sections : Places) → AreAllSections locks.table a sections
       → (section : ℕ) → Has sections section ↔ HoldsSection row phase.Waiting section
   all-locked over sections all section =
       let leads = over (map as_section row.sections) its.sections (as_section section) in
       let one = all (as_section section) in (
-        λ h. (refl, names row.sections section (leads.1 (subst (λ (l : Plan). LeadsOver l a (as_section section)) are.plan (one.0 h)))),
-        λ h. one.1 (subst (λ (l : Plan). LeadsOver l a (as_section section)) (sym are.plan) (leads.0 (named row.sections section h.1))),
+        λ h. (refl, names row.sections section (leads.1 (subst (λ (l : Site). LeadsOver l a (as_section section)) are.site (one.0 h)))),
+        λ h. one.1 (subst (λ (l : Site). LeadsOver l a (as_section section)) (sym are.site) (leads.0 (named row.sections section h.1))),
       )
 
 -- ---- a route that nothing blocks

@@ -8,7 +8,7 @@ use Rattle.std.specs.FinSet.{contains, insert, contains-insert}
 use Rattle.std.proofs.lemmas.Bool.{eqb-true, eq-eqb}
 use Rattle.std.proofs.lemmas.Bool.Decides.{Decides-or}
 use Rattle.std.proofs.lemmas.List.Quantifiers.{position-Some}
-use Rattle.bit_row.specs.Places.{Has, Places}
+use Rattle.ixl_rules.specs.bit_row.Places.{Has, Places}
 use Rattle.release.specs.Passage.{PassageState, after_look}
 use Rattle.ixl_rules.specs.State.{RouteState}
 use Rattle.ixl_rules.specs.Step.{route_looks}

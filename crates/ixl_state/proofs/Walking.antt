@@ -5,13 +5,13 @@ use Rattle.std.specs.Bool.{Decides}
 use Rattle.std.proofs.lemmas.Bool.{cases_lt, false≢true}
 use Rattle.std.proofs.lemmas.Bool.Decides.{Decides-and}
 use Rattle.std.proofs.lemmas.Option.{none-some, same_Some, slice_get_read, slice_get_within}
-use Rattle.sci_telegram.specs.declared.message.Side.{Side}
+use Rattle.ixl_rules.specs.sci_telegram.declared.message.Side.{Side}
 use Rattle.route_lock.specs.Locks.{Holds, LockState}
 use Rattle.ixl_rules.specs.State.{RouteState}
 use Rattle.ixl_rules.specs.Table.{Row}
 use Rattle.ixl_rules.specs.View.{holds_point, some_route, was_authorised}
 use Rattle.ixl_table.specs.Locks.{IsKeptRoute}
-use Rattle.ixl_table.specs.Table.{PlannedTable, as_point, as_route}
+use Rattle.ixl_table.specs.Table.{SitedTable, as_point, as_route}
 use Rattle.ixl_state.specs.inside.Kept.{HoldsWithAuthority, SomeHoldsWithAuthority}
 use Rattle.ixl_state.proofs.Lists.{get-below}
 
@@ -66,18 +66,18 @@ none-at-all locks routes point k le none h = let lt = slice_get_within routes h.
 
 -- ---- a point that is held
 
-pub held-with-authority : (planned : PlannedTable) (routes : List RouteState) (locks : LockState) (point : ℕ) (b : Bool) → length routes ≡ length planned.table.rows
-    → ((number : ℕ) (row : Row) (route : RouteState) → IsKeptRoute planned.table routes number row route → ((side : Side) × Holds locks (as_route number) (as_point point) side) ↔ IsTrue (holds_point row route.phase point))
-    → IsTrue b ↔ SomeHoldsWithAuthority locks routes point → b ≡ some_route (λ number row route. was_authorised route.phase && holds_point row route.phase point) 0 planned.table.rows routes
-held-with-authority planned routes locks point b each law some =
-    same-truth b (some_route (λ number row route. test row route) 0 planned.table.rows routes)
+pub held-with-authority : (sited : SitedTable) (routes : List RouteState) (locks : LockState) (point : ℕ) (b : Bool) → length routes ≡ length sited.table.rows
+    → ((number : ℕ) (row : Row) (route : RouteState) → IsKeptRoute sited.table routes number row route → ((side : Side) × Holds locks (as_route number) (as_point point) side) ↔ IsTrue (holds_point row route.phase point))
+    → IsTrue b ↔ SomeHoldsWithAuthority locks routes point → b ≡ some_route (λ number row route. was_authorised route.phase && holds_point row route.phase point) 0 sited.table.rows routes
+held-with-authority sited routes locks point b each law some =
+    same-truth b (some_route (λ number row route. test row route) 0 sited.table.rows routes)
     (λ h.
     let found = some.0 h in
     let lt = slice_get_within routes found.0 found.1 found.2 in
-    let row = get-below planned.table.rows found.0 (omega (arith, lt, each)) in
-    finds-some test 0 planned.table.rows routes found.0 row.0 found.1 row.1 found.2 ((decides row.0 found.1).1 (found.3.0, (law found.0 row.0 found.1 (row.1, found.2)).0 found.3.1)))
+    let row = get-below sited.table.rows found.0 (omega (arith, lt, each)) in
+    finds-some test 0 sited.table.rows routes found.0 row.0 found.1 row.1 found.2 ((decides row.0 found.1).1 (found.3.0, (law found.0 row.0 found.1 (row.1, found.2)).0 found.3.1)))
     (λ h.
-    let found = some-found test 0 planned.table.rows routes h in
+    let found = some-found test 0 sited.table.rows routes h in
     let both = (decides found.1 found.2).0 found.5 in
     some.1 (found.0, found.2, found.4, (both.0, (law found.0 found.1 found.2 (found.3, found.4)).1 both.1)))
   where

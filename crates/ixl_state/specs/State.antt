@@ -1,25 +1,25 @@
 -- The state of an interlocking, beside the control table that it was made from.
 use Rattle.std.specs.Prelude.{◌≡◌, ℕ, ◌+◌, ◌≤◌, length}
-use Rattle.rasta_core.specs.Outbox.{OutboxState}
-use Rattle.ixl_rules.specs.Part.{Leads, Part}
+use Rattle.ixl_rules.specs.rasta_core.Outbox.{OutboxState}
+use Rattle.ixl_rules.specs.StepSoFar.{Leads, StepSoFar}
 use Rattle.ixl_rules.specs.State.{IxlState, RouteState, changed}
 use Rattle.ixl_rules.specs.Table.{Row}
 use Rattle.ixl_table.specs.Locks.{IsKeptRoute}
-use Rattle.ixl_table.specs.Table.{PlannedTable}
+use Rattle.ixl_table.specs.Table.{SitedTable}
 use Rattle.ixl_field.specs.Field as field
 use Rattle.ixl_field.specs.Field.{FieldState, Rest}
 
 pub record StateView : Type 0 where
-  pub planned : PlannedTable
+  pub sited : SitedTable
   pub ixl : IxlState
 
 -- its controllers
 abbrev pub field_of : StateView → FieldState
 field_of state = record {
-  lamps = state.ixl.lamps;
-  switches = state.ixl.switches;
+  known_signals = state.ixl.known_signals;
+  known_points = state.ixl.known_points;
   detectors = state.ixl.detectors;
-  reporters = state.planned.table.reporters;
+  reporters = state.sited.table.reporters;
 }
 
 -- and what is kept beside them
@@ -36,20 +36,20 @@ AllAt now state = field.AllAt now (field_of state)
 
 -- a fact of a route of the table, and of what is kept of it
 abbrev pub AtRoute : StateView → ℕ → (Row → RouteState → Type 0) → Type 0
-AtRoute state number holds = (row : Row) (route : RouteState) → IsKeptRoute state.planned.table state.ixl.routes number row route → holds row route
+AtRoute state number holds = (row : Row) (route : RouteState) → IsKeptRoute state.sited.table state.ixl.routes number row route → holds row route
 
 -- a route of the table is kept
 abbrev pub HasRoute : StateView → ℕ → Type 0
-HasRoute state number = (row : Row) × (route : RouteState) × IsKeptRoute state.planned.table state.ixl.routes number row route
+HasRoute state number = (row : Row) × (route : RouteState) × IsKeptRoute state.sited.table state.ixl.routes number row route
 
 -- one route is changed, and nothing else
 abbrev pub route_changed : (RouteState → RouteState) → ℕ → StateView → StateView
 route_changed change number state = record state { ixl = record state.ixl { routes = changed change number state.ixl.routes } }
 
 -- A part of a step at a clock reading leads from one state to another, and hands out at most so many datagrams.
-pub record Goes (now most : ℕ) (does : Part → Part) (old : StateView) (box : OutboxState) (new : StateView) (out : OutboxState) : Type 0 where
+pub record Goes (now most : ℕ) (does : StepSoFar → StepSoFar) (old : StateView) (box : OutboxState) (new : StateView) (out : OutboxState) : Type 0 where
   pub leads : Leads does old.ixl box new.ixl out
-  pub planned : new.planned ≡ old.planned
+  pub sited : new.sited ≡ old.sited
   pub clock : AllAt now new
   pub capacity : out.capacity ≡ box.capacity
   pub few : length out.datagrams ≤ length box.datagrams + most

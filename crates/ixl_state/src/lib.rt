@@ -1,13 +1,22 @@
 //! What an interlocking keeps: its table, its controllers, what is locked, and how far each route is.
 #![tactic(auto)]
 
-mod fielding;
-mod locking;
-mod making;
+mod field_calls;
+mod first_state;
 mod progress;
 mod route;
+mod route_locks;
 mod state;
 
-pub use ixl_beginning::key_of;
+pub use ixl_rules::key_of;
 pub use route::Route;
 pub use state::State;
+
+// What crates above need of the crates below.
+pub use ixl_field;
+pub use ixl_rules;
+pub use ixl_rules::{
+    bit_row, control_table, ixl_client, layout, rasta_core, rasta_pdu, sci_telegram,
+};
+pub use ixl_table;
+pub use release;

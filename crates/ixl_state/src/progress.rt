@@ -13,11 +13,11 @@ ghost use Rattle.ixl_state.specs.inside.Kept.{HoldsAlike, IsPassageOf};
 
 use crate::route::Route;
 use crate::state::State;
-use control_table::a_route_leads_over_its_sections_alone;
 use ixl_rules::Phase;
+use ixl_rules::control_table::a_route_leads_over_its_sections_alone;
+use ixl_rules::layout::RouteId;
+use ixl_rules::rasta_core::Millis;
 use ixl_table::{Row, set_routes_lock_sections, the_first_blocking_route_is_told_by_phase};
-use layout::RouteId;
-use rasta_core::Millis;
 
 /// The place of a section in the path of a route.
 fn place_in(section: usize, sections: &[usize]) -> Option<usize>
@@ -40,7 +40,7 @@ fn place_on(row: &Row, section: usize) -> Option<usize>
 impl State {
     /// A route has changed. It holds what it held.
     fn keep(&mut self, number: usize, route: Route)
-        requires there { number < length self.old.planned.table.rows }
+        requires there { number < length self.old.sited.table.rows }
         requires alike { AtRoute self.old number (λ row old. HoldsAlike old.phase route.phase) }
         requires passage { AtRoute self.old number (λ row old. IsPassageOf row old.passage → IsPassageOf row route.passage) }
         ensures { (change : RouteState → RouteState) → AtRoute self.old number (λ row old. route ≡ change old) → self.new ≡ route_changed change number self.old }
@@ -50,7 +50,7 @@ impl State {
 
     /// Its aspect was given, and what it rests on holds no longer.
     pub fn withdraw(&mut self, number: usize)
-        requires there { number < length self.old.planned.table.rows }
+        requires there { number < length self.old.sited.table.rows }
         requires proceeding { AtRoute self.old number (λ row route. route.phase ≡ phase.Proceeding) }
         ensures { self.new ≡ route_changed (come_to phase.Withdrawn) number self.old }
     {
@@ -60,7 +60,7 @@ impl State {
 
     /// Its authority ends at this clock.
     pub fn end_authority(&mut self, number: usize, now: Millis)
-        requires there { number < length self.old.planned.table.rows }
+        requires there { number < length self.old.sited.table.rows }
         requires withdrawn { AtRoute self.old number (λ row route. route.phase ≡ phase.Withdrawn) }
         ensures { self.new ≡ route_changed (come_to (phase.Ended now 0)) number self.old }
     {
@@ -74,7 +74,7 @@ impl State {
 
     /// The next of its sections is freed; with the last one it is free.
     pub fn free_next(&mut self, number: usize)
-        requires there { number < length self.old.planned.table.rows }
+        requires there { number < length self.old.sited.table.rows }
         requires ended { AtRoute self.old number (λ row route. (clock : ℕ) × (done : ℕ) × (route.phase ≡ phase.Ended clock done)) }
         ensures { AtRoute self.old number (λ row route. self.new ≡ route_changed (one_freed row route.phase) number self.old) }
     {
@@ -93,7 +93,7 @@ impl State {
 
     /// One more of its sections is freed, which isn't the last.
     fn free_section(&mut self, number: usize, clock: Millis, done: usize)
-        requires there { number < length self.old.planned.table.rows }
+        requires there { number < length self.old.sited.table.rows }
         requires ended { AtRoute self.old number (λ row route. route.phase ≡ phase.Ended clock done) }
         requires more { AtRoute self.old number (λ row route. done + 1 < length row.sections) }
         ensures { self.new ≡ route_changed (come_to (phase.Ended clock (done + 1))) number self.old }
@@ -110,7 +110,7 @@ impl State {
 
     /// It is no longer set.
     pub fn free(&mut self, number: usize)
-        requires there { number < length self.old.planned.table.rows }
+        requires there { number < length self.old.sited.table.rows }
         ensures { self.new ≡ route_changed freed number self.old }
     {
         self.table.checked();
@@ -121,7 +121,7 @@ impl State {
 
     /// It is given authority: from here on its passage is watched, and its approach, which is clear now or isn't.
     pub fn authorise(&mut self, number: usize, is_approach_clear: bool)
-        requires there { number < length self.old.planned.table.rows }
+        requires there { number < length self.old.sited.table.rows }
         requires waiting { AtRoute self.old number (λ row route. route.phase ≡ phase.Waiting) }
         ensures { AtRoute self.old number (λ row route. self.new ≡ route_changed (λ old. record old { phase = phase.Proceeding; passage = passage_after (length row.sections) []; approached = not is_approach_clear }) number self.old) }
     {
@@ -132,7 +132,7 @@ impl State {
 
     /// It looks at a section.
     pub fn look(&mut self, number: usize, section: usize, occupied: bool)
-        requires there { number < length self.old.planned.table.rows }
+        requires there { number < length self.old.sited.table.rows }
         ensures { AtRoute self.old number (λ row route. self.new ≡ route_changed (route_looks section occupied row) number self.old) }
     {
         let place = place_on(&self.table().rows()[number], section);
@@ -142,7 +142,7 @@ impl State {
 
     /// It watches its approach.
     pub fn watch(&mut self, number: usize, is_approach_clear: bool)
-        requires there { number < length self.old.planned.table.rows }
+        requires there { number < length self.old.sited.table.rows }
         ensures { self.new ≡ route_changed (λ old. record old { approached = old.approached || not is_approach_clear }) number self.old }
     {
         let route = self.route(number).watches(is_approach_clear);
@@ -151,9 +151,9 @@ impl State {
 
     /// It is set: nothing blocks it. From here on each point counts as unmoved for it.
     pub fn set(&mut self, number: usize)
-        requires there { number < length self.old.planned.table.rows }
+        requires there { number < length self.old.sited.table.rows }
         requires free { AtRoute self.old number (λ row route. is_set route.phase ≡ false) }
-        requires unblocked { AtRoute self.old number (λ row route. first_blocking number row 0 self.old.planned.table.rows self.old.ixl.routes ≡ None) }
+        requires unblocked { AtRoute self.old number (λ row route. first_blocking number row 0 self.old.sited.table.rows self.old.ixl.routes ≡ None) }
         ensures { self.new ≡ record self.old { ixl = route_set number self.old.ixl } }
     {
         a_route_leads_over_its_sections_alone();
@@ -168,7 +168,7 @@ impl State {
 
     /// It is cancelled.
     pub fn cancel(&mut self, number: usize)
-        requires there { number < length self.old.planned.table.rows }
+        requires there { number < length self.old.sited.table.rows }
         ensures { self.new ≡ route_changed (λ old. record old { cancelled = true }) number self.old }
     {
         let route = self.route(number).cancelled();

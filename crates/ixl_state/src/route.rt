@@ -24,7 +24,7 @@ pub struct Route {
 
 impl Model for Route {
     ghost use Rattle.std.specs.Coded.{codes};
-    ghost use Rattle.bit_row.specs.Places.{places_code};
+    ghost use Rattle.ixl_rules.specs.bit_row.Places.{places_code};
     ghost use Rattle.ixl_rules.specs.State.{RouteState};
 
     ghost Value = { RouteState };

@@ -1,14 +1,14 @@
 //! All that an interlocking keeps.
 
 ghost use Rattle.std.specs.Prelude.{◌≡◌, ℕ, ◌<◌, ◌≤◌, length, IsTrue};
-ghost use Rattle.bit_row.specs.Places.{Has};
+ghost use Rattle.ixl_rules.specs.bit_row.Places.{Has};
 ghost use Rattle.ixl_rules.specs.View.{freed_sections, is_set};
 ghost use Rattle.ixl_state.specs.State.{AtRoute, HasRoute, field_of};
 
 use crate::route::Route;
 use ixl_field::Field;
+use ixl_rules::rasta_core::Millis;
 use ixl_table::Table;
-use rasta_core::Millis;
 use route_lock::Locks;
 use std::marker::Model;
 
@@ -26,7 +26,7 @@ pub struct State {
 
 impl Model for State {
     ghost use Rattle.std.specs.Coded.{codes};
-    ghost use Rattle.bit_row.specs.Places.{places_code};
+    ghost use Rattle.ixl_rules.specs.bit_row.Places.{places_code};
     ghost use Rattle.ixl_field.specs.Field.{kept};
     ghost use Rattle.ixl_state.specs.State.{StateView};
     ghost use Rattle.ixl_state.specs.inside.Kept.{IsState};
@@ -35,7 +35,7 @@ impl Model for State {
 
     ghost coded = { Prim.hlevel (codes, places_code) };
 
-    ghost view = { λ s. record { planned = s.table; ixl = kept s.field (record { routes = s.routes.items; created = s.created; resumed = s.resumed }) } };
+    ghost view = { λ s. record { sited = s.table; ixl = kept s.field (record { routes = s.routes.items; created = s.created; resumed = s.resumed }) } };
 
     ghost invariant = { λ s. IsState s.table s.field s.routes.items s.locks };
 }
@@ -43,13 +43,13 @@ impl Model for State {
 impl State {
     /// The table. Beside it stands what holds of every state.
     pub fn table(&self) -> &Table
-        ensures planned { result.now ≡ self.now.planned }
-        ensures each { length self.now.ixl.routes ≡ length self.now.planned.table.rows }
-        ensures few { length self.now.planned.table.rows ≤ 64 }
-        ensures there { (number : ℕ) → number < length self.now.planned.table.rows → HasRoute self.now number }
-        ensures detectors { length self.now.ixl.detectors ≡ length self.now.planned.table.detectors }
-        ensures lamps { length self.now.ixl.lamps ≡ length self.now.planned.plan.signals }
-        ensures lengths { (length self.now.ixl.lamps ≤ 32) × (length self.now.ixl.switches ≤ 32) × (length self.now.ixl.detectors ≤ 16) }
+        ensures sited { result.now ≡ self.now.sited }
+        ensures each { length self.now.ixl.routes ≡ length self.now.sited.table.rows }
+        ensures few { length self.now.sited.table.rows ≤ 64 }
+        ensures there { (number : ℕ) → number < length self.now.sited.table.rows → HasRoute self.now number }
+        ensures detectors { length self.now.ixl.detectors ≡ length self.now.sited.table.detectors }
+        ensures known_signals { length self.now.ixl.known_signals ≡ length self.now.sited.site.signals }
+        ensures lengths { (length self.now.ixl.known_signals ≤ 32) × (length self.now.ixl.known_points ≤ 32) × (length self.now.ixl.detectors ≤ 16) }
         ensures within { (number : ℕ) → AtRoute self.now number (λ row route. (route.passage.sections ≡ length row.sections) × ((place : ℕ) → Has route.passage.seen place → place < length row.sections) × (IsTrue (is_set route.phase) → freed_sections route.phase < length row.sections)) }
     {
         self.table.checked();
@@ -65,7 +65,7 @@ impl State {
 
     /// A route.
     pub fn route(&self, number: usize) -> Route
-        requires { number < length self.now.planned.table.rows }
+        requires { number < length self.now.sited.table.rows }
         ensures { AtRoute self.now number (λ row route. result ≡ route) }
     {
         self.routes[number]

@@ -3,16 +3,16 @@ use Rattle.std.proofs.Common.{◌≡◌, ◌∙◌, ◌⊎◌, Bool, true, false
 use Rattle.std.specs.Prelude.{slice_get, ◌↔◌, IsTrue}
 use Rattle.std.specs.List.{Contains}
 use Rattle.std.proofs.lemmas.Bool.{cases_lt, false≢true}
-use Rattle.sci_telegram.specs.declared.message.Side.{Side}
-use Rattle.layout.specs.declared.ids.SectionId.{SectionId}
-use Rattle.layout.specs.declared.ids.RouteId.{RouteId}
-use Rattle.bit_row.specs.Places.{Has}
-use Rattle.control_table.specs.Table.{AreSections, LeadsOver}
+use Rattle.ixl_rules.specs.sci_telegram.declared.message.Side.{Side}
+use Rattle.ixl_rules.specs.layout.declared.ids.SectionId.{SectionId}
+use Rattle.ixl_rules.specs.layout.declared.ids.RouteId.{RouteId}
+use Rattle.ixl_rules.specs.bit_row.Places.{Has}
+use Rattle.ixl_rules.specs.control_table.Table.{AreSections, LeadsOver}
 use Rattle.route_lock.specs.Locks.{Blocks, FirstBlocks, Holds, LockState, locked_by}
 use Rattle.ixl_rules.specs.Table.{Row}
 use Rattle.ixl_rules.specs.State.{IxlState, RouteState}
 use Rattle.ixl_rules.specs.View.{blocks, first_blocking, holds_point_at, is_held_at, some_route}
-use Rattle.ixl_table.specs.Table.{IsTableOf, PlannedTable, as_point, as_route}
+use Rattle.ixl_table.specs.Table.{IsTableOf, SitedTable, as_point, as_route}
 use Rattle.ixl_table.specs.Locks.{AreLocksOf, HaveSectionsLeft, IsKeptRoute}
 use Rattle.ixl_table.proofs.Lists.{get-below, none-some, some-injective}
 use Rattle.ixl_table.proofs.LockLaws.{blocks-is, point-held}
@@ -105,42 +105,42 @@ module _ (wanted : ℕ) (wanted_row : Row) where
 
 -- ---- the first that blocks
 
-module _ (planned : PlannedTable) (routes : List RouteState) (locks : LockState) (table : IsTableOf planned.plan planned.table) (each : length routes ≡ length planned.table.rows)
-    (are : AreLocksOf planned routes locks) where
+module _ (sited : SitedTable) (routes : List RouteState) (locks : LockState) (table : IsTableOf sited.site sited.table) (each : length routes ≡ length sited.table.rows)
+    (are : AreLocksOf sited routes locks) where
   -- what locks something is a route of the table
-  kept : (a : RouteId) (section : ℕ) → Has (locked_by locks a) section → (row : Row) × (route : RouteState) × IsKeptRoute planned.table routes a.0 row route
-  kept a section h = by (cases_lt a.0 (length planned.table.rows)) where
-    by : (a.0 < length planned.table.rows) ⊎ (length planned.table.rows ≤ a.0) → (row : Row) × (route : RouteState) × IsKeptRoute planned.table routes a.0 row route
+  kept : (a : RouteId) (section : ℕ) → Has (locked_by locks a) section → (row : Row) × (route : RouteState) × IsKeptRoute sited.table routes a.0 row route
+  kept a section h = by (cases_lt a.0 (length sited.table.rows)) where
+    by : (a.0 < length sited.table.rows) ⊎ (length sited.table.rows ≤ a.0) → (row : Row) × (route : RouteState) × IsKeptRoute sited.table routes a.0 row route
     by (inl lt) =
-        let row = get-below planned.table.rows a.0 lt in
+        let row = get-below sited.table.rows a.0 lt in
         let route = get-below routes a.0 (omega (arith, lt, each)) in
         (row.0, route.0, (row.1, route.1))
     by (inr le) = absurd (are.no_other a.0 section le h)
 
-  module _ (over : (a : RouteId) (ss : List SectionId) → AreSections planned.plan a ss → (s : SectionId) → Contains ss s ↔ LeadsOver planned.plan a s) (left : HaveSectionsLeft planned.table routes)
-      (wanted : ℕ) (wanted_row : Row) (wanted_route : RouteState) (wanted_is : IsKeptRoute planned.table routes wanted wanted_row wanted_route) where
-    to-blocks : (i : ℕ) → At wanted wanted_row 0 planned.table.rows routes i → Blocks locks (as_route i) (as_route wanted)
+  module _ (over : (a : RouteId) (ss : List SectionId) → AreSections sited.site a ss → (s : SectionId) → Contains ss s ↔ LeadsOver sited.site a s) (left : HaveSectionsLeft sited.table routes)
+      (wanted : ℕ) (wanted_row : Row) (wanted_route : RouteState) (wanted_is : IsKeptRoute sited.table routes wanted wanted_row wanted_route) where
+    to-blocks : (i : ℕ) → At wanted wanted_row 0 sited.table.rows routes i → Blocks locks (as_route i) (as_route wanted)
     to-blocks i h =
-        (blocks-is planned routes locks are i h.0 h.1 (h.2, h.3) table wanted wanted_row wanted_route wanted_is over left).1 (subst (λ (k : ℕ). blocks wanted wanted_row k h.0 h.1 ≡ true) (zero-plus i) h.4)
+        (blocks-is sited routes locks are i h.0 h.1 (h.2, h.3) table wanted wanted_row wanted_route wanted_is over left).1 (subst (λ (k : ℕ). blocks wanted wanted_row k h.0 h.1 ≡ true) (zero-plus i) h.4)
 
-    from-blocks : (a : RouteId) → Blocks locks a (as_route wanted) → At wanted wanted_row 0 planned.table.rows routes a.0
+    from-blocks : (a : RouteId) → Blocks locks a (as_route wanted) → At wanted wanted_row 0 sited.table.rows routes a.0
     from-blocks a h =
         let k = kept a h.0.0 h.0.1 in
-        (k.0, k.1, k.2.0, k.2.1, subst (λ (n : ℕ). blocks wanted wanted_row n k.0 k.1 ≡ true) (sym (zero-plus a.0)) ((blocks-is planned routes locks are a.0 k.0 k.1 k.2 table wanted wanted_row wanted_route wanted_is over left).0 h))
+        (k.0, k.1, k.2.0, k.2.1, subst (λ (n : ℕ). blocks wanted wanted_row n k.0 k.1 ≡ true) (sym (zero-plus a.0)) ((blocks-is sited routes locks are a.0 k.0 k.1 k.2 table wanted wanted_row wanted_route wanted_is over left).0 h))
 
-    pub first-is : (number : ℕ) → FirstBlocks locks (as_route number) (as_route wanted) ↔ (first_blocking wanted wanted_row 0 planned.table.rows routes ≡ Some number)
+    pub first-is : (number : ℕ) → FirstBlocks locks (as_route number) (as_route wanted) ↔ (first_blocking wanted wanted_row 0 sited.table.rows routes ≡ Some number)
     first-is number = (
-      λ h. finds wanted wanted_row 0 planned.table.rows routes number (from-blocks (as_route number) h.0) (λ j lt at. h.1 (as_route j) lt (to-blocks j at)) ∙ ap Some (zero-plus number),
+      λ h. finds wanted wanted_row 0 sited.table.rows routes number (from-blocks (as_route number) h.0) (λ j lt at. h.1 (as_route j) lt (to-blocks j at)) ∙ ap Some (zero-plus number),
       λ e.
-          let h = found wanted wanted_row 0 planned.table.rows routes number e in
+          let h = found wanted wanted_row 0 sited.table.rows routes number e in
           let same : h.0 ≡ number = (let is = h.1 in omega (arith, is)) in
           subst (λ (n : ℕ). FirstBlocks locks (as_route n) (as_route wanted)) same (to-blocks h.0 h.2, λ c lt b. h.3 c.0 lt (from-blocks c b)),
     )
 
-    pub none-is : ((a : RouteId) → Blocks locks a (as_route wanted) → ⊥) ↔ (first_blocking wanted wanted_row 0 planned.table.rows routes ≡ None)
+    pub none-is : ((a : RouteId) → Blocks locks a (as_route wanted) → ⊥) ↔ (first_blocking wanted wanted_row 0 sited.table.rows routes ≡ None)
     none-is = (
-      λ none. finds-none wanted wanted_row 0 planned.table.rows routes (λ i h. none (as_route i) (to-blocks i h)),
-      λ e a b. none-found wanted wanted_row 0 planned.table.rows routes e a.0 (from-blocks a b),
+      λ none. finds-none wanted wanted_row 0 sited.table.rows routes (λ i h. none (as_route i) (to-blocks i h)),
+      λ e a b. none-found wanted wanted_row 0 sited.table.rows routes e a.0 (from-blocks a b),
     )
 
 -- ---- some route
@@ -172,13 +172,13 @@ finds-some test n (w ∷ rows) (v ∷ routes) (suc i) row route e f passes =
       cases true rest = refl
       cases false rest = rest
 
-module _ (planned : PlannedTable) (ixl : IxlState) (locks : LockState) (table : IsTableOf planned.plan planned.table) (each : length ixl.routes ≡ length planned.table.rows) (are : AreLocksOf planned ixl.routes locks) where
-  pub held-somewhere : (point : ℕ) (side : Side) → ((a : RouteId) × Holds locks a (as_point point) side) ↔ IsTrue (is_held_at planned.table ixl point side)
+module _ (sited : SitedTable) (ixl : IxlState) (locks : LockState) (table : IsTableOf sited.site sited.table) (each : length ixl.routes ≡ length sited.table.rows) (are : AreLocksOf sited ixl.routes locks) where
+  pub held-somewhere : (point : ℕ) (side : Side) → ((a : RouteId) × Holds locks a (as_point point) side) ↔ IsTrue (is_held_at sited.table ixl point side)
   held-somewhere point side = (
     λ h.
-        let k = kept planned ixl.routes locks table each are h.0 h.1.1.0.0 h.1.1.2 in
-        finds-some (λ number row route. holds_point_at row route.phase point side) 0 planned.table.rows ixl.routes h.0.0 k.0 k.1 k.2.0 k.2.1 ((point-held planned ixl.routes locks are h.0.0 k.0 k.1 k.2 table point side).0 h.1),
+        let k = kept sited ixl.routes locks table each are h.0 h.1.1.0.0 h.1.1.2 in
+        finds-some (λ number row route. holds_point_at row route.phase point side) 0 sited.table.rows ixl.routes h.0.0 k.0 k.1 k.2.0 k.2.1 ((point-held sited ixl.routes locks are h.0.0 k.0 k.1 k.2 table point side).0 h.1),
     λ e.
-        let k = some-found (λ number row route. holds_point_at row route.phase point side) 0 planned.table.rows ixl.routes e in
-        (as_route k.0, (point-held planned ixl.routes locks are k.0 k.1 k.2 (k.3, k.4) table point side).1 k.5),
+        let k = some-found (λ number row route. holds_point_at row route.phase point side) 0 sited.table.rows ixl.routes e in
+        (as_route k.0, (point-held sited ixl.routes locks are k.0 k.1 k.2 (k.3, k.4) table point side).1 k.5),
   )

@@ -6,22 +6,22 @@ use Rattle.std.specs.Bool.{Decides}
 use Rattle.std.proofs.lemmas.Bool.{eqb-true, eq-eqb, false≢true, ltb-true, lt-ltb}
 use Rattle.std.proofs.lemmas.Bool.Decides.{Decides-and, Decides-like, Decides-not, Decides-or}
 use Rattle.std.proofs.lemmas.List.Elements.{All-contains}
-use Rattle.sci_telegram.specs.declared.message.Side.{Side}
-use Rattle.sci_telegram.specs.declared.message.Side.TheVariants as side
-use Rattle.layout.specs.declared.ids.SectionId.{SectionId}
-use Rattle.layout.specs.declared.ids.PointId.{PointId}
-use Rattle.layout.specs.declared.ids.RouteId.{RouteId}
-use Rattle.layout.specs.declared.ids.SignalId.{SignalId}
-use Rattle.layout.specs.Entries.{Plan, RouteEntry}
-use Rattle.control_table.specs.Freeing.{Awaits}
-use Rattle.control_table.specs.Table.{AreSections, LeadsOver, Lists, RouteRequires, SameEntry}
+use Rattle.ixl_rules.specs.sci_telegram.declared.message.Side.{Side}
+use Rattle.ixl_rules.specs.sci_telegram.declared.message.Side.TheVariants as side
+use Rattle.ixl_rules.specs.layout.declared.ids.SectionId.{SectionId}
+use Rattle.ixl_rules.specs.layout.declared.ids.PointId.{PointId}
+use Rattle.ixl_rules.specs.layout.declared.ids.RouteId.{RouteId}
+use Rattle.ixl_rules.specs.layout.declared.ids.SignalId.{SignalId}
+use Rattle.ixl_rules.specs.layout.Entries.{Site, RouteEntry}
+use Rattle.ixl_rules.specs.control_table.Freeing.{Awaits}
+use Rattle.ixl_rules.specs.control_table.Table.{AreSections, LeadsOver, Lists, RouteRequires, SameEntry}
 use Rattle.route_lock.specs.Locks.{Blocks, Clashes, Holds, HoldsAgainst, IsSet, LockState, LocksSection}
 use Rattle.ixl_rules.specs.Table.{Need, Row, is_same_side}
 use Rattle.ixl_rules.specs.State.{RouteState}
 use Rattle.ixl_rules.specs.View.{blocks, freed_sections, holds_need, holds_point, holds_point_at, holds_point_elsewhere, holds_section, is_set}
 use Rattle.ixl_rules.specs.Due.{HoldsSection}
 use Rattle.ixl_rules.specs.declared.phase.Phase.{Phase}
-use Rattle.ixl_table.specs.Table.{IsHeldUntil, IsRowOf, IsTableOf, PlannedTable, as_point, as_route, as_section}
+use Rattle.ixl_table.specs.Table.{IsHeldUntil, IsRowOf, IsTableOf, SitedTable, as_point, as_route, as_section}
 use Rattle.ixl_table.specs.Locks.{AreLocksOf, HaveSectionsLeft, IsKeptRoute}
 use Rattle.ixl_table.proofs.Lists.{contains-cases, contains-get, contains-here, contains-map, contains-none, contains-there, get-below, get-contains, map-contains, none-some, some-injective}
 
@@ -75,15 +75,15 @@ get-drop (suc n) (w ∷ xs) (suc i) x le e = get-drop n xs i x (omega (arith, le
 
 -- ---- one route
 
-module _ (planned : PlannedTable) (routes : List RouteState) (locks : LockState) (are : AreLocksOf planned routes locks) where
-  abbrev l : Plan
-  l = planned.plan
+module _ (sited : SitedTable) (routes : List RouteState) (locks : LockState) (are : AreLocksOf sited routes locks) where
+  abbrev l : Site
+  l = sited.site
 
-  module _ (number : ℕ) (row : Row) (route : RouteState) (is : IsKeptRoute planned.table routes number row route) where
+  module _ (number : ℕ) (row : Row) (route : RouteState) (is : IsKeptRoute sited.table routes number row route) where
     abbrev a : RouteId
     a = as_route number
 
-    pub set-is : HaveSectionsLeft planned.table routes → IsSet locks a ↔ IsTrue (is_set route.phase)
+    pub set-is : HaveSectionsLeft sited.table routes → IsSet locks a ↔ IsTrue (is_set route.phase)
     set-is left = (
       λ h. ((are.locked number row route is h.0).0 h.1).0,
       λ set.
@@ -92,7 +92,7 @@ module _ (planned : PlannedTable) (routes : List RouteState) (locks : LockState)
           (s.0, (are.locked number row route is s.0).1 (set, get-drop (freed_sections route.phase) row.sections (freed_sections route.phase) s.0 (omega arith) s.1)),
     )
 
-    module _ (table : IsTableOf l planned.table) where
+    module _ (table : IsTableOf l sited.table) where
       its : IsRowOf l a row
       its = table.rows.their number row is.0
 
@@ -125,17 +125,17 @@ module _ (planned : PlannedTable) (routes : List RouteState) (locks : LockState)
 
       pub holds-from : (p : PointId) (t : Side) → Holds locks a p t → (need : Need) × Contains row.needs need × (as_point need.point ≡ p) × (need.side ≡ t) × HoldsBy need
       holds-from p t h =
-          let required : RouteRequires l a p t = subst (λ (m : Plan). RouteRequires m a p t) are.plan h.0 in
+          let required : RouteRequires l a p t = subst (λ (m : Site). RouteRequires m a p t) are.site h.0 in
           let n = asked p t required in
           let point : as_point n.0.point ≡ p = ap (λ (x : PointId × Side). x.0) n.2 in
-          let awaits : Awaits l a p h.1.0 = subst (λ (m : Plan). Awaits m a p h.1.0) are.plan h.1.1 in
+          let awaits : Awaits l a p h.1.0 = subst (λ (m : Site). Awaits m a p h.1.0) are.site h.1.1 in
           (n.0, n.1, point, ap (λ (x : PointId × Side). x.1) n.2, held-less n.0 n.1 h.1.0 (subst (λ (q : PointId). Awaits l a q h.1.0) (sym point) awaits) h.1.2)
 
       pub holds-to : (need : Need) → Contains row.needs need → HoldsBy need → Holds locks a (as_point need.point) need.side
       holds-to need c by =
           let s = less-held need c by.0 by.1 in (
-            subst (λ (m : Plan). RouteRequires m a (as_point need.point) need.side) (sym are.plan) (need-required need c),
-            (s.0, subst (λ (m : Plan). Awaits m a (as_point need.point) s.0) (sym are.plan) s.1, s.2),
+            subst (λ (m : Site). RouteRequires m a (as_point need.point) need.side) (sym are.site) (need-required need c),
+            (s.0, subst (λ (m : Site). Awaits m a (as_point need.point) s.0) (sym are.site) s.1, s.2),
           )
 
       at-side-decides : (point : ℕ) (t : Side) → Decides (holds_point_at row route.phase point t) ((need : Need) × Contains row.needs need × (((need.point ≡ point) × (need.side ≡ t)) × HoldsBy need))
@@ -164,19 +164,19 @@ module _ (planned : PlannedTable) (routes : List RouteState) (locks : LockState)
 
       -- ---- one route and another
 
-      module _ (wanted : ℕ) (wanted_row : Row) (wanted_route : RouteState) (wanted_is : IsKeptRoute planned.table routes wanted wanted_row wanted_route)
-          (over : (a : RouteId) (ss : List SectionId) → AreSections l a ss → (s : SectionId) → Contains ss s ↔ LeadsOver l a s) (left : HaveSectionsLeft planned.table routes) where
+      module _ (wanted : ℕ) (wanted_row : Row) (wanted_route : RouteState) (wanted_is : IsKeptRoute sited.table routes wanted wanted_row wanted_route)
+          (over : (a : RouteId) (ss : List SectionId) → AreSections l a ss → (s : SectionId) → Contains ss s ↔ LeadsOver l a s) (left : HaveSectionsLeft sited.table routes) where
         abbrev b : RouteId
         b = as_route wanted
 
         other : IsRowOf l b wanted_row
         other = table.rows.their wanted wanted_row wanted_is.0
 
-        at-plan : (P : Plan → Type 0) → P locks.table → P l
-        at-plan P h = subst P are.plan h
+        at-site : (P : Site → Type 0) → P locks.table → P l
+        at-site P h = subst P are.site h
 
-        at-locks : (P : Plan → Type 0) → P l → P locks.table
-        at-locks P h = subst P (sym are.plan) h
+        at-locks : (P : Site → Type 0) → P l → P locks.table
+        at-locks P h = subst P (sym are.site) h
 
         same-entry : SameEntry l a b ↔ (row.entry ≡ wanted_row.entry)
         same-entry = (
@@ -223,7 +223,7 @@ module _ (planned : PlannedTable) (routes : List RouteState) (locks : LockState)
           λ h.
               let p = h.0 in
               let held = holds-from p h.1.0 h.1.2 in
-              let asked_for = contains-map (λ (n : Need). (as_point n.point, n.side)) wanted_row.needs (p, h.1.1) ((other.needs.points p h.1.1).1 (at-plan (λ m. RouteRequires m b p h.1.1) h.1.3)) in
+              let asked_for = contains-map (λ (n : Need). (as_point n.point, n.side)) wanted_row.needs (p, h.1.1) ((other.needs.points p h.1.1).1 (at-site (λ m. RouteRequires m b p h.1.1) h.1.3)) in
               let need = asked_for.0 in
               let point : as_point need.point ≡ p = ap (λ (x : PointId × Side). x.0) asked_for.2 in
               let at : need.side ≡ h.1.1 = ap (λ (x : PointId × Side). x.1) asked_for.2 in
@@ -260,10 +260,10 @@ module _ (planned : PlannedTable) (routes : List RouteState) (locks : LockState)
         locked-section n = are.locked number row route is n
 
         clash-from : Clashes locks a b → Reasons
-        clash-from (inl e) = inl (inl (inl (inl (same-entry.0 (at-plan (λ m. SameEntry m a b) e)))))
-        clash-from (inr (inl e)) = inl (inl (inl (inr ((listed a b row its).0 (at-plan (λ m. Lists m a b) e)))))
-        clash-from (inr (inr (inl e))) = inl (inl (inr ((listed b a wanted_row other).0 (at-plan (λ m. Lists m b a) e))))
-        clash-from (inr (inr (inr h))) = inl (inr (h.0.0, (over-section h.0.0).0 (at-plan (λ m. LeadsOver m b h.0) h.2), (locked-section h.0.0).0 h.1))
+        clash-from (inl e) = inl (inl (inl (inl (same-entry.0 (at-site (λ m. SameEntry m a b) e)))))
+        clash-from (inr (inl e)) = inl (inl (inl (inr ((listed a b row its).0 (at-site (λ m. Lists m a b) e)))))
+        clash-from (inr (inr (inl e))) = inl (inl (inr ((listed b a wanted_row other).0 (at-site (λ m. Lists m b a) e))))
+        clash-from (inr (inr (inr h))) = inl (inr (h.0.0, (over-section h.0.0).0 (at-site (λ m. LeadsOver m b h.0) h.2), (locked-section h.0.0).0 h.1))
 
         reason-to : Reasons → Clashes locks a b ⊎ ((p : PointId) × HoldsAgainst locks a b p)
         reason-to (inl (inl (inl (inl e)))) = inl (inl (at-locks (λ m. SameEntry m a b) (same-entry.1 e)))

@@ -9,17 +9,17 @@ use Rattle.std.specs.FinSet.{contains, empty, insert}
 use Rattle.std.proofs.lemmas.Bool.{eqb-true, eq-eqb}
 use Rattle.std.proofs.lemmas.Bool.Decides.{Decides-at, Decides-or}
 use Rattle.std.proofs.lemmas.List.Elements.{All-contains, All-push, Contains-append_cases, Contains-get_or}
-use Rattle.sci_telegram.specs.declared.message.Side.{Side}
-use Rattle.sci_telegram.specs.declared.message.Side.TheVariants as side
-use Rattle.layout.specs.declared.ids.SectionId.{SectionId}
-use Rattle.layout.specs.declared.ids.PointId.{PointId}
-use Rattle.layout.specs.declared.ids.RouteId.{RouteId}
-use Rattle.layout.specs.Entries.{DetectorEntry, Plan, RouteEntry}
-use Rattle.layout.specs.Station.{HasPoint, HasSection, IsDetectorOf, IsRouteOf, IsStation}
-use Rattle.bit_row.specs.Places.{Has, Places}
-use Rattle.control_table.specs.Topology.{IsRoute}
-use Rattle.control_table.specs.Freeing.{Awaits}
-use Rattle.control_table.specs.Table.{AreRequired, AreSections, InLayoutOrder, LeadsOver, RouteRequires}
+use Rattle.ixl_rules.specs.sci_telegram.declared.message.Side.{Side}
+use Rattle.ixl_rules.specs.sci_telegram.declared.message.Side.TheVariants as side
+use Rattle.ixl_rules.specs.layout.declared.ids.SectionId.{SectionId}
+use Rattle.ixl_rules.specs.layout.declared.ids.PointId.{PointId}
+use Rattle.ixl_rules.specs.layout.declared.ids.RouteId.{RouteId}
+use Rattle.ixl_rules.specs.layout.Entries.{DetectorEntry, Site, RouteEntry}
+use Rattle.ixl_rules.specs.layout.Station.{HasPoint, HasSection, IsDetectorOf, IsRouteOf, IsStation}
+use Rattle.ixl_rules.specs.bit_row.Places.{Has, Places}
+use Rattle.ixl_rules.specs.control_table.Topology.{IsRoute}
+use Rattle.ixl_rules.specs.control_table.Freeing.{Awaits}
+use Rattle.ixl_rules.specs.control_table.Table.{AreRequired, AreSections, InLayoutOrder, LeadsOver, RouteRequires}
 use Rattle.ixl_rules.specs.Table.{Need, Row, Table}
 use Rattle.ixl_table.specs.Table.{AreNeededAt, IsHeldUntil, IsReportedIn, IsRowOf, IsRowThere, IsSetOf, IsTableOf, IsTableThere, as_point, as_route, as_section, required}
 use Rattle.ixl_table.specs.inside.Made.{AreNeedsOf, AreReportersUpTo, AreRowsUpTo, IsPastAwaited, IsPastLast, NoneReports}
@@ -75,10 +75,10 @@ set-grows xs i row new lt old is =
 
 -- ---- what a route requires
 
-pub needs-none : (l : Plan) (a : RouteId) (sections : List ℕ) → AreNeedsOf l a sections [] []
+pub needs-none : (l : Site) (a : RouteId) (sections : List ℕ) → AreNeedsOf l a sections [] []
 needs-none l a sections = record { points = refl; until = λ k d lt. absurd (omega (arith, lt)) }
 
-pub needs-more : (l : Plan) (a : RouteId) (sections : List ℕ) (asked : List (PointId × Side)) (needs : List Need) (i : ℕ) (one : PointId × Side) (need : Need)
+pub needs-more : (l : Site) (a : RouteId) (sections : List ℕ) (asked : List (PointId × Side)) (needs : List Need) (i : ℕ) (one : PointId × Side) (need : Need)
     → i < length asked → one ≡ get_or asked i one → (as_point need.point, need.side) ≡ one → IsPastAwaited l a sections (as_point need.point) need.until
     → AreNeedsOf l a sections (take i asked) needs → AreNeedsOf l a sections (take (suc i) asked) (needs ++ need ∷ [])
 needs-more l a sections asked needs i one need lt at is until old = record {
@@ -86,7 +86,7 @@ needs-more l a sections asked needs i one need lt at is until old = record {
   until = All-push (λ n. IsPastAwaited l a sections (as_point n.point) n.until) needs need old.until until;
 }
 
-pub needs-grow : (l : Plan) (a : RouteId) (sections : List ℕ) (asked : List (PointId × Side)) (needs : List Need) (i until : ℕ) (new : List Need)
+pub needs-grow : (l : Site) (a : RouteId) (sections : List ℕ) (asked : List (PointId × Side)) (needs : List Need) (i until : ℕ) (new : List Need)
     → i < length asked → IsPastAwaited l a sections (slice_index_or asked i (as_point 0, side.Right)).0 until
     → new ≡ needs ++ record { point = (slice_index_or asked i (as_point 0, side.Right)).0.0; side = (slice_index_or asked i (as_point 0, side.Right)).1; until = until } ∷ []
     → AreNeedsOf l a sections (take i asked) needs → AreNeedsOf l a sections (take (i + 1) asked) new
@@ -97,7 +97,7 @@ needs-grow l a sections asked needs i until new lt past is old =
     (needs-more l a sections asked needs i one (record { point = one.0.0; side = one.1; until = until }) lt (get_or-any asked i one (as_point 0, side.Right) lt) refl past old))
 
 -- a point is held until the last section that it awaits is freed
-pub held-until : (l : Plan) (a : RouteId) (sections : List ℕ) (need : Need)
+pub held-until : (l : Site) (a : RouteId) (sections : List ℕ) (need : Need)
     → ((s : SectionId) → Contains (map as_section sections) s ↔ LeadsOver l a s)
     → ((s : SectionId) × Awaits l a (as_point need.point) s × LeadsOver l a s)
     → IsPastAwaited l a sections (as_point need.point) need.until → IsHeldUntil l a sections need
@@ -120,14 +120,14 @@ held-until l a sections need leads some is =
 
 -- ---- the rows of a route
 
-pub sections-set : (l : Plan) (a : RouteId) (sections : List ℕ) (row : Places)
+pub sections-set : (l : Site) (a : RouteId) (sections : List ℕ) (row : Places)
     → ((s : SectionId) → Contains (map as_section sections) s ↔ LeadsOver l a s) → ((s : SectionId) → Has row s.0 ↔ LeadsOver l a s) → IsSetOf sections row
 sections-set l a sections row leads are n = (
   λ h. let c = contains-map as_section sections (as_section n) ((leads (as_section n)).1 ((are (as_section n)).0 h)) in subst (λ (m : ℕ). Contains sections m) (ap (λ (s : SectionId). s.0) c.2) c.1,
   λ c. (are (as_section n)).1 ((leads (as_section n)).0 (map-contains as_section sections n c)),
 )
 
-pub needed-at : (l : Plan) (a : RouteId) (needs : List Need) (side : Side) (row : Places)
+pub needed-at : (l : Site) (a : RouteId) (needs : List Need) (side : Side) (row : Places)
     → AreRequired l a (required needs) → ((p : PointId) → Has row p.0 ↔ RouteRequires l a p side) → AreNeededAt needs side row
 needed-at l a needs side row is are point = (
   λ h. (is.points (as_point point) side).1 ((are (as_point point)).0 h),
@@ -145,7 +145,7 @@ routes-there numbers ids count is all k d lt =
     All-contains (λ (s : RouteId). s.0 < count) ids (as_route (get_or numbers k d)) all
     (subst (λ (xs : List RouteId). Contains xs (as_route (get_or numbers k d))) is (map-contains as_route numbers (get_or numbers k d) (Contains-get_or numbers k d lt)))
 
-pub all-until : (l : Plan) (a : RouteId) (sections : List ℕ) (needs : List Need)
+pub all-until : (l : Site) (a : RouteId) (sections : List ℕ) (needs : List Need)
     → ((s : SectionId) → Contains (map as_section sections) s ↔ LeadsOver l a s)
     → ((p : PointId) (t : Side) → RouteRequires l a p t → (s : SectionId) × Awaits l a p s × LeadsOver l a s)
     → AreRequired l a (required needs) → AreNeedsOf l a sections (required needs) needs → All (IsHeldUntil l a sections) needs
@@ -157,22 +157,22 @@ all-until l a sections needs leads some are is k d lt =
 
 -- ---- rows and reporters, one after another
 
-pub rows-none : (l : Plan) → AreRowsUpTo l 0 []
+pub rows-none : (l : Site) → AreRowsUpTo l 0 []
 rows-none l = record { so_many = refl; their = λ number row e. absurd (none-some row e) }
 
-pub rows-more : (l : Plan) (count : ℕ) (rows : List Row) (row : Row) → AreRowsUpTo l count rows → IsRowOf l (as_route count) row → AreRowsUpTo l (suc count) (rows ++ row ∷ [])
+pub rows-more : (l : Site) (count : ℕ) (rows : List Row) (row : Row) → AreRowsUpTo l count rows → IsRowOf l (as_route count) row → AreRowsUpTo l (suc count) (rows ++ row ∷ [])
 rows-more l count rows row old is = record {
   so_many = length-last rows row ∙ ap suc old.so_many;
   their = λ number other e. ⊎_elim (λ before. old.their number other before) (λ here. subst (λ (n : ℕ). IsRowOf l (as_route n) other) (sym (here.0 ∙ old.so_many)) (subst (IsRowOf l (as_route count)) here.1 is)) (get-last rows row number other e);
 }
 
-pub rows-grow : (l : Plan) (count : ℕ) (rows : List Row) (row : Row) (new : List Row) → IsRowOf l (as_route count) row → new ≡ rows ++ row ∷ [] → AreRowsUpTo l count rows → AreRowsUpTo l (count + 1) new
+pub rows-grow : (l : Site) (count : ℕ) (rows : List Row) (row : Row) (new : List Row) → IsRowOf l (as_route count) row → new ≡ rows ++ row ∷ [] → AreRowsUpTo l count rows → AreRowsUpTo l (count + 1) new
 rows-grow l count rows row new is e old = subst (AreRowsUpTo l (count + 1)) (sym e) (subst (λ (n : ℕ). AreRowsUpTo l n (rows ++ row ∷ [])) (sym (add-one count)) (rows-more l count rows row old is))
 
-pub reporters-none : (l : Plan) → AreReportersUpTo l 0 []
+pub reporters-none : (l : Site) → AreReportersUpTo l 0 []
 reporters-none l = record { so_many = refl; their = λ section reporter e. absurd (none-some reporter e) }
 
-pub reporters-more : (l : Plan) (count : ℕ) (reporters : List (ℕ × ℕ)) (reporter : ℕ × ℕ) → AreReportersUpTo l count reporters → IsReportedIn l.detectors count reporter → AreReportersUpTo l (suc count) (reporters ++ reporter ∷ [])
+pub reporters-more : (l : Site) (count : ℕ) (reporters : List (ℕ × ℕ)) (reporter : ℕ × ℕ) → AreReportersUpTo l count reporters → IsReportedIn l.detectors count reporter → AreReportersUpTo l (suc count) (reporters ++ reporter ∷ [])
 reporters-more l count reporters reporter old is = record {
   so_many = length-last reporters reporter ∙ ap suc old.so_many;
   their = λ section other e. ⊎_elim (λ before. old.their section other before) (λ here. subst (λ (n : ℕ). IsReportedIn l.detectors n other) (sym (here.0 ∙ old.so_many)) (subst (IsReportedIn l.detectors count) here.1 is)) (get-last reporters reporter section other e);
@@ -191,7 +191,7 @@ none-reports-grows ds i section d its lt at is not none =
 pub none-reports-all : (ds : List DetectorEntry) (i section : ℕ) → length ds ≤ i → NoneReports (take i ds) section → NoneReports ds section
 none-reports-all ds i section le none = subst (λ (xs : List DetectorEntry). NoneReports xs section) (take_all i ds le) none
 
-pub reporters-grow : (l : Plan) (count : ℕ) (reporters : List (ℕ × ℕ)) (reporter : ℕ × ℕ) (new : List (ℕ × ℕ)) → IsReportedIn l.detectors count reporter → new ≡ reporters ++ reporter ∷ [] → AreReportersUpTo l count reporters → AreReportersUpTo l (count + 1) new
+pub reporters-grow : (l : Site) (count : ℕ) (reporters : List (ℕ × ℕ)) (reporter : ℕ × ℕ) (new : List (ℕ × ℕ)) → IsReportedIn l.detectors count reporter → new ≡ reporters ++ reporter ∷ [] → AreReportersUpTo l count reporters → AreReportersUpTo l (count + 1) new
 reporters-grow l count reporters reporter new is e old = subst (AreReportersUpTo l (count + 1)) (sym e) (subst (λ (n : ℕ). AreReportersUpTo l n (reporters ++ reporter ∷ [])) (sym (add-one count)) (reporters-more l count reporters reporter old is))
 
 -- each section of a station is reported
@@ -200,7 +200,7 @@ in-some [] s c = absurd (contains-none s c)
 in-some (d ∷ ds) s c =
     ⊎_elim (λ here. (0, d, refl, here)) (λ later. let h = in-some ds s later in (suc h.0, h.1, h.2, h.3)) (Contains-append_cases d.sections (flat_map (λ d. d.sections) ds) s c)
 
-pub some-reports : (l : Plan) → IsStation l → (section : ℕ) → section < length l.sections → NoneReports l.detectors section → ⊥
+pub some-reports : (l : Site) → IsStation l → (section : ℕ) → section < length l.sections → NoneReports l.detectors section → ⊥
 some-reports l station section lt none =
     let h = in-some l.detectors (as_section section) (station.reported.each (as_section section) lt) in
     none h.0 h.1 h.2 h.3
@@ -222,7 +222,7 @@ pub lists-mapped : {A C : Type 0} (f : A → List ℕ) (g : List ℕ → C) (xs 
 lists-mapped f g xs ys e = map-map f g xs ∙ e
 
 -- the approach of a route, as a row of bits
-pub approach-within : (l : Plan) → IsStation l → (a : RouteId) (r : RouteEntry) → IsRoute l a r → (numbers lent : List ℕ) → lent ≡ numbers → map as_section numbers ≡ r.approach → All (λ n. n < 64) lent
+pub approach-within : (l : Site) → IsStation l → (a : RouteId) (r : RouteEntry) → IsRoute l a r → (numbers lent : List ℕ) → lent ≡ numbers → map as_section numbers ≡ r.approach → All (λ n. n < 64) lent
 approach-within l station a r at numbers lent same is =
     let names = All-contains (IsRouteOf l) l.routes r station.routes (get-contains l.routes a.0 r at) in
     let few = station.limits.sections in
@@ -240,7 +240,7 @@ in-order least most (m ∷ ns) from below le order =
 
 -- ---- all that a table names is there
 
-module _ (l : Plan) (table : Table) (station : IsStation l) (is : IsTableOf l table)
+module _ (l : Site) (table : Table) (station : IsStation l) (is : IsTableOf l table)
     (few : (a : RouteId) (ss : List SectionId) → AreSections l a ss → (1 ≤ length ss) × (length ss ≤ 64) × All (HasSection l) ss)
     (points : (a : RouteId) (p : PointId) (s : Side) → RouteRequires l a p s → HasPoint l p) where
   row-there : (number : ℕ) (row : Row) → slice_get table.rows number ≡ Some row → IsRowThere l row

@@ -1,15 +1,15 @@
--- That what the rules read is the control table of a plan.
+-- That what the rules read is the control table of a site.
 use Rattle.std.specs.Prelude.{◌≡◌, ◌↔◌, ℕ, suc, ◌<◌, ◌≤◌, List, length, map, Some, slice_get}
 use Rattle.std.specs.List.{All, Contains}
-use Rattle.sci_telegram.specs.declared.message.Side.{Side}
-use Rattle.layout.specs.declared.ids.SectionId.{SectionId}
-use Rattle.layout.specs.declared.ids.PointId.{PointId}
-use Rattle.layout.specs.declared.ids.RouteId.{RouteId}
-use Rattle.layout.specs.Entries.{DetectorEntry, Plan, RouteEntry}
-use Rattle.bit_row.specs.Places.{Has, Places}
-use Rattle.control_table.specs.Topology.{IsRoute}
-use Rattle.control_table.specs.Freeing.{Awaits}
-use Rattle.control_table.specs.Table.{AreRequired, AreSections, HasAspect}
+use Rattle.ixl_rules.specs.sci_telegram.declared.message.Side.{Side}
+use Rattle.ixl_rules.specs.layout.declared.ids.SectionId.{SectionId}
+use Rattle.ixl_rules.specs.layout.declared.ids.PointId.{PointId}
+use Rattle.ixl_rules.specs.layout.declared.ids.RouteId.{RouteId}
+use Rattle.ixl_rules.specs.layout.Entries.{DetectorEntry, Site, RouteEntry}
+use Rattle.ixl_rules.specs.bit_row.Places.{Has, Places}
+use Rattle.ixl_rules.specs.control_table.Topology.{IsRoute}
+use Rattle.ixl_rules.specs.control_table.Freeing.{Awaits}
+use Rattle.ixl_rules.specs.control_table.Table.{AreRequired, AreSections, HasAspect}
 use Rattle.ixl_rules.specs.Table.{Need, Row, Table}
 
 -- ---- numbers and what they name
@@ -30,7 +30,7 @@ required needs = map (λ need. (as_point need.point, need.side)) needs
 -- ---- one route
 
 -- A route holds a point until the last section of its path that the point awaits is freed, and all before it.
-pub record IsHeldUntil (l : Plan) (a : RouteId) (sections : List ℕ) (need : Need) : Type 0 where
+pub record IsHeldUntil (l : Site) (a : RouteId) (sections : List ℕ) (need : Need) : Type 0 where
   pub place : ℕ
   pub section : ℕ
   pub stands : slice_get sections place ≡ Some section
@@ -40,7 +40,7 @@ pub record IsHeldUntil (l : Plan) (a : RouteId) (sections : List ℕ) (need : Ne
 
 -- A row is that of a route: it has the entry signal, the approach and the extra conflicts that the layout writes, the
 -- aspect at which the route is passed, its sections in path order, and the points that it requires in layout order.
-pub record IsRowOf (l : Plan) (a : RouteId) (row : Row) : Type 0 where
+pub record IsRowOf (l : Site) (a : RouteId) (row : Row) : Type 0 where
   pub written : RouteEntry
   pub is_route : IsRoute l a written
   pub entry : row.entry ≡ written.entry.0
@@ -58,32 +58,32 @@ abbrev pub IsReportedIn : List DetectorEntry → ℕ → ℕ × ℕ → Type 0
 IsReportedIn detectors section reporter = (detector : DetectorEntry) × (slice_get detectors reporter.0 ≡ Some detector) × (slice_get detector.sections reporter.1 ≡ Some (as_section section))
 
 -- A row for each route, in their order.
-pub record AreRows (l : Plan) (rows : List Row) : Type 0 where
+pub record AreRows (l : Site) (rows : List Row) : Type 0 where
   pub each : length rows ≡ length l.routes
   pub their : (number : ℕ) (row : Row) → slice_get rows number ≡ Some row → IsRowOf l (as_route number) row
 
 -- Each section with the place at which it is reported.
-pub record AreReporters (l : Plan) (reporters : List (ℕ × ℕ)) : Type 0 where
+pub record AreReporters (l : Site) (reporters : List (ℕ × ℕ)) : Type 0 where
   pub each : length reporters ≡ length l.sections
   pub their : (section : ℕ) (reporter : ℕ × ℕ) → slice_get reporters section ≡ Some reporter → IsReportedIn l.detectors section reporter
 
--- A table is that of a plan: a row for each route, in their order, the section of each point, the place at which each
+-- A table is that of a site: a row for each route, in their order, the section of each point, the place at which each
 -- section is reported, and the sections of each detector.
-pub record IsTableOf (l : Plan) (table : Table) : Type 0 where
+pub record IsTableOf (l : Site) (table : Table) : Type 0 where
   pub rows : AreRows l table.rows
   pub point_sections : map as_section table.point_sections ≡ map (λ point. point.section) l.points
   pub reporters : AreReporters l table.reporters
   pub detectors : map (λ sections. map as_section sections) table.detectors ≡ map (λ detector. detector.sections) l.detectors
 
--- The control table of a plan, as the rules read it.
-pub record PlannedTable : Type 0 where
-  pub plan : Plan
+-- The control table of a site, as the rules read it.
+pub record SitedTable : Type 0 where
+  pub site : Site
   pub table : Table
 
 -- ---- limits
 
 -- All that a row names is there, and it leads over 1 to 64 sections. A point is held until one of them is freed.
-pub record IsRowThere (l : Plan) (row : Row) : Type 0 where
+pub record IsRowThere (l : Site) (row : Row) : Type 0 where
   pub entry : row.entry < length l.signals
   pub some : 1 ≤ length row.sections
   pub few : length row.sections ≤ 64
@@ -96,7 +96,7 @@ pub record IsRowThere (l : Plan) (row : Row) : Type 0 where
   pub extra : All (λ route. route < length l.routes) row.extra
 
 -- All that a table names is there.
-pub record IsTableThere (l : Plan) (table : Table) : Type 0 where
+pub record IsTableThere (l : Site) (table : Table) : Type 0 where
   pub rows : (number : ℕ) (row : Row) → slice_get table.rows number ≡ Some row → IsRowThere l row
   pub each_point : length table.point_sections ≡ length l.points
   pub point_sections : All (λ section. section < length l.sections) table.point_sections

@@ -1,15 +1,15 @@
 //! The points that a route requires.
 
 ghost use Rattle.std.specs.Prelude.{◌≡◌, ◌<◌, IfOk, length};
-ghost use Rattle.bit_row.specs.Places.{Has};
-ghost use Rattle.control_table.specs.Table.{AreRequired};
+ghost use Rattle.ixl_rules.specs.bit_row.Places.{Has};
+ghost use Rattle.ixl_rules.specs.control_table.Table.{AreRequired};
 ghost use Rattle.ixl_table.specs.inside.Made.{AreNeedsOf, IsPastAwaited, IsPastLast};
 ghost use Rattle.ixl_table.specs.Table.{required};
 
-use bit_row::BitRow;
-use control_table::Checked;
-use layout::{PointId, RouteId};
-use sci_telegram::Side;
+use ixl_rules::bit_row::BitRow;
+use ixl_rules::control_table::Checked;
+use ixl_rules::layout::{PointId, RouteId};
+use ixl_rules::sci_telegram::Side;
 use std::alloc::{AllocError, Global};
 use std::marker::Model;
 

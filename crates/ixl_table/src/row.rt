@@ -2,16 +2,16 @@
 
 ghost use Rattle.std.specs.Prelude.{◌≡◌, ◌<◌, IfOk, length, map};
 ghost use Rattle.std.specs.List.{All};
-ghost use Rattle.sci_telegram.specs.declared.message.Side.TheVariants as at;
+ghost use Rattle.ixl_rules.specs.sci_telegram.declared.message.Side.TheVariants as at;
 ghost use Rattle.ixl_table.specs.Table.{AreNeededAt, IsRowOf, IsSetOf, as_route, as_section};
 
 use crate::need::{Need, needs_of};
-use bit_row::BitRow;
-use control_table::{
+use ixl_rules::bit_row::BitRow;
+use ixl_rules::control_table::{
     Checked, a_route_leads_over_its_sections_alone, required_points_await_a_section_of_the_route,
 };
-use layout::{RouteId, SectionId};
-use sci_telegram::Aspect;
+use ixl_rules::layout::{RouteId, SectionId};
+use ixl_rules::sci_telegram::Aspect;
 use std::alloc::{AllocError, Global};
 use std::marker::Model;
 

@@ -1,21 +1,21 @@
 //! The table of a station.
 
 ghost use Rattle.std.specs.Prelude.{◌≡◌, ◌<◌, IfOk, Some, length, slice_get};
-ghost use Rattle.layout.specs.Once.{Once};
-ghost use Rattle.layout.specs.Station.{IsStation};
-ghost use Rattle.control_table.specs.Table.{Sound};
+ghost use Rattle.ixl_rules.specs.layout.Once.{Once};
+ghost use Rattle.ixl_rules.specs.layout.Station.{IsStation};
+ghost use Rattle.ixl_rules.specs.control_table.Table.{Sound};
 ghost use Rattle.ixl_table.specs.Table.{AreRows, IsTableOf, IsTableThere};
 
 use crate::reporters::{reported_by, reporters_of, sections_of};
 use crate::row::{Row, row_of};
-use control_table::{
+use ixl_rules::control_table::{
     Checked, a_route_leads_over_sections_that_are_there, required_points_are_there,
 };
-use layout::RouteId;
+use ixl_rules::layout::RouteId;
 use std::alloc::{AllocError, Global};
 use std::marker::Model;
 
-/// The control table of a station, and its plan.
+/// The control table of a station, and its site.
 #[derive(Debug, Drop)]
 pub struct Table {
     checked: Checked,
@@ -27,13 +27,13 @@ pub struct Table {
 
 impl Model for Table {
     ghost use Rattle.std.specs.Prelude.{map};
-    ghost use Rattle.ixl_table.specs.Table.{PlannedTable};
+    ghost use Rattle.ixl_table.specs.Table.{SitedTable};
     ghost use Rattle.ixl_table.specs.inside.Made.{IsKept};
 
-    ghost Value = { PlannedTable };
+    ghost Value = { SitedTable };
 
     ghost view = { λ t. record {
-      plan = t.checked;
+      site = t.checked;
       table = record {
         rows = t.rows.items;
         point_sections = t.point_sections.items;
@@ -73,8 +73,8 @@ fn rows_of(alloc: Global, table: &Checked) -> Result<Vec<Row>, AllocError>
 impl Table {
     /// The table that was checked, as the rules read it.
     pub fn new(alloc: Global, checked: Checked) -> Result<Table, AllocError>
-        ensures plan { IfOk result (λ t. t.plan ≡ checked) }
-        ensures table { IfOk result (λ t. IsTableOf t.plan t.table) }
+        ensures site { IfOk result (λ t. t.site ≡ checked) }
+        ensures table { IfOk result (λ t. IsTableOf t.site t.table) }
     {
         facts_of(&checked);
         let rows = rows_of(alloc, &checked)?;
@@ -93,12 +93,12 @@ impl Table {
 
     /// The table that was checked, which lends the layout. What the rules read is its table, and all that it names is there.
     pub fn checked(&self) -> &Checked
-        ensures plan { result.now ≡ self.now.plan }
-        ensures table { IsTableOf self.now.plan self.now.table }
-        ensures there { IsTableThere self.now.plan self.now.table }
-        ensures sound { Sound self.now.plan }
-        ensures once { Once self.now.plan }
-        ensures station { IsStation self.now.plan }
+        ensures site { result.now ≡ self.now.site }
+        ensures table { IsTableOf self.now.site self.now.table }
+        ensures there { IsTableThere self.now.site self.now.table }
+        ensures sound { Sound self.now.site }
+        ensures once { Once self.now.site }
+        ensures station { IsStation self.now.site }
     {
         a_route_leads_over_sections_that_are_there();
         required_points_are_there();

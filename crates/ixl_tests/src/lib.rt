@@ -1,16 +1,25 @@
-//! Tests of how an interlocking is made, and made anew, also where memory is lacking once, of what it says of datagrams, and of
-//! its parts: rows of bits, the table, locks and release.
+//! Tests of the interlocking's parts, of the client through the controllers that answer it, and of changed layouts.
 #![tactic(auto)]
 
 #[cfg(test)]
+mod bench;
+#[cfg(test)]
 mod bits;
 #[cfg(test)]
-mod locks;
+mod changes;
 #[cfg(test)]
-mod making;
+mod commands;
+#[cfg(test)]
+mod initialisation;
+#[cfg(test)]
+mod interlockings_made;
+#[cfg(test)]
+mod locks;
 #[cfg(test)]
 mod releases;
 #[cfg(test)]
 mod rows;
+#[cfg(test)]
+mod texts;
 #[cfg(test)]
 mod verdicts;

@@ -1,9 +1,9 @@
 //! Two routes that need one point at different sides, and a third that holds it too.
 
-use control_table::check;
-use layout::{Layout, PointId, RouteId};
+use ixl_state::control_table::check;
+use ixl_state::layout::{Layout, PointId, RouteId};
+use ixl_state::sci_telegram::Side;
 use route_lock::{LockFault, Locks};
-use sci_telegram::Side;
 use std::test::Fail;
 
 /// Q lies between the unused legs of P1 and P2. Route a needs it right, b left, and d leads over it to the right.

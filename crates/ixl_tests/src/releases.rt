@@ -1,6 +1,6 @@
 //! A train on a route of two sections, and the approach time to the millisecond.
 
-use release::{APPROACH_TIME, Approach, Passage};
+use ixl_state::release::{APPROACH_TIME, Approach, Passage};
 
 #[test]
 fn a_section_is_let_go_when_the_train_has_left_it_for_the_next(rt: HostRuntime) {

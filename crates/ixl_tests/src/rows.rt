@@ -1,9 +1,9 @@
 //! The table of three routes, of which two need one flank point at different sides.
 
-use control_table::check;
-use ixl_table::{Row, Table};
-use layout::Layout;
-use sci_telegram::Side;
+use ixl_state::control_table::check;
+use ixl_state::ixl_table::{Row, Table};
+use ixl_state::layout::Layout;
+use ixl_state::sci_telegram::Side;
 use std::alloc::Global;
 use std::test::Fail;
 

@@ -1,11 +1,11 @@
 //! What an interlocking says of datagrams that it refuses, and what they leave.
 
-use crate::making::{MADE_AT, OPENED_AT, interlocking};
+use crate::interlockings_made::{MADE_AT, OPENED_AT, interlocking};
 use ixl::{Input, Interlocking, Reply};
-use layout::{RouteId, SignalId};
+use ixl_state::layout::{RouteId, SignalId};
+use ixl_state::rasta_core::{Millis, Verdict};
+use ixl_state::rasta_pdu::{Body, Datagram, Key, Pdu, PduFault, read, write};
 use md4::STANDARD;
-use rasta_core::{Millis, Verdict};
-use rasta_pdu::{Body, Datagram, Key, Pdu, PduFault, read, write};
 use std::process::Abort;
 use std::test::Fail;
 

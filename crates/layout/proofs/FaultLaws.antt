@@ -10,14 +10,14 @@ use Rattle.layout_text.specs.declared.fault.TableName.{TableName}
 use Rattle.layout_text.specs.declared.fault.TableName.TheVariants as named
 use Rattle.layout.specs.declared.known.Double.{Double}
 use Rattle.layout.specs.declared.known.Double.TheVariants as double
-use Rattle.layout.specs.Entries.{Plan}
+use Rattle.layout.specs.Entries.{Site}
 use Rattle.layout_text.specs.Written.{LayoutText}
 use Rattle.layout_text.specs.Reading.{◌>>=◌, Fails, Gives}
 use Rattle.layout_text.specs.Text.{text_of, document_of}
 use Rattle.layout_text.specs.Limits.{limits_of, all_within}
 use Rattle.layout.specs.Known.{same_name, same_port, double_fault, note_key, note_each, note_all, note_lists}
 use Rattle.layout.specs.Doubles.{same_id, sections_reported, ports_joined, ground_of, directory_of, ids_of, reported_of, joined_of, signalled_of}
-use Rattle.layout.specs.Resolving.{section_reported, plan_of, names_of, entries_of, ports_once, layout_of, layout_in}
+use Rattle.layout.specs.Resolving.{section_reported, site_of, names_of, entries_of, ports_once, layout_of, layout_in}
 use Rattle.layout.specs.Faults.{numbered, all_at, listed, names_written, ids_written, sections_written, joints_written, signals_written, NoneTwice, IsFirstTwice, IsDoubleName, HasNothingTwice, IsDoubleJoint, written_in, IsFaultOf, IsFirstFault}
 use Rattle.layout.proofs.ReportedOnce.{look-key}
 use Rattle.layout.proofs.OnceLemmas.{came_from, read_as, same_ok, was_false, Apart, key_once, nothing_twice}
@@ -188,15 +188,15 @@ reported-pairs : (text : LayoutText) → reported_of text.detectors ≡ note_pai
 unfolding reported_of
 reported-pairs text = lists-pairs same_name double.Name sections_reported named.Detector 1 text.detectors []
 
-joined-pairs : (l : Plan) → joined_of l.joints ≡ note_pairs same_port double.Joint (joints_written l) []
+joined-pairs : (l : Site) → joined_of l.joints ≡ note_pairs same_port double.Joint (joints_written l) []
 unfolding joined_of
 joined-pairs l = lists-pairs same_port double.Joint ports_joined named.Joint 1 l.joints []
 
-signalled-pairs : (l : Plan) → signalled_of l.signals ≡ note_pairs same_port double.Joint (signals_written l) []
+signalled-pairs : (l : Site) → signalled_of l.signals ≡ note_pairs same_port double.Joint (signals_written l) []
 unfolding signalled_of
 signalled-pairs l = each-pairs same_port double.Joint named.Signal 1 (map (λ s. s.at) l.signals) []
 
-joint-fault : (l : Plan) (f : LayoutFault) → ports_once l ≡ Err f → IsDoubleJoint l f
+joint-fault : (l : Site) (f : LayoutFault) → ports_once l ≡ Err f → IsDoubleJoint l f
 unfolding ports_once
 joint-fault l f h =
     ⊎_elim
@@ -249,15 +249,15 @@ module _ (text : LayoutText) (f : LayoutFault) where
       inr (fine.0, inl (is.0, is.1, inr (fine.1, inr (fine.2, is.2)))))
       (λ r. let sections = all-once same_name double.Name (sections_written text) r.0 (sym (reported-pairs text) ∙ r.1) in
       inr (fine.0, inr (record { names = fine.1; ids = fine.2; sections = sections }, inl h)))
-      (failed_at (reported_of text.detectors) (λ reported. plan_of n.0 text >>= λ plan. all_within (section_reported reported) named.Section plan.sections >>= λ _. Ok plan) f n.2))
-      (failed_at (names_of text) (λ directory. reported_of text.detectors >>= λ reported. plan_of directory text >>= λ plan. all_within (section_reported reported) named.Section plan.sections >>= λ _. Ok plan) f h)
+      (failed_at (reported_of text.detectors) (λ reported. site_of n.0 text >>= λ site. all_within (section_reported reported) named.Section site.sections >>= λ _. Ok site) f n.2))
+      (failed_at (names_of text) (λ directory. reported_of text.detectors >>= λ reported. site_of directory text >>= λ site. all_within (section_reported reported) named.Section site.sections >>= λ _. Ok site) f h)
 
-  entries-fine : (l : Plan) → entries_of text ≡ Ok l → (limits_of text ≡ Ok tt) × HasNothingTwice text
+  entries-fine : (l : Site) → entries_of text ≡ Ok l → (limits_of text ≡ Ok tt) × HasNothingTwice text
   unfolding entries_of
   entries-fine l h =
-      let names = came_from (names_of text) (λ directory. reported_of text.detectors >>= λ reported. plan_of directory text >>= λ plan. all_within (section_reported reported) named.Section plan.sections >>= λ _. Ok plan) l h in
+      let names = came_from (names_of text) (λ directory. reported_of text.detectors >>= λ reported. site_of directory text >>= λ site. all_within (section_reported reported) named.Section site.sections >>= λ _. Ok site) l h in
       let fine = names-fine names.0 names.1 in
-      let reported = came_from (reported_of text.detectors) (λ reported. plan_of names.0 text >>= λ plan. all_within (section_reported reported) named.Section plan.sections >>= λ _. Ok plan) l names.2 in
+      let reported = came_from (reported_of text.detectors) (λ reported. site_of names.0 text >>= λ site. all_within (section_reported reported) named.Section site.sections >>= λ _. Ok site) l names.2 in
       (fine.0, record { names = fine.1; ids = fine.2; sections = all-once same_name double.Name (sections_written text) reported.0 (sym (reported-pairs text) ∙ reported.1) })
 
   text-fault : entries_of text >>= (λ l. ports_once l >>= λ _. Ok l) ≡ Err f → IsFaultOf text f
@@ -274,7 +274,7 @@ module _ (text : LayoutText) (f : LayoutFault) where
 layout-fault : (text : List ℕ) (f : LayoutFault) → layout_in text ≡ Err f → (written_in text ≡ Err f) ⊎ ((w : LayoutText) × (written_in text ≡ Ok w) × IsFaultOf w f)
 unfolding layout_in layout_of
 layout-fault text f h =
-    let G : LayoutText → Result Plan LayoutFault = λ w. entries_of w >>= λ l. ports_once l >>= λ _. Ok l in
+    let G : LayoutText → Result Site LayoutFault = λ w. entries_of w >>= λ l. ports_once l >>= λ _. Ok l in
     let flat = bind_assoc (document_of (parse_document text)) (λ document. text_of document) G in
     ⊎_elim (λ e. inl e) (λ w. inr (w.0, w.1, text-fault w.0 f w.2)) (failed_at (written_in text) G f (flat ∙ h))
 
@@ -289,6 +289,6 @@ first-fault text (DoubleJoint p) h = layout-fault text (DoubleJoint p) h
 first-fault text (Limit p) h = layout-fault text (Limit p) h
 
 -- of what was answered
-pub told-first : (text : List ℕ) (answer : Result Plan LayoutFault) → Gives (λ l. l) answer (layout_in text) → IfErr answer (IsFirstFault text)
+pub told-first : (text : List ℕ) (answer : Result Site LayoutFault) → Gives (λ l. l) answer (layout_in text) → IfErr answer (IsFirstFault text)
 told-first text (Ok l) h = tt
 told-first text (Err f) h = first-fault text f h

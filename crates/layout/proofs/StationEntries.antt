@@ -27,7 +27,7 @@ use Rattle.layout_text.specs.declared.entries.WrittenTrack.{WrittenTrack}
 use Rattle.layout_text.specs.declared.entries.WrittenPoint.{WrittenPoint}
 use Rattle.layout_text.specs.declared.entries.WrittenJoint.{WrittenJoint}
 use Rattle.layout_text.specs.declared.entries.WrittenSignal.{WrittenSignal}
-use Rattle.layout.specs.Entries.{DetectorEntry, RouteEntry, Plan}
+use Rattle.layout.specs.Entries.{DetectorEntry, RouteEntry, Site}
 use Rattle.layout_text.specs.Written.{DetectorText, RouteText, LayoutText}
 use Rattle.layout_text.specs.Reading.{all_of}
 use Rattle.layout.specs.Resolving.{element_of, exit_of, has_port, entry_named, number_named, section_named, signal_named, route_named, side_named, exit_named, element_named, port_named, track_named, point_named, joint_named, signal_entry, detector_entry, route_entry}
@@ -37,7 +37,7 @@ use Rattle.layout.proofs.Steps.{passed, all-all, all-length}
 use Rattle.layout.proofs.Directory.{names_under, IsPlaced, number-is, entry-is, entry-within}
 
 -- A layout has as many entries in each table as its text.
-pub record IsAsLong (text : LayoutText) (l : Plan) : Type 0 where
+pub record IsAsLong (text : LayoutText) (l : Site) : Type 0 where
   pub sections : length (names_under text named.Section) ≡ length l.sections
   pub tracks : length (names_under text named.Track) ≡ length l.tracks
   pub points : length (names_under text named.Point) ≡ length l.points
@@ -54,7 +54,7 @@ found_or (Some x) f e y h = (x, refl, some_of (f x) e y h)
     some_of None e y h = search rules
     some_of (Some z) e y h = ap Some (same_ok z y h)
 
-module _ (text : LayoutText) (directory : List (List ℕ × Place)) (placed : All (IsPlaced text) directory) (l : Plan) (long : IsAsLong text l) (place : Place) where
+module _ (text : LayoutText) (directory : List (List ℕ × Place)) (placed : All (IsPlaced text) directory) (l : Site) (long : IsAsLong text l) (place : Place) where
   number-within : (table : TableName) (name : List ℕ) (n : ℕ) → number_named directory place table name ≡ Ok n → n < length (names_under text table)
   number-within table name n h = entry-within text table name n (number-is text directory placed place table name n h)
 

@@ -20,7 +20,7 @@ use Rattle.layout_text.specs.Text.{key_place, name_field, id_field, port_field, 
 use Rattle.layout.specs.Station.{IsNodeId}
 use Rattle.layout.proofs.OnceLemmas.{came_from, same_ok}
 use Rattle.layout.proofs.Steps.{le-decides, passed, each-all}
-use Rattle.layout.proofs.OncePlan.{ids_in}
+use Rattle.layout.proofs.OnceSite.{ids_in}
 
 goes-on : Aspect → Bool
 goes-on Stop = false

@@ -20,7 +20,7 @@ use Rattle.layout_text.specs.Text.{key_place, name_field, id_field, port_field, 
 use Rattle.layout.proofs.OnceLemmas.{came_from, same_ok}
 use Rattle.layout.proofs.Steps.{le-decides, passed}
 use Rattle.layout.proofs.TextIds.{entries-node}
-use Rattle.layout.proofs.OncePlan.{names_in}
+use Rattle.layout.proofs.OnceSite.{names_in}
 
 -- a text that passes the test for a name
 name-passed : (text : List ℕ) → is_name text ≡ true → IsName text

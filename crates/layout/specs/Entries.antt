@@ -35,7 +35,7 @@ pub record RouteEntry : Type 0 where
   pub aspect : Aspect
 
 -- A whole layout. An entry is named by its place in its list, counted from 0.
-pub record Plan : Type 0 where
+pub record Site : Type 0 where
   pub station : Station
   pub sections : List (List ℕ)
   pub tracks : List Track

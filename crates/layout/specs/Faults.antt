@@ -8,7 +8,7 @@ use Rattle.layout_text.specs.declared.fault.Place.{Place}
 use Rattle.layout_text.specs.declared.fault.TableName.{TableName}
 use Rattle.layout_text.specs.declared.fault.TableName.TheVariants as named
 use Rattle.layout.specs.declared.port.Port.{Port}
-use Rattle.layout.specs.Entries.{Plan}
+use Rattle.layout.specs.Entries.{Site}
 use Rattle.layout_text.specs.Written.{LayoutText}
 use Rattle.layout_text.specs.Reading.{Read, ◌>>=◌}
 use Rattle.layout_text.specs.Text.{text_of, document_of}
@@ -51,10 +51,10 @@ abbrev pub sections_written : LayoutText → List (List ℕ × Place)
 sections_written text = listed sections_reported named.Detector 1 text.detectors
 
 -- the ports that are joined, and those at which signals stand
-abbrev pub joints_written : Plan → List (Port × Place)
+abbrev pub joints_written : Site → List (Port × Place)
 joints_written l = listed ports_joined named.Joint 1 l.joints
 
-abbrev pub signals_written : Plan → List (Port × Place)
+abbrev pub signals_written : Site → List (Port × Place)
 signals_written l = numbered named.Signal 1 (map (λ s. s.at) l.signals)
 
 -- ---- a key that comes again
@@ -86,7 +86,7 @@ pub record HasNothingTwice (text : LayoutText) : Type 0 where
   pub sections : NoneTwice same_name (sections_written text)
 
 -- A port is joined twice; or else two signals stand at one port. The fault is at the later one.
-abbrev pub IsDoubleJoint : Plan → LayoutFault → Type 0
+abbrev pub IsDoubleJoint : Site → LayoutFault → Type 0
 IsDoubleJoint l f = (place : Place) × (f ≡ DoubleJoint place)
     × (IsFirstTwice same_port (joints_written l) place ⊎ (NoneTwice same_port (joints_written l) × IsFirstTwice same_port (signals_written l) place))
 
@@ -100,7 +100,7 @@ abbrev pub IsFaultOf : LayoutText → LayoutFault → Type 0
 IsFaultOf text f = (limits_of text ≡ Err f)
     ⊎ ((limits_of text ≡ Ok tt) × (IsDoubleName text f
     ⊎ (HasNothingTwice text × ((entries_of text ≡ Err f)
-    ⊎ ((l : Plan) × (entries_of text ≡ Ok l) × IsDoubleJoint l f)))))
+    ⊎ ((l : Site) × (entries_of text ≡ Ok l) × IsDoubleJoint l f)))))
 
 -- A fault is the first of a text: it is no TOML, or a key is missing or of a wrong kind; or else it is that of what the
 -- text writes. Nothing is said of want of memory.

@@ -5,3 +5,5 @@ pub mod Resolving
 pub mod Once
 pub mod Station
 pub mod Faults
+pub mod TooMany
+pub mod Unknown

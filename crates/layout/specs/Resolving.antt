@@ -28,7 +28,7 @@ use Rattle.layout_text.specs.declared.entries.WrittenTrack.{WrittenTrack}
 use Rattle.layout_text.specs.declared.entries.WrittenPoint.{WrittenPoint}
 use Rattle.layout_text.specs.declared.entries.WrittenJoint.{WrittenJoint}
 use Rattle.layout_text.specs.declared.entries.WrittenSignal.{WrittenSignal}
-use Rattle.layout.specs.Entries.{DetectorEntry, RouteEntry, Plan}
+use Rattle.layout.specs.Entries.{DetectorEntry, RouteEntry, Site}
 use Rattle.layout_text.specs.Written.{DetectorText, RouteText, LayoutText}
 use Rattle.layout_text.specs.Reading.{Read, ◌>>=◌, each_of, all_of}
 use Rattle.layout.specs.Known.{same_name}
@@ -142,8 +142,8 @@ abbrev pub section_reported : List (List ℕ × Place) → Place → List ℕ �
 section_reported reported place name = if is_some (lookup (same_name name) reported) then Ok tt else Err (UnknownName place)
 
 -- the entries of a text, with names resolved in reading order
-unfoldable pub plan_of : List (List ℕ × Place) → LayoutText → Read Plan
-plan_of directory text = do
+unfoldable pub site_of : List (List ℕ × Place) → LayoutText → Read Site
+site_of directory text = do
   tracks ← each_of (track_named directory) named.Track 1 text.tracks
   points ← each_of (point_named directory) named.Point 1 text.points
   joints ← each_of (joint_named directory) named.Joint 1 text.joints
@@ -161,30 +161,30 @@ names_of text = do
   Ok directory
 
 -- Every name is there, and every section reported, by one detector.
-unfoldable pub entries_of : LayoutText → Read Plan
+unfoldable pub entries_of : LayoutText → Read Site
 entries_of text = do
   directory ← names_of text
   reported ← reported_of text.detectors
-  plan ← plan_of directory text
-  sections ← all_within (section_reported reported) named.Section plan.sections
-  Ok plan
+  site ← site_of directory text
+  sections ← all_within (section_reported reported) named.Section site.sections
+  Ok site
 
 -- No port is joined twice, and no two signals stand at one.
-unfoldable pub ports_once : Plan → Read (Unit {0})
-ports_once plan = do
-  joined ← joined_of plan.joints
-  signalled ← signalled_of plan.signals
+unfoldable pub ports_once : Site → Read (Unit {0})
+ports_once site = do
+  joined ← joined_of site.joints
+  signalled ← signalled_of site.signals
   Ok tt
 
 -- The layout that a document is, or its first fault: missing keys and wrong kinds in reading order, limits, names
 -- and identities used twice, unknown names, ports used twice.
-unfoldable pub layout_of : Members → Read Plan
+unfoldable pub layout_of : Members → Read Site
 layout_of document = do
   text ← text_of document
-  plan ← entries_of text
-  ports ← ports_once plan
-  Ok plan
+  site ← entries_of text
+  ports ← ports_once site
+  Ok site
 
 -- the layout that a text is
-unfoldable pub layout_in : List ℕ → Read Plan
+unfoldable pub layout_in : List ℕ → Read Site
 layout_in text = document_of (parse_document text) >>= λ document. layout_of document

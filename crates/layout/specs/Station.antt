@@ -12,39 +12,39 @@ use Rattle.layout.specs.declared.port.Element.{Element}
 use Rattle.layout.specs.declared.port.Element.TheVariants as element
 use Rattle.layout.specs.declared.entries.Exit.{Exit}
 use Rattle.layout.specs.declared.entries.Exit.TheVariants as exit
-use Rattle.layout.specs.Entries.{DetectorEntry, RouteEntry, Plan}
+use Rattle.layout.specs.Entries.{DetectorEntry, RouteEntry, Site}
 use Rattle.layout.specs.Once.{Distinct, all_ids, all_names}
 use Rattle.layout.specs.Resolving.{has_port}
 
 -- An entry that is named is there: its place lies within its list.
-abbrev pub HasSection : Plan → SectionId → Type 0
+abbrev pub HasSection : Site → SectionId → Type 0
 HasSection l s = s.0 < length l.sections
 
-abbrev pub HasPoint : Plan → PointId → Type 0
+abbrev pub HasPoint : Site → PointId → Type 0
 HasPoint l p = p.0 < length l.points
 
-abbrev pub HasSignal : Plan → SignalId → Type 0
+abbrev pub HasSignal : Site → SignalId → Type 0
 HasSignal l s = s.0 < length l.signals
 
-abbrev pub HasRoute : Plan → RouteId → Type 0
+abbrev pub HasRoute : Site → RouteId → Type 0
 HasRoute l r = r.0 < length l.routes
 
-abbrev pub HasElement : Plan → Element → Type 0
+abbrev pub HasElement : Site → Element → Type 0
 HasElement l (element.Track t) = t.0 < length l.tracks
 HasElement l (element.Point p) = HasPoint l p
 HasElement l (element.Border b) = b.0 < length l.borders
 
-abbrev pub HasExit : Plan → Exit → Type 0
+abbrev pub HasExit : Site → Exit → Type 0
 HasExit l (exit.Signal s) = HasSignal l s
 HasExit l (exit.Border b) = b.0 < length l.borders
 
 -- A port is there: its element is, and has this port.
-pub record HasPort (l : Plan) (p : Port) : Type 0 where
+pub record HasPort (l : Site) (p : Port) : Type 0 where
   pub element : HasElement l p.element
   pub end : IsTrue (has_port p.element p.end)
 
 -- A route names only what is there, its path has at most 64 elements, and its aspect isn't stop.
-pub record IsRouteOf (l : Plan) (r : RouteEntry) : Type 0 where
+pub record IsRouteOf (l : Site) (r : RouteEntry) : Type 0 where
   pub entry : HasSignal l r.entry
   pub exit : HasExit l r.exit
   pub path : All (HasPort l) r.path
@@ -56,13 +56,13 @@ pub record IsRouteOf (l : Plan) (r : RouteEntry) : Type 0 where
   pub aspect : r.aspect ≢ Stop
 
 -- A detection controller reports 1 to 16 sections, all of which are there.
-pub record IsDetectorOf (l : Plan) (d : DetectorEntry) : Type 0 where
+pub record IsDetectorOf (l : Site) (d : DetectorEntry) : Type 0 where
   pub sections : All (HasSection l) d.sections
   pub some : 1 ≤ length d.sections
   pub few : length d.sections ≤ 16
 
 -- How many entries there are at most.
-pub record IsWithinLimits (l : Plan) : Type 0 where
+pub record IsWithinLimits (l : Site) : Type 0 where
   pub sections : length l.sections ≤ 64
   pub tracks : length l.tracks ≤ 128
   pub points : length l.points ≤ 32
@@ -72,11 +72,11 @@ pub record IsWithinLimits (l : Plan) : Type 0 where
   pub routes : length l.routes ≤ 64
 
 -- The sections of all detection controllers, one list after the other.
-abbrev pub reported_sections : Plan → List SectionId
+abbrev pub reported_sections : Site → List SectionId
 reported_sections l = flat_map (λ d. d.sections) l.detectors
 
 -- Each section is reported by one detection controller, and stands once in its list.
-pub record ReportsEachOnce (l : Plan) : Type 0 where
+pub record ReportsEachOnce (l : Site) : Type 0 where
   pub each : (s : SectionId) → HasSection l s → Contains (reported_sections l) s
   pub once : Distinct (reported_sections l)
 
@@ -85,7 +85,7 @@ abbrev pub IsNodeId : ℕ → Type 0
 IsNodeId id = (1 ≤ id) × (id ≤ 4294967295)
 
 -- A layout is a station.
-pub record IsStation (l : Plan) : Type 0 where
+pub record IsStation (l : Site) : Type 0 where
   pub limits : IsWithinLimits l
   pub ids : All IsNodeId (all_ids l)
   pub names : All IsName (all_names l)

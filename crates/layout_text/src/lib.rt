@@ -2,9 +2,9 @@
 #![tactic(auto)]
 
 mod entries;
+mod entries_read;
 mod fault;
 mod limits;
-mod reading;
 mod steps;
 mod text;
 mod values;

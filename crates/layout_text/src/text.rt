@@ -12,10 +12,10 @@ use crate::entries::{
     Station, WrittenDetector, WrittenJoint, WrittenLayout, WrittenPoint, WrittenRoute,
     WrittenSignal, WrittenTrack,
 };
-use crate::fault::{LayoutFault, Place, TableName};
-use crate::reading::{
+use crate::entries_read::{
     ReadDetector, ReadJoint, ReadName, ReadPoint, ReadRoute, ReadSignal, ReadTrack, station,
 };
+use crate::fault::{LayoutFault, Place, TableName};
 use crate::steps::each;
 use crate::values::{array, field};
 use sci_telegram::Name;

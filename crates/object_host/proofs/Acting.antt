@@ -5,13 +5,13 @@ use Rattle.rasta_core.specs.State.{is_open}
 use Rattle.rasta_core.specs.Outbox.{OutboxState}
 use Rattle.sci_telegram.specs.Reading.{reading}
 use Rattle.object_host.specs.Behaviour.{Behaviour}
-use Rattle.object_host.specs.Host.{HostState, Part}
+use Rattle.object_host.specs.Host.{HostState, HostSoFar}
 use Rattle.object_host.specs.Step.{acting, acting_all}
 use Rattle.object_host.specs.inside.Performed.{IsPerformed}
 use Rattle.object_host.proofs.UnderWay.{IsFirst, IsNothing, IsUnderWay, goes_on}
 
 module _ {Object : Type 0} (does : Behaviour Object) where
-  abbrev pub left_at : ℕ → List (List ℕ) → ℕ → HostState Object → Part Object
+  abbrev pub left_at : ℕ → List (List ℕ) → ℕ → HostState Object → HostSoFar Object
   left_at now items place host = acting_all does now (drop place items) host
 
   -- the items before this place were acted on, and those from it on are left

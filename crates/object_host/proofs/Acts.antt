@@ -12,13 +12,13 @@ use Rattle.rasta_core.specs.State.{LinkState, is_open}
 use Rattle.rasta_core.specs.Clock.{settled}
 use Rattle.rasta_core.specs.Calls.{answer_to_send, receiving}
 use Rattle.object_host.specs.Behaviour.{Behaviour}
-use Rattle.object_host.specs.Course.{course, commanding as to_object}
-use Rattle.object_host.specs.Host.{HostState, LinkCall, Part, Ticks, Closes, Sends, Receives, is_completed, keeping, silent, then_do}
+use Rattle.object_host.specs.Meaning.{meaning, commanding as to_object}
+use Rattle.object_host.specs.Host.{HostState, LinkCall, HostSoFar, Ticks, Closes, Sends, Receives, is_completed, keeping, silent, then_do}
 use Rattle.object_host.specs.Made.{ActsOn, AreOwn, IsMadeOf, IsOwn, call_made, calls_made, command_of, commands_of, items_taken, items_taken_by}
 use Rattle.object_host.specs.Made as made
 use Rattle.object_host.specs.Step.{acting, acting_all, beating, beginning, following, given, goes_on, hearing, host_step, is_admitted, most_owed, paid, paying, paying_first, posting, received, violating}
-use Rattle.object_host.specs.declared.course.Course.{Course}
-use Rattle.object_host.specs.declared.course.Course.TheVariants as courses
+use Rattle.object_host.specs.declared.meaning.Meaning.{Meaning}
+use Rattle.object_host.specs.declared.meaning.Meaning.TheVariants as meanings
 use Rattle.object_host.specs.declared.input.Input.{Input}
 use Rattle.object_host.specs.declared.input.Input.TheVariants as inputs
 use Rattle.object_host.specs.declared.report.Report.{Report}
@@ -54,12 +54,12 @@ items_joined now (call ∷ calls) others link =
     ap (λ rest. items_taken_by now call link ++ rest) (items_joined now calls others (call_made now call link).link)
     ∙ sym (append_assoc (items_taken_by now call link) _ _)
 
--- the courses of commands
-is_own : Course → Bool
-is_own (courses.Checks version) = true
-is_own courses.Initialises = true
-is_own courses.Commands = false
-is_own courses.Violates = false
+-- the meanings of commands
+is_own : Meaning → Bool
+is_own (meanings.Checks version) = true
+is_own meanings.Initialises = true
+is_own meanings.Commands = false
+is_own meanings.Violates = false
 
 not_own : (s : Stage) → is_own (to_object s) ≡ false
 unfolding is_own
@@ -69,17 +69,17 @@ not_own stage.AwaitsRequest = refl
 not_own stage.Completed = refl
 not_own stage.Refused = refl
 
-own_course : (m : Message) (s : Stage) → is_own (course m s) ≡ true → made.is_command m ≡ false
-own_course (message.Initialisation p x) s own = refl
-own_course (message.Point x) s own = absurd (false≢true (sym (not_own s) ∙ own))
-own_course (message.Signal x) s own = absurd (false≢true (sym (not_own s) ∙ own))
-own_course (message.Detection x) s own = absurd (false≢true (sym (not_own s) ∙ own))
+own_meaning : (m : Message) (s : Stage) → is_own (meaning m s) ≡ true → made.is_command m ≡ false
+own_meaning (message.Initialisation p x) s own = refl
+own_meaning (message.Point x) s own = absurd (false≢true (sym (not_own s) ∙ own))
+own_meaning (message.Signal x) s own = absurd (false≢true (sym (not_own s) ∙ own))
+own_meaning (message.Detection x) s own = absurd (false≢true (sym (not_own s) ∙ own))
 
-command_course : (m : Message) (s : Stage) → is_command (course m s) ≡ true → made.is_command m ≡ true
-command_course (message.Initialisation p x) s commands = absurd (false≢true (sym (no_command p x s) ∙ commands))
-command_course (message.Point x) s commands = refl
-command_course (message.Signal x) s commands = refl
-command_course (message.Detection x) s commands = refl
+command_meaning : (m : Message) (s : Stage) → is_command (meaning m s) ≡ true → made.is_command m ≡ true
+command_meaning (message.Initialisation p x) s commands = absurd (false≢true (sym (no_command p x s) ∙ commands))
+command_meaning (message.Point x) s commands = refl
+command_meaning (message.Signal x) s commands = refl
+command_meaning (message.Detection x) s commands = refl
 
 commands_one : (item : List ℕ) → commands_of (item ∷ []) ≡ command_of (reading item)
 unfolding commands_of
@@ -94,7 +94,7 @@ unfolding commands_of
 commands_none = refl
 
 -- what became of an item: it was acted on, or it closed the link
-data Fate {Object : Type 0} (item : List ℕ) (part : Part Object) : Type 0 where
+data Fate {Object : Type 0} (item : List ℕ) (part : HostSoFar Object) : Type 0 where
   obeyed : part.acted ≡ item ∷ [] → part.told ≡ command_of (reading item) → Fate item part
   refused : part.acted ≡ [] → part.told ≡ [] → is_open part.host.link.phase ≡ false → Fate item part
 
@@ -103,22 +103,22 @@ module _ {Object : Type 0} (does : Behaviour Object) where
   unfolding violating
   violating_refuses now item host = refused refl refl (closing_closes now host.link)
 
-  following_fate : (now : ℕ) (item : List ℕ) (telegram : Telegram) (c : Course) (host : HostState Object) → reading item ≡ Ok telegram →
-      course telegram.message host.stage ≡ c → Fate item (following does now item telegram c host)
+  following_fate : (now : ℕ) (item : List ℕ) (telegram : Telegram) (c : Meaning) (host : HostState Object) → reading item ≡ Ok telegram →
+      meaning telegram.message host.stage ≡ c → Fate item (following does now item telegram c host)
   unfolding following is_own is_command
-  following_fate now item telegram (courses.Checks version) host read is =
-      obeyed refl (sym (ap command_of read ∙ ap (λ b. if b then telegram ∷ [] else []) (own_course telegram.message host.stage (ap is_own is))))
-  following_fate now item telegram courses.Initialises host read is =
-      obeyed refl (sym (ap command_of read ∙ ap (λ b. if b then telegram ∷ [] else []) (own_course telegram.message host.stage (ap is_own is))))
-  following_fate now item telegram courses.Commands host read is =
-      obeyed refl (sym (ap command_of read ∙ ap (λ b. if b then telegram ∷ [] else []) (command_course telegram.message host.stage (ap is_command is))))
-  following_fate now item telegram courses.Violates host read is = violating_refuses now item host
+  following_fate now item telegram (meanings.Checks version) host read is =
+      obeyed refl (sym (ap command_of read ∙ ap (λ b. if b then telegram ∷ [] else []) (own_meaning telegram.message host.stage (ap is_own is))))
+  following_fate now item telegram meanings.Initialises host read is =
+      obeyed refl (sym (ap command_of read ∙ ap (λ b. if b then telegram ∷ [] else []) (own_meaning telegram.message host.stage (ap is_own is))))
+  following_fate now item telegram meanings.Commands host read is =
+      obeyed refl (sym (ap command_of read ∙ ap (λ b. if b then telegram ∷ [] else []) (command_meaning telegram.message host.stage (ap is_command is))))
+  following_fate now item telegram meanings.Violates host read is = violating_refuses now item host
 
   acting_fate : (now : ℕ) (item : List ℕ) (read : Result Telegram SciFault) (host : HostState Object) → reading item ≡ read → Fate item (acting does now item read host)
   unfolding acting
   acting_fate now item (Err fault) host is = violating_refuses now item host
   acting_fate now item (Ok telegram) host is = cases (is_admitted does telegram host) where
-    cases : (b : Bool) → Fate item (if b then following does now item telegram (course telegram.message host.stage) host else violating now host)
+    cases : (b : Bool) → Fate item (if b then following does now item telegram (meaning telegram.message host.stage) host else violating now host)
     cases true = following_fate now item telegram _ host is refl
     cases false = violating_refuses now item host
 
@@ -128,7 +128,7 @@ module _ {Object : Type 0} (does : Behaviour Object) where
   closed_silent now [] host closed = refl
   closed_silent now (item ∷ others) host closed = rw closed refl
 
-  acts_more : (now : ℕ) (item : List ℕ) (others : List (List ℕ)) (first : Part Object) → Fate item first → ActsOn others (acting_all does now others first.host) →
+  acts_more : (now : ℕ) (item : List ℕ) (others : List (List ℕ)) (first : HostSoFar Object) → Fate item first → ActsOn others (acting_all does now others first.host) →
       ActsOn (item ∷ others) (then_do first (acting_all does now others))
   acts_more now item others first (obeyed acted told) more = record {
     dropped = more.dropped;
@@ -144,11 +144,11 @@ module _ {Object : Type 0} (does : Behaviour Object) where
       in record {
         dropped = item ∷ others;
         beginning = sym (ap (λ xs. (xs ++ (acting_all does now others first.host).acted) ++ (item ∷ others)) acted
-            ∙ ap (λ (p : Part Object). p.acted ++ (item ∷ others)) silence);
-        whole = λ opened. absurd (true≢false (sym opened ∙ ap (λ (p : Part Object). is_open p.host.link.phase) silence ∙ closed));
-        told = ap (λ ts. ts ++ (acting_all does now others first.host).told) told ∙ ap (λ (p : Part Object). p.told) silence
+            ∙ ap (λ (p : HostSoFar Object). p.acted ++ (item ∷ others)) silence);
+        whole = λ opened. absurd (true≢false (sym opened ∙ ap (λ (p : HostSoFar Object). is_open p.host.link.phase) silence ∙ closed));
+        told = ap (λ ts. ts ++ (acting_all does now others first.host).told) told ∙ ap (λ (p : HostSoFar Object). p.told) silence
             ∙ sym commands_none
-            ∙ sym (ap (λ xs. commands_of (xs ++ (acting_all does now others first.host).acted)) acted ∙ ap (λ (p : Part Object). commands_of p.acted) silence);
+            ∙ sym (ap (λ xs. commands_of (xs ++ (acting_all does now others first.host).acted)) acted ∙ ap (λ (p : HostSoFar Object). commands_of p.acted) silence);
       }
 
   acts_none : (host : HostState Object) → ActsOn [] (silent host)
@@ -187,7 +187,7 @@ module _ {Object : Type 0} (does : Behaviour Object) where
   given_acts now (inputs.Sense sense) host = acts_none (record host { object = does.after_sense now sense host.object })
 
   -- a part that tells the object nothing
-  pub record IsQuiet (part : Part Object) : Type 0 where
+  pub record IsQuiet (part : HostSoFar Object) : Type 0 where
     pub acts_on_none : part.acted ≡ []
     pub tells_none : part.told ≡ []
 
@@ -195,7 +195,7 @@ module _ {Object : Type 0} (does : Behaviour Object) where
   unfolding posting
   paying_first_quiet now None host = record { acts_on_none = refl; tells_none = refl }
   paying_first_quiet now (Some report) host = cases (is_completed host.stage) (is_ok (answer_to_send now host.link)) where
-    sent : Part Object
+    sent : HostSoFar Object
     sent = posting now report host
 
     cases : (b k : Bool) → IsQuiet (if not b then silent (paid does host) else if k then record sent { host = paid does sent.host } else sent)
@@ -203,7 +203,7 @@ module _ {Object : Type 0} (does : Behaviour Object) where
     cases true true = record { acts_on_none = refl; tells_none = refl }
     cases true false = record { acts_on_none = refl; tells_none = refl }
 
-  quiet_then : (first : Part Object) (next : HostState Object → Part Object) → IsQuiet first → IsQuiet (next first.host) → IsQuiet (then_do first next)
+  quiet_then : (first : HostSoFar Object) (next : HostState Object → HostSoFar Object) → IsQuiet first → IsQuiet (next first.host) → IsQuiet (then_do first next)
   quiet_then first next one more = record {
     acts_on_none = ap (λ xs. xs ++ (next first.host).acted) one.acts_on_none ∙ more.acts_on_none;
     tells_none = ap (λ xs. xs ++ (next first.host).told) one.tells_none ∙ more.tells_none;
@@ -215,7 +215,7 @@ module _ {Object : Type 0} (does : Behaviour Object) where
   paying_quiet now (suc more) host =
       cases (goes_on now (does.owed host.object) host) (paying_quiet now more (paying_first does now (does.owed host.object) host).host)
     where
-      first : Part Object
+      first : HostSoFar Object
       first = paying_first does now (does.owed host.object) host
 
       cases : (b : Bool) → IsQuiet (paying does now more first.host) → IsQuiet (if b then then_do first (paying does now more) else first)
@@ -229,7 +229,7 @@ module _ {Object : Type 0} (does : Behaviour Object) where
   beating_quiet now (inputs.Sense sense) host = record { acts_on_none = refl; tells_none = refl }
 
   -- a quiet part of own calls behind another
-  acts_then : (now : ℕ) (link : LinkState) (first : Part Object) (next : HostState Object → Part Object) → IsMadeOf now link first →
+  acts_then : (now : ℕ) (link : LinkState) (first : HostSoFar Object) (next : HostState Object → HostSoFar Object) → IsMadeOf now link first →
       ActsOn (items_taken now first.calls link) first → IsPart now first.host.link (next first.host) → IsQuiet (next first.host) →
       ActsOn (items_taken now (then_do first next).calls link) (then_do first next)
   acts_then now link first next made acts part quiet =

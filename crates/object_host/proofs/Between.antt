@@ -17,38 +17,38 @@ use Rattle.rasta_core.specs.identity.Identity.{Identity}
 use Rattle.object_host.proofs.Closed.{settled_closed, ticking_closed}
 use Rattle.object_host.specs.Behaviour.{Behaviour}
 use Rattle.object_host.specs.Lawful.{IsLawful}
-use Rattle.object_host.specs.Course.{course, commanding as to_object}
-use Rattle.object_host.specs.Host.{HostState, Part, fallen, is_completed, is_outside, keeping, risen, silent, then_do}
+use Rattle.object_host.specs.Meaning.{meaning, commanding as to_object}
+use Rattle.object_host.specs.Host.{HostState, HostSoFar, fallen, is_completed, is_outside, keeping, risen, silent, then_do}
 use Rattle.object_host.specs.Hosted.{IsHosted, IsSteady}
 use Rattle.object_host.specs.Step.{acting, acting_all, answering, beating, beginning, commanding, ending, following, given, goes_on, hearing, host_step, initialising, is_admitted, most_owed, paid, paying, paying_first, posting, received, violating}
-use Rattle.object_host.specs.declared.course.Course.{Course}
-use Rattle.object_host.specs.declared.course.Course.TheVariants as courses
+use Rattle.object_host.specs.declared.meaning.Meaning.{Meaning}
+use Rattle.object_host.specs.declared.meaning.Meaning.TheVariants as meanings
 use Rattle.object_host.specs.declared.input.Input.{Input}
 use Rattle.object_host.specs.declared.input.Input.TheVariants as inputs
 use Rattle.object_host.specs.declared.report.Report.{Report}
 use Rattle.object_host.specs.declared.stage.Stage.{Stage}
 use Rattle.object_host.specs.declared.stage.Stage.TheVariants as stage
 
--- the courses
-unfoldable pub is_check : Course → Bool
-is_check (courses.Checks version) = true
-is_check courses.Initialises = false
-is_check courses.Commands = false
-is_check courses.Violates = false
+-- the meanings
+unfoldable pub is_check : Meaning → Bool
+is_check (meanings.Checks version) = true
+is_check meanings.Initialises = false
+is_check meanings.Commands = false
+is_check meanings.Violates = false
 
-unfoldable pub is_command : Course → Bool
-is_command (courses.Checks version) = false
-is_command courses.Initialises = false
-is_command courses.Commands = true
-is_command courses.Violates = false
+unfoldable pub is_command : Meaning → Bool
+is_command (meanings.Checks version) = false
+is_command meanings.Initialises = false
+is_command meanings.Commands = true
+is_command meanings.Violates = false
 
-unfoldable pub is_request : Course → Bool
-is_request (courses.Checks version) = false
-is_request courses.Initialises = true
-is_request courses.Commands = false
-is_request courses.Violates = false
+unfoldable pub is_request : Meaning → Bool
+is_request (meanings.Checks version) = false
+is_request meanings.Initialises = true
+is_request meanings.Commands = false
+is_request meanings.Violates = false
 
-completed_no_check : (m : Message) → is_check (course m stage.Completed) ≡ false
+completed_no_check : (m : Message) → is_check (meaning m stage.Completed) ≡ false
 unfolding is_check
 completed_no_check (message.Initialisation p init.InitialisationRequest) = refl
 completed_no_check (message.Initialisation p init.StartInitialisation) = refl
@@ -59,14 +59,14 @@ completed_no_check (message.Point x) = refl
 completed_no_check (message.Signal x) = refl
 completed_no_check (message.Detection x) = refl
 
-pub checks_early : (m : Message) (s : Stage) → is_check (course m s) ≡ true → is_completed s ≡ false
+pub checks_early : (m : Message) (s : Stage) → is_check (meaning m s) ≡ true → is_completed s ≡ false
 checks_early m stage.Outside holds = refl
 checks_early m stage.AwaitsCheck holds = refl
 checks_early m stage.AwaitsRequest holds = refl
 checks_early m stage.Completed holds = absurd (false≢true (sym (completed_no_check m) ∙ holds))
 checks_early m stage.Refused holds = refl
 
-pub no_command : (p : Protocol) (x : Initialisation) (s : Stage) → is_command (course (message.Initialisation p x) s) ≡ false
+pub no_command : (p : Protocol) (x : Initialisation) (s : Stage) → is_command (meaning (message.Initialisation p x) s) ≡ false
 unfolding is_command
 no_command p init.InitialisationRequest stage.Outside = refl
 no_command p init.InitialisationRequest stage.AwaitsCheck = refl
@@ -90,7 +90,7 @@ late stage.AwaitsRequest holds = absurd (false≢true holds)
 late stage.Completed holds = refl
 late stage.Refused holds = absurd (false≢true holds)
 
-pub commands_late : (m : Message) (s : Stage) → is_command (course m s) ≡ true → is_completed s ≡ true
+pub commands_late : (m : Message) (s : Stage) → is_command (meaning m s) ≡ true → is_completed s ≡ true
 commands_late (message.Initialisation p x) s holds = absurd (false≢true (sym (no_command p x s) ∙ holds))
 commands_late (message.Point x) s holds = late s holds
 commands_late (message.Signal x) s holds = late s holds
@@ -103,7 +103,7 @@ completed_inside stage.AwaitsRequest holds = refl
 completed_inside stage.Completed holds = refl
 completed_inside stage.Refused holds = refl
 
-completed_no_request : (m : Message) → is_request (course m stage.Completed) ≡ false
+completed_no_request : (m : Message) → is_request (meaning m stage.Completed) ≡ false
 unfolding is_request
 completed_no_request (message.Initialisation p init.InitialisationRequest) = refl
 completed_no_request (message.Initialisation p init.StartInitialisation) = refl
@@ -114,7 +114,7 @@ completed_no_request (message.Point x) = refl
 completed_no_request (message.Signal x) = refl
 completed_no_request (message.Detection x) = refl
 
-pub initialises_early : (m : Message) (s : Stage) → is_request (course m s) ≡ true → is_completed s ≡ false
+pub initialises_early : (m : Message) (s : Stage) → is_request (meaning m s) ≡ true → is_completed s ≡ false
 initialises_early m stage.Outside holds = refl
 initialises_early m stage.AwaitsCheck holds = refl
 initialises_early m stage.AwaitsRequest holds = refl
@@ -206,22 +206,22 @@ module _ {Object : Type 0} (does : Behaviour Object) (law : IsLawful does) where
     cases true = of_inside told (completed_inside host.stage completed) (λ early. absurd (true≢false (sym completed ∙ early)))
     cases false = violating_right now told (completed_inside host.stage completed) (λ early. absurd (true≢false (sym completed ∙ early)))
 
-  following_right : (now : ℕ) (item : List ℕ) (telegram : Telegram) (c : Course) (host : HostState Object) → course telegram.message host.stage ≡ c →
+  following_right : (now : ℕ) (item : List ℕ) (telegram : Telegram) (c : Meaning) (host : HostState Object) → meaning telegram.message host.stage ≡ c →
       is_outside host.stage ≡ false → IsSteady does host → IsSteady does (following does now item telegram c host).host
   unfolding following is_check is_command
-  following_right now item telegram (courses.Checks version) host is inside right =
+  following_right now item telegram (meanings.Checks version) host is inside right =
       answering_right now version host (right.idle (checks_early telegram.message host.stage (ap is_check is)))
-  following_right now item telegram courses.Initialises host is inside right = initialising_right now host
-  following_right now item telegram courses.Commands host is inside right =
+  following_right now item telegram meanings.Initialises host is inside right = initialising_right now host
+  following_right now item telegram meanings.Commands host is inside right =
       commanding_right now telegram host (commands_late telegram.message host.stage (ap is_command is))
-  following_right now item telegram courses.Violates host is inside right = violating_right now host inside right.idle
+  following_right now item telegram meanings.Violates host is inside right = violating_right now host inside right.idle
 
   acting_right : (now : ℕ) (item : List ℕ) (read : Result Telegram SciFault) (host : HostState Object) → is_outside host.stage ≡ false → IsSteady does host →
       IsSteady does (acting does now item read host).host
   unfolding acting
   acting_right now item (Err fault) host inside right = violating_right now host inside right.idle
   acting_right now item (Ok telegram) host inside right = cases (is_admitted does telegram host) where
-    cases : (b : Bool) → IsSteady does (if b then following does now item telegram (course telegram.message host.stage) host else violating now host).host
+    cases : (b : Bool) → IsSteady does (if b then following does now item telegram (meaning telegram.message host.stage) host else violating now host).host
     cases true = following_right now item telegram _ host refl inside right
     cases false = violating_right now host inside right.idle
 
@@ -256,7 +256,7 @@ module _ {Object : Type 0} (does : Behaviour Object) (law : IsLawful does) where
   unfolding posting
   paying_first_right now None host right = right
   paying_first_right now (Some report) host right = cases (is_completed host.stage) (is_ok (answer_to_send now host.link)) refl where
-    sent : Part Object
+    sent : HostSoFar Object
     sent = posting now report host
 
     cases : (b k : Bool) → is_completed host.stage ≡ b →
@@ -271,7 +271,7 @@ module _ {Object : Type 0} (does : Behaviour Object) (law : IsLawful does) where
   paying_right now (suc more) host right =
       cases (goes_on now (does.owed host.object) host) (paying_right now more (paying_first does now (does.owed host.object) host).host)
     where
-      first : Part Object
+      first : HostSoFar Object
       first = paying_first does now (does.owed host.object) host
 
       first_right : IsSteady does first.host

@@ -10,12 +10,12 @@ use Rattle.rasta_core.specs.State.{LinkState, is_open}
 use Rattle.rasta_core.specs.Clock.{settled}
 use Rattle.rasta_core.specs.Calls.{answer_to_send, receiving}
 use Rattle.object_host.specs.Behaviour.{Behaviour}
-use Rattle.object_host.specs.Course.{course}
-use Rattle.object_host.specs.Host.{HostState, LinkCall, Part, Ticks, fallen, is_completed, keeping, linked, risen, said, silent, then_do}
+use Rattle.object_host.specs.Meaning.{meaning}
+use Rattle.object_host.specs.Host.{HostState, LinkCall, HostSoFar, Ticks, fallen, is_completed, keeping, linked, risen, said, silent, then_do}
 use Rattle.object_host.specs.Made.{AreCallsFor, AreOwn, IsMadeOf, call_made, calls_made}
 use Rattle.object_host.specs.Step.{acting, acting_all, answering, beating, beginning, commanding, following, given, goes_on, hearing, host_step, initialising, is_admitted, most_owed, paid, paying, paying_first, posting, posting_all, received, telling_status, violating}
-use Rattle.object_host.specs.declared.course.Course.{Course}
-use Rattle.object_host.specs.declared.course.Course.TheVariants as courses
+use Rattle.object_host.specs.declared.meaning.Meaning.{Meaning}
+use Rattle.object_host.specs.declared.meaning.Meaning.TheVariants as meanings
 use Rattle.object_host.specs.declared.input.Input.{Input}
 use Rattle.object_host.specs.declared.input.Input.TheVariants as inputs
 use Rattle.object_host.specs.declared.report.Report.{Report}
@@ -39,7 +39,7 @@ pdus_joined now (call ∷ calls) others link =
     ∙ sym (append_assoc (call_made now call link).pdus _ _)
 
 module _ {Object : Type 0} where
-  pub made_then : (now : ℕ) (link : LinkState) (first : Part Object) (next : HostState Object → Part Object) →
+  pub made_then : (now : ℕ) (link : LinkState) (first : HostSoFar Object) (next : HostState Object → HostSoFar Object) →
       IsMadeOf now link first → IsMadeOf now first.host.link (next first.host) → IsMadeOf now link (then_do first next)
   made_then now link first next one more =
       let calls = (next first.host).calls
@@ -59,11 +59,11 @@ module _ {Object : Type 0} where
   made_linked now call host = record { link_is = refl; pdus_are = sym (append-nil (call_made now call host.link).pdus) }
 
   -- a part that takes nothing from the partner
-  pub record IsPart (now : ℕ) (link : LinkState) (part : Part Object) : Type 0 where
+  pub record IsPart (now : ℕ) (link : LinkState) (part : HostSoFar Object) : Type 0 where
     pub made : IsMadeOf now link part
     pub own : AreOwn part.calls
 
-  pub part_then : (now : ℕ) (link : LinkState) (first : Part Object) (next : HostState Object → Part Object) →
+  pub part_then : (now : ℕ) (link : LinkState) (first : HostSoFar Object) (next : HostState Object → HostSoFar Object) →
       IsPart now link first → IsPart now first.host.link (next first.host) → IsPart now link (then_do first next)
   part_then now link first next one more = record {
     made = made_then now link first next one.made more.made;
@@ -74,7 +74,7 @@ module _ {Object : Type 0} where
   part_silent now host = record { made = made_silent now host; own = tt }
 
   -- what a part leaves beside its link says nothing of its calls
-  as_part : (now : ℕ) (link : LinkState) (part same : Part Object) → IsPart now link part →
+  as_part : (now : ℕ) (link : LinkState) (part same : HostSoFar Object) → IsPart now link part →
       same.host.link ≡ part.host.link → same.pdus ≡ part.pdus → same.calls ≡ part.calls → IsPart now link same
   as_part now link part same is link-same pdus-same calls-same = record {
     made = record {
@@ -125,18 +125,18 @@ module _ {Object : Type 0} (does : Behaviour Object) where
     cases true = as_part now host.link _ _ (part_silent now told) refl refl refl
     cases false = as_part now host.link _ _ (violating_part now told) refl refl refl
 
-  following_part : (now : ℕ) (item : List ℕ) (telegram : Telegram) (c : Course) (host : HostState Object) → IsPart now host.link (following does now item telegram c host)
+  following_part : (now : ℕ) (item : List ℕ) (telegram : Telegram) (c : Meaning) (host : HostState Object) → IsPart now host.link (following does now item telegram c host)
   unfolding following
-  following_part now item telegram (courses.Checks version) host = as_part now host.link _ _ (answering_part now version host) refl refl refl
-  following_part now item telegram courses.Initialises host = as_part now host.link _ _ (initialising_part now host) refl refl refl
-  following_part now item telegram courses.Commands host = as_part now host.link _ _ (commanding_part now telegram host) refl refl refl
-  following_part now item telegram courses.Violates host = violating_part now host
+  following_part now item telegram (meanings.Checks version) host = as_part now host.link _ _ (answering_part now version host) refl refl refl
+  following_part now item telegram meanings.Initialises host = as_part now host.link _ _ (initialising_part now host) refl refl refl
+  following_part now item telegram meanings.Commands host = as_part now host.link _ _ (commanding_part now telegram host) refl refl refl
+  following_part now item telegram meanings.Violates host = violating_part now host
 
   pub acting_part : (now : ℕ) (item : List ℕ) (read : Result Telegram SciFault) (host : HostState Object) → IsPart now host.link (acting does now item read host)
   unfolding acting
   acting_part now item (Err fault) host = violating_part now host
   acting_part now item (Ok telegram) host = cases (is_admitted does telegram host) where
-    cases : (b : Bool) → IsPart now host.link (if b then following does now item telegram (course telegram.message host.stage) host else violating now host)
+    cases : (b : Bool) → IsPart now host.link (if b then following does now item telegram (meaning telegram.message host.stage) host else violating now host)
     cases true = following_part now item telegram _ host
     cases false = violating_part now host
 
@@ -154,7 +154,7 @@ module _ {Object : Type 0} (does : Behaviour Object) where
   pub paying_first_part : (now : ℕ) (report : Option Report) (host : HostState Object) → IsPart now host.link (paying_first does now report host)
   paying_first_part now None host = part_silent now host
   paying_first_part now (Some report) host = cases (is_completed host.stage) (is_ok (answer_to_send now host.link)) where
-    sent : Part Object
+    sent : HostSoFar Object
     sent = posting now report host
 
     cases : (b k : Bool) → IsPart now host.link (if not b then silent (paid does host) else if k then record sent { host = paid does sent.host } else sent)
@@ -168,7 +168,7 @@ module _ {Object : Type 0} (does : Behaviour Object) where
   paying_part now (suc more) host =
       cases (goes_on now (does.owed host.object) host) (paying_part now more (paying_first does now (does.owed host.object) host).host)
     where
-      first : Part Object
+      first : HostSoFar Object
       first = paying_first does now (does.owed host.object) host
 
       cases : (b : Bool) → IsPart now first.host.link (paying does now more first.host) → IsPart now host.link (if b then then_do first (paying does now more) else first)

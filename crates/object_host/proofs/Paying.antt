@@ -3,17 +3,17 @@ use Rattle.std.proofs.Common.{◌≡◌, ℕ, ◌+◌, ◌-◌, ◌<◌, suc, tr
 use Rattle.std.proofs.lemmas.List.{append-nil}
 use Rattle.rasta_core.specs.Outbox.{OutboxState}
 use Rattle.object_host.specs.Behaviour.{Behaviour}
-use Rattle.object_host.specs.Host.{HostState, Part, silent}
+use Rattle.object_host.specs.Host.{HostState, HostSoFar, silent}
 use Rattle.object_host.specs.Step.{goes_on, most_owed, paying, paying_first}
 use Rattle.object_host.specs.inside.Performed.{IsPerformed}
 use Rattle.object_host.proofs.UnderWay.{IsFirst, IsNothing, IsUnderWay}
 use Rattle.object_host.proofs.UnderWay as loops
 
 module _ {Object : Type 0} (does : Behaviour Object) where
-  abbrev pub left_at : ℕ → ℕ → HostState Object → Part Object
+  abbrev pub left_at : ℕ → ℕ → HostState Object → HostSoFar Object
   left_at now round host = paying does now (most_owed - round) host
 
-  abbrev pub first_of : ℕ → HostState Object → Part Object
+  abbrev pub first_of : ℕ → HostState Object → HostSoFar Object
   first_of now host = paying_first does now (does.owed host.object) host
 
   -- so many reports were sent, and the others are left

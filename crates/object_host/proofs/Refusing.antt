@@ -8,7 +8,7 @@ use Rattle.rasta_core.specs.Receiving.{Receipt}
 use Rattle.rasta_core.specs.Verdicts.{refused}
 use Rattle.rasta_core.specs.verdict.Verdict.{Verdict}
 use Rattle.object_host.specs.Behaviour.{Behaviour}
-use Rattle.object_host.specs.Host.{HostState, Part, then_do}
+use Rattle.object_host.specs.Host.{HostState, HostSoFar, then_do}
 use Rattle.object_host.specs.Refused.{LeavesRefused, RefusesRightly, refusal, step_refused}
 use Rattle.object_host.specs.Step.{acting_all, beating, beginning, ending, given, hearing, host_step, most_owed, paying, received}
 use Rattle.object_host.specs.declared.input.Input.{Input}
@@ -17,11 +17,11 @@ use Rattle.object_host.proofs.Made.{begun_link}
 
 module _ {Object : Type 0} (does : Behaviour Object) where
   -- two parts that leave the same
-  record AreAlike (part same : Part Object) : Type 0 where
+  record AreAlike (part same : HostSoFar Object) : Type 0 where
     host_is : part.host ≡ same.host
     pdus_are : part.pdus ≡ same.pdus
 
-  alike_then : (part same : Part Object) (next : HostState Object → Part Object) → AreAlike part same → AreAlike (then_do part next) (then_do same next)
+  alike_then : (part same : HostSoFar Object) (next : HostState Object → HostSoFar Object) → AreAlike part same → AreAlike (then_do part next) (then_do same next)
   alike_then part same next alike = record {
     host_is = ap (λ h. (next h).host) alike.host_is;
     pdus_are = ap (λ ps. ps ++ (next part.host).pdus) alike.pdus_are ∙ ap (λ h. same.pdus ++ (next h).pdus) alike.host_is;

@@ -14,13 +14,13 @@ use Rattle.sci_telegram.specs.declared.telegram.Telegram.{Telegram}
 use Rattle.rasta_core.specs.State.{LinkState, is_open}
 use Rattle.rasta_core.specs.Calls.{answer_to_send, receiving}
 use Rattle.object_host.specs.Behaviour.{Behaviour}
-use Rattle.object_host.specs.Course.{course}
-use Rattle.object_host.specs.Host.{HostState, LinkCall, Part, at_stage, is_completed, is_outside, risen, said, silent, then_do}
+use Rattle.object_host.specs.Meaning.{meaning}
+use Rattle.object_host.specs.Host.{HostState, LinkCall, HostSoFar, at_stage, is_completed, is_outside, risen, said, silent, then_do}
 use Rattle.object_host.specs.Made.{IsMadeOf, call_made, calls_made, items_given, items_given_by}
 use Rattle.object_host.specs.Step.{acting, acting_all, answering, commanding, following, given, hearing, initial_status, initialising, is_admitted, most_objects, posting, posting_all, received, telling_status, violating}
 use Rattle.object_host.specs.Told.{AreSomeOf, IsSaid, IsVersionAnswer, initialisation, item_of}
-use Rattle.object_host.specs.declared.course.Course.{Course}
-use Rattle.object_host.specs.declared.course.Course.TheVariants as courses
+use Rattle.object_host.specs.declared.meaning.Meaning.{Meaning}
+use Rattle.object_host.specs.declared.meaning.Meaning.TheVariants as meanings
 use Rattle.object_host.specs.declared.input.Input.{Input}
 use Rattle.object_host.specs.declared.input.Input.TheVariants as inputs
 use Rattle.object_host.specs.declared.report.Report.{Report}
@@ -66,7 +66,7 @@ module _ {Object : Type 0} where
       ∙ ap (λ rest. item_of old report ∷ rest) (items_same others old new own_same peer_same)
 
   -- reports that are sent, each where the link accepts it
-  record Posts (now : ℕ) (host : HostState Object) (all : List Report) (part : Part Object) : Type 0 where
+  record Posts (now : ℕ) (host : HostState Object) (all : List Report) (part : HostSoFar Object) : Type 0 where
     some : List Report
     gives : items_given now part.calls host.link ≡ map (item_of host) some
     are_some : AreSomeOf some all
@@ -95,7 +95,7 @@ module _ {Object : Type 0} where
       version_is = refl;
     }
 
-  posts_then : (now : ℕ) (host : HostState Object) (all others : List Report) (first : Part Object) (next : HostState Object → Part Object) → IsMadeOf now host.link first →
+  posts_then : (now : ℕ) (host : HostState Object) (all others : List Report) (first : HostSoFar Object) (next : HostState Object → HostSoFar Object) → IsMadeOf now host.link first →
       Posts now host all first → Posts now first.host others (next first.host) → Posts now host (all ++ others) (then_do first next)
   posts_then now host all others first next made one more = record {
     some = one.some ++ more.some;
@@ -119,7 +119,7 @@ module _ {Object : Type 0} where
 
 module _ {Object : Type 0} (does : Behaviour Object) where
   -- what is said from one state to the next
-  pub record Says (now : ℕ) (host : HostState Object) (part : Part Object) : Type 0 where
+  pub record Says (now : ℕ) (host : HostState Object) (part : HostSoFar Object) : Type 0 where
     pub answers : List Report
     pub begins : List Report
     pub gives : items_given now part.calls host.link ≡ map (item_of host) (answers ++ begins)
@@ -134,10 +134,10 @@ module _ {Object : Type 0} (does : Behaviour Object) where
     pub peer_name_is : part.host.peer_name ≡ host.peer_name
     pub version_is : part.host.version ≡ host.version
 
-  says_then : (now : ℕ) (host : HostState Object) (first : Part Object) (next : HostState Object → Part Object) → IsMadeOf now host.link first →
+  says_then : (now : ℕ) (host : HostState Object) (first : HostSoFar Object) (next : HostState Object → HostSoFar Object) → IsMadeOf now host.link first →
       Says now host first → Says now first.host (next first.host) → Says now host (then_do first next)
   says_then now host first next made one more = cases (is_completed first.host.stage) refl where
-    second : Part Object
+    second : HostSoFar Object
     second = next first.host
 
     given_in_all : items_given now (first.calls ++ second.calls) host.link
@@ -185,7 +185,7 @@ module _ {Object : Type 0} (does : Behaviour Object) where
     }
 
   -- nothing is said, and only the link changes
-  quiet : (now : ℕ) (host : HostState Object) (part : Part Object) → items_given now part.calls host.link ≡ [] → part.host.stage ≡ host.stage →
+  quiet : (now : ℕ) (host : HostState Object) (part : HostSoFar Object) → items_given now part.calls host.link ≡ [] → part.host.stage ≡ host.stage →
       (is_completed host.stage ≡ false → part.host.object ≡ host.object) →
       part.host.own_name ≡ host.own_name → part.host.peer_name ≡ host.peer_name → part.host.version ≡ host.version → Says now host part
   quiet now host part none same object own_same peer_same version_same = record {
@@ -289,7 +289,7 @@ module _ {Object : Type 0} (does : Behaviour Object) where
     told : HostState Object
     told = record host { object = does.after_take now telegram host.object }
 
-    made : Bool → Part Object
+    made : Bool → HostSoFar Object
     made b = if b then silent told else violating now told
 
     cases : (b : Bool) → Says now host (made b)
@@ -297,7 +297,7 @@ module _ {Object : Type 0} (does : Behaviour Object) where
     cases false = quiet now host (made false) refl refl (λ early. absurd (true≢false (sym completed ∙ early))) refl refl refl
 
   -- what a part says is what it lists beside the items acted on
-  as_says : (now : ℕ) (host : HostState Object) (part same : Part Object) → Says now host part → same.host ≡ part.host → same.calls ≡ part.calls → Says now host same
+  as_says : (now : ℕ) (host : HostState Object) (part same : HostSoFar Object) → Says now host part → same.host ≡ part.host → same.calls ≡ part.calls → Says now host same
   as_says now host part same says host-same calls-same =
       let stage-same : is_completed same.host.stage ≡ is_completed part.host.stage = ap (λ (h : HostState Object). is_completed h.stage) host-same
       in record {
@@ -315,22 +315,22 @@ module _ {Object : Type 0} (does : Behaviour Object) where
         version_is = ap (λ (h : HostState Object). h.version) host-same ∙ says.version_is;
       }
 
-  pub following_says : (now : ℕ) (item : List ℕ) (telegram : Telegram) (c : Course) (host : HostState Object) → course telegram.message host.stage ≡ c →
+  pub following_says : (now : ℕ) (item : List ℕ) (telegram : Telegram) (c : Meaning) (host : HostState Object) → meaning telegram.message host.stage ≡ c →
       Says now host (following does now item telegram c host)
   unfolding following is_check is_command is_request
-  following_says now item telegram (courses.Checks version) host is =
+  following_says now item telegram (meanings.Checks version) host is =
       as_says now host _ _ (answering_says now version host (checks_early telegram.message host.stage (ap is_check is))) refl refl
-  following_says now item telegram courses.Initialises host is =
+  following_says now item telegram meanings.Initialises host is =
       as_says now host _ _ (initialising_says now host (initialises_early telegram.message host.stage (ap is_request is))) refl refl
-  following_says now item telegram courses.Commands host is =
+  following_says now item telegram meanings.Commands host is =
       as_says now host _ _ (commanding_says now telegram host (commands_late telegram.message host.stage (ap is_command is))) refl refl
-  following_says now item telegram courses.Violates host is = violating_says now host
+  following_says now item telegram meanings.Violates host is = violating_says now host
 
   pub acting_says : (now : ℕ) (item : List ℕ) (read : Result Telegram SciFault) (host : HostState Object) → Says now host (acting does now item read host)
   unfolding acting
   acting_says now item (Err fault) host = violating_says now host
   acting_says now item (Ok telegram) host = cases (is_admitted does telegram host) where
-    cases : (b : Bool) → Says now host (if b then following does now item telegram (course telegram.message host.stage) host else violating now host)
+    cases : (b : Bool) → Says now host (if b then following does now item telegram (meaning telegram.message host.stage) host else violating now host)
     cases true = following_says now item telegram _ host refl
     cases false = violating_says now host
 
@@ -338,7 +338,7 @@ module _ {Object : Type 0} (does : Behaviour Object) where
   unfolding acting_all
   acting_all_says now [] host = silent_says now host
   acting_all_says now (item ∷ others) host = cases (is_open host.link.phase) (acting_all_says now others first.host) where
-    first : Part Object
+    first : HostSoFar Object
     first = acting does now item (reading item) host
 
     cases : (b : Bool) → Says now first.host (acting_all does now others first.host) → Says now host (if b then then_do first (acting_all does now others) else silent host)
@@ -375,7 +375,7 @@ module _ {Object : Type 0} (does : Behaviour Object) where
     cases false p out = same
 
   -- what comes makes the host say, in its names
-  pub record SaysInAll (now : ℕ) (host : HostState Object) (part : Part Object) : Type 0 where
+  pub record SaysInAll (now : ℕ) (host : HostState Object) (part : HostSoFar Object) : Type 0 where
     pub own : List Report
     pub gives : items_given now part.calls host.link ≡ map (item_of host) own
     pub said_is : IsSaid does host part.host.stage own

@@ -3,7 +3,7 @@ use Rattle.std.proofs.Common.{◌≡◌, ℕ, ◌+◌, ◌-◌, ◌<◌, suc, Li
 use Rattle.std.specs.Prelude.{Some, None}
 use Rattle.rasta_core.specs.Outbox.{OutboxState}
 use Rattle.object_host.specs.Behaviour.{Behaviour}
-use Rattle.object_host.specs.Host.{HostState, Part}
+use Rattle.object_host.specs.Host.{HostState, HostSoFar}
 use Rattle.object_host.specs.Step.{initial_status, most_objects, posting, posting_all, report_then, telling_status}
 use Rattle.object_host.specs.declared.report.Report.{Report}
 use Rattle.object_host.specs.inside.Performed.{IsPerformed}
@@ -20,7 +20,7 @@ module _ {Object : Type 0} (does : Behaviour Object) where
   status_next place object within =
       let e : most_objects - place ≡ suc (most_objects - (place + 1)) = omega (arith, within) in rw e refl
 
-  abbrev pub left_at : ℕ → ℕ → HostState Object → Part Object
+  abbrev pub left_at : ℕ → ℕ → HostState Object → HostSoFar Object
   left_at now place host = posting_all now (status_from place host.object) host
 
   -- the reports before this place were told, and those from it on are left

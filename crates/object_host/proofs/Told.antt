@@ -10,15 +10,15 @@ use Rattle.rasta_core.specs.State.{LinkState, is_open}
 use Rattle.rasta_core.specs.Clock.{alive_until, settled}
 use Rattle.rasta_core.specs.Calls.{answer_to_send, receiving}
 use Rattle.object_host.specs.Behaviour.{Behaviour}
-use Rattle.object_host.specs.Course.{course}
-use Rattle.object_host.specs.Host.{HostState, Part, fallen, is_completed, is_outside, keeping, risen, silent, then_do}
+use Rattle.object_host.specs.Meaning.{meaning}
+use Rattle.object_host.specs.Host.{HostState, HostSoFar, fallen, is_completed, is_outside, keeping, risen, silent, then_do}
 use Rattle.object_host.specs.Hosted.{IsNamedAs}
 use Rattle.object_host.specs.Made.{IsMadeOf, calls_made, items_given}
 use Rattle.object_host.specs.Object.{ObjectCall, Takes, Ticks, Senses, Keeps, Pays, Loses, object_after, contacts_in, object_after_all, one_of, paid_in, reports_paid, telegrams_in}
 use Rattle.object_host.specs.Step.{acting, acting_all, answering, beating, beginning, commanding, ending, following, given, goes_on, hearing, host_step, initialising, is_admitted, most_owed, paid, paying, paying_first, posting, posting_all, received, violating}
 use Rattle.object_host.specs.Told.{AllFit, AreComing, ArePayments, IsToldIn, contacts_of, has_lost, item_of, loss_where}
-use Rattle.object_host.specs.declared.course.Course.{Course}
-use Rattle.object_host.specs.declared.course.Course.TheVariants as courses
+use Rattle.object_host.specs.declared.meaning.Meaning.{Meaning}
+use Rattle.object_host.specs.declared.meaning.Meaning.TheVariants as meanings
 use Rattle.object_host.specs.declared.input.Input.{Input}
 use Rattle.object_host.specs.declared.input.Input.TheVariants as inputs
 use Rattle.object_host.specs.declared.report.Report.{Report}
@@ -149,7 +149,7 @@ module _ {Object : Type 0} (does : Behaviour Object) where
     cases false is = rw is refl
 
   -- the calls of a part, where what it tells is known
-  abbrev TellsOf : ℕ → HostState Object → Part Object → List Telegram → List Sense → Type 0
+  abbrev TellsOf : ℕ → HostState Object → HostSoFar Object → List Telegram → List Sense → Type 0
   TellsOf now host part told senses = AreCalls now host.object part.host.object told senses (is_open part.host.link.phase)
 
   violating_told : (now : ℕ) (host : HostState Object) → TellsOf now host (violating now host) (violating now host).told []
@@ -166,21 +166,21 @@ module _ {Object : Type 0} (does : Behaviour Object) where
     cases true fits = told_one now telegram host.object _ (λ _. fits)
     cases false fits = told_one now telegram host.object _ (λ opened. absurd (true≢false (sym opened ∙ closing_closes now host.link)))
 
-  following_told : (now : ℕ) (item : List ℕ) (telegram : Telegram) (c : Course) (host : HostState Object) →
+  following_told : (now : ℕ) (item : List ℕ) (telegram : Telegram) (c : Meaning) (host : HostState Object) →
       TellsOf now host (following does now item telegram c host) (following does now item telegram c host).told []
   unfolding following
-  following_told now item telegram (courses.Checks version) host = told_nothing now host.object _ _ (answering_object now version host)
-  following_told now item telegram courses.Initialises host = told_nothing now host.object _ _ (initialising_object now host)
-  following_told now item telegram courses.Commands host = commanding_told now telegram host
-  following_told now item telegram courses.Violates host = violating_told now host
+  following_told now item telegram (meanings.Checks version) host = told_nothing now host.object _ _ (answering_object now version host)
+  following_told now item telegram meanings.Initialises host = told_nothing now host.object _ _ (initialising_object now host)
+  following_told now item telegram meanings.Commands host = commanding_told now telegram host
+  following_told now item telegram meanings.Violates host = violating_told now host
 
   acting_told : (now : ℕ) (item : List ℕ) (read : Result Telegram SciFault) (host : HostState Object) →
       TellsOf now host (acting does now item read host) (acting does now item read host).told []
   unfolding acting
   acting_told now item (Err fault) host = violating_told now host
   acting_told now item (Ok telegram) host = cases (is_admitted does telegram host) where
-    made : Bool → Part Object
-    made b = if b then following does now item telegram (course telegram.message host.stage) host else violating now host
+    made : Bool → HostSoFar Object
+    made b = if b then following does now item telegram (meaning telegram.message host.stage) host else violating now host
 
     cases : (b : Bool) → TellsOf now host (made b) (made b).told []
     cases true = following_told now item telegram _ host
@@ -191,20 +191,20 @@ module _ {Object : Type 0} (does : Behaviour Object) where
   unfolding acting_all
   acting_all_told now [] host = told_nothing now host.object _ _ refl
   acting_all_told now (item ∷ others) host = cases (is_open host.link.phase) (acting_all_told now others first.host) where
-    first : Part Object
+    first : HostSoFar Object
     first = acting does now item (reading item) host
 
-    rest : Part Object
+    rest : HostSoFar Object
     rest = acting_all does now others first.host
 
-    made : Bool → Part Object
+    made : Bool → HostSoFar Object
     made b = if b then then_do first (acting_all does now others) else silent host
 
     stays : is_open rest.host.link.phase ≡ true → is_open first.host.link.phase ≡ true
     stays opened = by (is_open first.host.link.phase) refl where
       by : (b : Bool) → is_open first.host.link.phase ≡ b → b ≡ true
       by true is = refl
-      by false is = absurd (true≢false (sym opened ∙ ap (λ (p : Part Object). is_open p.host.link.phase) (closed_silent does now others first.host is) ∙ is))
+      by false is = absurd (true≢false (sym opened ∙ ap (λ (p : HostSoFar Object). is_open p.host.link.phase) (closed_silent does now others first.host is) ∙ is))
 
     cases : (b : Bool) → TellsOf now first.host rest rest.told [] → TellsOf now host (made b) (made b).told []
     cases true more = told_then now host.object first.host.object _ first.told _ _ _ stays (acting_told now item (reading item) host) more
@@ -222,7 +222,7 @@ module _ {Object : Type 0} (does : Behaviour Object) where
   given_told now inputs.Tick host = told_nothing now host.object _ _ refl
   given_told now (inputs.Datagram bytes) host =
       let begun : HostState Object = risen (record host { link = (receiving now bytes.now host.link).link })
-      in let part : Part Object = acting_all does now (receiving now bytes.now host.link).items begun
+      in let part : HostSoFar Object = acting_all does now (receiving now bytes.now host.link).items begun
       in subst (λ o. AreCalls now o part.host.object part.told [] (is_open part.host.link.phase))
       (risen_object (record host { link = (receiving now bytes.now host.link).link }))
       (acting_all_told now (receiving now bytes.now host.link).items begun)
@@ -283,20 +283,20 @@ module _ {Object : Type 0} (does : Behaviour Object) where
     cases true = inside
     cases false = inside
 
-  following_inside : (now : ℕ) (item : List ℕ) (telegram : Telegram) (c : Course) (host : HostState Object) → is_outside host.stage ≡ false →
+  following_inside : (now : ℕ) (item : List ℕ) (telegram : Telegram) (c : Meaning) (host : HostState Object) → is_outside host.stage ≡ false →
       is_outside (following does now item telegram c host).host.stage ≡ false
   unfolding following
-  following_inside now item telegram (courses.Checks version) host inside = answering_inside now version host
-  following_inside now item telegram courses.Initialises host inside = initialising_inside now host
-  following_inside now item telegram courses.Commands host inside = commanding_inside now telegram host inside
-  following_inside now item telegram courses.Violates host inside = violating_inside now host inside
+  following_inside now item telegram (meanings.Checks version) host inside = answering_inside now version host
+  following_inside now item telegram meanings.Initialises host inside = initialising_inside now host
+  following_inside now item telegram meanings.Commands host inside = commanding_inside now telegram host inside
+  following_inside now item telegram meanings.Violates host inside = violating_inside now host inside
 
   acting_inside : (now : ℕ) (item : List ℕ) (read : Result Telegram SciFault) (host : HostState Object) → is_outside host.stage ≡ false →
       is_outside (acting does now item read host).host.stage ≡ false
   unfolding acting
   acting_inside now item (Err fault) host inside = violating_inside now host inside
   acting_inside now item (Ok telegram) host inside = cases (is_admitted does telegram host) where
-    cases : (b : Bool) → is_outside (if b then following does now item telegram (course telegram.message host.stage) host else violating now host).host.stage ≡ false
+    cases : (b : Bool) → is_outside (if b then following does now item telegram (meaning telegram.message host.stage) host else violating now host).host.stage ≡ false
     cases true = following_inside now item telegram _ host inside
     cases false = violating_inside now host inside
 
@@ -307,7 +307,7 @@ module _ {Object : Type 0} (does : Behaviour Object) where
   acting_all_inside now (item ∷ others) host inside =
       cases (is_open host.link.phase) (acting_all_inside now others first.host (acting_inside now item (reading item) host inside))
     where
-      first : Part Object
+      first : HostSoFar Object
       first = acting does now item (reading item) host
 
       cases : (b : Bool) → is_outside (acting_all does now others first.host).host.stage ≡ false →
@@ -328,22 +328,22 @@ module _ {Object : Type 0} (does : Behaviour Object) where
   given_inside now (inputs.Sense sense) host inside = inside
 
   -- before the initialisation was completed the object is told no telegram
-  following_untold : (now : ℕ) (item : List ℕ) (telegram : Telegram) (c : Course) (host : HostState Object) → course telegram.message host.stage ≡ c →
+  following_untold : (now : ℕ) (item : List ℕ) (telegram : Telegram) (c : Meaning) (host : HostState Object) → meaning telegram.message host.stage ≡ c →
       is_completed (following does now item telegram c host).host.stage ≡ false → (following does now item telegram c host).told ≡ []
   unfolding following is_command violating
-  following_untold now item telegram (courses.Checks version) host is early = refl
-  following_untold now item telegram courses.Initialises host is early = refl
-  following_untold now item telegram courses.Commands host is early =
-      absurd (true≢false (sym ((following_says does now item telegram courses.Commands host is).stays (commands_late telegram.message host.stage (ap is_command is))) ∙ early))
-  following_untold now item telegram courses.Violates host is early = refl
+  following_untold now item telegram (meanings.Checks version) host is early = refl
+  following_untold now item telegram meanings.Initialises host is early = refl
+  following_untold now item telegram meanings.Commands host is early =
+      absurd (true≢false (sym ((following_says does now item telegram meanings.Commands host is).stays (commands_late telegram.message host.stage (ap is_command is))) ∙ early))
+  following_untold now item telegram meanings.Violates host is early = refl
 
   acting_untold : (now : ℕ) (item : List ℕ) (read : Result Telegram SciFault) (host : HostState Object) →
       is_completed (acting does now item read host).host.stage ≡ false → (acting does now item read host).told ≡ []
   unfolding acting violating
   acting_untold now item (Err fault) host early = refl
   acting_untold now item (Ok telegram) host early = cases (is_admitted does telegram host) early where
-    made : Bool → Part Object
-    made b = if b then following does now item telegram (course telegram.message host.stage) host else violating now host
+    made : Bool → HostSoFar Object
+    made b = if b then following does now item telegram (meaning telegram.message host.stage) host else violating now host
 
     cases : (b : Bool) → is_completed (made b).host.stage ≡ false → (made b).told ≡ []
     cases true is = following_untold now item telegram _ host refl is
@@ -354,13 +354,13 @@ module _ {Object : Type 0} (does : Behaviour Object) where
   unfolding acting_all
   acting_all_untold now [] host early = refl
   acting_all_untold now (item ∷ others) host early = cases (is_open host.link.phase) (acting_all_untold now others first.host) early where
-    first : Part Object
+    first : HostSoFar Object
     first = acting does now item (reading item) host
 
-    rest : Part Object
+    rest : HostSoFar Object
     rest = acting_all does now others first.host
 
-    made : Bool → Part Object
+    made : Bool → HostSoFar Object
     made b = if b then then_do first (acting_all does now others) else silent host
 
     before : (b : Bool) → is_completed first.host.stage ≡ b → is_completed rest.host.stage ≡ false → b ≡ false
@@ -380,7 +380,7 @@ module _ {Object : Type 0} (does : Behaviour Object) where
   given_untold now (inputs.Sense sense) host early = refl
 
   -- what is owed is paid
-  pub record IsPaying (now : ℕ) (host : HostState Object) (part : Part Object) : Type 0 where
+  pub record IsPaying (now : ℕ) (host : HostState Object) (part : HostSoFar Object) : Type 0 where
     calls : List ObjectCall
     object_is : part.host.object ≡ object_after_all does calls host.object
     are_payments : ArePayments calls
@@ -413,7 +413,7 @@ module _ {Object : Type 0} (does : Behaviour Object) where
   unfolding posting object_after_all telegrams_in contacts_in reports_paid items_given
   pays_first now None host is = pays_nothing now host
   pays_first now (Some report) host is = cases (is_completed host.stage) (is_ok (answer_to_send now host.link)) refl refl where
-    posted : Part Object
+    posted : HostSoFar Object
     posted = posting now report host
 
     cases : (b k : Bool) → is_completed host.stage ≡ b → is_ok (answer_to_send now host.link) ≡ k →
@@ -458,7 +458,7 @@ module _ {Object : Type 0} (does : Behaviour Object) where
       dropped = λ _. refl;
     }
 
-  pays_then : (now : ℕ) (host : HostState Object) (first : Part Object) (next : HostState Object → Part Object) → IsMadeOf now host.link first →
+  pays_then : (now : ℕ) (host : HostState Object) (first : HostSoFar Object) (next : HostState Object → HostSoFar Object) → IsMadeOf now host.link first →
       IsPaying now host first → IsPaying now first.host (next first.host) → IsPaying now host (then_do first next)
   pays_then now host first next made one more = record {
     calls = one.calls ++ more.calls;
@@ -485,7 +485,7 @@ module _ {Object : Type 0} (does : Behaviour Object) where
   unfolding paying
   pays_all now zero host = pays_nothing now host
   pays_all now (suc more) host = cases (goes_on now (does.owed host.object) host) (pays_all now more first.host) where
-    first : Part Object
+    first : HostSoFar Object
     first = paying_first does now (does.owed host.object) host
 
     one : IsPaying now host first
@@ -618,13 +618,13 @@ module _ {Object : Type 0} (does : Behaviour Object) where
         dropped = payment.dropped;
       }
     where
-      part : Part Object
+      part : HostSoFar Object
       part = given does now input (beginning does now host)
 
-      both : Part Object
+      both : HostSoFar Object
       both = then_do part (paying does now most_owed)
 
-      own : (first : LinkState) (part : Part Object) → IsPart now first part → is_open first.phase ≡ false → is_open part.host.link.phase ≡ false
+      own : (first : LinkState) (part : HostSoFar Object) → IsPart now first part → is_open first.phase ≡ false → is_open part.host.link.phase ≡ false
       own first part is closed = ap (λ (l : LinkState). is_open l.phase) is.made.link_is ∙ own_closed now part.calls first is.own closed
 
       opened_before : (b : Bool) → is_open part.host.link.phase ≡ b → is_open (beating now input both.host).host.link.phase ≡ true → b ≡ true

@@ -1,7 +1,7 @@
 -- A loop that does part after part: what is left to do from here does what all of it does from the start.
 use Rattle.std.proofs.Common.{◌≡◌, ℕ, ◌+◌, ◌≤◌, List, [], ◌∷◌, ◌++◌, length, arith, refl, ap, sym, ◌∙◌, subst}
 use Rattle.rasta_core.specs.Outbox.{OutboxState, posted}
-use Rattle.object_host.specs.Host.{HostState, LinkCall, Part, Ticks, Closes, Sends, Receives}
+use Rattle.object_host.specs.Host.{HostState, LinkCall, HostSoFar, Ticks, Closes, Sends, Receives}
 use Rattle.object_host.specs.Made.{AreItems}
 use Rattle.object_host.specs.inside.Performed.{IsPerformed}
 use Rattle.object_host.proofs.Posting.{posted_nothing, posted_more, length-posted, capacity-posted}
@@ -16,7 +16,7 @@ items_joined (Receives bytes ∷ calls) others one more = items_joined calls oth
 
 module _ {Object : Type 0} where
   -- so far at most so many PDUs were handed out
-  pub record IsUnderWay (now : ℕ) (start : HostState Object) (box : OutboxState) (all : Part Object) (most : ℕ) (host : HostState Object) (outbox : OutboxState) (left : Part Object) : Type 0 where
+  pub record IsUnderWay (now : ℕ) (start : HostState Object) (box : OutboxState) (all : HostSoFar Object) (most : ℕ) (host : HostState Object) (outbox : OutboxState) (left : HostSoFar Object) : Type 0 where
     pub identity : host.link.identity ≡ start.link.identity
     pub clock : host.link.clock ≡ now
     pub capacity : outbox.capacity ≡ box.capacity
@@ -26,18 +26,18 @@ module _ {Object : Type 0} where
     pub items_kept : AreItems left.calls → AreItems all.calls
 
   -- a part that leaves nothing to do
-  pub record IsNothing (host : HostState Object) (left : Part Object) : Type 0 where
+  pub record IsNothing (host : HostState Object) (left : HostSoFar Object) : Type 0 where
     pub stays : left.host ≡ host
     pub posts_none : left.pdus ≡ []
     pub calls_none : left.calls ≡ []
 
   -- a part of what is left, and what is left behind it
-  pub record IsFirst (left first next : Part Object) : Type 0 where
+  pub record IsFirst (left first next : HostSoFar Object) : Type 0 where
     pub ends_same : left.host ≡ next.host
     pub pdus_joined : left.pdus ≡ first.pdus ++ next.pdus
     pub calls_joined : left.calls ≡ first.calls ++ next.calls
 
-  pub begins : (now : ℕ) (start : HostState Object) (box : OutboxState) (all : Part Object) → start.link.clock ≡ now → IsUnderWay now start box all 0 start box all
+  pub begins : (now : ℕ) (start : HostState Object) (box : OutboxState) (all : HostSoFar Object) → start.link.clock ≡ now → IsUnderWay now start box all 0 start box all
   begins now start box all at = record {
     identity = refl;
     clock = at;
@@ -48,7 +48,7 @@ module _ {Object : Type 0} where
     items_kept = λ items. items;
   }
 
-  pub goes_on : (now : ℕ) (start : HostState Object) (box : OutboxState) (all : Part Object) (most more : ℕ) (host : HostState Object) (outbox : OutboxState) (left first next : Part Object) (new : HostState Object) (out : OutboxState) →
+  pub goes_on : (now : ℕ) (start : HostState Object) (box : OutboxState) (all : HostSoFar Object) (most more : ℕ) (host : HostState Object) (outbox : OutboxState) (left first next : HostSoFar Object) (new : HostState Object) (out : OutboxState) →
       IsUnderWay now start box all most host outbox left → IsFirst left first next → IsPerformed more now first host new outbox out →
       IsUnderWay now start box all (most + more) new out next
   goes_on now start box all most more host outbox left first next new out way split made =
@@ -68,7 +68,7 @@ module _ {Object : Type 0} where
         items_kept = λ items. way.items_kept (subst AreItems (sym split.calls_joined) (items_joined first.calls next.calls made.items items));
       }
 
-  pub comes_to_end : (now : ℕ) (start : HostState Object) (box : OutboxState) (all : Part Object) (most bound : ℕ) (host : HostState Object) (outbox : OutboxState) (left : Part Object) →
+  pub comes_to_end : (now : ℕ) (start : HostState Object) (box : OutboxState) (all : HostSoFar Object) (most bound : ℕ) (host : HostState Object) (outbox : OutboxState) (left : HostSoFar Object) →
       IsUnderWay now start box all most host outbox left → IsNothing host left → most ≤ bound → IsPerformed bound now all start host box outbox
   comes_to_end now start box all most bound host outbox left way nothing within =
       let reached : host ≡ all.host = sym nothing.stays ∙ way.ends_same

@@ -33,7 +33,7 @@ pub data LinkCall : Type 0 where
 
 -- What a part of a step does: the host after it, the PDUs handed out, the calls made of the link, the items taken
 -- that were acted on, and the telegrams that the object was told.
-pub record Part (Object : Type 0) : Type 0 where
+pub record HostSoFar (Object : Type 0) : Type 0 where
   pub host : HostState Object
   pub pdus : List Pdu
   pub calls : List LinkCall
@@ -49,11 +49,11 @@ is_completed stage.Completed = true
 is_completed _ = false
 
 module _ {Object : Type 0} where
-  abbrev pub silent : HostState Object → Part Object
+  abbrev pub silent : HostState Object → HostSoFar Object
   silent host = record { host = host; pdus = []; calls = []; acted = []; told = [] }
 
   -- one part after another
-  abbrev pub then_do : Part Object → (HostState Object → Part Object) → Part Object
+  abbrev pub then_do : HostSoFar Object → (HostState Object → HostSoFar Object) → HostSoFar Object
   then_do first next =
       let second = next first.host
       in record {
@@ -65,7 +65,7 @@ module _ {Object : Type 0} where
       }
 
   -- a call of the link and what it does
-  abbrev pub linked : LinkCall → Step → HostState Object → Part Object
+  abbrev pub linked : LinkCall → Step → HostState Object → HostSoFar Object
   linked call step host = record {
     host = record host { link = step.link };
     pdus = step.pdus;
@@ -74,11 +74,11 @@ module _ {Object : Type 0} where
     told = [];
   }
 
-  abbrev pub at_stage : Stage → Part Object → Part Object
+  abbrev pub at_stage : Stage → HostSoFar Object → HostSoFar Object
   at_stage stage part = record part { host = record part.host { stage = stage } }
 
   -- an item was acted on, and the object was told these telegrams
-  abbrev pub acting_on : List ℕ → List Telegram → Part Object → Part Object
+  abbrev pub acting_on : List ℕ → List Telegram → HostSoFar Object → HostSoFar Object
   acting_on item told part = record part { acted = item ∷ []; told = told }
 
   -- a connection that has opened begins with the version check

@@ -1,6 +1,6 @@
 pub mod Behaviour
 pub mod Lawful
-pub mod Course
+pub mod Meaning
 pub mod Host
 pub mod Object
 pub mod Step

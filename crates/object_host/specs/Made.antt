@@ -11,7 +11,7 @@ use Rattle.rasta_core.specs.Sending.{Step, silent, then_do}
 use Rattle.rasta_core.specs.Calls.{ticking, closing_by, answer_to_send, sending_item, receiving}
 use Rattle.object_host.specs.declared.input.Input.{Input}
 use Rattle.object_host.specs.declared.input.Input.TheVariants as inputs
-use Rattle.object_host.specs.Host.{LinkCall, Ticks, Closes, Sends, Receives, Part}
+use Rattle.object_host.specs.Host.{LinkCall, Ticks, Closes, Sends, Receives, HostSoFar}
 
 -- what a call does at a clock reading
 abbrev pub call_made : ℕ → LinkCall → LinkState → Step
@@ -86,13 +86,13 @@ commands_of [] = []
 commands_of (first ∷ others) = command_of (reading first) ++ commands_of others
 
 -- A step is the calls that it lists, one after another: what they leave of the link, and what they hand out.
-pub record IsMadeOf {Object : Type 0} (now : ℕ) (link : LinkState) (part : Part Object) : Type 0 where
+pub record IsMadeOf {Object : Type 0} (now : ℕ) (link : LinkState) (part : HostSoFar Object) : Type 0 where
   pub link_is : part.host.link ≡ (calls_made now part.calls link).link
   pub pdus_are : part.pdus ≡ (calls_made now part.calls link).pdus
 
 -- The items that a step acted on are a beginning of those that it took, and all of them where the link stays open;
 -- and the object was told what they command, each once and in order.
-pub record ActsOn {Object : Type 0} (taken : List (List ℕ)) (part : Part Object) : Type 0 where
+pub record ActsOn {Object : Type 0} (taken : List (List ℕ)) (part : HostSoFar Object) : Type 0 where
   pub dropped : List (List ℕ)
   pub beginning : taken ≡ part.acted ++ dropped
   pub whole : is_open part.host.link.phase ≡ true → dropped ≡ []

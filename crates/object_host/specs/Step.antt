@@ -21,10 +21,10 @@ use Rattle.rasta_core.specs.Calls.{ticking, closing_by, answer_to_send, sending_
 use Rattle.rasta_core.specs.Receiving.{Receipt}
 use Rattle.rasta_core.specs.reason.Reason.TheVariants as reason
 use Rattle.object_host.specs.Behaviour.{Behaviour}
-use Rattle.object_host.specs.Course.{course}
-use Rattle.object_host.specs.Host.{HostState, Part, Ticks, Closes, Sends, Receives, silent, then_do, linked, at_stage, acting_on, is_completed, risen, fallen, keeping, telegram_of, said}
-use Rattle.object_host.specs.declared.course.Course.{Course}
-use Rattle.object_host.specs.declared.course.Course.TheVariants as courses
+use Rattle.object_host.specs.Meaning.{meaning}
+use Rattle.object_host.specs.Host.{HostState, HostSoFar, Ticks, Closes, Sends, Receives, silent, then_do, linked, at_stage, acting_on, is_completed, risen, fallen, keeping, telegram_of, said}
+use Rattle.object_host.specs.declared.meaning.Meaning.{Meaning}
+use Rattle.object_host.specs.declared.meaning.Meaning.TheVariants as meanings
 use Rattle.object_host.specs.declared.report.Report.{Report}
 use Rattle.object_host.specs.declared.stage.Stage.TheVariants as stage
 use Rattle.object_host.specs.declared.input.Input.{Input}
@@ -68,21 +68,21 @@ module _ {Object : Type 0} where
   is_admitted does telegram host = is_from_peer does telegram host && is_in_version host.version telegram.message
 
   -- a report goes to the peer, where the link accepts it
-  unfoldable pub posting : ℕ → Report → HostState Object → Part Object
+  unfoldable pub posting : ℕ → Report → HostState Object → HostSoFar Object
   posting now report host =
       let item = writing (telegram_of report host)
       in linked (Sends item) (sending_item now item host.link) host
 
-  unfoldable pub posting_all : ℕ → List Report → HostState Object → Part Object
+  unfoldable pub posting_all : ℕ → List Report → HostState Object → HostSoFar Object
   posting_all now [] host = silent host
   posting_all now (first ∷ others) host = then_do (posting now first host) (posting_all now others)
 
   -- what doesn't belong there closes the link
-  unfoldable pub violating : ℕ → HostState Object → Part Object
+  unfoldable pub violating : ℕ → HostState Object → HostSoFar Object
   violating now host = linked (Closes reason.State) (closing_by now reason.State host.link) host
 
   -- the version is answered; nothing more is taken where it is another one
-  unfoldable pub answering : Behaviour Object → ℕ → ℕ → HostState Object → Part Object
+  unfoldable pub answering : Behaviour Object → ℕ → ℕ → HostState Object → HostSoFar Object
   answering does now version host =
       if version == host.version
       then at_stage stage.AwaitsRequest (posting now (said does (VersionAnswer Match host.version)) host)
@@ -93,37 +93,37 @@ module _ {Object : Type 0} where
   initial_status does zero place object = []
   initial_status does (suc more) place object = report_then (does.status place object) (initial_status does more (place + 1) object)
 
-  abbrev pub telling_status : Behaviour Object → ℕ → HostState Object → Part Object
+  abbrev pub telling_status : Behaviour Object → ℕ → HostState Object → HostSoFar Object
   telling_status does now host = posting_all now (initial_status does most_objects 0 host.object) host
 
   -- the initialisation: start, the status of each object, completed
-  unfoldable pub initialising : Behaviour Object → ℕ → HostState Object → Part Object
+  unfoldable pub initialising : Behaviour Object → ℕ → HostState Object → HostSoFar Object
   initialising does now host =
       let told = then_do (posting now (said does StartInitialisation) host) (telling_status does now)
       in at_stage stage.Completed (then_do told (posting now (said does InitialisationCompleted)))
 
   -- the object is told a telegram; one that doesn't fit closes the link
-  unfoldable pub commanding : Behaviour Object → ℕ → Telegram → HostState Object → Part Object
+  unfoldable pub commanding : Behaviour Object → ℕ → Telegram → HostState Object → HostSoFar Object
   commanding does now telegram host =
       let after = record host { object = does.after_take now telegram host.object }
       in if does.accepts now telegram host.object then silent after else violating now after
 
-  unfoldable pub following : Behaviour Object → ℕ → List ℕ → Telegram → Course → HostState Object → Part Object
-  following does now item telegram (courses.Checks version) host = acting_on item [] (answering does now version host)
-  following does now item telegram courses.Initialises host = acting_on item [] (initialising does now host)
-  following does now item telegram courses.Commands host = acting_on item (telegram ∷ []) (commanding does now telegram host)
-  following does now item telegram courses.Violates host = violating now host
+  unfoldable pub following : Behaviour Object → ℕ → List ℕ → Telegram → Meaning → HostState Object → HostSoFar Object
+  following does now item telegram (meanings.Checks version) host = acting_on item [] (answering does now version host)
+  following does now item telegram meanings.Initialises host = acting_on item [] (initialising does now host)
+  following does now item telegram meanings.Commands host = acting_on item (telegram ∷ []) (commanding does now telegram host)
+  following does now item telegram meanings.Violates host = violating now host
 
   -- an item that was taken: whether it is a telegram of this version, whom it is from and for, and then the order
-  unfoldable pub acting : Behaviour Object → ℕ → List ℕ → Result Telegram SciFault → HostState Object → Part Object
+  unfoldable pub acting : Behaviour Object → ℕ → List ℕ → Result Telegram SciFault → HostState Object → HostSoFar Object
   acting does now item (Err fault) host = violating now host
   acting does now item (Ok telegram) host =
       if is_admitted does telegram host
-      then following does now item telegram (course telegram.message host.stage) host
+      then following does now item telegram (meaning telegram.message host.stage) host
       else violating now host
 
   -- the items of a datagram, one after another; those behind one that closed the link are dropped
-  unfoldable pub acting_all : Behaviour Object → ℕ → List (List ℕ) → HostState Object → Part Object
+  unfoldable pub acting_all : Behaviour Object → ℕ → List (List ℕ) → HostState Object → HostSoFar Object
   acting_all does now [] host = silent host
   acting_all does now (item ∷ others) host =
       if is_open host.link.phase
@@ -131,7 +131,7 @@ module _ {Object : Type 0} where
       else silent host
 
   -- a datagram has come
-  unfoldable pub received : ℕ → List ℕ → Receipt → HostState Object → Part Object
+  unfoldable pub received : ℕ → List ℕ → Receipt → HostState Object → HostSoFar Object
   received now bytes receipt host = record {
     host = risen (record host { link = receipt.link });
     pdus = receipt.pdus;
@@ -140,7 +140,7 @@ module _ {Object : Type 0} where
     told = [];
   }
 
-  unfoldable pub hearing : Behaviour Object → ℕ → List ℕ → HostState Object → Part Object
+  unfoldable pub hearing : Behaviour Object → ℕ → List ℕ → HostState Object → HostSoFar Object
   hearing does now bytes host =
       let receipt = receiving now bytes host.link
       in then_do (received now bytes receipt host) (acting_all does now receipt.items)
@@ -151,7 +151,7 @@ module _ {Object : Type 0} where
 
   -- The first owed report: it is sent once the initialisation was completed, and stays owed where the link refuses it;
   -- before, nothing is owed.
-  abbrev pub paying_first : Behaviour Object → ℕ → Option Report → HostState Object → Part Object
+  abbrev pub paying_first : Behaviour Object → ℕ → Option Report → HostState Object → HostSoFar Object
   paying_first does now None host = silent host
   paying_first does now (Some report) host =
       if not (is_completed host.stage) then silent (paid does host) else
@@ -164,7 +164,7 @@ module _ {Object : Type 0} where
   goes_on now (Some report) host = not (is_completed host.stage) || is_ok (answer_to_send now host.link)
 
   -- the owed reports, in the object's order, at most so many
-  unfoldable pub paying : Behaviour Object → ℕ → ℕ → HostState Object → Part Object
+  unfoldable pub paying : Behaviour Object → ℕ → ℕ → HostState Object → HostSoFar Object
   paying does now zero host = silent host
   paying does now (suc more) host =
       let first = paying_first does now (does.owed host.object) host
@@ -176,13 +176,13 @@ module _ {Object : Type 0} where
       let clocked = fallen does (record host { link = settled now host.link })
       in record clocked { object = does.after_tick now clocked.object }
 
-  unfoldable pub given : Behaviour Object → ℕ → Input → HostState Object → Part Object
+  unfoldable pub given : Behaviour Object → ℕ → Input → HostState Object → HostSoFar Object
   given does now inputs.Tick host = silent host
   given does now (inputs.Datagram bytes) host = hearing does now bytes.now host
   given does now (inputs.Sense sense) host = silent (record host { object = does.after_sense now sense host.object })
 
   -- a tick is the link's too
-  unfoldable pub beating : ℕ → Input → HostState Object → Part Object
+  unfoldable pub beating : ℕ → Input → HostState Object → HostSoFar Object
   beating now inputs.Tick host = linked Ticks (ticking now host.link) host
   beating now _ host = silent host
 
@@ -190,7 +190,7 @@ module _ {Object : Type 0} where
   abbrev pub ending : Behaviour Object → HostState Object → HostState Object
   ending does host = keeping does (fallen does host)
 
-  unfoldable pub host_step : Behaviour Object → ℕ → Input → HostState Object → Part Object
+  unfoldable pub host_step : Behaviour Object → ℕ → Input → HostState Object → HostSoFar Object
   host_step does now input host =
       let heard = given does now input (beginning does now host)
       in let told = then_do heard (paying does now most_owed)

@@ -7,7 +7,7 @@ use Rattle.sci_telegram.specs.declared.message.Initialisation.TheVariants.{Start
 use Rattle.rasta_core.specs.State.{is_open}
 use Rattle.rasta_core.specs.Clock.{alive_until, settled}
 use Rattle.object_host.specs.Behaviour.{Behaviour}
-use Rattle.object_host.specs.Host.{HostState, Part, is_completed, is_outside, said, telegram_of}
+use Rattle.object_host.specs.Host.{HostState, HostSoFar, is_completed, is_outside, said, telegram_of}
 use Rattle.object_host.specs.Made.{items_given}
 use Rattle.object_host.specs.Object.{ObjectCall, Takes, Ticks, Senses, Keeps, Pays, Loses, contacts_in, object_after, object_after_all, reports_paid, telegrams_in}
 use Rattle.object_host.specs.Step.{beginning, given, initial_status, most_objects}
@@ -92,7 +92,7 @@ module _ {Object : Type 0} where
   calls_in_step now old during is_lost new =
       calls_begun now old ++ (during ++ (loss_where is_lost ++ Keeps (alive_until new.link) ∷ []))
 
-  pub record IsToldIn (does : Behaviour Object) (now : ℕ) (input : Input) (host : HostState Object) (part : Part Object) : Type 0 where
+  pub record IsToldIn (does : Behaviour Object) (now : ℕ) (input : Input) (host : HostState Object) (part : HostSoFar Object) : Type 0 where
     -- the object after the step is that before it after these calls: what comes, and behind it what is paid
     pub comes : List ObjectCall
     pub pays : List ObjectCall

@@ -3,14 +3,14 @@
 ghost use Rattle.std.specs.Prelude.{◌≡◌, ◌≤◌, ℕ, List, length};
 ghost use Rattle.rasta_core.specs.Calls.{MayStep};
 ghost use Rattle.rasta_core.specs.Outbox.{HasRoomFor};
-ghost use Rattle.object_host.specs.Course.{course};
+ghost use Rattle.object_host.specs.Meaning.{meaning};
 ghost use Rattle.object_host.specs.Step.{acting, acting_all, commanding, following, is_admitted, is_from_peer, is_in_version, is_same_protocol, posting};
 ghost use Rattle.object_host.specs.inside.Performed.{IsPerformed};
 ghost use Rattle.sci_telegram.specs.Reading.{reading};
 
 use crate::controller::Controller;
-use crate::course::Course;
 use crate::host::Host;
+use crate::meaning::Meaning;
 use rasta_core::{Millis, Outbox};
 use rasta_pdu::Item;
 use sci_telegram::{Aspect, Message, Protocol, SignalMessage, Telegram};
@@ -37,13 +37,13 @@ impl<C: Controller> Host<C> {
     fn follow(&mut self, now: Millis, telegram: &Telegram, outbox: &mut Outbox)
         requires at { self.old.link.clock ≡ now }
         requires room { HasRoomFor 42 outbox.old }
-        ensures { (item : List ℕ) → IsPerformed 18 now (following C.behaviour now item telegram.now (course telegram.now.message self.old.stage) self.old) self.old self.new outbox.old outbox.new }
+        ensures { (item : List ℕ) → IsPerformed 18 now (following C.behaviour now item telegram.now (meaning telegram.now.message self.old.stage) self.old) self.old self.new outbox.old outbox.new }
     {
-        match Course::of(&telegram.message, self.stage) {
-            Course::Checks(version) => self.answer(now, version, outbox),
-            Course::Initialises => self.initialise(now, outbox),
-            Course::Commands => self.command(now, telegram, outbox),
-            Course::Violates => self.violate(now, outbox),
+        match Meaning::of(&telegram.message, self.stage) {
+            Meaning::Checks(version) => self.answer(now, version, outbox),
+            Meaning::Initialises => self.initialise(now, outbox),
+            Meaning::Commands => self.command(now, telegram, outbox),
+            Meaning::Violates => self.violate(now, outbox),
         }
     }
 

@@ -4,17 +4,17 @@
 
 mod commands;
 mod controller;
-mod course;
 mod host;
+mod host_step;
 mod hosted;
 mod initialisation;
 mod input;
 mod laws;
+mod meaning;
 mod report;
 mod reports;
 mod sense;
 mod stage;
-mod stepping;
 
 pub use controller::Controller;
 pub use hosted::Hosted;

@@ -13,7 +13,7 @@ use Rattle.rasta_core.specs.Ends.{EndState, end_later, end_restarted, kept, read
 use Rattle.rasta_core.specs.Run.{Ends, called, later, lost, restarted}
 use Rattle.rasta_core.specs.Events as links
 use Rattle.object_host.specs.Behaviour.{Behaviour}
-use Rattle.object_host.specs.Host.{HostState, Part}
+use Rattle.object_host.specs.Host.{HostState, HostSoFar}
 use Rattle.object_host.specs.Made.{ActsOn, AreCallsFor, IsMadeOf, calls_made, command_of, commands_of, items_taken}
 use Rattle.object_host.specs.Step.{host_step}
 use Rattle.object_host.specs.declared.input.Input.{Input}
@@ -68,7 +68,7 @@ other_event (links.Elsewhere count) ends acted told free is = is
 
 module _ {Object : Type 0} (does : Behaviour Object) where
   -- a step, as what its end took and what was acted on
-  kept_on : (enters : Option ℕ) (old new : EndState) (acted : List (List ℕ)) (told : List Telegram) (items : List (List ℕ)) (part : Part Object) → IsActedOn old acted told →
+  kept_on : (enters : Option ℕ) (old new : EndState) (acted : List (List ℕ)) (told : List Telegram) (items : List (List ℕ)) (part : HostSoFar Object) → IsActedOn old acted told →
       new.taken ≡ kept enters old.taken ++ items → ActsOn items part → (is_open new.link.phase ≡ true → is_open part.host.link.phase ≡ true) →
       (enters ≡ None → is_open old.link.phase ≡ false → (items ≡ []) × (is_open new.link.phase ≡ false)) →
       IsActedOn new (kept enters acted ++ part.acted) (told_since enters told ++ part.told)

@@ -2,3 +2,10 @@ pub mod Hearing
 pub mod Server
 pub mod Acted
 pub mod Told
+pub mod Calls
+pub mod Moves
+pub mod Points
+pub mod Found
+pub mod Signals
+pub mod Reporting
+pub mod Kept

@@ -1,2 +1,4 @@
 pub mod World
 pub mod Acted
+pub mod Signal
+pub mod Point

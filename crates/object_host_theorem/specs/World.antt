@@ -8,7 +8,7 @@ use Rattle.rasta_core.specs.Run.{Ends, called, later, lost, restarted}
 use Rattle.rasta_core.specs.Events.{IsWithinDrift, MayCall, Start, started}
 use Rattle.rasta_core.specs.Names.{Names, identity_of}
 use Rattle.object_host.specs.Behaviour.{Behaviour}
-use Rattle.object_host.specs.Host.{HostState, LinkCall, Part, Ticks, Closes, Sends, Receives}
+use Rattle.object_host.specs.Host.{HostState, LinkCall, HostSoFar, Ticks, Closes, Sends, Receives}
 use Rattle.object_host.specs.Hosted.{new_host}
 use Rattle.object_host.specs.Made.{AreItems, commands_of}
 use Rattle.object_host.specs.Step.{host_step}
@@ -85,7 +85,7 @@ module _ {Object : Type 0} where
   }
 
   -- the step that the host makes at its clock
-  abbrev pub step_of : Behaviour Object → Input → World Object → Part Object
+  abbrev pub step_of : Behaviour Object → Input → World Object → HostSoFar Object
   step_of does input world = host_step does (reading_of world.ends.server.clock) input (host_of world)
 
   unfoldable pub stepped : Behaviour Object → Input → ℕ → World Object → World Object

@@ -2,8 +2,7 @@
 //! ends and the network between them, and prints an answer for each. Its status is 0 or 1.
 #![tactic(auto)]
 
-use pair_command::{Asked, Error, is_memory, read_words, status};
-use simulator_pair_text::pair_text;
+use simulator_pair_text::{Asked, Error, is_memory, pair_text, read_words, status};
 use std::io::BufWriter;
 use std::process::ExitCode;
 use std::{env, fs, io};

@@ -1,3 +1,19 @@
+-- Invariants, for the proofs: what is believed of runs is in rasta_core_run.
+pub mod EndFlow
+pub mod Order
+pub mod Playing
+pub mod Beginning
+pub mod Carried
+pub mod Standing
+pub mod Timely
+pub mod Moves
+pub mod Invariant
+pub mod Ordered
+pub mod EachLink
+-- Many links over one network.
+pub mod Links
+pub mod Nodes
+-- What crates above need of two ends and their network.
 pub use Rattle.rasta_core_run.specs.Parameters
 pub use Rattle.rasta_core_run.specs.Sequence
 pub use Rattle.rasta_core_run.specs.State
@@ -19,11 +35,6 @@ pub use Rattle.rasta_core_run.specs.Safe
 pub use Rattle.rasta_core_run.specs.Given
 pub use Rattle.rasta_core_run.specs.Newest
 pub use Rattle.rasta_core_run.specs.Steps
-pub use Rattle.rasta_core_network.specs.Invariant
-pub use Rattle.rasta_core_network.specs.Ordered
-pub use Rattle.rasta_core_network.specs.Links
-pub use Rattle.rasta_core_network.specs.Nodes
-pub use Rattle.rasta_core_network.specs.EachLink
 pub use Rattle.rasta_core_run.specs.header
 pub use Rattle.rasta_core_run.specs.identity
 pub use Rattle.rasta_core_run.specs.reason

@@ -12,7 +12,7 @@ use crate::link::{Link, Millis};
 use crate::outbox::Outbox;
 use crate::parameters::WINDOW_SIZE;
 use crate::reason::Reason;
-use crate::receiving::Inbox;
+use crate::reception::Inbox;
 use crate::verdict::Verdict;
 use rasta_pdu::Item;
 

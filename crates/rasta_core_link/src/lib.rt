@@ -15,8 +15,8 @@ mod outbox;
 mod parameters;
 mod phase;
 mod reason;
-mod receiving;
-mod sending;
+mod reception;
+mod transmission;
 mod verdict;
 mod window;
 
@@ -27,5 +27,5 @@ pub use link::{Link, Millis};
 pub use outbox::Outbox;
 pub use phase::State;
 pub use reason::Reason;
-pub use receiving::Inbox;
+pub use reception::Inbox;
 pub use verdict::Verdict;

@@ -1,15 +1,29 @@
-//! Tests of one end of a link, with expected values from the protocol.
+//! Tests of digests, PDUs and telegrams, and of one end whose partner's PDUs are made by hand.
 #![tactic(auto)]
 
 #[cfg(test)]
 mod bench;
 #[cfg(test)]
+mod changes;
+#[cfg(test)]
 mod clock;
+#[cfg(test)]
+mod digests;
 #[cfg(test)]
 mod faults;
 #[cfg(test)]
+mod one_byte;
+#[cfg(test)]
 mod opening;
 #[cfg(test)]
+mod pdu_rows;
+#[cfg(test)]
+mod pdus;
+#[cfg(test)]
 mod retransmission;
+#[cfg(test)]
+mod telegram_rows;
+#[cfg(test)]
+mod telegrams;
 #[cfg(test)]
 mod verdicts;

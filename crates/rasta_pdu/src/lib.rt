@@ -10,10 +10,10 @@ mod key;
 mod laws;
 mod numbers;
 mod pdu;
-mod reading;
+mod reader;
 mod safety_code;
 mod types;
-mod writing;
+mod writer;
 
 pub use body::{Body, Opening};
 pub use fault::PduFault;
@@ -24,6 +24,6 @@ pub use laws::{
     intact_is_tested, one_spelling_each, read_was_written, the_first_fault_is_told, written_is_read,
 };
 pub use pdu::Pdu;
-pub use reading::read;
+pub use reader::read;
 pub use safety_code::is_intact;
-pub use writing::{Datagram, write};
+pub use writer::{Datagram, write};

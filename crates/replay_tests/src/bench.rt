@@ -1,8 +1,8 @@
 //! A small station whose lines are read. What takes memory is done again where it is lacking, so that the answers also
 //! hold with any one allocation refused.
 
+use control_table::layout::{Layout, LayoutFault};
 use control_table::{Checked, check};
-use layout::{Layout, LayoutFault};
 use std::alloc::Global;
 use std::test::Fail;
 

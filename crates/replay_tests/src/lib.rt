@@ -6,8 +6,8 @@ mod bench;
 #[cfg(test)]
 mod lines;
 #[cfg(test)]
+mod lines_written;
+#[cfg(test)]
 mod sessions;
 #[cfg(test)]
 mod words;
-#[cfg(test)]
-mod writing;

@@ -2,10 +2,10 @@
 
 use crate::bench::small;
 use control_table::Checked;
-use event_words::{Fault, Words};
-use layout::{PointId, SectionId};
-use replay_lines::{read_event, read_line, write_event};
-use sci_telegram::{Occupancy, Position};
+use control_table::layout::{PointId, SectionId};
+use control_table::sci_telegram::{Occupancy, Position};
+use replay::{read_event, read_line, write_event};
+use replay_words::{Fault, Words};
 use simulator_event::{Event, NodeId};
 use std::alloc::{AllocError, Global};
 use std::test::Fail;

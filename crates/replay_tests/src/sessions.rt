@@ -2,9 +2,8 @@
 
 use crate::bench::small;
 use control_table::Checked;
-use event_words::Fault;
-use replay_lines::LineFault;
-use replay_session::{Apply, Entry, Replayed, read_script, read_session, replay};
+use replay::{Apply, Entry, LineFault, Replayed, read_script, read_session, replay};
+use replay_words::Fault;
 use simulator_event::{Answer, Event, Refused, Reply};
 use std::alloc::{AllocError, Global};
 use std::test::Fail;

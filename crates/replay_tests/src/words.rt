@@ -1,7 +1,7 @@
 //! Lines, words, numbers and bytes. What takes memory is done again where it is lacking, so the tests also hold with any one
 //! allocation refused.
 
-use event_words::{
+use replay_words::{
     Fault, Lines, Words, both, decimal, event_and_answer, hex_word, hexadecimal,
     hexadecimal_or_none, is_passed_over, name_and_number,
 };

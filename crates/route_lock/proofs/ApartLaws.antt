@@ -3,12 +3,12 @@ use Rattle.std.proofs.Common.{◌≡◌, ◌≢◌, ℕ, ◌<◌, List, length, 
 use Rattle.std.specs.Prelude.{◌⊎◌, ◌↔◌}
 use Rattle.std.specs.FinSet.{empty}
 use Rattle.std.proofs.lemmas.Bool.{cases_eq}
-use Rattle.sci_telegram.specs.declared.message.Side.{Side}
-use Rattle.sci_telegram.specs.declared.message.Side.TheVariants as side
-use Rattle.layout.specs.declared.ids.SectionId.{SectionId}
-use Rattle.layout.specs.declared.ids.PointId.{PointId}
-use Rattle.layout.specs.declared.ids.RouteId.{RouteId}
-use Rattle.bit_row.specs.Places.{Places, Has, IsPart}
+use Rattle.control_table.specs.sci_telegram.declared.message.Side.{Side}
+use Rattle.control_table.specs.sci_telegram.declared.message.Side.TheVariants as side
+use Rattle.control_table.specs.layout.declared.ids.SectionId.{SectionId}
+use Rattle.control_table.specs.layout.declared.ids.PointId.{PointId}
+use Rattle.control_table.specs.layout.declared.ids.RouteId.{RouteId}
+use Rattle.control_table.specs.bit_row.Places.{Places, Has, IsPart}
 use Rattle.control_table.specs.Table.{Lists, RouteRequires, SameEntry}
 use Rattle.route_lock.specs.Locks.{AllApart, Apart, AreAllSections, Blocks, Holds, IsSet, LockState, LocksSection, locked_by, locking}
 

@@ -8,15 +8,15 @@ use Rattle.std.specs.Ordering.{eq_by_cmp, nat_cmp}
 use Rattle.std.specs.Cmp.{nat_cmp_total}
 use Rattle.std.proofs.lemmas.Bool.{cases_lt, false≢true}
 use Rattle.std.proofs.lemmas.Bool.Decides.{Decides-at, Decides-and, Decides-or, Decides-like}
-use Rattle.sci_telegram.specs.declared.message.Side.{Side}
-use Rattle.sci_telegram.specs.declared.message.Side.TheVariants as side
-use Rattle.layout.specs.declared.ids.SectionId.{SectionId}
-use Rattle.layout.specs.declared.ids.PointId.{PointId}
-use Rattle.layout.specs.declared.ids.RouteId.{RouteId}
-use Rattle.layout.specs.Entries.{Plan, RouteEntry}
-use Rattle.layout.specs.Once.{Once}
-use Rattle.layout.specs.Station.{IsStation}
-use Rattle.bit_row.specs.Places.{Places, Has, HasSome, IsPart, Meet}
+use Rattle.control_table.specs.sci_telegram.declared.message.Side.{Side}
+use Rattle.control_table.specs.sci_telegram.declared.message.Side.TheVariants as side
+use Rattle.control_table.specs.layout.declared.ids.SectionId.{SectionId}
+use Rattle.control_table.specs.layout.declared.ids.PointId.{PointId}
+use Rattle.control_table.specs.layout.declared.ids.RouteId.{RouteId}
+use Rattle.control_table.specs.layout.Entries.{Site, RouteEntry}
+use Rattle.control_table.specs.layout.Once.{Once}
+use Rattle.control_table.specs.layout.Station.{IsStation}
+use Rattle.control_table.specs.bit_row.Places.{Places, Has, HasSome, IsPart, Meet}
 use Rattle.control_table.specs.declared.masks.RouteMasks.{RouteMasks}
 use Rattle.control_table.specs.Topology.{IsRoute}
 use Rattle.control_table.specs.Masks.{AreMasks}
@@ -34,7 +34,7 @@ get-at [] i x lt e = absurd (omega (arith, lt))
 get-at (w ∷ xs) zero x lt e = ap Some (sym e)
 get-at (w ∷ xs) (suc i) x lt e = get-at xs i x (omega (arith, lt)) e
 
-pub place-below : (l : Plan) (locks : List Locked) (v : LockState) (a : RouteId) → state_of l locks ≡ v → length locks ≡ length l.routes → a.0 < length v.table.routes → a.0 < length locks
+pub place-below : (l : Site) (locks : List Locked) (v : LockState) (a : RouteId) → state_of l locks ≡ v → length locks ≡ length l.routes → a.0 < length v.table.routes → a.0 < length locks
 place-below l locks v a is each lt = let same = ap (λ (st : LockState). length st.table.routes) is in omega (arith, lt, same, each)
 
 -- ---- a set route
@@ -42,13 +42,13 @@ place-below l locks v a is each lt = let same = ap (λ (st : LockState). length 
 not-true : (b : Bool) → b ≡ false → IsTrue (not b)
 not-true b e = grind arith
 
-pub set-is : (l : Plan) (locks : List Locked) (a : RouteId) (k : Locked) (b : Bool) → slice_get locks a.0 ≡ Some k → MatchBool b (k.sections ≡ empty) (HasSome k.sections) → IsTrue (not b) ↔ IsSet (state_of l locks) a
+pub set-is : (l : Site) (locks : List Locked) (a : RouteId) (k : Locked) (b : Bool) → slice_get locks a.0 ≡ Some k → MatchBool b (k.sections ≡ empty) (HasSome k.sections) → IsTrue (not b) ↔ IsSet (state_of l locks) a
 set-is l locks a k true at h = (λ f. absurd (false≢true f), λ s. absurd (has-none s.0 (subst (λ (x : Places). Has x s.0) (locked-is l locks a k at ∙ h) s.1)))
 set-is l locks a k false at h = (λ f. (h.0, subst (λ (x : Places). Has x h.0) (sym (locked-is l locks a k at)) h.1), λ s. refl)
 
 -- ---- all together
 
-module _ (l : Plan) (locks : List Locked) (all : Locked) (kept : AreKept l locks all) where
+module _ (l : Site) (locks : List Locked) (all : Locked) (kept : AreKept l locks all) where
   abbrev st : LockState
   st = state_of l locks
 
@@ -188,11 +188,11 @@ set-sections [] i x = refl
 set-sections (w ∷ xs) zero x = refl
 set-sections (w ∷ xs) (suc i) x = ap (λ ys. w.sections ∷ ys) (set-sections xs i x)
 
-pub state-set : (l : Plan) (locks : List Locked) (a : RouteId) (k : Locked) (sections : Places) → k.sections ≡ sections → state_of l (set locks a.0 k) ≡ locking (state_of l locks) a sections
+pub state-set : (l : Site) (locks : List Locked) (a : RouteId) (k : Locked) (sections : Places) → k.sections ≡ sections → state_of l (set locks a.0 k) ≡ locking (state_of l locks) a sections
 state-set l locks a k sections e =
     ap (λ (ls : List Places). record { table = l; locked = ls }) (set-sections locks a.0 k ∙ ap (λ (s : Places). set (sections_of locks) a.0 s) e)
 
-pub kept-set : (l : Plan) (locks : List Locked) (all : Locked) (a : RouteId) (k : Locked) (sections : Places) (now : Locked) → AreKept l locks all → AreRows l a k → k.sections ≡ sections → now ≡ all_of (set locks a.0 k)
+pub kept-set : (l : Site) (locks : List Locked) (all : Locked) (a : RouteId) (k : Locked) (sections : Places) (now : Locked) → AreKept l locks all → AreRows l a k → k.sections ≡ sections → now ≡ all_of (set locks a.0 k)
     → AllApart (locking (state_of l locks) a sections) → AreKept l (set locks a.0 k) now
 kept-set l locks all a k sections now kept rows same together apart = record {
   once = kept.once;
@@ -206,7 +206,7 @@ kept-set l locks all a k sections now kept rows same together apart = record {
 
 -- ---- at first nothing is locked
 
-pub none-set : (l : Plan) (locks : List Locked) → All (λ k. k ≡ none) locks → (a : RouteId) → IsSet (state_of l locks) a → ⊥
+pub none-set : (l : Site) (locks : List Locked) → All (λ k. k ≡ none) locks → (a : RouteId) → IsSet (state_of l locks) a → ⊥
 none-set l locks each a h =
     let k = locks-has locks a.0 h.0 h.1 in
     let lt = get-inside locks a.0 k.0 k.1 in
@@ -218,7 +218,7 @@ none-set l locks each a h =
     at-get (w ∷ xs) zero x e = some-one w x e
     at-get (w ∷ xs) (suc i) x e = at-get xs i x e
 
-pub kept-none : (l : Plan) (locks : List Locked) (all : Locked) → Once l → IsStation l → Sound l → length locks ≡ length l.routes → All (λ k. k ≡ none) locks → all ≡ all_of locks → AreKept l locks all
+pub kept-none : (l : Site) (locks : List Locked) (all : Locked) → Once l → IsStation l → Sound l → length locks ≡ length l.routes → All (λ k. k ≡ none) locks → all ≡ all_of locks → AreKept l locks all
 kept-none l locks all once station sound each nothing together = record {
   once = once;
   station = station;
@@ -240,10 +240,10 @@ map-length : (xs : List Locked) → length (sections_of xs) ≡ length xs
 map-length [] = refl
 map-length (x ∷ xs) = ap suc (map-length xs)
 
-pub each-is : (l : Plan) (locks : List Locked) (v : LockState) → state_of l locks ≡ v → length locks ≡ length l.routes → length v.locked ≡ length v.table.routes
+pub each-is : (l : Site) (locks : List Locked) (v : LockState) → state_of l locks ≡ v → length locks ≡ length l.routes → length v.locked ≡ length v.table.routes
 each-is l locks v is each = subst (λ (st : LockState). length st.locked ≡ length st.table.routes) is (map-length locks ∙ each)
 
-pub its-are : (l : Plan) (locks : List Locked) (all : Locked) → AreKept l locks all → (a : RouteId) (s : ℕ) → Has (locked_by (state_of l locks) a) s → LeadsOver l a (record { 0 = s })
+pub its-are : (l : Site) (locks : List Locked) (all : Locked) → AreKept l locks all → (a : RouteId) (s : ℕ) → Has (locked_by (state_of l locks) a) s → LeadsOver l a (record { 0 = s })
 its-are l locks all kept a s h = let k = locks-has locks a.0 s h in (kept.rows a k.0 k.1).sections s k.2
 
 pub some-map : {A : Type 0} {P Q : A → Type 0} (o : Option A) → ((x : A) → P x → Q x) → IfSome o P → IfSome o Q
@@ -256,7 +256,7 @@ none-map (Some x) f h = h
 
 -- ---- why a route can't be reserved
 
-module _ (l : Plan) (locks : List Locked) (all : Locked) (kept : AreKept l locks all) (b : RouteId) (m : RouteMasks) (lt : b.0 < length l.routes) (need : AreMasks l b m) (free : IsSet (state_of l locks) b → ⊥) where
+module _ (l : Site) (locks : List Locked) (all : Locked) (kept : AreKept l locks all) (b : RouteId) (m : RouteMasks) (lt : b.0 < length l.routes) (need : AreMasks l b m) (free : IsSet (state_of l locks) b → ⊥) where
   abbrev now : LockState
   now = state_of l locks
 
@@ -304,7 +304,7 @@ module _ (l : Plan) (locks : List Locked) (all : Locked) (kept : AreKept l locks
 
 -- ---- one section of a route
 
-pub locked-of : (l : Plan) (locks : List Locked) (v : LockState) (a : RouteId) (k : Locked) → state_of l locks ≡ v → slice_get locks a.0 ≡ Some k → locked_by v a ≡ k.sections
+pub locked-of : (l : Site) (locks : List Locked) (v : LockState) (a : RouteId) (k : Locked) → state_of l locks ≡ v → slice_get locks a.0 ≡ Some k → locked_by v a ≡ k.sections
 locked-of l locks v a k is at = subst (λ (st : LockState). locked_by st a ≡ k.sections) is (locked-is l locks a k at)
 
 pub section-inside : (ss : List SectionId) (i : ℕ) (s : SectionId) → slice_get ss i ≡ Some s → i < length ss

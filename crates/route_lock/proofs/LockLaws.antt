@@ -6,15 +6,15 @@ use Rattle.std.specs.Ordering.{nat_cmp}
 use Rattle.std.specs.FinSet.{empty, insert}
 use Rattle.std.proofs.lemmas.List.Elements.{All-contains}
 use Rattle.std.proofs.lemmas.Bool.{false≢true}
-use Rattle.sci_telegram.specs.declared.message.Side.{Side}
-use Rattle.sci_telegram.specs.declared.message.Side.TheVariants as side
-use Rattle.layout.specs.declared.ids.SectionId.{SectionId}
-use Rattle.layout.specs.declared.ids.SignalId.{SignalId}
-use Rattle.layout.specs.declared.ids.PointId.{PointId}
-use Rattle.layout.specs.declared.ids.RouteId.{RouteId}
-use Rattle.layout.specs.Entries.{Plan, RouteEntry}
-use Rattle.layout.specs.Station.{IsRouteOf, IsStation}
-use Rattle.bit_row.specs.Places.{Places, Has, HasSome, IsPart, Meet}
+use Rattle.control_table.specs.sci_telegram.declared.message.Side.{Side}
+use Rattle.control_table.specs.sci_telegram.declared.message.Side.TheVariants as side
+use Rattle.control_table.specs.layout.declared.ids.SectionId.{SectionId}
+use Rattle.control_table.specs.layout.declared.ids.SignalId.{SignalId}
+use Rattle.control_table.specs.layout.declared.ids.PointId.{PointId}
+use Rattle.control_table.specs.layout.declared.ids.RouteId.{RouteId}
+use Rattle.control_table.specs.layout.Entries.{Site, RouteEntry}
+use Rattle.control_table.specs.layout.Station.{IsRouteOf, IsStation}
+use Rattle.control_table.specs.bit_row.Places.{Places, Has, HasSome, IsPart, Meet}
 use Rattle.control_table.specs.declared.masks.RouteMasks.{RouteMasks}
 use Rattle.control_table.specs.Topology.{IsRoute}
 use Rattle.control_table.specs.Masks.{AreMasks}
@@ -45,12 +45,12 @@ locks-has [] i j h = absurd (has-none j h)
 locks-has (x ∷ locks) zero j h = (x, refl, h)
 locks-has (x ∷ locks) (suc i) j h = locks-has locks i j h
 
-pub locked-is : (l : Plan) (locks : List Locked) (a : RouteId) (k : Locked) → slice_get locks a.0 ≡ Some k → locked_by (state_of l locks) a ≡ k.sections
+pub locked-is : (l : Site) (locks : List Locked) (a : RouteId) (k : Locked) → slice_get locks a.0 ≡ Some k → locked_by (state_of l locks) a ≡ k.sections
 locked-is l locks a k e = locked-at locks a.0 k e
 
 -- ---- rows that lock nothing
 
-pub rows-of-none : (l : Plan) (a : RouteId) → AreRows l a none
+pub rows-of-none : (l : Site) (a : RouteId) → AreRows l a none
 rows-of-none l a = record {
   routes = λ j. (λ h. absurd (has-none j h), λ h. absurd (has-none h.1.0 h.1.1));
   entries = λ j. (λ h. absurd (has-none j h), λ h. absurd (has-none h.1.0 h.1.1));
@@ -71,7 +71,7 @@ get-contains [] i x e = absurd (no-some x e)
 get-contains (w ∷ xs) zero x e = (0, omega arith, some-one w x e)
 get-contains (w ∷ xs) (suc i) x e = let h = get-contains xs i x e in (suc h.0, omega (arith, h.1), h.2)
 
-pub entry-below : (l : Plan) → IsStation l → (a : RouteId) (m : RouteMasks) → a.0 < length l.routes → AreMasks l a m → m.entry.0 < 64
+pub entry-below : (l : Site) → IsStation l → (a : RouteId) (m : RouteMasks) → a.0 < length l.routes → AreMasks l a m → m.entry.0 < 64
 entry-below l station a m lt are =
     let r = get-below l.routes a.0 lt in
     let there = (All-contains (IsRouteOf l) l.routes r.0 station.routes (get-contains l.routes a.0 r.0 r.1)).entry in
@@ -82,7 +82,7 @@ entry-below l station a m lt are =
 has-single : (j k : ℕ) → Has (insert (empty {R = nat_cmp}) j) k ↔ (k ≡ j)
 has-single j k = (λ h. ⊎_elim (λ e. e) (λ n. absurd (has-none k n)) ((has-insert empty j k).0 h), λ e. (has-insert empty j k).1 (inl e))
 
-pub rows-made : (l : Plan) (a : RouteId) (m : RouteMasks) (sections routes entries right left : Places) → a.0 < length l.routes → AreMasks l a m → HasSome sections
+pub rows-made : (l : Site) (a : RouteId) (m : RouteMasks) (sections routes entries right left : Places) → a.0 < length l.routes → AreMasks l a m → HasSome sections
     → ((s : ℕ) → Has sections s → LeadsOver l a (record { 0 = s }))
     → routes ≡ insert empty a.0 → entries ≡ insert empty m.entry.0
     → ((p : PointId) → Has right p.0 ↔ HoldsBy l a sections p side.Right) → ((p : PointId) → Has left p.0 ↔ HoldsBy l a sections p side.Left)
@@ -105,7 +105,7 @@ rows-made l a m sections routes entries right left lt are some its r e holds als
 pub right-left : side.Right ≢ side.Left
 right-left e = let f : Side → Type 0 = λ s. elim s [ side.Right ↦ Unit {0} | side.Left ↦ ⊥ ] in subst f e tt
 
-module _ (l : Plan) (locks : List Locked) (a b : RouteId) (k : Locked) (m : RouteMasks) (at : slice_get locks a.0 ≡ Some k) (rows : AreRows l a k) (need : AreMasks l b m) where
+module _ (l : Site) (locks : List Locked) (a b : RouteId) (k : Locked) (m : RouteMasks) (at : slice_get locks a.0 ≡ Some k) (rows : AreRows l a k) (need : AreMasks l b m) where
   abbrev here : LockState
   here = state_of l locks
 

@@ -9,12 +9,12 @@ use Rattle.std.specs.FinSet.{contains, empty, insert, union, contains-empty, con
 use Rattle.std.proofs.lemmas.Bool.{false≢true}
 use Rattle.std.proofs.lemmas.Bool.Decides.{Decides-at, Decides-or, Decides-like, Decides-eqb}
 use Rattle.std.proofs.lemmas.List.Elements.{Contains-append_left, Contains-push, Contains-push_cases}
-use Rattle.sci_telegram.specs.declared.message.Side.{Side}
-use Rattle.layout.specs.declared.ids.SectionId.{SectionId}
-use Rattle.layout.specs.declared.ids.PointId.{PointId}
-use Rattle.layout.specs.declared.ids.RouteId.{RouteId}
-use Rattle.layout.specs.Entries.{Plan}
-use Rattle.bit_row.specs.Places.{Places, Has, Meet}
+use Rattle.control_table.specs.sci_telegram.declared.message.Side.{Side}
+use Rattle.control_table.specs.layout.declared.ids.SectionId.{SectionId}
+use Rattle.control_table.specs.layout.declared.ids.PointId.{PointId}
+use Rattle.control_table.specs.layout.declared.ids.RouteId.{RouteId}
+use Rattle.control_table.specs.layout.Entries.{Site}
+use Rattle.control_table.specs.bit_row.Places.{Places, Has, Meet}
 use Rattle.control_table.specs.declared.masks.RouteMasks.{RouteMasks}
 use Rattle.control_table.specs.Table.{AreRequired}
 use Rattle.control_table.specs.Freeing.{Awaits}
@@ -95,10 +95,10 @@ block-none m h =
 
 -- ---- the points that a route holds
 
-abbrev pub HeldOf : Plan → RouteId → Places → Side → List (PointId × Side) → Places → Type 0
+abbrev pub HeldOf : Site → RouteId → Places → Side → List (PointId × Side) → Places → Type 0
 HeldOf l a sections side needs row = (p : PointId) → Has row p.0 ↔ (Contains needs (p, side) × AwaitsOne l a sections p)
 
-module _ (l : Plan) (a : RouteId) (sections : Places) (side : Side) where
+module _ (l : Site) (a : RouteId) (sections : Places) (side : Side) where
   pub held-none : HeldOf l a sections side [] empty
   held-none p = (λ h. absurd (has-none p.0 h), λ h. absurd (let lt = h.0.1 in omega arith))
 

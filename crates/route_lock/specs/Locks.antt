@@ -1,12 +1,12 @@
 -- What the set routes of a station lock, and which of them block another.
 use Rattle.std.specs.Prelude.{◌≡◌, ◌≢◌, ◌⊎◌, ◌↔◌, ◌<◌, ℕ, List, Some, slice_get, slice_index_or, slice_set}
 use Rattle.std.specs.FinSet.{empty, remove}
-use Rattle.sci_telegram.specs.declared.message.Side.{Side}
-use Rattle.layout.specs.declared.ids.SectionId.{SectionId}
-use Rattle.layout.specs.declared.ids.PointId.{PointId}
-use Rattle.layout.specs.declared.ids.RouteId.{RouteId}
-use Rattle.layout.specs.Entries.{Plan}
-use Rattle.bit_row.specs.Places.{Places, Has}
+use Rattle.control_table.specs.sci_telegram.declared.message.Side.{Side}
+use Rattle.control_table.specs.layout.declared.ids.SectionId.{SectionId}
+use Rattle.control_table.specs.layout.declared.ids.PointId.{PointId}
+use Rattle.control_table.specs.layout.declared.ids.RouteId.{RouteId}
+use Rattle.control_table.specs.layout.Entries.{Site}
+use Rattle.control_table.specs.bit_row.Places.{Places, Has}
 use Rattle.control_table.specs.Table.{AreSections, LeadsOver, Lists, RouteRequires, SameEntry}
 use Rattle.control_table.specs.Freeing.{Awaits}
 use Rattle.route_lock.specs.declared.locks.LockFault.{LockFault}
@@ -15,7 +15,7 @@ use Rattle.route_lock.specs.declared.locks.LockFault.TheVariants.{Conflict, Poin
 -- The table, and for each of its routes, in its order, the sections that it locks: those over which it leads and that
 -- weren't freed. A route that isn't set locks none.
 pub record LockState : Type 0 where
-  pub table : Plan
+  pub table : Site
   pub locked : List Places
 
 abbrev pub locked_by : LockState → RouteId → Places
@@ -77,11 +77,11 @@ abbrev pub locking : LockState → RouteId → Places → LockState
 locking st a sections = record st { locked = slice_set st.locked a.0 sections }
 
 -- All sections of a route.
-abbrev pub AreAllSections : Plan → RouteId → Places → Type 0
+abbrev pub AreAllSections : Site → RouteId → Places → Type 0
 AreAllSections l a sections = (s : SectionId) → Has sections s.0 ↔ LeadsOver l a s
 
 -- Section k of a route, in path order.
-abbrev pub IsSection : Plan → RouteId → ℕ → SectionId → Type 0
+abbrev pub IsSection : Site → RouteId → ℕ → SectionId → Type 0
 IsSection l a k s = (ss : List SectionId) × AreSections l a ss × (slice_get ss k ≡ Some s)
 
 -- A route locks the k-th of these sections.

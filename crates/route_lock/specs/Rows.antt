@@ -2,15 +2,15 @@
 use Rattle.std.specs.Prelude.{◌≡◌, ◌⊎◌, ◌↔◌, ◌<◌, ℕ, List, Some, slice_get, length, map}
 use Rattle.std.specs.List.{fold}
 use Rattle.std.specs.FinSet.{empty, intersection, union}
-use Rattle.sci_telegram.specs.declared.message.Side.{Side}
-use Rattle.sci_telegram.specs.declared.message.Side.TheVariants as side
-use Rattle.layout.specs.declared.ids.SectionId.{SectionId}
-use Rattle.layout.specs.declared.ids.PointId.{PointId}
-use Rattle.layout.specs.declared.ids.RouteId.{RouteId}
-use Rattle.layout.specs.Entries.{Plan, RouteEntry}
-use Rattle.layout.specs.Once.{Once}
-use Rattle.layout.specs.Station.{IsStation}
-use Rattle.bit_row.specs.Places.{Places, Has, IsLeast, Meet}
+use Rattle.control_table.specs.sci_telegram.declared.message.Side.{Side}
+use Rattle.control_table.specs.sci_telegram.declared.message.Side.TheVariants as side
+use Rattle.control_table.specs.layout.declared.ids.SectionId.{SectionId}
+use Rattle.control_table.specs.layout.declared.ids.PointId.{PointId}
+use Rattle.control_table.specs.layout.declared.ids.RouteId.{RouteId}
+use Rattle.control_table.specs.layout.Entries.{Site, RouteEntry}
+use Rattle.control_table.specs.layout.Once.{Once}
+use Rattle.control_table.specs.layout.Station.{IsStation}
+use Rattle.control_table.specs.bit_row.Places.{Places, Has, IsLeast, Meet}
 use Rattle.control_table.specs.declared.masks.RouteMasks.{RouteMasks}
 use Rattle.control_table.specs.Topology.{IsRoute}
 use Rattle.control_table.specs.Table.{LeadsOver, RouteRequires, Sound}
@@ -30,15 +30,15 @@ unfoldable pub all_of : List Locked → Locked
 all_of locks = fold join none locks
 
 -- a point awaits one of these sections
-abbrev pub AwaitsOne : Plan → RouteId → Places → PointId → Type 0
+abbrev pub AwaitsOne : Site → RouteId → Places → PointId → Type 0
 AwaitsOne l a sections p = (s : SectionId) × Awaits l a p s × Has sections s.0
 
 -- a route that locks these sections holds a point
-abbrev pub HoldsBy : Plan → RouteId → Places → PointId → Side → Type 0
+abbrev pub HoldsBy : Site → RouteId → Places → PointId → Side → Type 0
 HoldsBy l a sections p t = RouteRequires l a p t × AwaitsOne l a sections p
 
 -- the rows of a route
-pub record AreRows (l : Plan) (a : RouteId) (k : Locked) : Type 0 where
+pub record AreRows (l : Site) (a : RouteId) (k : Locked) : Type 0 where
   pub routes : (j : ℕ) → Has k.routes j ↔ ((j ≡ a.0) × ((s : ℕ) × Has k.sections s))
   pub entries : (j : ℕ) → Has k.entries j ↔ (((r : RouteEntry) × IsRoute l a r × (j ≡ r.entry.0)) × ((s : ℕ) × Has k.sections s))
   pub sections : (s : ℕ) → Has k.sections s → LeadsOver l a (record { 0 = s })
@@ -53,11 +53,11 @@ abbrev pub RowsBlock : Locked → RouteMasks → Type 0
 RowsBlock k m = RowsClash k m ⊎ Meet k.right m.left ⊎ Meet k.left m.right
 
 -- the state that rows are
-abbrev pub state_of : Plan → List Locked → LockState
+abbrev pub state_of : Site → List Locked → LockState
 state_of l locks = record { table = l; locked = map (λ k. k.sections) locks }
 
 -- what holds of every value of `Locks`
-pub record AreKept (l : Plan) (locks : List Locked) (all : Locked) : Type 0 where
+pub record AreKept (l : Site) (locks : List Locked) (all : Locked) : Type 0 where
   pub once : Once l
   pub station : IsStation l
   pub sound : Sound l

@@ -1,11 +1,11 @@
 //! What holds of all locks.
 
 ghost use Rattle.std.specs.Prelude.{◌≢◌};
-ghost use Rattle.sci_telegram.specs.declared.message.Side.{Side};
-ghost use Rattle.layout.specs.declared.ids.PointId.{PointId};
-ghost use Rattle.layout.specs.declared.ids.RouteId.{RouteId};
-ghost use Rattle.layout.specs.Once.{Once};
-ghost use Rattle.layout.specs.Station.{IsStation};
+ghost use Rattle.control_table.specs.sci_telegram.declared.message.Side.{Side};
+ghost use Rattle.control_table.specs.layout.declared.ids.PointId.{PointId};
+ghost use Rattle.control_table.specs.layout.declared.ids.RouteId.{RouteId};
+ghost use Rattle.control_table.specs.layout.Once.{Once};
+ghost use Rattle.control_table.specs.layout.Station.{IsStation};
 ghost use Rattle.control_table.specs.Table.{Conflict, RouteRequires, Sound};
 ghost use Rattle.route_lock.specs.Locks.{AllApart, Holds, IsWhole, LockState};
 

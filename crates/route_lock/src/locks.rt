@@ -2,20 +2,20 @@
 
 ghost use Rattle.std.specs.Prelude.{◌≡◌, ◌≢◌, ◌↔◌, ◌<◌, ℕ, List, length, IsTrue, IfOk, IfErr, IfSome, IfNone, OnOk, OnErr, replicate};
 ghost use Rattle.std.specs.FinSet.{empty, remove};
-ghost use Rattle.sci_telegram.specs.declared.message.Side.{Side as AtSide};
-ghost use Rattle.layout.specs.declared.ids.SectionId.{SectionId as Section};
-ghost use Rattle.layout.specs.declared.ids.RouteId.{RouteId as Route};
-ghost use Rattle.bit_row.specs.Places.{Has, Places};
+ghost use Rattle.control_table.specs.sci_telegram.declared.message.Side.{Side as AtSide};
+ghost use Rattle.control_table.specs.layout.declared.ids.SectionId.{SectionId as Section};
+ghost use Rattle.control_table.specs.layout.declared.ids.RouteId.{RouteId as Route};
+ghost use Rattle.control_table.specs.bit_row.Places.{Has, Places};
 ghost use Rattle.control_table.specs.Masks.{AreMasks};
 ghost use Rattle.control_table.specs.Table.{AreSections, LeadsOver};
 ghost use Rattle.route_lock.specs.Locks.{AllApart, AreAllSections, Blocks, Holds, IsFault, IsSection, IsSet, LocksAt, locked_by, locking};
 ghost use Rattle.route_lock.specs.Rows.{IsFirstRowsFault, IsRowsFault, NoneBlocks, RowsBlock};
 
 use crate::rows::{Locked, all_of, facts_of, rows_of};
-use bit_row::BitRow;
+use control_table::bit_row::BitRow;
+use control_table::layout::{PointId, RouteId};
+use control_table::sci_telegram::Side;
 use control_table::{Checked, RouteMasks, a_route_leads_over_sections_that_are_there};
-use layout::{PointId, RouteId};
-use sci_telegram::Side;
 use std::alloc::{AllocError, Global};
 use std::marker::Model;
 
@@ -38,7 +38,7 @@ pub struct Locks {
 
 impl Model for Locks {
     ghost use Rattle.std.specs.Coded.{codes};
-    ghost use Rattle.bit_row.specs.Places.{places_code};
+    ghost use Rattle.control_table.specs.bit_row.Places.{places_code};
     ghost use Rattle.control_table.specs.contracts.checked.Checked as checked;
     ghost use Rattle.route_lock.specs.Locks.{LockState};
 

@@ -1,18 +1,18 @@
 //! What is locked, as rows of bits.
 
 ghost use Rattle.std.specs.Prelude.{◌≡◌, ◌<◌, ◌↔◌, ℕ, length, IsTrue, IfSome, IfNone};
-ghost use Rattle.sci_telegram.specs.declared.message.Side.TheVariants as side;
-ghost use Rattle.layout.specs.declared.ids.PointId.{PointId as Point};
-ghost use Rattle.layout.specs.Once.{Once};
-ghost use Rattle.layout.specs.Station.{IsStation};
-ghost use Rattle.bit_row.specs.Places.{Has};
+ghost use Rattle.control_table.specs.sci_telegram.declared.message.Side.TheVariants as side;
+ghost use Rattle.control_table.specs.layout.declared.ids.PointId.{PointId as Point};
+ghost use Rattle.control_table.specs.layout.Once.{Once};
+ghost use Rattle.control_table.specs.layout.Station.{IsStation};
+ghost use Rattle.control_table.specs.bit_row.Places.{Has};
 ghost use Rattle.control_table.specs.Table.{LeadsOver, Sound};
 ghost use Rattle.route_lock.specs.Rows.{AreRows, AwaitsOne, HoldsBy, RowsBlock, RowsClash, all_of, join, none};
 
-use bit_row::BitRow;
+use control_table::bit_row::BitRow;
+use control_table::layout::{PointId, RouteId};
+use control_table::sci_telegram::Side;
 use control_table::{Checked, RouteMasks, required_points_are_there};
-use layout::{PointId, RouteId};
-use sci_telegram::Side;
 
 /// What one route locks, or what all routes lock together.
 #[derive(Clone, Copy, Debug)]

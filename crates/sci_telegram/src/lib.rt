@@ -8,10 +8,10 @@ mod kind;
 mod laws;
 mod message;
 mod name;
-mod reading;
+mod reader;
 mod telegram;
 mod types;
-mod writing;
+mod writer;
 
 pub use fault::SciFault;
 pub use laws::{first_fault_is_read, one_spelling_each, read_was_written, written_is_read};
@@ -20,6 +20,6 @@ pub use message::{
     Position, Protocol, Side, SignalMessage,
 };
 pub use name::Name;
-pub use reading::read;
+pub use reader::read;
 pub use telegram::Telegram;
-pub use writing::write;
+pub use writer::write;

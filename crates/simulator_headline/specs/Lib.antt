@@ -1,1 +1,7 @@
+pub mod At
+pub mod Calls
+pub mod Seen
+pub mod Represents
+pub mod Change
+pub mod Events
 pub mod Reached

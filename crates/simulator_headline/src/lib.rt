@@ -2,11 +2,39 @@
 //! but laws.
 #![tactic(auto)]
 
-mod laws;
+mod changes;
+mod clocks;
+mod detectors;
+mod ends;
+mod events;
+mod far_ends;
+mod first;
+mod headline;
+mod networks;
+mod points;
 mod reached;
+mod representations;
+mod signals;
+mod steps;
+mod worlds;
 
-pub use laws::{
-    every_event_keeps_the_picture, every_world_is_reached_by_moves, every_world_is_safe,
+pub use changes::changes_are_represented;
+pub use clocks::{restarts_of_stations_are_represented, time_keeps_representations};
+pub use detectors::{events_at_detectors_are_represented, losses_are_represented};
+pub use ends::{
+    calls_give_and_take_at_the_ends, clients_are_seen_at_their_ends, peers_with_names_are_read,
+};
+pub use events::controllers_events_are_represented;
+pub use far_ends::{clients_are_alone_after_quiet, far_ends_are_known, reports_made_are_heard};
+pub use first::{first_worlds_are_represented, new_interlockings_are_just_made};
+pub use headline::{
+    every_event_is_represented, every_world_is_reached_by_moves, every_world_is_safe,
     lists_of_events_go_on,
 };
+pub use networks::networks_follow_their_worlds;
+pub use points::events_at_points_are_represented;
 pub use reached::reached_worlds_are_safe;
+pub use representations::{represented_worlds_are_safe, represented_worlds_are_seen};
+pub use signals::events_at_signals_are_represented;
+pub use steps::steps_of_stations_are_represented;
+pub use worlds::{held_pairs_are_held_routes, seen_stations_are_safe};

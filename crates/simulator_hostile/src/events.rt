@@ -4,15 +4,15 @@ ghost use Rattle.std.specs.Prelude.{◌<◌};
 
 use crate::trains::Train;
 use chance::Chance;
-use control_table::Checked;
-use ixl_rules::Command;
-use layout::{Layout, PointId, RouteId, SectionId};
-use rasta_core::Role;
-use sci_telegram::{Aspect, Occupancy, Position, Side};
-use simulator_event::{ClockSteps, Event, NodeId, RawDatagram};
-use simulator_world::World;
-use simulator_world_bag::SentOn;
-use simulator_world_snapshot::Snapshot;
+use simulator::World;
+use simulator::control_table::Checked;
+use simulator::ixl_rules::Command;
+use simulator::layout::{Layout, PointId, RouteId, SectionId};
+use simulator::rasta_core::Role;
+use simulator::sci_telegram::{Aspect, Occupancy, Position, Side};
+use simulator::simulator_event::{ClockSteps, Event, NodeId, RawDatagram};
+use simulator::simulator_field::SentOn;
+use simulator::simulator_snapshot::Snapshot;
 use std::alloc::{AllocError, Global};
 
 /// How many microseconds a millisecond has.

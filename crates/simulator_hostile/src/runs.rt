@@ -4,9 +4,9 @@ use crate::events::{Hostile, node_count};
 use crate::layouts::{JUNCTION, LOOP, SMALL};
 use crate::tally::{Tally, once_more};
 use crate::watch::Watch;
-use control_table::check;
-use layout::Layout;
-use simulator_world::World;
+use simulator::World;
+use simulator::control_table::check;
+use simulator::layout::Layout;
 use std::alloc::Global;
 use std::process::Abort;
 

@@ -1,8 +1,8 @@
 //! Trains that run on routes.
 
-use control_table::Checked;
-use layout::{RouteId, SectionId};
-use sci_telegram::Occupancy;
+use simulator::control_table::Checked;
+use simulator::layout::{RouteId, SectionId};
+use simulator::sci_telegram::Occupancy;
 
 /// A train on a route: how many of its moves it has made.
 #[derive(Clone, Copy)]

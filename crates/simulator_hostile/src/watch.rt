@@ -3,12 +3,12 @@
 use crate::events::is_open;
 use crate::promise::{are_alike, are_lately_heard, aspect_of, is_kept};
 use crate::tally::{Tally, once_more, once_more_at};
-use ixl_rules::Command;
-use layout::RouteId;
-use sci_telegram::{Aspect, Position};
-use simulator_event::{Answer, Event, NodeId, Refused, Reply};
-use simulator_world::World;
-use simulator_world_snapshot::Snapshot;
+use simulator::World;
+use simulator::ixl_rules::Command;
+use simulator::layout::RouteId;
+use simulator::sci_telegram::{Aspect, Position};
+use simulator::simulator_event::{Answer, Event, NodeId, Refused, Reply};
+use simulator::simulator_snapshot::Snapshot;
 use std::process::Abort;
 
 /// How long an interlocking holds after it was made, in microseconds of its clock; here a little less.

@@ -78,7 +78,7 @@ PointMay Hears point = Unit {0}
 PointMay (RecountsMoves taken flight) point = (point.link.server ≡ Gone) × (taken + flight ≡ moves_given point)
 PointMay (RecountsReports heard coming) point = heard ++ coming ≡ reports_made point
 
--- a new connection has no moves and no reports yet; a controller that leaves switches its motor off
+-- a new connection has no moves and no reports yet; a controller that leaves points its motor off
 abbrev pub point_linked : LinkMove → Point → Point
 point_linked Opens point =
     record { link = link_after Opens point.link; taken = 0; flight = 0; heard = []; coming = []; driven = point.driven; position = point.position }

@@ -1,7 +1,7 @@
 //! A simulator of one link: two ends, the network between them, their clocks, and a lamp that the server keeps.
 #![tactic(auto)]
 
-mod applying;
+mod application;
 mod bag;
 mod event;
 mod lamp;

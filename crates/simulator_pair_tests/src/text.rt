@@ -2,7 +2,7 @@
 //! with status 1 and says so, or answers `no 6` to a line and goes on.
 
 use arrayvec::ArrayVec;
-use event_words::Fault;
+use replay_words::Fault;
 use simulator_pair_text::{Failure, LineFault, judge, pair_text, tell};
 use std::alloc::{AllocError, Global};
 use std::io;

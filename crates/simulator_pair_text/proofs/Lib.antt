@@ -3,3 +3,4 @@ pub mod Judged
 pub mod Names
 pub mod Rounds
 pub mod Transcripts
+pub mod Reading

@@ -3,8 +3,8 @@ use Rattle.std.proofs.Common.{◌≡◌, ℕ, List, Result, Ok, Err, Bor, refl, 
 use Rattle.std.proofs.lemmas.Bool.Decides.{nat_tests}
 use Rattle.std.specs.Result.{MatchResult}
 use Rattle.rasta_core.specs.identity.Role.{Role}
-use Rattle.event_words.specs.declared.fault.Fault.{Fault}
-use Rattle.event_words.specs.Fault.{both, lower, ◌>>=◌}
+use Rattle.replay_words.specs.declared.fault.Fault.{Fault}
+use Rattle.replay_words.specs.Fault.{both, lower, ◌>>=◌}
 
 -- nothing, or the fault
 abbrev pub emptied : {A : Type 0} → Result A Fault → Result (Unit {0}) Fault

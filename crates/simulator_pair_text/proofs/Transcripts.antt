@@ -6,8 +6,8 @@ use Rattle.std.proofs.lemmas.List.{append_assoc, append-nil}
 use Rattle.simulator_pair_text.specs.declared.line.PairLine.{PairLine}
 use Rattle.simulator_pair_text.specs.declared.text.LineFault.{LineFault}
 use Rattle.simulator_pair_text.specs.Flow.{Flowing}
-use Rattle.event_words.specs.declared.fault.Fault.{Fault}
-use Rattle.event_words.specs.Cut.{is_passed_over}
+use Rattle.replay_words.specs.declared.fault.Fault.{Fault}
+use Rattle.replay_words.specs.Cut.{is_passed_over}
 use Rattle.simulator_pair_text.specs.Line.{line as read}
 use Rattle.simulator_pair_text.specs.Text.{at_line, said}
 use Rattle.simulator_pair_text.specs.Transcript.{Writes, Transcript, beginning, feed, line}

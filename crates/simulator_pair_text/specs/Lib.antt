@@ -4,3 +4,4 @@ pub mod Line
 pub mod Text
 pub mod Told
 pub mod Transcript
+pub mod CommandLine

@@ -13,11 +13,11 @@
 use Rattle.std.specs.Prelude.{ℕ, ◌==◌, ◌%◌, ◌&&◌, nat_le, if◌then◌else◌, Option, Some, None, unwrap_or, List, [], ◌∷◌, length, codes, Result, Ok, Err}
 use Rattle.std.specs.List.{filter_map}
 use Rattle.std.specs.Str.{bytes_eq}
-use Rattle.event_words.specs.declared.fault.Fault.{Fault}
-use Rattle.event_words.specs.declared.fault.Fault.TheVariants.{Words, Name, Number, Hexadecimal}
-use Rattle.event_words.specs.Fault.{both, ◌>>=◌}
-use Rattle.event_words.specs.Cut.{words, name_and_number}
-use Rattle.event_words.specs.Read.{decimal, hexadecimal, hexadecimal_or_none}
+use Rattle.replay_words.specs.declared.fault.Fault.{Fault}
+use Rattle.replay_words.specs.declared.fault.Fault.TheVariants.{Words, Name, Number, Hexadecimal}
+use Rattle.replay_words.specs.Fault.{both, ◌>>=◌}
+use Rattle.replay_words.specs.Cut.{words, name_and_number}
+use Rattle.replay_words.specs.Read.{decimal, hexadecimal, hexadecimal_or_none}
 use Rattle.rasta_core.specs.identity.Role.{Role}
 use Rattle.rasta_core.specs.identity.Role.TheVariants.{Client, Server}
 use Rattle.rasta_core.specs.reason.Reason.{Reason}

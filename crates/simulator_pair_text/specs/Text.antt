@@ -1,8 +1,8 @@
 -- Which text is a run of a pair, and which fault is told of another.
 use Rattle.std.specs.Prelude.{ℕ, if◌then◌else◌, List, [], ◌∷◌, Result, Ok, Err}
 use Rattle.std.specs.List.{enumerate_from}
-use Rattle.event_words.specs.declared.fault.Fault.{Fault}
-use Rattle.event_words.specs.Cut.{lines, is_passed_over}
+use Rattle.replay_words.specs.declared.fault.Fault.{Fault}
+use Rattle.replay_words.specs.Cut.{lines, is_passed_over}
 use Rattle.simulator_pair_text.specs.declared.line.PairLine.{PairLine}
 use Rattle.simulator_pair_text.specs.declared.text.LineFault.{LineFault}
 use Rattle.simulator_pair_text.specs.Line.{line}

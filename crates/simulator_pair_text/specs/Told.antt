@@ -2,7 +2,7 @@
 use Rattle.std.specs.Prelude.{◌≡◌, ℕ, List, [], ◌++◌, take, codes, Option, Err, IsOk}
 use Rattle.std.specs.Fmt.{decimal}
 use Rattle.std.specs.Io.KnownBytes.{Appends}
-use Rattle.event_words.specs.Fault.{number_of}
+use Rattle.replay_words.specs.Fault.{number_of}
 use Rattle.simulator_pair_text.specs.declared.failure.Failure.{Failure}
 use Rattle.simulator_pair_text.specs.declared.failure.Failure.TheVariants.{Faulty, OutOfMemory, NotWritten}
 use Rattle.simulator_pair_text.specs.declared.text.LineFault.{LineFault}

@@ -5,7 +5,7 @@ ghost use Rattle.simulator_pair_text.specs.Told.{Tells, told_line};
 
 use crate::text::LineFault;
 use arrayvec::ArrayString;
-use line_writer::write_as_taken;
+use replay_words::write_as_taken;
 use std::alloc::AllocError;
 use std::io::Write;
 use std::{fmt, io};

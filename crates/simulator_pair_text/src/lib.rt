@@ -1,8 +1,8 @@
-//! The event lines of a pair of linked ends, and the run of a whole text of them: what the program
-//! `pair` does with a file.
+//! The lines of `pair`, what each answers, and its command line.
 #![tactic(auto)]
 
 mod answer;
+mod command;
 mod failure;
 mod line;
 mod picture;
@@ -10,6 +10,8 @@ mod print;
 mod run;
 mod text;
 
+pub use clap::Error;
+pub use command::{Asked, is_memory, read_words, status};
 pub use failure::{Failure, tell};
 pub use line::{PairLine, read_line};
 pub use print::pair_text;

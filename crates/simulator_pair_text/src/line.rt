@@ -26,7 +26,9 @@ ghost use Rattle.simulator_pair_text.specs.Line.{
   time,
 };
 
-use event_words::{Fault, Words, both, decimal, hexadecimal, hexadecimal_or_none, name_and_number};
+use replay_words::{
+    Fault, Words, both, decimal, hexadecimal, hexadecimal_or_none, name_and_number,
+};
 use simulator_pair::{Item, PairEvent, Reason, Role};
 
 /// The length of a round of a flow, in milliseconds.

@@ -11,7 +11,7 @@ use crate::line::{PairLine, read_line};
 use crate::picture::Picture;
 use crate::run::Run;
 use crate::text::{LineFault, judge};
-use event_words::{Lines, is_passed_over};
+use replay_words::{Lines, is_passed_over};
 use std::alloc::Global;
 use std::io;
 use std::io::Write;

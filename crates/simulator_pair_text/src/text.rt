@@ -4,7 +4,7 @@ ghost use Rattle.std.specs.Prelude.{◌≡◌, MatchResult, Ok, Err};
 ghost use Rattle.simulator_pair_text.specs.Text.{run_of};
 
 use crate::line::read_line;
-use event_words::{Fault, Lines, is_passed_over};
+use replay_words::{Fault, Lines, is_passed_over};
 use std::error::Error;
 use std::fmt;
 

@@ -4,42 +4,12 @@
 //! command line is wrong, and 3 where a session answers otherwise than it was recorded.
 #![tactic(auto)]
 
-#[cfg(test)]
-mod memory;
-#[cfg(test)]
-mod tests;
-mod words;
-
-use crate::words::words;
-use station_check::check_text;
-use station_command::{Asked, Error, is_memory, read_words};
+use station_command::{Asked, Error, Failure, is_memory, read_words, text_of, texts_of, words};
 use station_run::Asked as Run;
+use station_sim::station_check::check_text;
 use station_sim::{replay_text, sim_text};
 use std::io::{BufWriter, IsTerminal};
 use std::process::ExitCode;
-use std::{fs, io};
-use thiserror::Error as Told;
-
-/// Why a command isn't carried out.
-#[derive(Debug, Drop, Told)]
-enum Failure {
-    #[error("argument {0} is not UTF-8")]
-    Word(usize),
-    #[error("cannot read {0}")]
-    File(String),
-    #[error("out of memory")]
-    OutOfMemory,
-}
-
-impl Failure {
-    /// The status to end with: 2 where the command line is wrong.
-    fn status(&self) -> u8 {
-        match self {
-            Failure::Word(_) => 2,
-            _ => 1,
-        }
-    }
-}
 
 fn main(rt: HostRuntime) -> ExitCode {
     let status = match words(&rt, rt.alloc()) {
@@ -118,25 +88,6 @@ fn run_files(rt: &HostRuntime, layout: &str, script: &str, record: &str, for_ms:
             run(rt, &asked)
         }
         Err(failure) => fail(rt, &failure),
-    }
-}
-
-/// The texts of two files, of which the first is read first.
-fn texts_of(rt: &HostRuntime, first: &str, second: &str) -> Result<(String, String), Failure> {
-    let first = text_of(rt, first)?;
-    let second = text_of(rt, second)?;
-    Ok((first, second))
-}
-
-/// The text of a file.
-fn text_of(rt: &HostRuntime, file: &str) -> Result<String, Failure> {
-    match fs::read_to_string(rt, file) {
-        Ok(text) => Ok(text),
-        Err(error) if error.kind() == io::ErrorKind::OutOfMemory => Err(Failure::OutOfMemory),
-        Err(_) => match String::from_str(rt.alloc(), file) {
-            Ok(name) => Err(Failure::File(name)),
-            Err(_) => Err(Failure::OutOfMemory),
-        },
     }
 }
 

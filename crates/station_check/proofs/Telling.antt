@@ -4,12 +4,12 @@ use Rattle.std.proofs.lemmas.Bool.{false≢true}
 use Rattle.std.proofs.KnownBytes.{Appends-nil, Appends-trans, Appends-kept}
 use Rattle.std.specs.Io.KnownBytes.{Appends, Keeps}
 use Rattle.std.proofs.lemmas.List.{append-nil, drop_more, drop_all}
-use Rattle.layout.specs.Entries.{RouteEntry, Plan}
+use Rattle.control_table.specs.layout.Entries.{RouteEntry, Site}
 use Rattle.control_table.specs.Table.{Conflict}
 use Rattle.station_check.specs.Report.{conflict_line, TellsBehind, TellsRoutes, Reported, slow_line, slow_lines, summary_line}
 use Rattle.station_check.specs.inside.Told.{ToldPair, ToldBehind, ToldRoutes, ToldSlow}
 
-module _ (l : Plan) where
+module _ (l : Site) where
   pub pair_free : (a b : ℕ) (c : Option (List ℕ)) (r : Bool) → IsTrue r ↔ Conflict l (record { 0 = a }) (record { 0 = b }) → r ≡ false → ToldPair l a b c c
   pair_free a b c r decides h = ([], inr ((λ conflict. false≢true (sym h ∙ decides.1 conflict)), refl), Appends-nil c)
 
@@ -61,6 +61,6 @@ slow_ends routes i c d le told =
     let all : told.0 ≡ slow_lines routes = sym (append-nil told.0) ∙ (ap (λ rest. told.0 ++ slow_lines rest) (sym (drop_all i routes le)) ∙ told.2) in
     subst (Appends c d) all told.1
 
-pub reported : (l : Plan) (c d e f : Option (List ℕ)) → ToldRoutes l (length l.routes) c d → ToldSlow l.routes d e → Keeps e f → Reported l c f
+pub reported : (l : Site) (c d e f : Option (List ℕ)) → ToldRoutes l (length l.routes) c d → ToldSlow l.routes d e → Keeps e f → Reported l c f
 reported l c d e f pairs slow kept =
     (pairs.0 ++ slow_lines l.routes, (pairs.0, pairs.1, refl), Appends-kept c e f (pairs.0 ++ slow_lines l.routes) (Appends-trans c d e pairs.0 (slow_lines l.routes) pairs.2 slow) kept)

@@ -1,13 +1,13 @@
 //! The check of a text, with what it finds written.
 
 ghost use Rattle.std.specs.Prelude.{◌≡◌, ◌≤◌, IsErr, IfErr, OnOk};
-ghost use Rattle.layout.specs.Entries.{Plan};
+ghost use Rattle.control_table.specs.layout.Entries.{Site};
 ghost use Rattle.station_check.specs.Report.{IsSound, Reported, Explains, Leaves, Explained};
 
-use crate::failure::{Failure, tell};
 use crate::report::write_report;
+use crate::report_failure::{Failure, tell};
 use control_table::check;
-use layout::Layout;
+use control_table::layout::Layout;
 use std::alloc::Global;
 use std::io::Write;
 
@@ -17,8 +17,8 @@ use std::io::Write;
 /// report couldn't be written to its end, of which nothing is told.
 pub fn check_text<W: Write, E: Write>(alloc: Global, layout: &str, out: &mut W, err: &mut E) -> u8
     ensures status { result ≤ 1 }
-    ensures done { result ≡ 0 → (plan : Plan) × IsSound layout.now plan × Reported plan (W.contents out.old) (W.contents out.new) }
-    ensures faulty { ((plan : Plan) → IsSound layout.now plan → ⊥) → (result ≡ 1) × (out.new ≡ out.old) }
+    ensures done { result ≡ 0 → (site : Site) × IsSound layout.now site × Reported site (W.contents out.old) (W.contents out.new) }
+    ensures faulty { ((site : Site) → IsSound layout.now site → ⊥) → (result ≡ 1) × (out.new ≡ out.old) }
     ensures silent { result ≡ 0 → err.new ≡ err.old }
     // Only a beginning of the line was told where a write to `err` failed.
     ensures explains { result ≡ 1 → Explained layout.now out.old out.new (E.contents err.old) (E.contents err.new) }
@@ -33,8 +33,8 @@ pub fn check_text<W: Write, E: Write>(alloc: Global, layout: &str, out: &mut W, 
 }
 
 fn report<W: Write>(alloc: Global, text: &str, out: &mut W) -> Result<(), Failure>
-    ensures done { OnOk result ((plan : Plan) × IsSound text.now plan × Reported plan (W.contents out.old) (W.contents out.new)) }
-    ensures faulty { ((plan : Plan) → IsSound text.now plan → ⊥) → IsErr result × (out.new ≡ out.old) }
+    ensures done { OnOk result ((site : Site) × IsSound text.now site × Reported site (W.contents out.old) (W.contents out.new)) }
+    ensures faulty { ((site : Site) → IsSound text.now site → ⊥) → IsErr result × (out.new ≡ out.old) }
     ensures explains { IfErr result (λ failure. Explains text.now failure × Leaves failure out.old out.new) }
 {
     let layout = Layout::read(alloc, text)?;

@@ -1,26 +1,32 @@
-//! Why there is no report on a text, and how that is told.
+//! Why a program doesn't go on, and how that is told.
 
-ghost use Rattle.std.specs.Prelude.{◌≡◌, IfOk, Some};
-ghost use Rattle.station_check.specs.Report.{Tells, told_line};
+ghost use Rattle.std.specs.Prelude.{IfOk, Some, ◌≡◌};
+ghost use Rattle.station_check.specs.Failures.{Tells, told_line};
 
 use arrayvec::ArrayString;
 use control_table::TableFault;
-use layout::LayoutFault;
-use line_writer::write_as_taken;
+use control_table::layout::LayoutFault;
+use replay::LineFault;
+use replay_words::write_as_taken;
+use std::alloc::AllocError;
 use std::io::Write;
 use std::{fmt, io};
 
 /// More bytes than any line of a failure has: the longest one tells the name of a route, and has 61.
 const LINE_LENGTH: usize = 80;
 
-/// Why there is no report.
+/// Why a program doesn't go on.
 #[derive(Debug, Drop)]
-pub(crate) enum Failure {
+pub enum Failure {
     /// The text is no layout.
     Layout(LayoutFault),
     /// The table isn't sound.
     Table(TableFault),
-    /// The report couldn't be written.
+    /// A line is faulty.
+    Line(LineFault),
+    /// Memory is lacking elsewhere.
+    OutOfMemory,
+    /// What there is to tell couldn't be written.
     NotWritten,
 }
 
@@ -44,6 +50,26 @@ impl From<TableFault> for Failure {
     }
 }
 
+impl From<LineFault> for Failure {
+    ghost use Rattle.station_check.specs.declared.failure.Failure.TheVariants.{Line};
+
+    ghost from_gives = { λ fault failure. failure ≡ Line fault };
+
+    fn from(fault: LineFault) -> Failure {
+        Failure::Line(fault)
+    }
+}
+
+impl From<AllocError> for Failure {
+    ghost use Rattle.station_check.specs.declared.failure.Failure.TheVariants.{OutOfMemory};
+
+    ghost from_gives = { λ _ failure. failure ≡ OutOfMemory };
+
+    fn from(_error: AllocError) -> Failure {
+        Failure::OutOfMemory
+    }
+}
+
 impl From<io::Error> for Failure {
     ghost use Rattle.station_check.specs.declared.failure.Failure.TheVariants.{NotWritten};
 
@@ -61,6 +87,8 @@ impl fmt::Display for Failure {
         match self {
             Failure::Layout(fault) => write!(f, "layout fault {fault}\n"),
             Failure::Table(fault) => write!(f, "table fault {fault}\n"),
+            Failure::Line(fault) => write!(f, "{fault}\n"),
+            Failure::OutOfMemory => write!(f, "out of memory\n"),
             Failure::NotWritten => Ok(()),
         }
     }
@@ -77,7 +105,7 @@ fn line(failure: &Failure) -> Result<ArrayString<LINE_LENGTH>, fmt::Error>
 }
 
 /// Writes the line of a failure, or as much of it as the writer takes.
-pub(crate) fn tell<E: Write>(failure: &Failure, err: &mut E)
+pub fn tell<E: Write>(failure: &Failure, err: &mut E)
     ensures { Tells failure.now (E.contents err.old) (E.contents err.new) }
 {
     if let Ok(line) = line(failure) {

@@ -1,9 +1,12 @@
-//! What `station check` says of a layout: the first fault of its text or of its control table, or else how
-//! large the station is and which of its routes conflict.
+//! What `station check` reports of a layout's text, and every failure of the program with its line.
 #![tactic(auto)]
 
 mod check;
 mod failure;
 mod report;
+mod report_failure;
+mod table;
 
 pub use check::check_text;
+pub use failure::{Failure, tell};
+pub use table::table_of;

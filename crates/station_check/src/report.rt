@@ -6,8 +6,8 @@ ghost use Rattle.station_check.specs.inside.Told.{ToldRoutes, ToldBehind, ToldPa
 ghost use Rattle.std.specs.Io.KnownBytes.{Appends};
 
 use control_table::Checked;
-use layout::{Route, RouteId};
-use sci_telegram::{Aspect, Name};
+use control_table::layout::{Route, RouteId};
+use control_table::sci_telegram::{Aspect, Name};
 use std::io::Write;
 use std::{fmt, io};
 

@@ -3,8 +3,8 @@
 ghost use Rattle.std.specs.Prelude.{◌<◌, length};
 
 use anyhow::Context;
+use control_table::layout::{Layout, Route, RouteId};
 use control_table::{Checked, check};
-use layout::{Layout, Route, RouteId};
 use std::alloc::Global;
 use std::io;
 use std::io::Write;

@@ -15,7 +15,7 @@ use Rattle.clap.specs.Facts.{explicit_source}
 use Rattle.clap.specs.Simple.{Shape, built, new_rule}
 use Rattle.clap.specs.Takes.{is_given}
 use Rattle.clap.specs.Walk.{Held, Row, Rule, Text, at_row, first_of, has_row, more_values, settled_rows, used, value, with_values, without}
-use Rattle.station_command.proofs.Words.{Fails, both, top, nth_or, Pending, held}
+use Rattle.station_command.proofs.WordsRead.{Fails, both, top, nth_or, Pending, held}
 use Rattle.station_command.specs.Asking.{Given, value_of, takes}
 use Rattle.station_command.specs.Line.{station_line}
 

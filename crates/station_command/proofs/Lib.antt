@@ -2,4 +2,4 @@ pub mod Given
 pub mod Numbers
 pub mod Reading
 pub mod Run
-pub mod Words
+pub mod WordsRead

@@ -20,7 +20,7 @@ use Rattle.clap.specs.Simple.{Shape, App, built, entered, names_of, subcommand_o
 use Rattle.clap.specs.Walk.{finished, settled, Held, Rule, Row, first_of, rows_after, rows_of, rule_of, Text, Walk, arg_by_long, arg_by_short, idle, nothing_held, value, walked}
 use Rattle.station_command.proofs.Given.{run}
 use Rattle.station_command.proofs.Run.{RunReads, run_fault, run_reads}
-use Rattle.station_command.proofs.Words.{Fails, top, nth_or, Pending, held, at, word_fails, word_passes, is_ends, fails_within, ends_is_flag}
+use Rattle.station_command.proofs.WordsRead.{Fails, top, nth_or, Pending, held, at, word_fails, word_passes, is_ends, fails_within, ends_is_flag}
 use Rattle.station_command.specs.Asking.{is_flag, ends_flags, file_in, files_in, Request, Check, Sim, Replay, Run, request_in, run_of}
 use Rattle.station_command.specs.Line.{alone_line, check_line, file_rule, files_line, option_rule, reading_line, replay_line, run_line, sim_line, station_line, time_rule}
 use Rattle.station_command.specs.inside.Rows.{both_of, files_of, number_of, request_of_rows, run_of_rows}

@@ -14,7 +14,7 @@ use Rattle.clap.specs.Faults.{check_fault, default_fault, given_default_fault, d
 use Rattle.clap.specs.Lexer.{long_of}
 use Rattle.clap.specs.Walk.{Held, Row, Rule, Step, Text, Waiting, Walk, default_rows, next, option_word, reading_by, after_step, arg_by_id, arg_by_index, arg_by_long, arg_by_short, attached_value, finished, has_row, idle, is_empty, long_or_other, long_word, nothing_held, option, plain_word, positional_held, pushed, reacted, rows_after, settled, settled_rows, takes_values, to_positional, trailing, used, value, walked, with_default, without}
 use Rattle.station_command.proofs.Numbers.{number_in}
-use Rattle.station_command.proofs.Words.{Fails, first_fails, next_fails, both, held, ends_is_flag, is_ends, is_long_or_fails, word_fails, word_passes}
+use Rattle.station_command.proofs.WordsRead.{Fails, first_fails, next_fails, both, held, ends_is_flag, is_ends, is_long_or_fails, word_fails, word_passes}
 use Rattle.station_command.specs.Asking.{is_flag, ends_flags, Request, Run, Given, value_of, is_option, takes, with_value, Place, Between, Before, Behind, flag_read, word_read, words_read, given_at, run_of, run_by, run_in}
 use Rattle.station_command.specs.inside.Rows.{number_of, run_of_rows}
 use Rattle.station_command.proofs.Given.{Part, a_file, a_script, a_record, a_time, id_of, rule_at, part_rule, rows, is_given-rows, first_of-rows, used_is, or_value, value_of-more, or_none, may_have, use_passes, use_fails, has_none, pend, all, Allowed, hold, settle_passes, settle_rows, settle_fails, run}

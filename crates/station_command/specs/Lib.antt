@@ -1,3 +1,4 @@
 pub mod Asking
 pub mod Line
+pub mod Failures
 pub mod inside

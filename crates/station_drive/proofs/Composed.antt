@@ -3,7 +3,7 @@ use Rattle.std.proofs.Common.{◌≡◌, ℕ, ◌+◌, List, [], ◌∷◌, ◌+
 use Rattle.std.proofs.Math.Seq.{take-append-add, take-length}
 use Rattle.std.proofs.KnownBytes.{Appends-nil, Appends-trans, Appends-kept}
 use Rattle.std.specs.Io.KnownBytes.{Appends, Keeps}
-use Rattle.layout.specs.Entries.{Plan}
+use Rattle.control_table.specs.layout.Entries.{Site}
 use Rattle.std.specs.Result.{OnErr}
 use Rattle.std.proofs.lemmas.List.{map-append}
 use Rattle.simulator_event.specs.declared.event.Event.{Event}
@@ -12,8 +12,8 @@ use Rattle.simulator_event.specs.declared.refused.Refused.{Refused}
 use Rattle.simulator_event.specs.declared.refused.Refused.TheVariants.{NoSuchNode, NeverSent, Drift, NotDriven, ClockLimit, OutOfMemory}
 use Rattle.simulator_event.specs.declared.reply.Reply.{Reply}
 use Rattle.simulator_event.specs.declared.reply.Answer.{Answer}
-use Rattle.replay_answer.specs.Answers.{answer_text, recorded}
-use Rattle.replay_lines.specs.Written.{event_line}
+use Rattle.replay.specs.Answers.{answer_text, recorded}
+use Rattle.replay.specs.Written.{event_line}
 use Rattle.station_drive.specs.Told.{Asks, Call, Grows, Heard, Sends}
 use Rattle.station_drive.specs.Doings.{added, recorded_line, Applies, Applying, Asking, Behaviour, Doing, Performs, Stops, after_doing, picture_after, calls_of, calls_of_doing, text_of, line_of_doing}
 
@@ -42,63 +42,63 @@ module _ {Picture : Type 0} (does : Behaviour Picture) where
       ap (λ l. calls_of_doing does p x ++ l) (calls_of-append (after_doing does p x) xs ys)
       ∙ sym (append_assoc (calls_of_doing does p x) (calls_of does (after_doing does p x) xs) _)
 
-  pub text_of-append : (plan : Plan) (p : Picture) (xs ys : List Doing) → text_of does plan p (xs ++ ys) ≡ text_of does plan p xs ++ text_of does plan (picture_after does p xs) ys
-  text_of-append plan p [] ys = refl
-  text_of-append plan p (x ∷ xs) ys =
-      ap (λ l. line_of_doing does plan p x ++ l) (text_of-append plan (after_doing does p x) xs ys)
-      ∙ sym (append_assoc (line_of_doing does plan p x) (text_of does plan (after_doing does p x) xs) _)
+  pub text_of-append : (site : Site) (p : Picture) (xs ys : List Doing) → text_of does site p (xs ++ ys) ≡ text_of does site p xs ++ text_of does site (picture_after does p xs) ys
+  text_of-append site p [] ys = refl
+  text_of-append site p (x ∷ xs) ys =
+      ap (λ l. line_of_doing does site p x ++ l) (text_of-append site (after_doing does p x) xs ys)
+      ∙ sym (append_assoc (line_of_doing does site p x) (text_of does site (after_doing does p x) xs) _)
 
   -- the same of the pictures that were reached
   calls_joined : (a b : Picture) (xs ys : List Doing) → b ≡ picture_after does a xs → calls_of does a xs ++ calls_of does b ys ≡ calls_of does a (xs ++ ys)
   calls_joined a b xs ys h = ap (λ p. calls_of does a xs ++ calls_of does p ys) h ∙ sym (calls_of-append a xs ys)
 
-  text_joined : (plan : Plan) (a b : Picture) (xs ys : List Doing) → b ≡ picture_after does a xs → text_of does plan a xs ++ text_of does plan b ys ≡ text_of does plan a (xs ++ ys)
-  text_joined plan a b xs ys h = ap (λ p. text_of does plan a xs ++ text_of does plan p ys) h ∙ sym (text_of-append plan a xs ys)
+  text_joined : (site : Site) (a b : Picture) (xs ys : List Doing) → b ≡ picture_after does a xs → text_of does site a xs ++ text_of does site b ys ≡ text_of does site a (xs ++ ys)
+  text_joined site a b xs ys h = ap (λ p. text_of does site a xs ++ text_of does site p ys) h ∙ sym (text_of-append site a xs ys)
 
 -- ---- what was done, one behind another
 
-module _ {Picture : Type 0} {does : Behaviour Picture} {plan : Plan} where
-  pub performs_none : (a : Picture) (ca : Option (List Call)) (ta : Option (List ℕ)) → Performs does plan [] a a ca ca ta ta
+module _ {Picture : Type 0} {does : Behaviour Picture} {site : Site} where
+  pub performs_none : (a : Picture) (ca : Option (List Call)) (ta : Option (List ℕ)) → Performs does site [] a a ca ca ta ta
   performs_none a ca ta = record { picture_is = refl; called = Grows-nil ca; written = Appends-nil ta }
 
   pub performs_then : {xs ys : List Doing} {a b c : Picture} {ca cb cc : Option (List Call)} {ta tb tc : Option (List ℕ)}
-      → Performs does plan xs a b ca cb ta tb → Performs does plan ys b c cb cc tb tc → Performs does plan (xs ++ ys) a c ca cc ta tc
+      → Performs does site xs a b ca cb ta tb → Performs does site ys b c cb cc tb tc → Performs does site (xs ++ ys) a c ca cc ta tc
   performs_then {xs} {ys} {a} {b} {c} {ca} {cb} {cc} {ta} {tb} {tc} first second = record {
     picture_is = second.picture_is ∙ (ap (λ p. picture_after does p ys) first.picture_is ∙ sym (picture_after-append does a xs ys));
     called = subst (Grows ca cc) (calls_joined does a b xs ys first.picture_is) (Grows-trans ca cb cc _ _ first.called second.called);
-    written = subst (Appends ta tc) (text_joined does plan a b xs ys first.picture_is) (Appends-trans ta tb tc _ _ first.written second.written);
+    written = subst (Appends ta tc) (text_joined does site a b xs ys first.picture_is) (Appends-trans ta tb tc _ _ first.written second.written);
   }
 
   pub stops_then : {xs : List Doing} {a b c : Picture} {ca cb cc : Option (List Call)} {ta tb tc : Option (List ℕ)}
-      → Performs does plan xs a b ca cb ta tb → Stops does plan b c cb cc tb tc → Stops does plan a c ca cc ta tc
+      → Performs does site xs a b ca cb ta tb → Stops does site b c cb cc tb tc → Stops does site a c ca cc ta tc
   stops_then {xs} {a} {b} {c} {ca} {cb} {cc} {ta} {tb} {tc} first second =
-      let before : List ℕ = text_of does plan a xs in
-      let behind : List ℕ = text_of does plan b second.doings in
+      let before : List ℕ = text_of does site a xs in
+      let behind : List ℕ = text_of does site b second.doings in
       record {
         doings = xs ++ second.doings;
         picture_is = second.picture_is ∙ (ap (λ p. picture_after does p second.doings) first.picture_is ∙ sym (picture_after-append does a xs second.doings));
         called = subst (Grows ca cc) (calls_joined does a b xs second.doings first.picture_is) (Grows-trans ca cb cc _ _ first.called second.called);
         taken = length before + second.taken;
         written = subst (Appends ta tc)
-            (sym (take-append-add before behind second.taken) ∙ ap (take (length before + second.taken)) (text_joined does plan a b xs second.doings first.picture_is))
+            (sym (take-append-add before behind second.taken) ∙ ap (take (length before + second.taken)) (text_joined does site a b xs second.doings first.picture_is))
             (Appends-trans ta tb tc _ _ first.written second.written);
       }
 
-  pub stops_now : {xs : List Doing} {a b : Picture} {ca cb : Option (List Call)} {ta tb : Option (List ℕ)} → Performs does plan xs a b ca cb ta tb → Stops does plan a b ca cb ta tb
+  pub stops_now : {xs : List Doing} {a b : Picture} {ca cb : Option (List Call)} {ta tb : Option (List ℕ)} → Performs does site xs a b ca cb ta tb → Stops does site a b ca cb ta tb
   stops_now {xs} {a} {b} {ca} {cb} {ta} {tb} done = record {
     doings = xs;
     picture_is = done.picture_is;
     called = done.called;
-    taken = length (text_of does plan a xs);
-    written = subst (Appends ta tb) (sym (take-length (text_of does plan a xs))) done.written;
+    taken = length (text_of does site a xs);
+    written = subst (Appends ta tb) (sym (take-length (text_of does site a xs))) done.written;
   }
 
   -- nothing was done
-  pub stops_none : (a : Picture) (ca : Option (List Call)) (ta : Option (List ℕ)) → Stops does plan a a ca ca ta ta
+  pub stops_none : (a : Picture) (ca : Option (List Call)) (ta : Option (List ℕ)) → Stops does site a a ca ca ta ta
   stops_none a ca ta = stops_now (performs_none a ca ta)
 
   -- what was written was handed on
-  pub performs_kept : {xs : List Doing} {a b : Picture} {ca cb : Option (List Call)} {ta tb tc : Option (List ℕ)} → Performs does plan xs a b ca cb ta tb → Keeps tb tc → Performs does plan xs a b ca cb ta tc
+  pub performs_kept : {xs : List Doing} {a b : Picture} {ca cb : Option (List Call)} {ta tb tc : Option (List ℕ)} → Performs does site xs a b ca cb ta tb → Keeps tb tc → Performs does site xs a b ca cb ta tc
   performs_kept {xs} {a} {b} {ca} {cb} {ta} {tb} {tc} done kept = record {
     picture_is = done.picture_is;
     called = done.called;
@@ -106,32 +106,32 @@ module _ {Picture : Type 0} {does : Behaviour Picture} {plan : Plan} where
   }
 
   -- the same where the layout of what comes behind is the same, seen from there
-  pub performs_next : {other : Plan} {xs ys : List Doing} {a b c : Picture} {ca cb cc : Option (List Call)} {ta tb tc : Option (List ℕ)}
-      → other ≡ plan → Performs does plan xs a b ca cb ta tb → Performs does other ys b c cb cc tb tc → Performs does plan (xs ++ ys) a c ca cc ta tc
+  pub performs_next : {other : Site} {xs ys : List Doing} {a b c : Picture} {ca cb cc : Option (List Call)} {ta tb tc : Option (List ℕ)}
+      → other ≡ site → Performs does site xs a b ca cb ta tb → Performs does other ys b c cb cc tb tc → Performs does site (xs ++ ys) a c ca cc ta tc
   performs_next {other} {xs} {ys} {a} {b} {c} {ca} {cb} {cc} {ta} {tb} {tc} e first second =
-      performs_then first (subst (λ (p : Plan). Performs does p ys b c cb cc tb tc) e second)
+      performs_then first (subst (λ (p : Site). Performs does p ys b c cb cc tb tc) e second)
 
-  pub stops_next : {other : Plan} {xs : List Doing} {a b c : Picture} {ca cb cc : Option (List Call)} {ta tb tc : Option (List ℕ)}
-      → other ≡ plan → Performs does plan xs a b ca cb ta tb → Stops does other b c cb cc tb tc → Stops does plan a c ca cc ta tc
+  pub stops_next : {other : Site} {xs : List Doing} {a b c : Picture} {ca cb cc : Option (List Call)} {ta tb tc : Option (List ℕ)}
+      → other ≡ site → Performs does site xs a b ca cb ta tb → Stops does other b c cb cc tb tc → Stops does site a c ca cc ta tc
   stops_next {other} {xs} {a} {b} {c} {ca} {cb} {cc} {ta} {tb} {tc} e first second =
-      stops_then first (subst (λ (p : Plan). Stops does p b c cb cc tb tc) e second)
+      stops_then first (subst (λ (p : Site). Stops does p b c cb cc tb tc) e second)
 
   -- one more event was applied
-  pub performs_push : {other : Plan} {event : Event} {a b c : Picture} {ca cb cc : Option (List Call)} {ta tb tc : Option (List ℕ)}
-      → (events : List Event) → other ≡ plan → Performs does plan (map Applying events) a b ca cb ta tb → Performs does other (Applying event ∷ []) b c cb cc tb tc
-      → Performs does plan (map Applying (events ++ event ∷ [])) a c ca cc ta tc
+  pub performs_push : {other : Site} {event : Event} {a b c : Picture} {ca cb cc : Option (List Call)} {ta tb tc : Option (List ℕ)}
+      → (events : List Event) → other ≡ site → Performs does site (map Applying events) a b ca cb ta tb → Performs does other (Applying event ∷ []) b c cb cc tb tc
+      → Performs does site (map Applying (events ++ event ∷ [])) a c ca cc ta tc
   performs_push {other} {event} {a} {b} {c} {ca} {cb} {cc} {ta} {tb} {tc} events e first second =
-      subst (λ (l : List Doing). Performs does plan l a c ca cc ta tc) (sym (map-append Applying events (event ∷ []))) (performs_next e first second)
+      subst (λ (l : List Doing). Performs does site l a c ca cc ta tc) (sym (map-append Applying events (event ∷ []))) (performs_next e first second)
 
-  pub performs_same : {xs ys : List Doing} {a b : Picture} {ca cb : Option (List Call)} {ta tb : Option (List ℕ)} → xs ≡ ys → Performs does plan xs a b ca cb ta tb → Performs does plan ys a b ca cb ta tb
-  performs_same {xs} {ys} {a} {b} {ca} {cb} {ta} {tb} e done = subst (λ (l : List Doing). Performs does plan l a b ca cb ta tb) e done
+  pub performs_same : {xs ys : List Doing} {a b : Picture} {ca cb : Option (List Call)} {ta tb : Option (List ℕ)} → xs ≡ ys → Performs does site xs a b ca cb ta tb → Performs does site ys a b ca cb ta tb
+  performs_same {xs} {ys} {a} {b} {ca} {cb} {ta} {tb} e done = subst (λ (l : List Doing). Performs does site l a b ca cb ta tb) e done
 
   -- a node asked
-  pub performs_asking : {node : NodeId} {heard : Heard} (a : Picture) {ca cb : Option (List Call)} (ta : Option (List ℕ)) → Grows ca cb (Asks node heard ∷ []) → Performs does plan (Asking node heard ∷ []) a a ca cb ta ta
+  pub performs_asking : {node : NodeId} {heard : Heard} (a : Picture) {ca cb : Option (List Call)} (ta : Option (List ℕ)) → Grows ca cb (Asks node heard ∷ []) → Performs does site (Asking node heard ∷ []) a a ca cb ta ta
   performs_asking a ta told = record { picture_is = refl; called = told; written = Appends-nil ta }
 
   -- what was given up stays so, whatever fault is told
-  pub stopped : {T E : Type 0} {a b : Picture} {ca cb : Option (List Call)} {ta tb : Option (List ℕ)} (result : Result T E) → Stops does plan a b ca cb ta tb → OnErr result (Stops does plan a b ca cb ta tb)
+  pub stopped : {T E : Type 0} {a b : Picture} {ca cb : Option (List Call)} {ta tb : Option (List ℕ)} (result : Result T E) → Stops does site a b ca cb ta tb → OnErr result (Stops does site a b ca cb ta tb)
   stopped (Ok value) h = tt
   stopped (Err fault) h = h
 
@@ -179,11 +179,11 @@ event_called does event old new count a b is counted h =
     h
 
 -- the line of an event with its answer
-pub event_text : {Picture : Type 0} (does : Behaviour Picture) (plan : Plan) (event : Event) (old : Picture) (line : Option (List ℕ)) (table : Plan) (answer : Result Answer Refused)
-    → line ≡ event_line plan event → table ≡ plan → answer ≡ does.answer old event
-    → recorded_line line (answer_text table answer) ≡ text_of does plan old (Applying event ∷ [])
-event_text does plan event old line table answer is same answered =
+pub event_text : {Picture : Type 0} (does : Behaviour Picture) (site : Site) (event : Event) (old : Picture) (line : Option (List ℕ)) (table : Site) (answer : Result Answer Refused)
+    → line ≡ event_line site event → table ≡ site → answer ≡ does.answer old event
+    → recorded_line line (answer_text table answer) ≡ text_of does site old (Applying event ∷ [])
+event_text does site event old line table answer is same answered =
     ap (λ l. recorded_line l (answer_text table answer)) is
-    ∙ (ap (λ p. recorded_line (event_line plan event) (answer_text p answer)) same
-    ∙ (ap (λ r. recorded_line (event_line plan event) (answer_text plan r)) answered
-    ∙ sym (append-nil (recorded_line (event_line plan event) (answer_text plan (does.answer old event))))))
+    ∙ (ap (λ p. recorded_line (event_line site event) (answer_text p answer)) same
+    ∙ (ap (λ r. recorded_line (event_line site event) (answer_text site r)) answered
+    ∙ sym (append-nil (recorded_line (event_line site event) (answer_text site (does.answer old event))))))

@@ -5,7 +5,7 @@ use Rattle.std.proofs.lemmas.List.{map-append}
 use Rattle.std.proofs.lemmas.Bool.Decides.{nat_tests}
 use Rattle.std.specs.Prelude.{IfNone, IfSome, Ok, IsTrue, ◌↔◌, Bool, false}
 use Rattle.std.specs.List.{AllByRecursion}
-use Rattle.sci_telegram.specs.declared.message.Side.{Side}
+use Rattle.control_table.specs.sci_telegram.declared.message.Side.{Side}
 use Rattle.simulator_event.specs.declared.event.Event.{Event}
 use Rattle.simulator_event.specs.declared.event.Event.TheVariants.{Deliver, Tick}
 use Rattle.simulator_event.specs.declared.event.NodeId.{NodeId}

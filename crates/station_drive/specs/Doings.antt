@@ -1,16 +1,16 @@
 -- What a driven station does one after another, and what comes of it.
 use Rattle.std.specs.Prelude.{◌≡◌, ℕ, List, [], ◌∷◌, ◌++◌, length, map, drop, take, codes, Option, Some, None, Result, Err}
 use Rattle.std.specs.Io.KnownBytes.{Appends}
-use Rattle.layout.specs.Entries.{Plan}
-use Rattle.sci_telegram.specs.declared.message.Side.{Side}
+use Rattle.control_table.specs.layout.Entries.{Site}
+use Rattle.control_table.specs.sci_telegram.declared.message.Side.{Side}
 use Rattle.simulator_event.specs.declared.event.Event.{Event}
 use Rattle.simulator_event.specs.declared.event.NodeId.{NodeId}
 use Rattle.simulator_event.specs.declared.refused.Refused.{Refused}
 use Rattle.simulator_event.specs.declared.refused.Refused.TheVariants.{OutOfMemory}
 use Rattle.simulator_event.specs.declared.reply.Answer.{Answer}
 use Rattle.simulator_event.specs.declared.reply.Reply.{Reply}
-use Rattle.replay_lines.specs.Written.{event_line}
-use Rattle.replay_answer.specs.Answers.{answer_text, recorded}
+use Rattle.replay.specs.Written.{event_line}
+use Rattle.replay.specs.Answers.{answer_text, recorded}
 use Rattle.station_drive.specs.Told.{Call, Sends, Asks, Heard, Grows}
 
 -- how a station behaves to which events happen
@@ -66,25 +66,25 @@ module _ {Picture : Type 0} (does : Behaviour Picture) where
   calls_of picture (doing ∷ doings) = calls_of_doing picture doing ++ calls_of (after_doing picture doing) doings
 
   -- the record: each event that has a line, with its answer
-  abbrev pub line_of_doing : Plan → Picture → Doing → List ℕ
-  line_of_doing plan picture (Asking node heard) = []
-  line_of_doing plan picture (Applying event) = recorded_line (event_line plan event) (answer_text plan (does.answer picture event))
+  abbrev pub line_of_doing : Site → Picture → Doing → List ℕ
+  line_of_doing site picture (Asking node heard) = []
+  line_of_doing site picture (Applying event) = recorded_line (event_line site event) (answer_text site (does.answer picture event))
 
-  abbrev pub text_of : Plan → Picture → List Doing → List ℕ
-  text_of plan picture [] = []
-  text_of plan picture (doing ∷ doings) = line_of_doing plan picture doing ++ text_of plan (after_doing picture doing) doings
+  abbrev pub text_of : Site → Picture → List Doing → List ℕ
+  text_of site picture [] = []
+  text_of site picture (doing ∷ doings) = line_of_doing site picture doing ++ text_of site (after_doing picture doing) doings
 
   -- These were done: the station, and what the network and the record tell, are as they come of it.
-  pub record Performs (plan : Plan) (doings : List Doing) (old new : Picture) (calls_old calls_new : Option (List Call)) (text_old text_new : Option (List ℕ)) : Type 0 where
+  pub record Performs (site : Site) (doings : List Doing) (old new : Picture) (calls_old calls_new : Option (List Call)) (text_old text_new : Option (List ℕ)) : Type 0 where
     pub picture_is : new ≡ picture_after old doings
     pub called : Grows calls_old calls_new (calls_of old doings)
-    pub written : Appends text_old text_new (text_of plan old doings)
+    pub written : Appends text_old text_new (text_of site old doings)
 
   -- Something was done before it was given up: the station is as it comes of that, and so are the calls; a beginning of
   -- the record was written.
-  pub record Stops (plan : Plan) (old new : Picture) (calls_old calls_new : Option (List Call)) (text_old text_new : Option (List ℕ)) : Type 0 where
+  pub record Stops (site : Site) (old new : Picture) (calls_old calls_new : Option (List Call)) (text_old text_new : Option (List ℕ)) : Type 0 where
     pub doings : List Doing
     pub picture_is : new ≡ picture_after old doings
     pub called : Grows calls_old calls_new (calls_of old doings)
     pub taken : ℕ
-    pub written : Appends text_old text_new (take taken (text_of plan old doings))
+    pub written : Appends text_old text_new (take taken (text_of site old doings))

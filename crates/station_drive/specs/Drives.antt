@@ -1,29 +1,29 @@
 -- A station that was driven for some time.
 use Rattle.std.specs.Prelude.{◌≡◌, ◌<◌, ◌≤◌, ◌-◌, ◌/◌, ℕ, List, [], ◌∷◌, ◌++◌, length, map, replicate, Option, None}
 use Rattle.std.specs.List.{AllByRecursion}
-use Rattle.layout.specs.Entries.{Plan}
-use Rattle.replay_names.specs.Names.{node_names}
+use Rattle.control_table.specs.layout.Entries.{Site}
+use Rattle.replay.specs.Names.{node_names}
 use Rattle.simulator_event.specs.declared.event.Event.{Event}
 use Rattle.station_drive.specs.Told.{Call, Grows}
 use Rattle.station_drive.specs.Doings.{Behaviour, Performs}
 use Rattle.station_drive.specs.Rounds.{Standing, Turn, rounds}
 
 -- no line of the script was applied, and no point was seen driven
-abbrev pub beginning : Plan → List (ℕ × Event) → ℕ → Standing
-beginning plan script first = record { first = first; reading = first; left = script; drives = replicate (length plan.points) None }
+abbrev pub beginning : Site → List (ℕ × Event) → ℕ → Standing
+beginning site script first = record { first = first; reading = first; left = script; drives = replicate (length site.points) None }
 
 -- in a round each node heard
-abbrev pub IsWhole : Plan → Turn → Type 0
-IsWhole plan turn = length turn.heard ≡ length (node_names plan)
+abbrev pub IsWhole : Site → Turn → Type 0
+IsWhole site turn = length turn.heard ≡ length (node_names site)
 
 -- After a first reading each further one made a round, up to and with the first that was `for_ms` or more behind it.
-pub record Driven {Picture : Type 0} (does : Behaviour Picture) (plan : Plan) (script : List (ℕ × Event)) (for_ms : ℕ)
+pub record Driven {Picture : Type 0} (does : Behaviour Picture) (site : Site) (script : List (ℕ × Event)) (for_ms : ℕ)
     (old new : Picture) (readings_old readings_new : Option (List ℕ)) (calls_old calls_new : Option (List Call)) (text_old text_new : Option (List ℕ)) : Type 0 where
   pub first : ℕ
   pub earlier : List Turn
   pub last : Turn
   pub read : Grows readings_old readings_new (first ∷ map (λ turn. turn.reading) (earlier ++ last ∷ []))
-  pub whole : AllByRecursion (IsWhole plan) (earlier ++ last ∷ [])
+  pub whole : AllByRecursion (IsWhole site) (earlier ++ last ∷ [])
   pub goes_on : AllByRecursion (λ turn. (turn.reading - first) / 1000 < for_ms) earlier
   pub over : for_ms ≤ (last.reading - first) / 1000
-  pub performs : Performs does plan (rounds does plan old (beginning plan script first) (earlier ++ last ∷ [])) old new calls_old calls_new text_old text_new
+  pub performs : Performs does site (rounds does site old (beginning site script first) (earlier ++ last ∷ [])) old new calls_old calls_new text_old text_new

@@ -1,11 +1,11 @@
 -- The rounds by which a station is driven: what they do, by what the clock and the network tell.
 use Rattle.std.specs.Prelude.{ℕ, zero, suc, ◌-◌, ◌/◌, nat_le, Bool, true, false, if◌then◌else◌, List, [], ◌∷◌, ◌++◌, length, map, replicate, Option, Some, None}
-use Rattle.layout.specs.Entries.{Plan}
-use Rattle.replay_names.specs.Names.{node_names}
-use Rattle.sci_telegram.specs.declared.message.Position.{Position}
-use Rattle.sci_telegram.specs.declared.message.Position.TheVariants as positions
-use Rattle.sci_telegram.specs.declared.message.Side.{Side}
-use Rattle.sci_telegram.specs.declared.message.Side.TheVariants as sides
+use Rattle.control_table.specs.layout.Entries.{Site}
+use Rattle.replay.specs.Names.{node_names}
+use Rattle.control_table.specs.sci_telegram.declared.message.Position.{Position}
+use Rattle.control_table.specs.sci_telegram.declared.message.Position.TheVariants as positions
+use Rattle.control_table.specs.sci_telegram.declared.message.Side.{Side}
+use Rattle.control_table.specs.sci_telegram.declared.message.Side.TheVariants as sides
 use Rattle.simulator_event.specs.declared.event.Event.{Event}
 use Rattle.simulator_event.specs.declared.event.Event.TheVariants.{Deliver, Reach, Tick, Time}
 use Rattle.simulator_event.specs.declared.event.NodeId.{NodeId}
@@ -115,10 +115,10 @@ passed standing reading = (reading - standing.first) / 1000
 
 -- Time goes on at equal rates; each node hears; the lines of the script that are due; points reach their end positions; each
 -- node ticks.
-abbrev pub round : Plan → Standing → Turn → List Doing
-round plan standing turn =
+abbrev pub round : Site → Standing → Turn → List Doing
+round site standing turn =
     let elapsed = turn.reading - standing.reading
-    in let nodes = length (node_names plan)
+    in let nodes = length (node_names site)
     in Applying (Time elapsed (replicate nodes elapsed))
     ∷ (hearings 0 turn.heard
     ++ (map Applying (due (passed standing turn.reading) standing.left)
@@ -134,13 +134,13 @@ standing_after does picture standing reading = record {
   drives = drives_after reading (does.driven picture) 0 standing.drives;
 }
 
-module _ {Picture : Type 0} (does : Behaviour Picture) (plan : Plan) where
+module _ {Picture : Type 0} (does : Behaviour Picture) (site : Site) where
   abbrev pub after_round : Picture → Standing → Turn → Picture
-  after_round picture standing turn = picture_after does picture (round plan standing turn)
+  after_round picture standing turn = picture_after does picture (round site standing turn)
 
   -- what rounds do, one after another
   abbrev pub rounds : Picture → Standing → List Turn → List Doing
   rounds picture standing [] = []
   rounds picture standing (turn ∷ turns) =
       let new = after_round picture standing turn
-      in round plan standing turn ++ rounds new (standing_after does new standing turn.reading) turns
+      in round site standing turn ++ rounds new (standing_after does new standing turn.reading) turns

@@ -2,7 +2,7 @@
 
 ghost use Rattle.std.specs.Prelude.{◌≡◌};
 
-use sci_telegram::Side;
+use control_table::sci_telegram::Side;
 use simulator_event::Event;
 use std::marker::Model;
 

@@ -2,18 +2,18 @@
 
 ghost use Rattle.std.specs.Prelude.{◌≡◌, [], ◌∷◌, length, map, replicate, IfOk, OnErr, OnOk, ℕ};
 ghost use Rattle.simulator_event.specs.declared.event.Event.TheVariants.{Time};
-ghost use Rattle.replay_names.specs.Names.{node_names};
+ghost use Rattle.replay.specs.Names.{node_names};
 ghost use Rattle.station_drive.specs.Doings.{Applying, Performs, Stops};
 ghost use Rattle.station_drive.specs.Rounds.{due, end_position, not_due, reach, reaches, ticks};
 
 use crate::course::Drive;
 use crate::datagrams::Datagrams;
+use crate::events_performed::perform;
 use crate::fault::DriveFault;
-use crate::performing::perform;
 use crate::station::Station;
-use layout::PointId;
-use replay_names::node_count;
-use sci_telegram::{Position, Side};
+use control_table::layout::PointId;
+use control_table::sci_telegram::{Position, Side};
+use replay::node_count;
 use simulator_event::{ClockSteps, Event, NodeId};
 use std::alloc::Global;
 use std::io::Write;
@@ -29,9 +29,9 @@ pub(crate) fn pass<S: Station, N: Datagrams, W: Write>(
     recorder: &mut W,
     elapsed: u64,
 ) -> Result<(), DriveFault>
-    ensures done { OnOk result (Performs S.does (S.plan station.old) (Applying (Time elapsed (replicate (length (node_names (S.plan station.old))) elapsed)) ∷ []) (S.picture station.old) (S.picture station.new) (N.calls net.old) (N.calls net.new) (W.contents recorder.old) (W.contents recorder.new)) }
-    ensures stopped { OnErr result (Stops S.does (S.plan station.old) (S.picture station.old) (S.picture station.new) (N.calls net.old) (N.calls net.new) (W.contents recorder.old) (W.contents recorder.new)) }
-    ensures plan { S.plan station.new ≡ S.plan station.old }
+    ensures done { OnOk result (Performs S.does (S.site station.old) (Applying (Time elapsed (replicate (length (node_names (S.site station.old))) elapsed)) ∷ []) (S.picture station.old) (S.picture station.new) (N.calls net.old) (N.calls net.new) (W.contents recorder.old) (W.contents recorder.new)) }
+    ensures stopped { OnErr result (Stops S.does (S.site station.old) (S.picture station.old) (S.picture station.new) (N.calls net.old) (N.calls net.new) (W.contents recorder.old) (W.contents recorder.new)) }
+    ensures site { S.site station.new ≡ S.site station.old }
 {
     let nodes = node_count(station.table().layout());
     let clocks = ClockSteps::of(vec![in alloc; elapsed; nodes]?);
@@ -53,10 +53,10 @@ pub(crate) fn apply_due<'a, S: Station, N: Datagrams, W: Write>(
     script: &'a [(u64, Event)],
     passed: u64,
 ) -> Result<&'a [(u64, Event)], DriveFault>
-    ensures done { OnOk result (Performs S.does (S.plan station.old) (map Applying (due passed script.now)) (S.picture station.old) (S.picture station.new) (N.calls net.old) (N.calls net.new) (W.contents recorder.old) (W.contents recorder.new)) }
+    ensures done { OnOk result (Performs S.does (S.site station.old) (map Applying (due passed script.now)) (S.picture station.old) (S.picture station.new) (N.calls net.old) (N.calls net.new) (W.contents recorder.old) (W.contents recorder.new)) }
     ensures left { IfOk result (λ left. left.now ≡ not_due passed script.now) }
-    ensures stopped { OnErr result (Stops S.does (S.plan station.old) (S.picture station.old) (S.picture station.new) (N.calls net.old) (N.calls net.new) (W.contents recorder.old) (W.contents recorder.new)) }
-    ensures plan { S.plan station.new ≡ S.plan station.old }
+    ensures stopped { OnErr result (Stops S.does (S.site station.old) (S.picture station.old) (S.picture station.new) (N.calls net.old) (N.calls net.new) (W.contents recorder.old) (W.contents recorder.new)) }
+    ensures site { S.site station.new ≡ S.site station.old }
 {
     for place in 0..script.len() {
         let (time, event) = &script[place];
@@ -77,9 +77,9 @@ pub(crate) fn reach_all<S: Station, N: Datagrams, W: Write>(
     drives: &[Option<Drive>],
     reading: u64,
 ) -> Result<(), DriveFault>
-    ensures done { OnOk result (Performs S.does (S.plan station.old) (map Applying (reaches reading 0 drives.now)) (S.picture station.old) (S.picture station.new) (N.calls net.old) (N.calls net.new) (W.contents recorder.old) (W.contents recorder.new)) }
-    ensures stopped { OnErr result (Stops S.does (S.plan station.old) (S.picture station.old) (S.picture station.new) (N.calls net.old) (N.calls net.new) (W.contents recorder.old) (W.contents recorder.new)) }
-    ensures plan { S.plan station.new ≡ S.plan station.old }
+    ensures done { OnOk result (Performs S.does (S.site station.old) (map Applying (reaches reading 0 drives.now)) (S.picture station.old) (S.picture station.new) (N.calls net.old) (N.calls net.new) (W.contents recorder.old) (W.contents recorder.new)) }
+    ensures stopped { OnErr result (Stops S.does (S.site station.old) (S.picture station.old) (S.picture station.new) (N.calls net.old) (N.calls net.new) (W.contents recorder.old) (W.contents recorder.new)) }
+    ensures site { S.site station.new ≡ S.site station.old }
 {
     for (place, drive) in drives.iter().enumerate() {
         reach(
@@ -105,9 +105,9 @@ fn reach<S: Station, N: Datagrams, W: Write>(
     drive: Option<Drive>,
     reading: u64,
 ) -> Result<(), DriveFault>
-    ensures done { OnOk result (Performs S.does (S.plan station.old) (map Applying (reach reading point.0 drive)) (S.picture station.old) (S.picture station.new) (N.calls net.old) (N.calls net.new) (W.contents recorder.old) (W.contents recorder.new)) }
-    ensures stopped { OnErr result (Stops S.does (S.plan station.old) (S.picture station.old) (S.picture station.new) (N.calls net.old) (N.calls net.new) (W.contents recorder.old) (W.contents recorder.new)) }
-    ensures plan { S.plan station.new ≡ S.plan station.old }
+    ensures done { OnOk result (Performs S.does (S.site station.old) (map Applying (reach reading point.0 drive)) (S.picture station.old) (S.picture station.new) (N.calls net.old) (N.calls net.new) (W.contents recorder.old) (W.contents recorder.new)) }
+    ensures stopped { OnErr result (Stops S.does (S.site station.old) (S.picture station.old) (S.picture station.new) (N.calls net.old) (N.calls net.new) (W.contents recorder.old) (W.contents recorder.new)) }
+    ensures site { S.site station.new ≡ S.site station.old }
 {
     match drive {
         Some(drive) if reading.saturating_sub(drive.since) >= WAY => {
@@ -141,9 +141,9 @@ pub(crate) fn tick_all<S: Station, N: Datagrams, W: Write>(
     net: &mut N,
     recorder: &mut W,
 ) -> Result<(), DriveFault>
-    ensures done { OnOk result (Performs S.does (S.plan station.old) (map Applying (ticks (length (node_names (S.plan station.old))))) (S.picture station.old) (S.picture station.new) (N.calls net.old) (N.calls net.new) (W.contents recorder.old) (W.contents recorder.new)) }
-    ensures stopped { OnErr result (Stops S.does (S.plan station.old) (S.picture station.old) (S.picture station.new) (N.calls net.old) (N.calls net.new) (W.contents recorder.old) (W.contents recorder.new)) }
-    ensures plan { S.plan station.new ≡ S.plan station.old }
+    ensures done { OnOk result (Performs S.does (S.site station.old) (map Applying (ticks (length (node_names (S.site station.old))))) (S.picture station.old) (S.picture station.new) (N.calls net.old) (N.calls net.new) (W.contents recorder.old) (W.contents recorder.new)) }
+    ensures stopped { OnErr result (Stops S.does (S.site station.old) (S.picture station.old) (S.picture station.new) (N.calls net.old) (N.calls net.new) (W.contents recorder.old) (W.contents recorder.new)) }
+    ensures site { S.site station.new ≡ S.site station.old }
 {
     for node in 0..node_count(station.table().layout()) {
         perform(alloc, station, net, recorder, &Event::Tick(NodeId(node)))?;

@@ -6,11 +6,11 @@
 mod clock;
 mod course;
 mod datagrams;
+mod datagrams_heard;
 mod events;
+mod events_performed;
 mod fault;
-mod hearing;
 mod laws;
-mod performing;
 mod rounds;
 mod station;
 

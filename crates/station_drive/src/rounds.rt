@@ -1,7 +1,7 @@
 //! The rounds by which a station is driven.
 
 ghost use Rattle.std.specs.Prelude.{◌≡◌, ◌-◌, ◌/◌, IfOk, List, OnErr, OnOk, length};
-ghost use Rattle.replay_names.specs.Names.{node_names};
+ghost use Rattle.replay.specs.Names.{node_names};
 ghost use Rattle.station_drive.specs.Doings.{Performs, Stops};
 ghost use Rattle.station_drive.specs.Drives.{Driven, beginning};
 ghost use Rattle.station_drive.specs.Rounds.{Hearing, drive_after, drives_after, is_same, round, standing_after};
@@ -9,13 +9,13 @@ ghost use Rattle.station_drive.specs.Rounds.{Hearing, drive_after, drives_after,
 use crate::clock::Clock;
 use crate::course::{Course, Drive};
 use crate::datagrams::Datagrams;
+use crate::datagrams_heard::hear_all;
 use crate::events::{apply_due, pass, reach_all, tick_all};
+use crate::events_performed::flush;
 use crate::fault::DriveFault;
-use crate::hearing::hear_all;
-use crate::performing::flush;
 use crate::station::Station;
-use layout::PointId;
-use sci_telegram::Side;
+use control_table::layout::PointId;
+use control_table::sci_telegram::Side;
 use simulator_event::Event;
 use std::alloc::{AllocError, Global};
 use std::io::Write;
@@ -35,9 +35,9 @@ pub fn drive<S: Station, N: Datagrams, C: Clock, W: Write>(
     for_ms: u64,
     recorder: &mut W,
 ) -> Result<(), DriveFault>
-    ensures done { OnOk result (Driven S.does (S.plan station.old) script.now for_ms (S.picture station.old) (S.picture station.new) (C.readings clock.old) (C.readings clock.new) (N.calls net.old) (N.calls net.new) (W.contents recorder.old) (W.contents recorder.new)) }
+    ensures done { OnOk result (Driven S.does (S.site station.old) script.now for_ms (S.picture station.old) (S.picture station.new) (C.readings clock.old) (C.readings clock.new) (N.calls net.old) (N.calls net.new) (W.contents recorder.old) (W.contents recorder.new)) }
     // The station is as the events applied so far left it, and a beginning of their lines was written.
-    ensures stopped { OnErr result (Stops S.does (S.plan station.old) (S.picture station.old) (S.picture station.new) (N.calls net.old) (N.calls net.new) (W.contents recorder.old) (W.contents recorder.new)) }
+    ensures stopped { OnErr result (Stops S.does (S.site station.old) (S.picture station.old) (S.picture station.new) (N.calls net.old) (N.calls net.new) (W.contents recorder.old) (W.contents recorder.new)) }
 {
     let first = clock.read();
     let mut course = begin(alloc, station, script, first)?;
@@ -73,7 +73,7 @@ fn begin<'a, S: Station>(
     script: &'a [(u64, Event)],
     first: u64,
 ) -> Result<Course<'a>, AllocError>
-    ensures { IfOk result (λ course. course ≡ beginning (S.plan station.now) script.now first) }
+    ensures { IfOk result (λ course. course ≡ beginning (S.site station.now) script.now first) }
 {
     let points = station.table().layout().points().len();
     Ok(Course {
@@ -93,11 +93,11 @@ fn round<S: Station, N: Datagrams, W: Write>(
     course: &mut Course<'_>,
     reading: u64,
 ) -> Result<(), DriveFault>
-    requires { length course.old.drives ≡ length (S.plan station.old).points }
-    ensures done { OnOk result ((heard : List Hearing) × (length heard ≡ length (node_names (S.plan station.old))) × Performs S.does (S.plan station.old) (round (S.plan station.old) course.old (record { reading = reading; heard = heard })) (S.picture station.old) (S.picture station.new) (N.calls net.old) (N.calls net.new) (W.contents recorder.old) (W.contents recorder.new)) }
+    requires { length course.old.drives ≡ length (S.site station.old).points }
+    ensures done { OnOk result ((heard : List Hearing) × (length heard ≡ length (node_names (S.site station.old))) × Performs S.does (S.site station.old) (round (S.site station.old) course.old (record { reading = reading; heard = heard })) (S.picture station.old) (S.picture station.new) (N.calls net.old) (N.calls net.new) (W.contents recorder.old) (W.contents recorder.new)) }
     ensures course { OnOk result (course.new ≡ standing_after S.does (S.picture station.new) course.old reading) }
-    ensures stopped { OnErr result (Stops S.does (S.plan station.old) (S.picture station.old) (S.picture station.new) (N.calls net.old) (N.calls net.new) (W.contents recorder.old) (W.contents recorder.new)) }
-    ensures plan { S.plan station.new ≡ S.plan station.old }
+    ensures stopped { OnErr result (Stops S.does (S.site station.old) (S.picture station.old) (S.picture station.new) (N.calls net.old) (N.calls net.new) (W.contents recorder.old) (W.contents recorder.new)) }
+    ensures site { S.site station.new ≡ S.site station.old }
 {
     let passed = millis_since(course.first, reading);
     let elapsed = micros_since(course.reading, reading);
@@ -114,7 +114,7 @@ fn round<S: Station, N: Datagrams, W: Write>(
 
 /// At the end of a round it is seen which points are driven.
 fn see_drives<S: Station>(station: &S, drives: &mut [Option<Drive>], reading: u64)
-    requires { length drives.old ≡ length (S.plan station.now).points }
+    requires { length drives.old ≡ length (S.site station.now).points }
     ensures { drives.new ≡ drives_after reading (S.does.driven (S.picture station.now)) 0 drives.old }
 {
     for place in 0..drives.len() {

@@ -1,8 +1,8 @@
 //! The station that is driven.
 
 use control_table::Checked;
-use layout::PointId;
-use sci_telegram::Side;
+use control_table::layout::PointId;
+use control_table::sci_telegram::Side;
 use simulator_event::{Event, NodeId, Refused, Reply};
 
 /// A datagram that was sent, and the node to which it goes.
@@ -16,7 +16,7 @@ pub struct Outgoing<'a> {
 pub trait Station {
     ghost use Rattle.std.specs.Prelude.{◌≡◌, ◌<◌, length, slice_get};
     ghost use Rattle.std.specs.Option.{option_map};
-    ghost use Rattle.layout.specs.Entries.{Plan};
+    ghost use Rattle.control_table.specs.layout.Entries.{Site};
     ghost use Rattle.station_drive.specs.Doings.{Applies, Behaviour};
 
     /// What answers depend on.
@@ -29,16 +29,16 @@ pub trait Station {
     ghost does: { Behaviour Picture };
 
     /// Its layout.
-    ghost plan: { Self → Plan };
+    ghost site: { Self → Site };
 
     /// Applies an event. Want of memory is answered instead where it is lacking, and nothing has happened then.
     fn apply(&mut self, event: &Event) -> Result<Reply, Refused>
         ensures applies { Applies does event.now (picture self.old) result (picture self.new) }
-        ensures plan { plan self.new ≡ plan self.old };
+        ensures site { site self.new ≡ site self.old };
 
     /// Its control table, with its layout.
     fn table(&self) -> &Checked
-        ensures { result.now ≡ plan self.now };
+        ensures { result.now ≡ site self.now };
 
     /// How many datagrams its nodes have sent so far.
     fn sent_count(&self) -> usize
@@ -50,6 +50,6 @@ pub trait Station {
 
     /// The side to which a point is driven now, if it is.
     fn driven(&self, point: PointId) -> Option<Side>
-        requires { point.0 < length (plan self.now).points }
+        requires { point.0 < length (site self.now).points }
         ensures { result ≡ does.driven (picture self.now) point.0 };
 }

@@ -1,9 +1,9 @@
 //! What a line of the list asks for.
 
 use anyhow::bail;
-use control_table::check;
-use layout::Layout;
-use replay_session::read_script;
+use station_sim::control_table::check;
+use station_sim::layout::Layout;
+use station_sim::replay::read_script;
 use station_sim::{replay_text, sim_text};
 use std::alloc::Global;
 use std::fs;

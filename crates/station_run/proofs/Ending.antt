@@ -1,14 +1,14 @@
 -- How a run ends, by what ended it.
 use Rattle.std.proofs.Common.{◌≡◌, refl, sym, subst, ℕ, List, Option, Result, Ok, Err}
 use Rattle.std.specs.Prelude.{IfErr, IsErrAnd, IsOk}
-use Rattle.simulator_event.specs.declared.event.Event.{Event}
+use Rattle.station_sim.specs.simulator_event.declared.event.Event.{Event}
 use Rattle.station_drive.specs.Doings.{Stops}
 use Rattle.station_drive.specs.Drives.{Driven}
 use Rattle.station_drive.specs.Told.{Call}
 use Rattle.station_drive.specs.declared.fault.DriveFault.{DriveFault}
 use Rattle.station_drive.specs.declared.fault.DriveFault.TheVariants as drive
-use Rattle.station_failure.specs.declared.failure.Failure.{Failure}
-use Rattle.station_failure.specs.declared.failure.Failure.TheVariants as why
+use Rattle.station_sim.specs.station_check.declared.failure.Failure.{Failure}
+use Rattle.station_sim.specs.station_check.declared.failure.Failure.TheVariants as why
 use Rattle.station_run.specs.Failures.{IsOfMachine, Leaves, of_drive}
 use Rattle.station_run.specs.Inside.{IsLate, IsOfRun}
 use Rattle.station_run.specs.Runs.{CanRun, EndsEarly, Explains, IsPrepared, cannot_run, lacks_memory, lacks_memory_at_its_end, not_told}
@@ -28,14 +28,14 @@ leaves_all (Failed why.NotWritten) old new same = tt
 
 module _ {first : Played} {lines : List (ℕ × Event)} {for_ms : ℕ} {readings_old readings_new : Option (List ℕ)} {calls_old calls_new : Option (List Call)} {text_old text_new : Option (List ℕ)} where
   -- a drive ended before its time
-  pub drive_ends : {last : Played} (fault : DriveFault) → Stops driven_worlds first.planned.plan first last calls_old calls_new text_old text_new
+  pub drive_ends : {last : Played} (fault : DriveFault) → Stops driven_worlds first.sited.site first last calls_old calls_new text_old text_new
       → EndsEarly first lines for_ms readings_old readings_new calls_old calls_new text_old text_new (of_drive fault)
   drive_ends drive.OutOfMemory stops = lacks_memory stops
   drive_ends drive.WriteFailed stops = cannot_run stops
 
   -- the picture wasn't told
   pub picture_ends : {W : Type 0} {last : Played} (old new : W) (failure : Failure) → IsLate old new failure
-      → Driven driven_worlds first.planned.plan lines for_ms first last readings_old readings_new calls_old calls_new text_old text_new
+      → Driven driven_worlds first.sited.site lines for_ms first last readings_old readings_new calls_old calls_new text_old text_new
       → EndsEarly first lines for_ms readings_old readings_new calls_old calls_new text_old text_new (Failed failure)
   picture_ends old new why.OutOfMemory late driven = lacks_memory_at_its_end driven
   picture_ends old new why.NotWritten late driven = not_told driven
@@ -66,7 +66,7 @@ picture_leaves old new (why.Line fault) late = absurd late
 
 -- what is prepared can run
 pub can_run : {layout text : List ℕ} {first : Played} {lines : List (ℕ × Event)} → IsPrepared layout text first lines → CanRun layout text
-can_run prepared = record { plan = prepared.plan; sound = prepared.sound; says = subst IsOk (sym prepared.says) refl }
+can_run prepared = record { site = prepared.site; sound = prepared.sound; says = subst IsOk (sym prepared.says) refl }
 
 -- the machine gave too little
 pub machine_explains : {layout text : List ℕ} (failure : RunFailure) → CanRun layout text → IsOfMachine failure → Explains layout text failure

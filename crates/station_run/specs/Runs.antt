@@ -1,18 +1,18 @@
 -- What comes of a station that runs for some time.
 use Rattle.std.specs.Prelude.{◌≡◌, ℕ, List, ◌++◌, codes, Option, Ok, IsOk}
 use Rattle.std.specs.Io.KnownBytes.{Appends}
-use Rattle.layout.specs.Entries.{Plan}
-use Rattle.replay_lines.specs.Text.{FailsAt}
-use Rattle.replay_session.specs.Script.{script}
-use Rattle.simulator_event.specs.declared.event.Event.{Event}
-use Rattle.simulator_world.specs.World.{IsPicture}
-use Rattle.station_check.specs.Report.{IsSound}
+use Rattle.station_sim.specs.layout.Entries.{Site}
+use Rattle.station_sim.specs.replay.Text.{FailsAt}
+use Rattle.station_sim.specs.replay.Script.{script}
+use Rattle.station_sim.specs.simulator_event.declared.event.Event.{Event}
+use Rattle.station_sim.specs.simulator.World.{IsPicture}
+use Rattle.station_sim.specs.station_check.Report.{IsSound}
 use Rattle.station_drive.specs.Doings.{Stops}
 use Rattle.station_drive.specs.Drives.{Driven}
 use Rattle.station_drive.specs.Told.{Call}
-use Rattle.station_failure.specs.Failures.{ExplainsTable}
-use Rattle.station_failure.specs.declared.failure.Failure.{Failure}
-use Rattle.station_failure.specs.declared.failure.Failure.TheVariants as why
+use Rattle.station_sim.specs.station_check.Failures.{ExplainsTable}
+use Rattle.station_sim.specs.station_check.declared.failure.Failure.{Failure}
+use Rattle.station_sim.specs.station_check.declared.failure.Failure.TheVariants as why
 use Rattle.station_run.specs.Failures.{Leaves, Tells}
 use Rattle.station_run.specs.Worlds.{driven_worlds}
 use Rattle.station_run.specs.declared.failure.RunFailure.{RunFailure}
@@ -25,22 +25,22 @@ use Rattle.station_sim.specs.World.{IsFirst, Played}
 -- The layout is sound, and no line of the script is faulty: these are its lines, and this is the first world of the layout.
 -- Whatever is seen of any world to which events lead from it is safe.
 pub record IsPrepared (layout text : List ℕ) (first : Played) (lines : List (ℕ × Event)) : Type 0 where
-  pub plan : Plan
-  pub sound : IsSound layout plan
-  pub says : script plan text ≡ Ok lines
-  pub begins : IsFirst plan first
+  pub site : Site
+  pub sound : IsSound layout site
+  pub says : script site text ≡ Ok lines
+  pub begins : IsFirst site first
   pub safe : AllSafe first
 
 -- a layout is sound, and a text is a script for it
 pub record CanRun (layout text : List ℕ) : Type 0 where
-  pub plan : Plan
-  pub sound : IsSound layout plan
-  pub says : IsOk (script plan text)
+  pub site : Site
+  pub sound : IsSound layout site
+  pub says : IsOk (script site text)
 
 -- Why a station isn't prepared: the layout gives no table; or a line of the script is faulty, the first; or neither, but memory
 -- is lacking, or the picture couldn't be written.
 abbrev pub ExplainsTexts : List ℕ → List ℕ → Failure → Type 0
-ExplainsTexts layout text (why.Line fault) = (plan : Plan) × IsSound layout plan × FailsAt fault.line fault.fault (script plan text)
+ExplainsTexts layout text (why.Line fault) = (site : Site) × IsSound layout site × FailsAt fault.line fault.fault (script site text)
 ExplainsTexts layout text why.OutOfMemory = CanRun layout text
 ExplainsTexts layout text why.NotWritten = CanRun layout text
 ExplainsTexts layout text failure = ExplainsTable layout failure
@@ -51,23 +51,23 @@ ExplainsTexts layout text failure = ExplainsTable layout failure
 pub record IsRun (first : Played) (lines : List (ℕ × Event)) (for_ms : ℕ) (readings_old readings_new : Option (List ℕ))
     (calls_old calls_new : Option (List Call)) (text_old text_new out_old out_new : Option (List ℕ)) : Type 0 where
   pub last : Played
-  pub driven : Driven driven_worlds first.planned.plan lines for_ms first last readings_old readings_new calls_old calls_new text_old text_new
+  pub driven : Driven driven_worlds first.sited.site lines for_ms first last readings_old readings_new calls_old calls_new text_old text_new
   pub picture : List ℕ
-  pub picture_is : IsPicture last.planned last.run picture
+  pub picture_is : IsPicture last.sited last.run picture
   pub written : Appends out_old out_new (picture ++ codes "\n")
 
 -- The station didn't run to its end.
 pub data EndsEarly (first : Played) (lines : List (ℕ × Event)) (for_ms : ℕ) (readings_old readings_new : Option (List ℕ))
     (calls_old calls_new : Option (List Call)) (text_old text_new : Option (List ℕ)) : RunFailure → Type 0 where
   -- It was driven for a part of its time, and a beginning of the record was written.
-  cannot_run : {last : Played} → Stops driven_worlds first.planned.plan first last calls_old calls_new text_old text_new
+  cannot_run : {last : Played} → Stops driven_worlds first.sited.site first last calls_old calls_new text_old text_new
       → EndsEarly first lines for_ms readings_old readings_new calls_old calls_new text_old text_new CannotRun
-  lacks_memory : {last : Played} → Stops driven_worlds first.planned.plan first last calls_old calls_new text_old text_new
+  lacks_memory : {last : Played} → Stops driven_worlds first.sited.site first last calls_old calls_new text_old text_new
       → EndsEarly first lines for_ms readings_old readings_new calls_old calls_new text_old text_new (Failed why.OutOfMemory)
   -- It was driven for its time, but has no picture.
-  lacks_memory_at_its_end : {last : Played} → Driven driven_worlds first.planned.plan lines for_ms first last readings_old readings_new calls_old calls_new text_old text_new
+  lacks_memory_at_its_end : {last : Played} → Driven driven_worlds first.sited.site lines for_ms first last readings_old readings_new calls_old calls_new text_old text_new
       → EndsEarly first lines for_ms readings_old readings_new calls_old calls_new text_old text_new (Failed why.OutOfMemory)
-  not_told : {last : Played} → Driven driven_worlds first.planned.plan lines for_ms first last readings_old readings_new calls_old calls_new text_old text_new
+  not_told : {last : Played} → Driven driven_worlds first.sited.site lines for_ms first last readings_old readings_new calls_old calls_new text_old text_new
       → EndsEarly first lines for_ms readings_old readings_new calls_old calls_new text_old text_new (Failed why.NotWritten)
 
 -- ---- the whole

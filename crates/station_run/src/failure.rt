@@ -3,10 +3,10 @@
 ghost use Rattle.std.specs.Prelude.{◌≡◌};
 ghost use Rattle.station_run.specs.Failures.{Tells};
 
-use line_writer::write_as_taken;
+use replay_words::write_as_taken;
 use station_drive::DriveFault;
-use station_failure::{Failure, tell};
-use station_sockets::OpenFault;
+use station_network::OpenFault;
+use station_sim::station_check::{Failure, tell};
 use std::alloc::AllocError;
 use std::io;
 use std::io::Write;

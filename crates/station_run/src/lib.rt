@@ -2,10 +2,10 @@
 //! for some time, while every event is recorded. At the end its picture is told. This is what `station run` does.
 #![tactic(auto)]
 
+mod driven_world;
 mod failure;
 mod machine;
 mod prepared;
-mod running;
 mod watched;
 
 pub use failure::RunFailure;

@@ -10,7 +10,7 @@ ghost use Rattle.station_run.specs.declared.failure.RunFailure.{RunFailure as Wh
 use crate::failure::{RunFailure, tell_run};
 use crate::prepared::{Prepared, prepare};
 use crate::watched::Watched;
-use station_sockets::{RoundClock, Sockets};
+use station_network::{RoundClock, Sockets};
 use std::fs;
 use std::fs::Files;
 use std::io::{BufWriter, Eprint, Write};

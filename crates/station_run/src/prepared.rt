@@ -2,23 +2,22 @@
 
 ghost use Rattle.std.specs.Prelude.{◌≡◌, ◌≤◌, ◌++◌, List, ℕ, codes, IfErr, IfOk, IsErr, OnErr, OnOk, length};
 ghost use Rattle.std.specs.Io.KnownBytes.{Appends};
-ghost use Rattle.replay_names.specs.Names.{node_names};
-ghost use Rattle.simulator_world.specs.World.{IsPicture};
+ghost use Rattle.station_sim.specs.replay.Names.{node_names};
+ghost use Rattle.station_sim.specs.simulator.World.{IsPicture};
 ghost use Rattle.station_run.specs.Failures.{Leaves, Tells};
 ghost use Rattle.station_run.specs.Inside.{IsLate};
 ghost use Rattle.station_run.specs.Runs.{CanRun, EndsEarly, ExplainsTexts, IsPrepared, IsRun};
 ghost use Rattle.station_run.specs.Worlds.{played};
 ghost use Rattle.station_run.specs.declared.failure.RunFailure.{RunFailure as Why};
 
+use crate::driven_world::Running;
 use crate::failure::{RunFailure, tell_run};
-use crate::running::Running;
-use replay_names::node_count;
-use replay_session::read_script;
-use simulator_event::Event;
-use simulator_world::World;
 use station_drive::{Clock, Datagrams, Station, drive};
-use station_failure::{Failure, table_of};
 use station_sim::played_worlds_are_safe;
+use station_sim::replay::{node_count, read_script};
+use station_sim::simulator::World;
+use station_sim::simulator_event::Event;
+use station_sim::station_check::{Failure, table_of};
 use std::alloc::Global;
 use std::io::Write;
 
@@ -46,7 +45,7 @@ pub fn prepare(alloc: Global, layout: &str, script: &str) -> Result<Prepared, Fa
 impl Prepared {
     /// How many nodes the station has.
     pub fn nodes(&self) -> usize
-        ensures { result ≡ length (node_names self.now.station.0.planned.plan) }
+        ensures { result ≡ length (node_names self.now.station.0.sited.site) }
     {
         node_count(self.station.table().layout())
     }
@@ -111,7 +110,7 @@ fn go<N: Datagrams, C: Clock, W: Write, O: Write>(
 
 /// Writes the picture of a station.
 fn write_picture<O: Write>(alloc: Global, station: &Running, out: &mut O) -> Result<(), Failure>
-    ensures done { OnOk result ((picture : List ℕ) × IsPicture station.now.0.planned station.now.0.run picture × Appends (O.contents out.old) (O.contents out.new) (picture ++ codes "\n")) }
+    ensures done { OnOk result ((picture : List ℕ) × IsPicture station.now.0.sited station.now.0.run picture × Appends (O.contents out.old) (O.contents out.new) (picture ++ codes "\n")) }
     ensures failed { IfErr result (IsLate out.old out.new) }
 {
     let picture = station.0.picture(alloc)?;

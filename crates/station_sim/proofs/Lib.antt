@@ -1,2 +1,6 @@
+pub mod Answering
+pub mod Noted
+pub mod Rounds
+pub mod Transcripts
 pub mod Applying
 pub mod Safety

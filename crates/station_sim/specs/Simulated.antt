@@ -1,8 +1,8 @@
 -- What is told of lines that are applied to a new world, and of a recorded session.
 use Rattle.std.specs.Prelude.{List, ℕ, Option}
-use Rattle.replay_session.specs.declared.agreement.Replayed.{Replayed}
-use Rattle.station_play.specs.Replaying.{IsReplayed as IsReplayedBy}
-use Rattle.station_play.specs.Transcript.{IsPlayed}
+use Rattle.replay.specs.declared.agreement.Replayed.{Replayed}
+use Rattle.station_sim.specs.Replaying.{IsReplayed as IsReplayedBy}
+use Rattle.station_sim.specs.Transcript.{IsPlayed}
 use Rattle.station_sim.specs.World.{ComesFrom, IsSafe, Played, sight_of_worlds}
 
 -- Whatever is seen of any world to which events lead from this one is safe.

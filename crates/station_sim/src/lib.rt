@@ -2,10 +2,29 @@
 //! `station replay` do.
 #![tactic(auto)]
 
+mod drive;
+mod due;
 mod laws;
+mod line;
+mod play;
+mod playable;
+mod run;
+mod session;
 mod sim;
 mod simulated;
 
 pub use laws::{played_worlds_are_safe, worlds_are_safe};
+pub use play::play_text;
+pub use playable::Playable;
+pub use session::replay_on;
 pub use sim::{replay_text, sim_text};
 pub use simulated::{Simulated, receiver};
+
+// What crates above need of the crates below.
+pub use replay;
+pub use simulator;
+pub use simulator::{
+    control_table, ixl_rules, ixl_table, layout, rasta_core, sci_telegram, simulator_event,
+    simulator_run,
+};
+pub use station_check;

@@ -1,9 +1,9 @@
 //! Lines of events and recorded sessions, applied to a new world.
 
 ghost use Rattle.std.specs.Prelude.{◌≡◌, ◌≤◌, ◌⊎◌, ℕ};
-ghost use Rattle.replay_session.specs.declared.agreement.Replayed.TheVariants.{Same, Differs};
-ghost use Rattle.station_play.specs.Transcript.{CanPlay, Explained as LinesExplained};
-ghost use Rattle.station_play.specs.Replaying.{CanReplay, Explained};
+ghost use Rattle.replay.specs.declared.agreement.Replayed.TheVariants.{Same, Differs};
+ghost use Rattle.station_sim.specs.Transcript.{CanPlay, Explained as LinesExplained};
+ghost use Rattle.station_sim.specs.Replaying.{CanReplay, Explained};
 ghost use Rattle.station_sim.specs.Simulated.{IsReplayed, IsSimulated};
 
 use crate::laws::played_worlds_are_safe;
@@ -31,7 +31,7 @@ pub fn sim_text<W: Write, E: Write>(
     ensures explains { result ≡ 1 → LinesExplained layout.now events.now out.old out.new (E.contents err.old) (E.contents err.new) }
 {
     played_worlds_are_safe();
-    station_play::play_text::<Simulated, W, E>(alloc, layout, events, out, err)
+    crate::play_text::<Simulated, W, E>(alloc, layout, events, out, err)
 }
 
 /// Applies a recorded session again to a new world of this layout, and writes to `out` whether each event answers as it
@@ -54,5 +54,5 @@ pub fn replay_text<W: Write, E: Write>(
     ensures explains { result ≡ 1 → Explained layout.now recording.now out.old out.new (E.contents err.old) (E.contents err.new) }
 {
     played_worlds_are_safe();
-    station_play::replay_text::<Simulated, W, E>(alloc, layout, recording, out, err)
+    crate::replay_on::<Simulated, W, E>(alloc, layout, recording, out, err)
 }

@@ -2,16 +2,16 @@
 
 ghost use Rattle.std.specs.Prelude.{◌≡◌, None, slice_get};
 ghost use Rattle.std.specs.Option.{option_map};
-ghost use Rattle.simulator_world_bag.specs.declared.sent_on.SentOn.{SentOn};
+ghost use Rattle.simulator.specs.simulator_field.declared.sent_on.SentOn.{SentOn};
 ghost use Rattle.station_sim.specs.World.{receiver};
 
-use control_table::Checked;
-use layout::{Layout, PointId};
-use rasta_core::Role;
-use sci_telegram::Side;
-use simulator_event::{Event, NodeId, Refused, Reply};
-use simulator_world::World;
-use station_play::Playable;
+use crate::Playable;
+use simulator::World;
+use simulator::control_table::Checked;
+use simulator::layout::{Layout, PointId};
+use simulator::rasta_core::Role;
+use simulator::sci_telegram::Side;
+use simulator::simulator_event::{Event, NodeId, Refused, Reply};
 use std::alloc::{AllocError, Global};
 
 /// A world as lines play it.
@@ -33,7 +33,7 @@ impl Playable for Simulated {
 
     ghost Picture = { Played };
 
-    ghost picture = { λ s. record { planned = s.0.planned; run = s.0.run } };
+    ghost picture = { λ s. record { sited = s.0.sited; run = s.0.run } };
 
     ghost sight = { sight_of_worlds };
 

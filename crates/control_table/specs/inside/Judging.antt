@@ -19,7 +19,7 @@ use Rattle.layout.specs.declared.entries.Joint.{Joint}
 use Rattle.layout.specs.declared.entries.Signal.{Signal}
 use Rattle.layout.specs.declared.entries.Exit.{Exit}
 use Rattle.layout.specs.declared.entries.Exit.TheVariants as exit
-use Rattle.layout.specs.Entries.{RouteEntry, Plan}
+use Rattle.layout.specs.Entries.{RouteEntry, Site}
 use Rattle.control_table.specs.declared.fault.FaultyRoute.{FaultyRoute}
 use Rattle.control_table.specs.declared.fault.TableFault.{TableFault}
 use Rattle.control_table.specs.declared.fault.TableFault.TheVariants.{PathBroken, PathRepeats, PointMissing, PointWrong, FlankMissing, FlankOpen, FlankContradicts, SignalPlace, NotSymmetric, OutOfMemory}
@@ -101,7 +101,7 @@ passages place joints before (left ∷ rest) = do
   path ← passages place joints left rest
   Ok (g ∷ path)
 
-unfoldable pub path_of : FaultyRoute → Plan → RouteEntry → Result (List Passage) TableFault
+unfoldable pub path_of : FaultyRoute → Site → RouteEntry → Result (List Passage) TableFault
 path_of place l r = if length r.path == 0 then Err (PathBroken place) else (do
   start ← ok_or (port_of l.signals r.entry) (PathBroken place)
   passages place l.joints start r.path)
@@ -112,7 +112,7 @@ unfoldable pub all_different : {A : Type 0} → (A → A → Bool) → List A �
 all_different same [] = true
 all_different same (x ∷ xs) = not (list_any (λ y. same y x) xs) && all_different same xs
 
-unfoldable pub sections_of : FaultyRoute → Plan → List Passage → Result (List SectionId) TableFault
+unfoldable pub sections_of : FaultyRoute → Site → List Passage → Result (List SectionId) TableFault
 sections_of place l path =
     if all_different is_element (elements path) && all_different same_section (sections l path) then Ok (sections l path) else Err (PathRepeats place)
 
@@ -156,14 +156,14 @@ abbrev pub protection_by : Bool → Option (PointId × Side) → Protection
 protection_by signal None = guarded_by signal
 protection_by signal (Some q) = protection.By q.0 (other q.1)
 
-unfoldable pub protection_from : Plan → PointId → Port → Protection
+unfoldable pub protection_from : Site → PointId → Port → Protection
 protection_from l p from = protection_by (has_signal l.signals from) (leg_of_another p from)
 
-abbrev pub protection_behind : Plan → PointId → Option Port → Protection
+abbrev pub protection_behind : Site → PointId → Option Port → Protection
 protection_behind l p None = protection.Given
 protection_behind l p (Some from) = protection_from l p from
 
-unfoldable pub protection_of : Plan → PointId → Side → Protection
+unfoldable pub protection_of : Site → PointId → Side → Protection
 protection_of l p s = protection_behind l p (joined_to l.joints (leg p (other s)))
 
 abbrev pub flank_need : Protection → List (PointId × Side)
@@ -171,29 +171,29 @@ flank_need (protection.By q t) = (q, t) ∷ []
 flank_need _ = []
 
 -- the points that a passage requires: its own, and the one that guards the unused leg
-abbrev pub needs_at : Plan → Option (PointId × Side) → List (PointId × Side)
+abbrev pub needs_at : Site → Option (PointId × Side) → List (PointId × Side)
 needs_at l None = []
 needs_at l (Some n) = n ∷ flank_need (protection_of l n.0 n.1)
 
-unfoldable pub needs : Plan → List Passage → List (PointId × Side)
+unfoldable pub needs : Site → List Passage → List (PointId × Side)
 needs l path = flat_map (λ g. needs_at l (used g)) path
 
 -- which points guard which
-abbrev pub protections_at : Plan → Option (PointId × Side) → List FlankProtection
+abbrev pub protections_at : Site → Option (PointId × Side) → List FlankProtection
 protections_at l None = []
 protections_at l (Some n) = map (λ m. record { flank = m.0; point = n.0 }) (flank_need (protection_of l n.0 n.1))
 
-unfoldable pub protections : Plan → List Passage → List FlankProtection
+unfoldable pub protections : Site → List Passage → List FlankProtection
 protections l path = flat_map (λ g. protections_at l (used g)) path
 
 abbrev pub is_open_leg : Protection → Bool
 is_open_leg protection.Open = true
 is_open_leg _ = false
 
-abbrev pub is_open_at : Plan → Option (PointId × Side) → Bool
+abbrev pub is_open_at : Site → Option (PointId × Side) → Bool
 is_open_at l n = some_and (λ n. is_open_leg (protection_of l n.0 n.1)) n
 
-unfoldable pub flanks_guarded : Plan → List Passage → Bool
+unfoldable pub flanks_guarded : Site → List Passage → Bool
 flanks_guarded l path = list_all (λ g. not (is_open_at l (used g))) path
 
 abbrev pub same_side : Side → Side → Bool
@@ -255,7 +255,7 @@ put ns n = if is_at n.0 (slice_get ns (before n.0 ns)) then ns else insert ns (b
 unfoldable pub in_layout_order : List (PointId × Side) → List (PointId × Side)
 in_layout_order ns = fold put [] ns
 
-unfoldable pub required_of : FaultyRoute → Plan → RouteEntry → List Passage → Result (List (PointId × Side)) TableFault
+unfoldable pub required_of : FaultyRoute → Site → RouteEntry → List Passage → Result (List (PointId × Side)) TableFault
 required_of place l r path =
     if not (points_written r path) then Err (PointMissing place)
     else if not (points_right r path (needs l path) && flank_right r path (needs l path)) then Err (PointWrong place)
@@ -277,11 +277,11 @@ stands_at signals s p = some_and (λ at. is_port at p) (port_of signals s)
 abbrev pub leads_out : List Joint → Port → BorderId → Bool
 leads_out joints p b = some_and (λ beyond. is_element beyond.element (element.Border b)) (joined_to joints p)
 
-abbrev pub is_exit : Plan → Exit → Port → Bool
+abbrev pub is_exit : Site → Exit → Port → Bool
 is_exit l (exit.Signal s) p = stands_at l.signals s p
 is_exit l (exit.Border b) p = leads_out l.joints p b
 
-unfoldable pub ends_at_exit : Plan → Exit → List Passage → Bool
+unfoldable pub ends_at_exit : Site → Exit → List Passage → Bool
 ends_at_exit l x path = some_and (λ g. is_exit l x g.left) (slice_get path (length path - 1))
 
 -- a signal stands at a port and isn't the exit
@@ -296,7 +296,7 @@ no_other_at n (s ∷ signals) x p = if is_other_at s (record { 0 = n }) x p then
 abbrev pub none_between : List Signal → Exit → List Passage → Bool
 none_between signals x path = list_all (λ g. no_other_at 0 signals x g.left) path
 
-unfoldable pub signals_placed : Plan → RouteEntry → List Passage → Bool
+unfoldable pub signals_placed : Site → RouteEntry → List Passage → Bool
 signals_placed l r path = ends_at_exit l r.exit path && not (same_exit r.exit (exit.Signal r.entry)) && none_between l.signals r.exit path
 
 abbrev pub names_route : List RouteId → RouteId → Bool
@@ -319,7 +319,7 @@ pub record TableRow : Type 0 where
   pub required : List (PointId × Side)
   pub protections : List FlankProtection
 
-unfoldable pub row_of : FaultyRoute → Plan → RouteEntry → Result TableRow TableFault
+unfoldable pub row_of : FaultyRoute → Site → RouteEntry → Result TableRow TableFault
 row_of place l r = do
   path ← path_of place l r
   sections ← sections_of place l path
@@ -327,18 +327,18 @@ row_of place l r = do
   if not (signals_placed l r path) then Err (SignalPlace place) else if not (extras_listed l.routes place.id r.extra) then Err (NotSymmetric place) else Ok (record { sections = sections; required = required; protections = protections l path })
 
 -- the rows of the routes from the n-th on, or the first fault
-unfoldable pub rows_from : Plan → ℕ → List RouteEntry → Result (List TableRow) TableFault
+unfoldable pub rows_from : Site → ℕ → List RouteEntry → Result (List TableRow) TableFault
 rows_from l n [] = Ok []
 rows_from l n (r ∷ routes) = do
   row ← row_of (record { id = record { 0 = n }; name = r.name }) l r
   rows ← rows_from l (suc n) routes
   Ok (row ∷ rows)
 
-unfoldable pub rows_of : Plan → Result (List TableRow) TableFault
+unfoldable pub rows_of : Site → Result (List TableRow) TableFault
 rows_of l = rows_from l 0 l.routes
 
 -- The row of a route in the table of a layout.
-abbrev pub IsRowAt : Plan → RouteId → TableRow → Type 0
+abbrev pub IsRowAt : Site → RouteId → TableRow → Type 0
 IsRowAt l a row = (rows : List TableRow) × (rows_of l ≡ Ok rows) × (slice_get rows a.0 ≡ Some row)
 
 -- ---- rows of bits
@@ -384,9 +384,9 @@ with_section None row = row
 with_section (Some s) row = insert_place row s.0
 
 -- the sections of the points that a point guards
-abbrev pub guarded_sections : Plan → PointId → List FlankProtection → Places
+abbrev pub guarded_sections : Site → PointId → List FlankProtection → Places
 guarded_sections l p flanks = fold (λ row f. if f.flank.0 == p.0 then with_section (section_of l (element.Point f.point)) row else row) no_place flanks
 
 -- the sections that a required point awaits
-unfoldable pub awaited_by : Plan → RouteEntry → List FlankProtection → PointId → Places
+unfoldable pub awaited_by : Site → RouteEntry → List FlankProtection → PointId → Places
 awaited_by l r flanks p = if names_point r.points p then with_section (section_of l (element.Point p)) no_place else guarded_sections l p flanks

@@ -1,14 +1,14 @@
 -- One node after another.
 use Rattle.std.specs.Prelude.{◌≡◌, ℕ, ◌+◌, ◌*◌, ◌≤◌, List, length}
 use Rattle.std.specs.List.{All}
-use Rattle.rasta_core.specs.Outbox.{OutboxState}
-use Rattle.ixl_client.specs.Client.{ClientState}
-use Rattle.ixl_rules.specs.Part.{Leads, Part, over}
-use Rattle.ixl_rules.specs.State.{DetectorState, IxlState, LampState, SwitchState}
+use Rattle.ixl_rules.specs.rasta_core.Outbox.{OutboxState}
+use Rattle.ixl_rules.specs.ixl_client.Client.{ClientState}
+use Rattle.ixl_rules.specs.StepSoFar.{Leads, StepSoFar, over}
+use Rattle.ixl_rules.specs.State.{KnownDetectorState, IxlState, KnownSignalState, KnownPointState}
 
 -- The first nodes of a list took their turns: what each does leads from the list as it was to the list as it is, and to
 -- this outbox. All of them are at this clock.
-pub record HaveTurned {A : Type 0} (list_of : IxlState → List A) (with : List A → IxlState → IxlState) (client_of : A → ClientState) (now most : ℕ) (does : ℕ → Part → Part)
+pub record HaveTurned {A : Type 0} (list_of : IxlState → List A) (with : List A → IxlState → IxlState) (client_of : A → ClientState) (now most : ℕ) (does : ℕ → StepSoFar → StepSoFar)
     (done : ℕ) (old : List A) (box : OutboxState) (new : List A) (out : OutboxState) : Type 0 where
   pub leads : (ixl : IxlState) → list_of ixl ≡ old → Leads (over does done) ixl box (with new ixl) out
   pub clock : All (λ one. (client_of one).link.clock ≡ now) new
@@ -16,20 +16,20 @@ pub record HaveTurned {A : Type 0} (list_of : IxlState → List A) (with : List 
   pub capacity : out.capacity ≡ box.capacity
   pub few : length out.datagrams ≤ length box.datagrams + most * done
 
-abbrev pub with_lamps : List LampState → IxlState → IxlState
-with_lamps lamps ixl = record ixl { lamps = lamps }
+abbrev pub with_known_signals : List KnownSignalState → IxlState → IxlState
+with_known_signals known_signals ixl = record ixl { known_signals = known_signals }
 
-abbrev pub LampsTurned : ℕ → ℕ → (ℕ → Part → Part) → ℕ → List LampState → OutboxState → List LampState → OutboxState → Type 0
-LampsTurned = HaveTurned (λ (ixl : IxlState). ixl.lamps) with_lamps (λ (lamp : LampState). lamp.client)
+abbrev pub KnownSignalsTurned : ℕ → ℕ → (ℕ → StepSoFar → StepSoFar) → ℕ → List KnownSignalState → OutboxState → List KnownSignalState → OutboxState → Type 0
+KnownSignalsTurned = HaveTurned (λ (ixl : IxlState). ixl.known_signals) with_known_signals (λ (known_signal : KnownSignalState). known_signal.client)
 
-abbrev pub with_switches : List SwitchState → IxlState → IxlState
-with_switches switches ixl = record ixl { switches = switches }
+abbrev pub with_known_points : List KnownPointState → IxlState → IxlState
+with_known_points known_points ixl = record ixl { known_points = known_points }
 
-abbrev pub SwitchesTurned : ℕ → ℕ → (ℕ → Part → Part) → ℕ → List SwitchState → OutboxState → List SwitchState → OutboxState → Type 0
-SwitchesTurned = HaveTurned (λ (ixl : IxlState). ixl.switches) with_switches (λ (switch : SwitchState). switch.client)
+abbrev pub KnownPointsTurned : ℕ → ℕ → (ℕ → StepSoFar → StepSoFar) → ℕ → List KnownPointState → OutboxState → List KnownPointState → OutboxState → Type 0
+KnownPointsTurned = HaveTurned (λ (ixl : IxlState). ixl.known_points) with_known_points (λ (known_point : KnownPointState). known_point.client)
 
-abbrev pub with_detectors : List DetectorState → IxlState → IxlState
+abbrev pub with_detectors : List KnownDetectorState → IxlState → IxlState
 with_detectors detectors ixl = record ixl { detectors = detectors }
 
-abbrev pub DetectorsTurned : ℕ → ℕ → (ℕ → Part → Part) → ℕ → List DetectorState → OutboxState → List DetectorState → OutboxState → Type 0
-DetectorsTurned = HaveTurned (λ (ixl : IxlState). ixl.detectors) with_detectors (λ (detector : DetectorState). detector.client)
+abbrev pub DetectorsTurned : ℕ → ℕ → (ℕ → StepSoFar → StepSoFar) → ℕ → List KnownDetectorState → OutboxState → List KnownDetectorState → OutboxState → Type 0
+DetectorsTurned = HaveTurned (λ (ixl : IxlState). ixl.detectors) with_detectors (λ (detector : KnownDetectorState). detector.client)

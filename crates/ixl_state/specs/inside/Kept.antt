@@ -1,15 +1,15 @@
 -- What holds of every state of an interlocking.
 use Rattle.std.specs.Prelude.{◌≡◌, ℕ, ◌<◌, List, length, Some, slice_get, IsTrue}
-use Rattle.bit_row.specs.Places.{Has}
+use Rattle.ixl_rules.specs.bit_row.Places.{Has}
 use Rattle.release.specs.Passage.{PassageState}
-use Rattle.sci_telegram.specs.declared.message.Side.{Side}
+use Rattle.ixl_rules.specs.sci_telegram.declared.message.Side.{Side}
 use Rattle.route_lock.specs.Locks.{Holds, LockState}
 use Rattle.ixl_rules.specs.State.{RouteState}
 use Rattle.ixl_rules.specs.Table.{Row}
 use Rattle.ixl_rules.specs.View.{freed_sections, is_set, was_authorised}
 use Rattle.ixl_rules.specs.declared.phase.Phase.{Phase}
 use Rattle.ixl_table.specs.Locks.{AreLocksOf, HaveSectionsLeft, IsKeptRoute}
-use Rattle.ixl_table.specs.Table.{PlannedTable, as_point, as_route}
+use Rattle.ixl_table.specs.Table.{SitedTable, as_point, as_route}
 use Rattle.ixl_field.specs.Field.{FieldState}
 
 -- a passage leads over the sections of a row, and nothing was seen beyond them
@@ -22,23 +22,23 @@ pub record HoldsAlike (old new : Phase) : Type 0 where
   pub set : is_set new ≡ is_set old
   pub freed : freed_sections new ≡ freed_sections old
 
--- a controller for each signal, point and detector of a plan, and the sections are reported as its table says
-pub record IsFieldOf (planned : PlannedTable) (field : FieldState) : Type 0 where
-  pub reporters : field.reporters ≡ planned.table.reporters
-  pub lamps : length field.lamps ≡ length planned.plan.signals
-  pub switches : length field.switches ≡ length planned.plan.points
-  pub detectors : length field.detectors ≡ length planned.plan.detectors
+-- a controller for each signal, point and detector of a site, and the sections are reported as its table says
+pub record IsFieldOf (sited : SitedTable) (field : FieldState) : Type 0 where
+  pub reporters : field.reporters ≡ sited.table.reporters
+  pub known_signals : length field.known_signals ≡ length sited.site.signals
+  pub known_points : length field.known_points ≡ length sited.site.points
+  pub detectors : length field.detectors ≡ length sited.site.detectors
 
 -- a route is kept for each row
-pub record AreRoutesOf (planned : PlannedTable) (routes : List RouteState) : Type 0 where
-  pub each : length routes ≡ length planned.table.rows
-  pub left : HaveSectionsLeft planned.table routes
-  pub passages : (number : ℕ) (row : Row) (route : RouteState) → IsKeptRoute planned.table routes number row route → IsPassageOf row route.passage
+pub record AreRoutesOf (sited : SitedTable) (routes : List RouteState) : Type 0 where
+  pub each : length routes ≡ length sited.table.rows
+  pub left : HaveSectionsLeft sited.table routes
+  pub passages : (number : ℕ) (row : Row) (route : RouteState) → IsKeptRoute sited.table routes number row route → IsPassageOf row route.passage
 
-pub record IsState (planned : PlannedTable) (field : FieldState) (routes : List RouteState) (locks : LockState) : Type 0 where
-  pub field_is : IsFieldOf planned field
-  pub routes_are : AreRoutesOf planned routes
-  pub locks_are : AreLocksOf planned routes locks
+pub record IsState (sited : SitedTable) (field : FieldState) (routes : List RouteState) (locks : LockState) : Type 0 where
+  pub field_is : IsFieldOf sited field
+  pub routes_are : AreRoutesOf sited routes
+  pub locks_are : AreLocksOf sited routes locks
 
 -- a route was given authority in its present setting, and holds a point
 abbrev pub HoldsWithAuthority : LockState → ℕ → RouteState → ℕ → Type 0

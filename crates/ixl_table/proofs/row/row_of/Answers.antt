@@ -1,9 +1,9 @@
 use Rattle.std.proofs.Common.{◌∙◌, List, ap, get_or, map, subst, sym, ℕ}
-use Rattle.sci_telegram.specs.declared.message.Side.TheVariants as side
-use Rattle.layout.specs.declared.ids.SignalId.{SignalId}
-use Rattle.layout.specs.Entries.{Plan}
-use Rattle.control_table.specs.Topology.{IsRoute}
-use Rattle.control_table.specs.Table.{AreSections}
+use Rattle.ixl_rules.specs.sci_telegram.declared.message.Side.TheVariants as side
+use Rattle.ixl_rules.specs.layout.declared.ids.SignalId.{SignalId}
+use Rattle.ixl_rules.specs.layout.Entries.{Site}
+use Rattle.ixl_rules.specs.control_table.Topology.{IsRoute}
+use Rattle.ixl_rules.specs.control_table.Table.{AreSections}
 use Rattle.ixl_table.specs.Table.{IsSetOf, as_section, required}
 use Rattle.ixl_table.specs.inside.Made.{AreNeedsOf}
 use Rattle.ixl_table.proofs.Lists.{get-at}
@@ -15,7 +15,7 @@ set_of-approach_row-requires c =
     let l = c.args.table.now in
     let a = c.args.route in
     let r = c.index-routes-route.result in
-    let routes = c.routes.ensures ∙ ap (λ (p : Plan). p.routes) c.layout.ensures.entries in
+    let routes = c.routes.ensures ∙ ap (λ (p : Site). p.routes) c.layout.ensures.entries in
     let at : IsRoute l a r = get-at l.routes a.0 r c.requires (c.index-routes-route.is ∙ ap (λ rs. get_or rs a.0 r) routes) in
     approach-within l c.layout.ensures.station a r at c.in_ok-approach.approach.items c.deref-2.result.now c.deref-2.ensures.value (c.in_ok-approach.ensures ∙ c.approach.ensures)
 
@@ -37,7 +37,7 @@ returns c =
     let l = c.args.table.now in
     let a = c.args.route in
     let r = c.index-routes-route.result in
-    let routes = c.routes.ensures ∙ ap (λ (p : Plan). p.routes) c.layout.ensures.entries in
+    let routes = c.routes.ensures ∙ ap (λ (p : Site). p.routes) c.layout.ensures.entries in
     let at : IsRoute l a r = get-at l.routes a.0 r c.requires (c.index-routes-route.is ∙ ap (λ rs. get_or rs a.0 r) routes) in
     let are : AreSections l a (map as_section c.in_ok-sections.sections.items) = subst (AreSections l a) (sym c.in_ok-sections.ensures) c.sections.ensures in
     let leads = c.a_route_leads_over_its_sections_alone.ensures l c.layout.ensures.once a (map as_section c.in_ok-sections.sections.items) are in

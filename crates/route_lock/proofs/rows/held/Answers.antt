@@ -3,10 +3,10 @@ use Rattle.std.proofs.lemmas.Bool.{false≢true}
 use Rattle.std.proofs.lemmas.List.{take_more, take_all}
 use Rattle.std.proofs.lemmas.List.Elements.{Contains-get_or}
 use Rattle.std.specs.FinSet.{insert}
-use Rattle.sci_telegram.specs.declared.message.Side.{Side}
-use Rattle.sci_telegram.specs.declared.message.Side.TheVariants as side
-use Rattle.layout.specs.declared.ids.PointId.{PointId}
-use Rattle.bit_row.specs.Places.{Places}
+use Rattle.control_table.specs.sci_telegram.declared.message.Side.{Side}
+use Rattle.control_table.specs.sci_telegram.declared.message.Side.TheVariants as side
+use Rattle.control_table.specs.layout.declared.ids.PointId.{PointId}
+use Rattle.control_table.specs.bit_row.Places.{Places}
 use Rattle.route_lock.proofs.RowLaws.{HeldOf, held-none, held-one, held-not, held-all}
 use Rattle.route_lock.proofs.rows.held.Goals as goal
 use Rattle.route_lock.proofs.rows.held.Goals.{then-is_held, else-is_held}

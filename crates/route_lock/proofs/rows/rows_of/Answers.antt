@@ -1,6 +1,6 @@
 use Rattle.std.proofs.Common.{◌≡◌, List, subst, sym, ap, ◌∙◌, refl}
 use Rattle.std.specs.FinSet.{insert}
-use Rattle.layout.specs.Station.{IsRouteOf}
+use Rattle.control_table.specs.layout.Station.{IsRouteOf}
 use Rattle.std.proofs.lemmas.List.Elements.{All-contains}
 use Rattle.route_lock.specs.Rows.{AreRows}
 use Rattle.route_lock.proofs.LockLaws.{rows-of-none, rows-made, entry-below}

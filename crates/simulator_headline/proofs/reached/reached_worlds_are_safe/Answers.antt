@@ -1,37 +1,37 @@
 use Rattle.std.proofs.Common.{◌≡◌, [], ◌∷◌, ◌++◌, None, refl, sym, ap, subst, ◌∙◌}
-use Rattle.layout.specs.Entries.{Plan}
-use Rattle.layout.specs.Once.{Once}
-use Rattle.layout.specs.Station.{IsStation}
-use Rattle.ixl_rules.specs.Table.{Table}
-use Rattle.simulator_event.specs.declared.event.Event.{Event}
-use Rattle.simulator_world_run.specs.First.{first_world}
-use Rattle.simulator_world_run.specs.Happens.{happens}
-use Rattle.simulator_world_run.specs.Refusals.{refusal}
-use Rattle.simulator_world_run.specs.Seen.{IsSnapshotOf}
-use Rattle.simulator_world_run.specs.State.{WorldState}
-use Rattle.simulator_world_links.specs.HasLinks.{IsStanding}
+use Rattle.simulator_run.specs.layout.Entries.{Site}
+use Rattle.simulator_run.specs.layout.Once.{Once}
+use Rattle.simulator_run.specs.layout.Station.{IsStation}
+use Rattle.simulator_run.specs.ixl_rules.Table.{Table}
+use Rattle.simulator_run.specs.simulator_event.declared.event.Event.{Event}
+use Rattle.simulator_run.specs.First.{first_world}
+use Rattle.simulator_run.specs.Happens.{happens}
+use Rattle.simulator_run.specs.Refusals.{refusal}
+use Rattle.simulator_run.specs.Seen.{IsSnapshotOf}
+use Rattle.simulator_run.specs.State.{WorldState}
+use Rattle.simulator_run_links.specs.HasLinks.{IsStanding}
 use Rattle.simulator_headline.specs.Reached.{HasSafeLinks, IsReached}
 use Rattle.simulator_headline.proofs.reached.reached_worlds_are_safe.Goals as goal
 
 pub returns : goal.returns
 returns c =
-    let on : (plan : Plan) (table : Table) (event : Event) (world : WorldState) → IsReached plan table world → refusal plan event world ≡ None → IsReached plan table (happens plan table event world)
-    = λ plan table happening world is none. record {
+    let on : (site : Site) (table : Table) (event : Event) (world : WorldState) → IsReached site table world → refusal site event world ≡ None → IsReached site table (happens site table event world)
+    = λ site table happening world is none. record {
       events = is.events ++ happening ∷ [];
-      can = c.lists_of_events_go_on.ensures.can plan table is.events happening (first_world plan table) is.can (ap (refusal plan happening) (sym is.after) ∙ none);
-      after = ap (happens plan table happening) is.after ∙ sym (c.lists_of_events_go_on.ensures.after plan table is.events happening (first_world plan table));
+      can = c.lists_of_events_go_on.ensures.can site table is.events happening (first_world site table) is.can (ap (refusal site happening) (sym is.after) ∙ none);
+      after = ap (happens site table happening) is.after ∙ sym (c.lists_of_events_go_on.ensures.after site table is.events happening (first_world site table));
     }
-    in let linked : (plan : Plan) (table : Table) (world : WorldState) → Once plan → IsStation plan → IsReached plan table world → HasSafeLinks plan world
-    = λ plan table world once station reached.
-    let stands : IsStanding plan world = subst (IsStanding plan) (sym reached.after) (c.stations_have_links.ensures.run plan table reached.events station once reached.can)
+    in let linked : (site : Site) (table : Table) (world : WorldState) → Once site → IsStation site → IsReached site table world → HasSafeLinks site world
+    = λ site table world once station reached.
+    let stands : IsStanding site world = subst (IsStanding site) (sym reached.after) (c.stations_have_links.ensures.run site table reached.events station once reached.can)
     in record {
       has = stands.linked;
-      each = λ link below. c.each_link_of_a_station_is_safe.ensures plan world station once stands.linked link below;
+      each = λ link below. c.each_link_of_a_station_is_safe.ensures site world station once stands.linked link below;
     }
     in record {
-      first = λ plan table. record { events = []; can = tt; after = refl };
+      first = λ site table. record { events = []; can = tt; after = refl };
       on = on;
-      safe = λ plan table world snapshot once station is reached of.
-          c.every_world_is_safe.ensures.safe plan table reached.events snapshot once station is reached.can (subst (λ w. IsSnapshotOf table w snapshot) reached.after of);
+      safe = λ site table world snapshot once station is reached of.
+          c.every_world_is_safe.ensures.safe site table reached.events snapshot once station is reached.can (subst (λ w. IsSnapshotOf table w snapshot) reached.after of);
       links = linked;
     }

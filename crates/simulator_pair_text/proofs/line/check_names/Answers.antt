@@ -1,5 +1,5 @@
 use Rattle.std.proofs.Common.{rules, ◌≡◌, sym, ◌∙◌, ap}
-use Rattle.event_words.specs.Fault.{both}
+use Rattle.replay_words.specs.Fault.{both}
 use Rattle.simulator_pair_text.specs.Line.{named, names}
 use Rattle.simulator_pair_text.proofs.Names.{emptied, found_further}
 use Rattle.simulator_pair_text.proofs.line.check_names.Goals as goal

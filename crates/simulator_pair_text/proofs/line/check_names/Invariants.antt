@@ -1,5 +1,5 @@
 use Rattle.std.proofs.Common.{◌≡◌}
-use Rattle.event_words.specs.Fault.{both}
+use Rattle.replay_words.specs.Fault.{both}
 use Rattle.simulator_pair_text.specs.Line.{names}
 use Rattle.simulator_pair_text.proofs.Names.{emptied}
 use Rattle.simulator_pair_text.proofs.line.check_names.Given as goal

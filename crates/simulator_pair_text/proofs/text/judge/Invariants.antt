@@ -1,6 +1,6 @@
 use Rattle.std.proofs.Common.{◌≡◌}
 use Rattle.std.specs.List.{enumerate_from}
-use Rattle.event_words.specs.Cut.{lines}
+use Rattle.replay_words.specs.Cut.{lines}
 use Rattle.simulator_pair_text.specs.Text.{said}
 use Rattle.simulator_pair_text.proofs.Judged.{verdict}
 use Rattle.simulator_pair_text.proofs.text.judge.Given as goal

@@ -1,6 +1,6 @@
 use Rattle.std.proofs.Common.{◌∙◌, ◌++◌, ap}
 use Rattle.std.proofs.lemmas.Fmt.{contents_after_writes}
-use Rattle.station_check.specs.Report.{told_line}
+use Rattle.station_check.specs.Failures.{told_line}
 use Rattle.station_check.proofs.failure.line.Goals as goal
 
 pub returns : goal.returns

@@ -26,5 +26,5 @@ loop-place-preserved g c =
       moved before.0 _ _ line.1 _ (ap (due c.args.passed) left ∙ due_more c.args.passed line rest c.if-passed-time.false) before.1,
       sym (ap (not_due c.args.passed) left ∙ not_due_more c.args.passed line rest c.if-passed-time.false) ∙ before.2,
       performs_push before.0 before.4 before.3 c.in_ok-perform.ensures.done,
-      c.in_ok-perform.ensures.plan ∙ before.4,
+      c.in_ok-perform.ensures.site ∙ before.4,
     )

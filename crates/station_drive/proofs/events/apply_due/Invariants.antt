@@ -11,6 +11,6 @@ invariant-loop-place g l =
     (done : List Event)
     × (done ++ due l.passed (drop l.place l.script) ≡ due l.passed l.script)
     × (not_due l.passed (drop l.place l.script) ≡ not_due l.passed l.script)
-    × Performs s.does (s.plan l.fn.station) (map Applying done) (s.picture l.fn.station) (s.picture l.station)
+    × Performs s.does (s.site l.fn.station) (map Applying done) (s.picture l.fn.station) (s.picture l.station)
     (g.N.Datagrams.calls l.fn.net) (g.N.Datagrams.calls l.net) (g.W.Write.contents l.fn.recorder) (g.W.Write.contents l.recorder)
-    × (s.plan l.station ≡ s.plan l.fn.station)
+    × (s.site l.station ≡ s.site l.fn.station)

@@ -29,5 +29,5 @@ loop-place-preserved g c =
       append_assoc before.0 now (reaches c.args.reading (place + 1) rest)
           ∙ (ap (λ l. before.0 ++ l) (ap (λ n. now ++ reaches c.args.reading n rest) (add-one place) ∙ sym (ap (reaches c.args.reading place) left)) ∙ before.1),
       performs_same (sym (map-append Applying before.0 now)) (performs_next before.3 before.2 c.in_ok-reach.ensures.done),
-      c.in_ok-reach.ensures.plan ∙ before.3,
+      c.in_ok-reach.ensures.site ∙ before.3,
     )

@@ -1,6 +1,6 @@
 use Rattle.std.proofs.Common.{◌<◌, ◌≤◌, ◌∙◌, [], ◌∷◌, ◌++◌, length, ap, subst, refl}
 use Rattle.std.proofs.lemmas.List.{length-replicate}
-use Rattle.replay_names.specs.Names.{node_names}
+use Rattle.replay.specs.Names.{node_names}
 use Rattle.station_drive.specs.Drives.{beginning}
 use Rattle.station_drive.specs.Rounds.{Turn}
 use Rattle.station_drive.proofs.Composed.{performs_none, stopped, stops_next, stops_none, stops_now}
@@ -33,7 +33,7 @@ returns-in_err-round-clause-stopped g c =
 pub returns-then-millis_since-for_ms-clause-done : goal.returns-then-millis_since-for_ms-clause-done
 returns-then-millis_since-for_ms-clause-done g c =
     let s = g.S.Station in
-    let plan = s.plan c.args.station.now in
+    let site = s.site c.args.station.now in
     let before = c.loop.invariant in
     let done = c.in_ok-round.ensures.done in
     let turn : Turn = record { reading = c.read-reading.result; heard = done.0 } in
@@ -51,11 +51,11 @@ returns-then-millis_since-for_ms-clause-done g c =
 pub loop-preserved : goal.loop-preserved
 loop-preserved g c =
     let s = g.S.Station in
-    let plan = s.plan c.args.station.now in
+    let site = s.site c.args.station.now in
     let before = c.loop.invariant in
     let done = c.in_ok-round.ensures.done in
     let turn : Turn = record { reading = c.read-reading.result; heard = done.0 } in
-    let start = beginning plan c.args.script.now c.read-first.result in
+    let start = beginning site c.args.script.now c.read-first.result in
     let performs = next_round start c.loop.course before.0 turn before.8 before.5 before.4 done.2 in
     let course = c.in_ok-round.ensures.course in (
       before.0 ++ turn ∷ [],
@@ -66,7 +66,7 @@ loop-preserved g c =
       next_standing start c.loop.course _ before.0 turn performs before.5 course,
       ap (λ k. k.first) course ∙ before.6,
       ap (λ k. length k.drives) course ∙ (length-drives_after _ _ _ _ ∙ before.7),
-      c.in_ok-round.ensures.plan ∙ before.8,
+      c.in_ok-round.ensures.site ∙ before.8,
     )
 
 pub returns-clause-stopped : goal.returns-clause-stopped

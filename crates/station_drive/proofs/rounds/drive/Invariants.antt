@@ -11,14 +11,14 @@ use Rattle.station_drive.proofs.rounds.drive.Given as goal
 abbrev pub invariant-loop : goal.invariant-loop
 invariant-loop g l =
     let s = g.S.Station in
-    let plan = s.plan l.fn.station in
+    let site = s.site l.fn.station in
     (turns : List Turn)
     × Grows (g.C.Clock.readings l.fn.clock) (g.C.Clock.readings l.clock) (l.first ∷ map (λ turn. turn.reading) turns)
-    × AllByRecursion (IsWhole plan) turns
+    × AllByRecursion (IsWhole site) turns
     × AllByRecursion (λ turn. (turn.reading - l.first) / 1000 < l.for_ms) turns
-    × Performs s.does plan (rounds s.does plan (s.picture l.fn.station) (beginning plan l.script l.first) turns) (s.picture l.fn.station) (s.picture l.station)
+    × Performs s.does site (rounds s.does site (s.picture l.fn.station) (beginning site l.script l.first) turns) (s.picture l.fn.station) (s.picture l.station)
     (g.N.Datagrams.calls l.fn.net) (g.N.Datagrams.calls l.net) (g.W.Write.contents l.fn.recorder) (g.W.Write.contents l.recorder)
-    × (l.course ≡ standing_end s.does plan (s.picture l.fn.station) (beginning plan l.script l.first) turns)
+    × (l.course ≡ standing_end s.does site (s.picture l.fn.station) (beginning site l.script l.first) turns)
     × (l.course.first ≡ l.first)
-    × (length l.course.drives ≡ length plan.points)
-    × (s.plan l.station ≡ plan)
+    × (length l.course.drives ≡ length site.points)
+    × (s.site l.station ≡ site)

@@ -7,9 +7,9 @@ returns-clause-prepared c =
     let table = c.in_ok-table.table
     in let world = c.in_ok-new.ensures
     in let begins : IsFirst table (played c.in_ok-new.field-0) =
-    record { plan_is = world.plan; once = c.layout.ensures.once; station = c.layout.ensures.station; table = world.table; run_is = world.run }
+    record { site_is = world.site; once = c.layout.ensures.once; station = c.layout.ensures.station; table = world.table; run_is = world.run }
     in record {
-      plan = table;
+      site = table;
       sound = c.in_ok-table.ensures.sound;
       says = c.in_ok-script.ensures;
       begins = begins;

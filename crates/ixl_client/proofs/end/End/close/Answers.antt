@@ -1,5 +1,5 @@
 use Rattle.ixl_client.proofs.Going.{called_in}
-use Rattle.ixl_client.specs.Part.{Closes}
+use Rattle.ixl_client.specs.ClientSoFar.{Closes}
 use Rattle.ixl_client.proofs.end.End.close.Goals as goal
 
 pub returns : goal.returns

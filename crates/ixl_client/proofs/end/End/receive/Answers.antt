@@ -1,5 +1,5 @@
 -- a call of the link
-use Rattle.ixl_client.specs.Part.{Receives}
+use Rattle.ixl_client.specs.ClientSoFar.{Receives}
 use Rattle.ixl_client.proofs.Going.{called_in}
 use Rattle.ixl_client.proofs.end.End.receive.Goals as goal
 

@@ -17,6 +17,6 @@ pub returns-clause-heard : goal.returns-clause-heard
 returns-clause-heard c = detector_there _ _ c.args.place c.index_mut.result.now _ c.self.view_is c.requires.there c.index_mut.ensures.value c.hear-verdict.ensures.heard
 
 pub invariant_of-self : goal.invariant_of-self
-invariant_of-self c = field_renewed (record { lamps = c.self.inside.lamps.items; switches = c.self.inside.switches.items; detectors = c.self.inside.detectors.items; reporters = c.self.inside.reporters.items })
+invariant_of-self c = field_renewed (record { known_signals = c.self.inside.known_signals.items; known_points = c.self.inside.known_points.items; detectors = c.self.inside.detectors.items; reporters = c.self.inside.reporters.items })
     c.args.place c.hear-verdict.new.self c.index.result.now c.deref.result.now c.self.inside.sections c.renewed-self-inside.result c.self.inside.points c.self.invariant
     (subst (λ (f : FieldState). c.args.place < length f.detectors) (sym c.self.view_is) c.requires.there) c.deref.ensures.value c.index.ensures c.renewed-self-inside.ensures

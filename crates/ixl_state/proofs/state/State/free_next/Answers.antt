@@ -4,7 +4,7 @@ use Rattle.ixl_rules.specs.State.{RouteState}
 use Rattle.ixl_rules.specs.Table.{Row}
 use Rattle.ixl_rules.specs.View.{freed_sections, is_set}
 use Rattle.ixl_rules.specs.declared.phase.Phase.{Phase}
-use Rattle.ixl_table.specs.Table.{IsTableThere, PlannedTable}
+use Rattle.ixl_table.specs.Table.{IsTableThere, SitedTable}
 use Rattle.ixl_state.specs.State.{route_changed}
 use Rattle.ixl_state.proofs.Freeing.{last-freed, more-freed}
 use Rattle.ixl_state.proofs.Putting.{row-read}
@@ -23,13 +23,13 @@ overflow_add-freed c =
     let at = kept.2 in
     let ended = sym (ap (λ (r : RouteState). r.phase) (c.route.ensures row route at)) ∙ sym c.phase.ensures ∙ c.in-Ended.is in
     let lt = subst (λ (p : Phase). IsTrue (is_set p) → freed_sections p < length row.sections) ended (c.table-table.ensures.within c.args.number row route at).2 refl in
-    let there = subst (λ (p : PlannedTable). IsTableThere p.plan p.table) c.table-table.ensures.planned c.checked.ensures.there in
+    let there = subst (λ (p : SitedTable). IsTableThere p.site p.table) c.table-table.ensures.sited c.checked.ensures.there in
     let few = (there.rows c.args.number row at.0).few in
     record { fits = omega (arith, lt, few) }
 
 pub free_section-requires-clause-more : goal.free_section-requires-clause-more
 free_section-requires-clause-more c = λ row route at.
-    let read = row-read c.rows.result.now c.args.self.now.planned.table.rows c.args.number row c.index-rows-number.result (c.rows.ensures ∙ ap (λ (p : PlannedTable). p.table.rows) c.table-table.ensures.planned) at.0 c.index-rows-number.is in
+    let read = row-read c.rows.result.now c.args.self.now.sited.table.rows c.args.number row c.index-rows-number.result (c.rows.ensures ∙ ap (λ (p : SitedTable). p.table.rows) c.table-table.ensures.sited) at.0 c.index-rows-number.is in
     let sections = c.sections-sections.ensures ∙ ap (λ (r : Row). r.sections) read in
     let ended = sym (ap (λ (r : RouteState). r.phase) (c.route.ensures row route at)) ∙ sym c.phase.ensures ∙ c.in-Ended.is in
     let lt = subst (λ (p : Phase). IsTrue (is_set p) → freed_sections p < length row.sections) ended (c.table-table.ensures.within c.args.number row route at).2 refl in
@@ -38,7 +38,7 @@ free_section-requires-clause-more c = λ row route at.
 
 pub returns-then-freed-sections : goal.returns-then-freed-sections
 returns-then-freed-sections c = λ row route at.
-    let read = row-read c.rows.result.now c.args.self.now.planned.table.rows c.args.number row c.index-rows-number.result (c.rows.ensures ∙ ap (λ (p : PlannedTable). p.table.rows) c.table-table.ensures.planned) at.0 c.index-rows-number.is in
+    let read = row-read c.rows.result.now c.args.self.now.sited.table.rows c.args.number row c.index-rows-number.result (c.rows.ensures ∙ ap (λ (p : SitedTable). p.table.rows) c.table-table.ensures.sited) at.0 c.index-rows-number.is in
     let sections = c.sections-sections.ensures ∙ ap (λ (r : Row). r.sections) read in
     let ended = sym (ap (λ (r : RouteState). r.phase) (c.route.ensures row route at)) ∙ sym c.phase.ensures ∙ c.in-Ended.is in
     let last = subst (λ (ss : List ℕ). c.in-Ended.freed + 1 ≡ length ss) sections c.if-freed-sections.true in
@@ -46,7 +46,7 @@ returns-then-freed-sections c = λ row route at.
 
 pub returns-else-freed-sections : goal.returns-else-freed-sections
 returns-else-freed-sections c = λ row route at.
-    let read = row-read c.rows.result.now c.args.self.now.planned.table.rows c.args.number row c.index-rows-number.result (c.rows.ensures ∙ ap (λ (p : PlannedTable). p.table.rows) c.table-table.ensures.planned) at.0 c.index-rows-number.is in
+    let read = row-read c.rows.result.now c.args.self.now.sited.table.rows c.args.number row c.index-rows-number.result (c.rows.ensures ∙ ap (λ (p : SitedTable). p.table.rows) c.table-table.ensures.sited) at.0 c.index-rows-number.is in
     let sections = c.sections-sections.ensures ∙ ap (λ (r : Row). r.sections) read in
     let ended = sym (ap (λ (r : RouteState). r.phase) (c.route.ensures row route at)) ∙ sym c.phase.ensures ∙ c.in-Ended.is in
     let apart = subst (λ (ss : List ℕ). c.in-Ended.freed + 1 ≢ length ss) sections c.if-freed-sections.false in

@@ -1,5 +1,5 @@
 use Rattle.std.proofs.Common.{ℕ, ◌↔◌, subst, sym}
-use Rattle.bit_row.specs.Places.{Has, Places}
+use Rattle.ixl_rules.specs.bit_row.Places.{Has, Places}
 use Rattle.ixl_rules.specs.Due.{HoldsSection}
 use Rattle.ixl_state.specs.State.{AtRoute, StateView}
 use Rattle.ixl_state.proofs.state.State.locked.Goals as goal

@@ -1,6 +1,6 @@
 use Rattle.std.proofs.Common.{◌≡◌, ◌∙◌, false, None, ap, arith, refl, slice_set, subst, sym}
 use Rattle.std.proofs.lemmas.Bool.{false≢true}
-use Rattle.bit_row.specs.Places.{Places}
+use Rattle.ixl_rules.specs.bit_row.Places.{Places}
 use Rattle.route_lock.specs.Locks.{AreAllSections, locking}
 use Rattle.ixl_rules.specs.Commands.{route_set, set_anew}
 use Rattle.ixl_rules.specs.State.{RouteState}
@@ -30,7 +30,7 @@ invariant_of-self c =
     let n = c.args.number in
     let there = place-below inside.table inside.field inside.routes.items inside.created inside.resumed c.args.self.now n c.self.view_is is.routes_are c.requires.there in
     let at = kept-at inside.table inside.routes.items n is.routes_are there.0 in
-    let none = subst (λ (s : StateView). AtRoute s n (λ row route. first_blocking n row 0 s.planned.table.rows s.ixl.routes ≡ None)) (sym c.self.view_is) c.requires.unblocked at.0 at.1 at.2 in
+    let none = subst (λ (s : StateView). AtRoute s n (λ row route. first_blocking n row 0 s.sited.table.rows s.ixl.routes ≡ None)) (sym c.self.view_is) c.requires.unblocked at.0 at.1 at.2 in
     let unblocked =
     (c.the_first_blocking_route_is_told_by_phase.ensures.none inside.table inside.routes.items inside.locks c.checked.ensures.once c.checked.ensures.table is.routes_are.each is.locks_are is.routes_are.left n at.0 at.1 at.2).1 none in
     let done : (sections : Places) × AreAllSections inside.locks.table (as_route n) sections × (c.reserve-reserved.new.self ≡ locking inside.locks (as_route n) sections) =
@@ -41,7 +41,7 @@ invariant_of-self c =
     subst (λ (r : RouteState). IsState inside.table c.unmove.new.self (slice_set inside.routes.items n r) c.reserve-reserved.new.self) (sym new)
     (put-state inside.table c.unmove.new.self inside.routes.items inside.locks c.reserve-reserved.new.self n at.0 at.1 (set_anew at.1) done.0 at.2
     (unmoved-state inside.table inside.field c.unmove.new.self inside.routes.items inside.locks n c.unmove.ensures is) within done.2
-    (all-locked inside.table inside.routes.items inside.locks c.checked.ensures.table is.locks_are n at.0 at.1 at.2 (c.a_route_leads_over_its_sections_alone.ensures inside.table.plan c.checked.ensures.once (as_route n)) done.0 done.1)
+    (all-locked inside.table inside.routes.items inside.locks c.checked.ensures.table is.locks_are n at.0 at.1 at.2 (c.a_route_leads_over_its_sections_alone.ensures inside.table.site c.checked.ensures.once (as_route n)) done.0 done.1)
     (λ set. omega (arith, some)) refl)
 
 pub returns : goal.returns

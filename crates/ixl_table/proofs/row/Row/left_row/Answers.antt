@@ -1,5 +1,5 @@
 use Rattle.std.proofs.Common.{subst}
-use Rattle.sci_telegram.specs.declared.message.Side.TheVariants as side
+use Rattle.ixl_rules.specs.sci_telegram.declared.message.Side.TheVariants as side
 use Rattle.ixl_rules.specs.Table.{Row}
 use Rattle.ixl_table.specs.Table.{AreNeededAt}
 use Rattle.ixl_table.proofs.row.Row.left_row.Goals as goal

@@ -1,6 +1,6 @@
 use Rattle.std.proofs.Common.{subst, sym, ap, arith, not, length}
 use Rattle.std.specs.Prelude.{◌↔◌, IsTrue}
-use Rattle.layout.specs.declared.ids.RouteId.{RouteId}
+use Rattle.control_table.specs.layout.declared.ids.RouteId.{RouteId}
 use Rattle.route_lock.specs.Locks.{Blocks, IsSet, LockState}
 use Rattle.route_lock.proofs.KeptLaws.{clear-is}
 use Rattle.route_lock.proofs.locks.Locks.clear_for.Goals as goal

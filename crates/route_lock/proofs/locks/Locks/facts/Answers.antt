@@ -1,6 +1,6 @@
 use Rattle.std.proofs.Common.{◌≡◌, ℕ, subst}
-use Rattle.layout.specs.declared.ids.RouteId.{RouteId}
-use Rattle.bit_row.specs.Places.{Has}
+use Rattle.control_table.specs.layout.declared.ids.RouteId.{RouteId}
+use Rattle.control_table.specs.bit_row.Places.{Has}
 use Rattle.control_table.specs.Table.{LeadsOver}
 use Rattle.route_lock.specs.Locks.{AllApart, LockState, locked_by}
 use Rattle.route_lock.proofs.KeptLaws.{each-is, its-are}

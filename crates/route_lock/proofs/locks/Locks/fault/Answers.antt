@@ -1,5 +1,5 @@
 use Rattle.std.proofs.Common.{◌≡◌, ◌<◌, List, sym, ap, subst, arith, length}
-use Rattle.layout.specs.declared.ids.RouteId.{RouteId}
+use Rattle.control_table.specs.layout.declared.ids.RouteId.{RouteId}
 use Rattle.route_lock.specs.declared.rows.Locked.{Locked}
 use Rattle.route_lock.specs.Rows.{IsFirstRowsFault, NoneBlocks}
 use Rattle.route_lock.specs.Locks.{Blocks, IsFault, IsSet, LockState}

@@ -1,5 +1,5 @@
 use Rattle.std.proofs.Common.{subst, arith}
-use Rattle.bit_row.specs.Places.{Has, Places}
+use Rattle.control_table.specs.bit_row.Places.{Has, Places}
 use Rattle.route_lock.proofs.RowLaws.{has-none}
 use Rattle.route_lock.proofs.ApartLaws.{freed-apart}
 use Rattle.route_lock.proofs.locks.Locks.free.Goals as goal

@@ -1,7 +1,7 @@
 use Rattle.std.proofs.Common.{◌≡◌, ◌<◌, ◌≤◌, ℕ, List, sym, ap, subst, ◌∙◌, arith, length}
 use Rattle.std.specs.FinSet.{remove}
-use Rattle.layout.specs.declared.ids.SectionId.{SectionId}
-use Rattle.bit_row.specs.Places.{Has, Places}
+use Rattle.control_table.specs.layout.declared.ids.SectionId.{SectionId}
+use Rattle.control_table.specs.bit_row.Places.{Has, Places}
 use Rattle.control_table.specs.Table.{AreSections}
 use Rattle.route_lock.specs.Locks.{LockState, LocksAt, locked_by, locking}
 use Rattle.route_lock.proofs.KeptLaws.{get-at, has-remove, locked-of, place-below, section-inside, section-is}

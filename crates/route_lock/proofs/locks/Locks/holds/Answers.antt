@@ -2,8 +2,8 @@ use Rattle.std.proofs.Common.{◌≡◌, ◌⊎◌, Bool, subst, sym, ◌∙◌,
 use Rattle.std.specs.Prelude.{◌↔◌, IsTrue}
 use Rattle.std.specs.Bool.{Decides}
 use Rattle.std.proofs.lemmas.Bool.{false≢true}
-use Rattle.sci_telegram.specs.declared.message.Side.{Side}
-use Rattle.bit_row.specs.Places.{Has}
+use Rattle.control_table.specs.sci_telegram.declared.message.Side.{Side}
+use Rattle.control_table.specs.bit_row.Places.{Has}
 use Rattle.route_lock.specs.Locks.{Holds, LockState}
 use Rattle.route_lock.proofs.KeptLaws.{get-at, place-below, holds-is}
 use Rattle.route_lock.proofs.locks.Locks.holds.Goals as goal

@@ -1,7 +1,7 @@
 use Rattle.std.proofs.Common.{subst, sym, ◌∙◌}
 use Rattle.std.specs.Prelude.{◌↔◌, IsTrue}
-use Rattle.sci_telegram.specs.declared.message.Side.{Side}
-use Rattle.layout.specs.declared.ids.RouteId.{RouteId}
+use Rattle.control_table.specs.sci_telegram.declared.message.Side.{Side}
+use Rattle.control_table.specs.layout.declared.ids.RouteId.{RouteId}
 use Rattle.route_lock.specs.Locks.{Holds, LockState}
 use Rattle.route_lock.specs.Rows.{state_of}
 use Rattle.route_lock.proofs.KeptLaws.{held-left, held-right, left-held, right-held}

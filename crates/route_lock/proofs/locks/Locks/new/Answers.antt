@@ -1,6 +1,6 @@
 use Rattle.std.proofs.Common.{◌≡◌, ◌+◌, List, All, sym, ap, ◌∙◌, length, arith, subst, rules}
 use Rattle.std.proofs.lemmas.List.Elements.{All-push}
-use Rattle.layout.specs.Entries.{Plan}
+use Rattle.control_table.specs.layout.Entries.{Site}
 use Rattle.route_lock.specs.Rows.{none}
 use Rattle.route_lock.specs.declared.rows.Locked.{Locked}
 use Rattle.route_lock.proofs.KeptLaws.{kept-none, none-set}
@@ -20,7 +20,7 @@ invariant_of-result c =
     let count = c.loop-route.invariant.0 in
     let end = c.loop-route-test.false in
     let far = c.loop-route.auto._route-end in
-    let routes = ap length (c.routes-route-end.ensures ∙ ap (λ (l : Plan). l.routes) c.layout.ensures.entries) in
+    let routes = ap length (c.routes-route-end.ensures ∙ ap (λ (l : Site). l.routes) c.layout.ensures.entries) in
     kept-none c.in_ok-table.table c.loop-route.locks.items c.all_of-all.result facts.once facts.station facts.sound (omega (arith, count, end, far, routes)) c.loop-route.invariant.1 (search rules)
 
 pub returns-clause-free : goal.returns-clause-free

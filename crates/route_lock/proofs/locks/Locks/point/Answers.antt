@@ -1,9 +1,9 @@
 use Rattle.std.proofs.Common.{subst, sym, ⊎_elim}
 use Rattle.std.proofs.lemmas.Bool.{false≢true}
 use Rattle.std.proofs.Common.{◌∙◌}
-use Rattle.sci_telegram.specs.declared.message.Side.{Side}
-use Rattle.sci_telegram.specs.declared.message.Side.TheVariants as side
-use Rattle.layout.specs.declared.ids.RouteId.{RouteId}
+use Rattle.control_table.specs.sci_telegram.declared.message.Side.{Side}
+use Rattle.control_table.specs.sci_telegram.declared.message.Side.TheVariants as side
+use Rattle.control_table.specs.layout.declared.ids.RouteId.{RouteId}
 use Rattle.route_lock.specs.Locks.{Holds, LockState}
 use Rattle.route_lock.proofs.KeptLaws.{right-held, left-held, held-somewhere}
 use Rattle.route_lock.proofs.locks.Locks.point.Goals as goal

@@ -1,5 +1,5 @@
 use Rattle.std.proofs.Common.{◌≡◌, sym, ap, ◌∙◌, subst, rules}
-use Rattle.bit_row.specs.Places.{Has}
+use Rattle.control_table.specs.bit_row.Places.{Has}
 use Rattle.control_table.specs.Table.{LeadsOver}
 use Rattle.route_lock.specs.Locks.{AllApart, LockState, locking}
 use Rattle.route_lock.proofs.KeptLaws.{kept-set, state-set}

@@ -1,6 +1,6 @@
 use Rattle.std.proofs.Common.{◌≡◌, List, arith, subst}
-use Rattle.layout.specs.declared.ids.RouteId.{RouteId}
-use Rattle.layout.specs.Entries.{Plan}
+use Rattle.control_table.specs.layout.declared.ids.RouteId.{RouteId}
+use Rattle.control_table.specs.layout.Entries.{Site}
 use Rattle.control_table.specs.declared.masks.RouteMasks.{RouteMasks}
 use Rattle.control_table.specs.Masks.{AreMasks}
 use Rattle.route_lock.specs.declared.rows.Locked.{Locked}
@@ -10,7 +10,7 @@ use Rattle.route_lock.proofs.ApartLaws.{reserved-apart}
 use Rattle.route_lock.proofs.locks.Locks.reserve.Goals as goal
 
 -- the masks of the table that is kept are those of its state
-its : (l : Plan) (locks : List Locked) (v : LockState) (a : RouteId) (m : RouteMasks) → state_of l locks ≡ v → AreMasks l a m → AreAllSections v.table a m.sections
+its : (l : Site) (locks : List Locked) (v : LockState) (a : RouteId) (m : RouteMasks) → state_of l locks ≡ v → AreMasks l a m → AreAllSections v.table a m.sections
 its l locks v a m is are = subst (λ (st : LockState). AreAllSections st.table a m.sections) is are.sections
 
 pub put-requires-clause-its : goal.put-requires-clause-its

@@ -1,2 +1,0 @@
-pub mod Signal
-pub mod Point

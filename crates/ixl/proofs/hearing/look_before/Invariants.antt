@@ -1,5 +1,0 @@
-use Rattle.ixl.proofs.Looks.{LooksBefore}
-use Rattle.ixl.proofs.hearing.look_before.Given as goal
-
-abbrev pub invariant-loop-own : goal.invariant-loop-own
-invariant-loop-own l = LooksBefore l.now l.fn.state.planned.table l.occupied l.place l.own l.fn.state l.state

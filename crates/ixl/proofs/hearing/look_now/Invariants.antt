@@ -1,5 +1,0 @@
-use Rattle.ixl.proofs.Looks.{LooksNow}
-use Rattle.ixl.proofs.hearing.look_now.Given as goal
-
-abbrev pub invariant-loop-told : goal.invariant-loop-told
-invariant-loop-told l = LooksNow l.now l.fn.state.planned.table l.heard l.place l.told-index l.fn.state l.state

@@ -1,0 +1,8 @@
+use Rattle.std.specs.Prelude.{◌*◌}
+use Rattle.ixl_state.specs.ixl_rules.StepSoFar.{over}
+use Rattle.ixl_state.specs.ixl_rules.Rules.{proceeding}
+use Rattle.ixl_state.specs.State.{Goes}
+use Rattle.ixl.proofs.proceed_rule.give_authority.Given as goal
+
+abbrev pub invariant-loop-number : goal.invariant-loop-number
+invariant-loop-number l = Goes l.now (2 * l.number) (over (proceeding l.now l.fn.state.sited.table) l.number) l.fn.state l.fn.outbox l.state l.outbox

@@ -1,0 +1,16 @@
+use Rattle.std.proofs.Common.{◌∙◌, ap, sym}
+use Rattle.ixl_state.specs.ixl_rules.Commands.{refusal}
+use Rattle.ixl_state.specs.ixl_rules.declared.command.Command.{Command}
+use Rattle.ixl.proofs.refusals.refusal.Goals as goal
+
+pub returns-in-Request : goal.returns-in-Request
+unfolding refusal
+returns-in-Request c = c.request_refusal.ensures ∙ ap (λ (k : Command). refusal c.args.now c.args.state.now.sited.table k c.args.state.now.ixl) (sym c.in-Request.is)
+
+pub returns-in-Cancel : goal.returns-in-Cancel
+unfolding refusal
+returns-in-Cancel c = c.cancel_refusal.ensures ∙ ap (λ (k : Command). refusal c.args.now c.args.state.now.sited.table k c.args.state.now.ixl) (sym c.in-Cancel.is)
+
+pub returns-in-Resume : goal.returns-in-Resume
+unfolding refusal
+returns-in-Resume c = c.resume_refusal.ensures ∙ ap (λ (k : Command). refusal c.args.now c.args.state.now.sited.table k c.args.state.now.ixl) (sym c.in-Resume.is)

@@ -1,7 +1,0 @@
-use Rattle.std.proofs.Common.{◌≡◌, drop}
-use Rattle.ixl_rules.specs.Commands.{is_point_wanting}
-use Rattle.ixl.specs.inside.Parts.{first_where}
-use Rattle.ixl.proofs.refusing.first_wanting.Given as goal
-
-abbrev pub invariant-loop-need : goal.invariant-loop-need
-invariant-loop-need l = first_where (is_point_wanting l.state.planned.table l.state.ixl) (drop l.need-index l.needs) ≡ first_where (is_point_wanting l.state.planned.table l.state.ixl) l.needs

@@ -1,0 +1,44 @@
+//! The second rule: the authority of a withdrawn route ends once its signal is known to show stop.
+
+ghost use Rattle.std.specs.Prelude.{◌≡◌, ◌<◌, ◌&&◌, length};
+ghost use Rattle.ixl_state.specs.ixl_rules.StepSoFar.{over};
+ghost use Rattle.ixl_state.specs.ixl_rules.Rules.{count, ending_authority, is_withdrawn};
+ghost use Rattle.ixl_state.specs.ixl_rules.View.{is_at_known_stop};
+ghost use Rattle.ixl_state.specs.State.{AtRoute};
+ghost use Rattle.ixl.specs.inside.Changes.{Changes};
+
+use crate::field_known::{a_route_of_the_table_is_kept, is_at_known_stop};
+use ixl_state::State;
+use ixl_state::ixl_rules::Phase;
+use ixl_state::rasta_core::Millis;
+
+/// Whether a route was withdrawn, and its signal is at known stop.
+fn is_end_due(state: &State, now: Millis, number: usize) -> bool
+    requires { number < length state.now.sited.table.rows }
+    ensures { AtRoute state.now number (λ row route. result ≡ (is_withdrawn route.phase && is_at_known_stop now state.now.ixl row.entry)) }
+{
+    match state.route(number).phase() {
+        Phase::Withdrawn => is_at_known_stop(state, now, number),
+        _ => false,
+    }
+}
+
+/// The authority of a route ends where that is due.
+fn end_authority(state: &mut State, now: Millis, number: usize)
+    requires { number < length state.old.sited.table.rows }
+    ensures { Changes (ending_authority now state.old.sited.table number) state.old state.new }
+{
+    a_route_of_the_table_is_kept(state, number);
+    if is_end_due(state, now, number) {
+        state.end_authority(number, now);
+    }
+}
+
+/// All routes in turn.
+pub(crate) fn end_authorities(state: &mut State, now: Millis)
+    ensures { Changes (over (ending_authority now state.old.sited.table) (count state.old.sited.table)) state.old state.new }
+{
+    for number in 0..state.table().rows().len() {
+        end_authority(state, now, number);
+    }
+}

@@ -1,0 +1,62 @@
+//! The fourth rule: a cancelled route is freed.
+
+ghost use Rattle.std.specs.Prelude.{◌≡◌, ◌<◌, ◌&&◌, length};
+ghost use Rattle.ixl_state.specs.ixl_rules.StepSoFar.{over};
+ghost use Rattle.ixl_state.specs.ixl_rules.Rules.{count, freeing_by_cancel, frees_cancelled, none_seen};
+ghost use Rattle.ixl_state.specs.State.{AtRoute};
+ghost use Rattle.ixl.specs.inside.Changes.{Changes};
+
+use crate::field_known::{a_route_of_the_table_is_kept, are_sections_clear, is_at_known_stop};
+use ixl_state::State;
+use ixl_state::ixl_rules::Phase;
+use ixl_state::rasta_core::Millis;
+
+/// Whether no section of a route was reported occupied since authority was given.
+fn was_none_seen(state: &State, number: usize) -> bool
+    requires { number < length state.now.sited.table.rows }
+    ensures { AtRoute state.now number (λ row route. result ≡ none_seen (length row.sections) route.passage) }
+{
+    a_route_of_the_table_is_kept(state, number);
+    !state.route(number).passage().is_reached()
+}
+
+/// Whether a route is cancelled and lets itself be freed: it had no authority in this setting, and is at known stop; or its
+/// authority has ended, no train came, and the approach lets it go.
+fn is_cancel_due(state: &State, now: Millis, number: usize) -> bool
+    requires { number < length state.now.sited.table.rows }
+    ensures { AtRoute state.now number (λ row route. result ≡ (route.cancelled && frees_cancelled now state.now.sited.table state.now.ixl row route route.phase)) }
+{
+    let route = state.route(number);
+    if !route.is_cancelled() {
+        return false;
+    }
+    match route.phase() {
+        Phase::Waiting => is_at_known_stop(state, now, number),
+        Phase::Ended { clock, .. } => {
+            was_none_seen(state, number)
+                && are_sections_clear(state, number)
+                && route.approach().due(clock, now)
+        }
+        _ => false,
+    }
+}
+
+/// A route is freed where its cancel lets it go.
+fn free_by_cancel(state: &mut State, now: Millis, number: usize)
+    requires { number < length state.old.sited.table.rows }
+    ensures { Changes (freeing_by_cancel now state.old.sited.table number) state.old state.new }
+{
+    a_route_of_the_table_is_kept(state, number);
+    if is_cancel_due(state, now, number) {
+        state.free(number);
+    }
+}
+
+/// All routes in turn.
+pub(crate) fn free_routes_by_cancel(state: &mut State, now: Millis)
+    ensures { Changes (over (freeing_by_cancel now state.old.sited.table) (count state.old.sited.table)) state.old state.new }
+{
+    for number in 0..state.table().rows().len() {
+        free_by_cancel(state, now, number);
+    }
+}

@@ -1,4 +1,0 @@
-pub mod Closing
-pub mod Expecting
-pub mod Opening
-pub mod Saying

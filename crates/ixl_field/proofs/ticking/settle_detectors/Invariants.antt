@@ -1,9 +1,0 @@
-use Rattle.ixl_rules.specs.State.{DetectorState}
-use Rattle.ixl_rules.specs.Step.{clocked_detector}
-use Rattle.std.specs.Prelude.{IsTrue}
-use Rattle.ixl_field.specs.inside.Alike.{TellTheSame}
-use Rattle.ixl_field.proofs.Settling.{HaveSettled}
-use Rattle.ixl_field.proofs.ticking.settle_detectors.Given as goal
-
-abbrev pub invariant-loop-detector : goal.invariant-loop-detector
-invariant-loop-detector l = HaveSettled (λ (one : DetectorState). one.client) (clocked_detector l.now) l.now l.initial.detectors l.detectors l.detector-index × (IsTrue l.alike → TellTheSame l.initial.detectors l.detectors)

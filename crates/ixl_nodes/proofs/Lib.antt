@@ -1,4 +1,0 @@
-pub mod Fallen
-pub mod Peers
-pub mod Heard
-pub mod Went

@@ -1,4 +1,0 @@
-pub mod AtRest
-pub mod Going
-pub mod RowLaws
-pub mod Rules

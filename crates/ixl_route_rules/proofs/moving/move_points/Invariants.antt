@@ -1,5 +1,0 @@
-use Rattle.ixl_route_rules.proofs.Rules.{HaveMoved}
-use Rattle.ixl_route_rules.proofs.moving.move_points.Given as goal
-
-abbrev pub invariant-loop-place : goal.invariant-loop-place
-invariant-loop-place l = HaveMoved l.now l.number l.place l.fn.state l.fn.outbox l.state l.outbox

@@ -1,8 +1,0 @@
-use Rattle.std.specs.Prelude.{◌*◌}
-use Rattle.ixl_rules.specs.Part.{over}
-use Rattle.ixl_rules.specs.Rules.{proceeding}
-use Rattle.ixl_state.specs.State.{Goes}
-use Rattle.ixl_route_rules.proofs.proceeding.give_authority.Given as goal
-
-abbrev pub invariant-loop-number : goal.invariant-loop-number
-invariant-loop-number l = Goes l.now (2 * l.number) (over (proceeding l.now l.fn.state.planned.table) l.number) l.fn.state l.fn.outbox l.state l.outbox

@@ -1,5 +1,0 @@
-use Rattle.ixl_state.proofs.Walking.{NoneBefore}
-use Rattle.ixl_state.proofs.locking.some_holds_with_authority.Given as goal
-
-abbrev pub invariant-loop-number : goal.invariant-loop-number
-invariant-loop-number l = NoneBefore l.locks l.routes l.point l.number

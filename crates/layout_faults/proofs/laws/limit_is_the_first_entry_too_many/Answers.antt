@@ -1,8 +1,0 @@
-use Rattle.layout_faults.proofs.TooMany.{limit_fault, limits_kept}
-use Rattle.layout_faults.proofs.laws.limit_is_the_first_entry_too_many.Goals as goal
-
-pub returns-clause-fault : goal.returns-clause-fault
-returns-clause-fault c = limit_fault
-
-pub returns-clause-kept : goal.returns-clause-kept
-returns-clause-kept c = limits_kept

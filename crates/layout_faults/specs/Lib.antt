@@ -1,2 +1,0 @@
-pub mod TooMany
-pub mod Unknown

@@ -1,0 +1,92 @@
+-- The laws that this crate's proofs stand on, handed in by the functions that call them.
+use Rattle.std.proofs.Common.{◌≡◌, ◌≤◌, ◌<◌, ◌^◌, ℕ, true, false, List, [], ◌++◌, length, Ok, Err}
+use Rattle.std.specs.Prelude.{◌==◌, ◌&&◌}
+use Rattle.rasta_core_run.specs.State.{LinkState, confirmed_items, is_client, is_open}
+use Rattle.rasta_core_run.specs.Clock.{settled}
+use Rattle.rasta_core_run.specs.Sending.{entered, silent}
+use Rattle.rasta_core_run.specs.Opening.{granting, own_opening}
+use Rattle.rasta_core_run.specs.Receiving.{hearing, refusing}
+use Rattle.rasta_core_run.specs.Calls.{answer_to_send, closing_by, created, opening, opens, receiving, sending_item, ticking}
+use Rattle.rasta_core_run.specs.identity.Identity.{Identity}
+use Rattle.rasta_core_run.specs.reason.Reason.{Reason}
+use Rattle.rasta_core_run.specs.verdict.Verdict.{Verdict}
+use Rattle.rasta_core.specs.Beginning.{Asks, EarlyGoesOn, Grants, HearsOutside, IsEarly, PlaysEarly}
+use Rattle.rasta_core.specs.Carried.{carried}
+use Rattle.rasta_core.specs.Order.{InOrder, Way}
+use Rattle.rasta_core.specs.EndFlow.{IsAt, IsOf, EndFlow}
+use Rattle.rasta_core.specs.Playing.{accepted, Plays, ReceiptGoesOn, StepGoesOn}
+use Rattle.rasta_core_run.specs.identity.Role.{Role}
+use Rattle.rasta_core_run.specs.Ends.{Sent, is_taken}
+use Rattle.rasta_core_run.specs.Run.{Ends}
+use Rattle.rasta_core_run.specs.Events.{IsDelivered}
+use Rattle.rasta_core_run.specs.Names.{AreNames, Names}
+use Rattle.rasta_core.specs.Invariant.{Timely}
+use Rattle.rasta_core_run.specs.Sentences.{IsOpening, IsOut, receipt_at}
+use Rattle.rasta_core.proofs.Conversation.{WrittenIsRead}
+use Rattle.rasta_core_run.specs.Reading.{reading}
+use Rattle.rasta_core_run.specs.pdu_fault.PduFault.{PduFault}
+use Rattle.rasta_core_run.specs.pdu.Pdu.{Pdu}
+
+pub record Laws : Type 0 where
+  -- an item that is accepted is sent
+  pub sending_carries : (now : ℕ) (item : List ℕ) (link : LinkState) → carried (sending_item now item link).pdus ≡ accepted (answer_to_send now link) item
+  -- what is written is read
+  pub written : WrittenIsRead
+  -- what an end outside takes is an opening
+  pub taken_opening : (names : Names) (ends : Ends) (who : Role) (bytes : List ℕ) (connection : ℕ) (datagram : Sent) → AreNames names → Timely names ends
+      → IsDelivered ends bytes connection datagram → IsOut who ends → is_taken (receipt_at who bytes ends).verdict ≡ true → IsOpening names who ends datagram
+  -- each call keeps the order
+  pub settled_plays : (now : ℕ) (link : LinkState) (own other : EndFlow) → InOrder own other → Plays link own other → Plays (settled now link) own other
+  pub ticking_on : (now : ℕ) (link : LinkState) (own other : EndFlow) → InOrder own other → Plays link own other → StepGoesOn own other (ticking now link) []
+  pub closing_on : (now : ℕ) (link : LinkState) (own other : EndFlow) → InOrder own other → Plays link own other → (why : Reason) → StepGoesOn own other (closing_by now why link) []
+  pub sending_on : (now : ℕ) (link : LinkState) (own other : EndFlow) → InOrder own other → Plays link own other
+      → (item : List ℕ) → StepGoesOn own other (sending_item now item link) (accepted (answer_to_send now link) item)
+  pub opening_not : (now : ℕ) (link : LinkState) (own other : EndFlow) → InOrder own other → Plays link own other → opens now link ≡ false → StepGoesOn own other (opening now link) []
+  -- and so does whatever comes
+  pub hearing_on : (now : ℕ) (link : LinkState) (own other : EndFlow) → InOrder own other → Plays link own other → (bytes : List ℕ) (pdu : Pdu) → reading link.identity.key bytes ≡ Ok pdu
+      → IsOf pdu other.flow → is_open (entered now link).link.phase ≡ true → ReceiptGoesOn own other (receiving now bytes link)
+  pub unreadable_on : (now : ℕ) (link : LinkState) (own other : EndFlow) → InOrder own other → Plays link own other → (bytes : List ℕ) (fault : PduFault)
+      → reading link.identity.key bytes ≡ Err fault → ReceiptGoesOn own other (receiving now bytes link)
+  pub stranger_on : (now : ℕ) (link : LinkState) (own other : EndFlow) → InOrder own other → Plays link own other → (bytes : List ℕ) (pdu : Pdu) → reading link.identity.key bytes ≡ Ok pdu
+      → ((pdu.receiver == link.identity.own) && (pdu.sender == link.identity.partner)) ≡ false → ReceiptGoesOn own other (receiving now bytes link)
+  pub refusing_on : (now : ℕ) (link : LinkState) (own other : EndFlow) → InOrder own other → Plays link own other → (bytes : List ℕ) (pdu : Pdu) (why : Verdict)
+      → reading link.identity.key bytes ≡ Ok pdu → hearing pdu (entered now link).link ≡ refusing why (entered now link).link → ReceiptGoesOn own other (receiving now bytes link)
+  -- what one end does leaves the other in its part
+  pub swapped : (own other : EndFlow) → InOrder own other → InOrder other own
+  pub partner_plays : (link : LinkState) (own other later : EndFlow) (more : List Pdu) → Plays link own other → later.first ≡ other.first → later.flow ≡ other.flow ++ more → Plays link own later
+  pub anew : (identity : Identity) (first now : ℕ) (own other : EndFlow) → Plays (created identity first now) own other
+  -- a client alone stays so
+  pub early_plays : (link : LinkState) (client server : EndFlow) → IsEarly client → PlaysEarly link client → server.first < 2 ^ 32 → Plays link client server
+  pub early_settled : (now : ℕ) (link : LinkState) (client : EndFlow) → IsEarly client → PlaysEarly link client → PlaysEarly (settled now link) client
+  pub early_ticking : (now : ℕ) (link : LinkState) (client : EndFlow) → IsEarly client → PlaysEarly link client → EarlyGoesOn client (ticking now link).link (ticking now link).pdus
+  pub early_closing : (now : ℕ) (link : LinkState) (client : EndFlow) → IsEarly client → PlaysEarly link client → (why : Reason)
+      → EarlyGoesOn client (closing_by now why link).link (closing_by now why link).pdus
+  pub early_sending : (now : ℕ) (link : LinkState) (client : EndFlow) → IsEarly client → PlaysEarly link client → (item : List ℕ)
+      → EarlyGoesOn client (sending_item now item link).link (sending_item now item link).pdus
+  pub early_accepts : (now : ℕ) (link : LinkState) (client : EndFlow) → IsEarly client → PlaysEarly link client → (item : List ℕ) → accepted (answer_to_send now link) item ≡ []
+  pub opening_not_early : (now : ℕ) (link : LinkState) (client : EndFlow) → IsEarly client → PlaysEarly link client → opens now link ≡ false
+      → EarlyGoesOn client (opening now link).link (opening now link).pdus
+  pub early_unreadable : (now : ℕ) (link : LinkState) (client : EndFlow) → IsEarly client → PlaysEarly link client → (bytes : List ℕ) (fault : PduFault)
+      → reading link.identity.key bytes ≡ Err fault → EarlyGoesOn client (receiving now bytes link).link (receiving now bytes link).pdus
+  pub early_stranger : (now : ℕ) (link : LinkState) (client : EndFlow) → IsEarly client → PlaysEarly link client → (bytes : List ℕ) (pdu : Pdu) → reading link.identity.key bytes ≡ Ok pdu
+      → ((pdu.receiver == link.identity.own) && (pdu.sender == link.identity.partner)) ≡ false → EarlyGoesOn client (receiving now bytes link).link (receiving now bytes link).pdus
+  -- how a connection begins
+  pub opening_asks : (now : ℕ) (link : LinkState) → opens now link ≡ true → Asks (opening now link).link (opening now link).pdus
+  pub entered_outside : (now : ℕ) (link : LinkState) → is_open link.phase ≡ false → entered now link ≡ silent (record link { clock = now })
+  pub hears_outside : (pdu : Pdu) (link : LinkState) → is_open link.phase ≡ false → HearsOutside pdu link (hearing pdu link)
+  pub granting_on : (client : EndFlow) → IsEarly client → (link : LinkState) (pdu : Pdu) → is_client link.identity.role ≡ false → 1 ≤ link.clock → IsAt 0 pdu client.flow
+      → Grants client (granting pdu own_opening link).link (granting pdu own_opening link).pdus
+
+-- an order is safe
+pub record SafeLaws : Type 0 where
+  pub beginning : (giver taker : EndFlow) → Way giver taker → (others : List (List ℕ)) × (giver.given ≡ taker.taken ++ others)
+  pub confirmed : (link : LinkState) (own other : EndFlow) → InOrder own other → Plays link own other → confirmed_items link ≤ length other.taken
+  pub swapped : (own other : EndFlow) → InOrder own other → InOrder other own
+
+-- what calls hand out
+pub record CarryingLaws : Type 0 where
+  pub ticking_carries : (now : ℕ) (link : LinkState) → carried (ticking now link).pdus ≡ []
+  pub closing_carries : (now : ℕ) (why : Reason) (link : LinkState) → carried (closing_by now why link).pdus ≡ []
+  pub opening_carries : (now : ℕ) (link : LinkState) → carried (opening now link).pdus ≡ []
+  pub sending_carries : (now : ℕ) (item : List ℕ) (link : LinkState) → carried (sending_item now item link).pdus ≡ accepted (answer_to_send now link) item
+  pub receiving_carries : (now : ℕ) (bytes : List ℕ) (link : LinkState) → carried (receiving now bytes link).pdus ≡ []

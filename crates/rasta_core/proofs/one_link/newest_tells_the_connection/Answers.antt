@@ -1,0 +1,16 @@
+use Rattle.rasta_core.proofs.Newest.{event_newest, run_newest, starts_newest}
+use Rattle.rasta_core.proofs.Outside.{EnteringLaws}
+use Rattle.rasta_core.proofs.one_link.newest_tells_the_connection.Goals as goal
+
+pub returns-clause-starts : goal.returns-clause-starts
+returns-clause-starts c = starts_newest
+
+pub returns-clause-kept : goal.returns-clause-kept
+returns-clause-kept c =
+    let laws : EnteringLaws = record { entering = c.connection_begins.ensures.entering; hearing = c.connection_begins.ensures.hearing }
+    in λ names event ends who timely was. event_newest laws c.one_connection.ensures.some names ends timely event who was
+
+pub returns-clause-run : goal.returns-clause-run
+returns-clause-run c =
+    let laws : EnteringLaws = record { entering = c.connection_begins.ensures.entering; hearing = c.connection_begins.ensures.hearing }
+    in run_newest laws c.one_connection.ensures.some c.every_event_keeps_time.ensures

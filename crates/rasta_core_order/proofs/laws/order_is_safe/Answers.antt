@@ -1,8 +1,0 @@
-use Rattle.rasta_core_order.proofs.Safety.{beginning, confirmed}
-use Rattle.rasta_core_order.proofs.laws.order_is_safe.Goals as goal
-
-pub returns-clause-beginning : goal.returns-clause-beginning
-returns-clause-beginning c = beginning
-
-pub returns-clause-confirmed : goal.returns-clause-confirmed
-returns-clause-confirmed c = confirmed

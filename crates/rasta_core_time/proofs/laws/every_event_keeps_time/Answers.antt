@@ -1,5 +1,0 @@
-use Rattle.rasta_core_time.proofs.Runs.{event_kept}
-use Rattle.rasta_core_time.proofs.laws.every_event_keeps_time.Goals as goal
-
-pub returns : goal.returns
-returns c = event_kept c.written_is_read.ensures.read c.read_was_written.ensures.intact

@@ -1,5 +1,0 @@
-use Rattle.rasta_core_time.proofs.Runs.{run_kept}
-use Rattle.rasta_core_time.proofs.laws.every_run_keeps_time.Goals as goal
-
-pub returns : goal.returns
-returns c = run_kept c.every_event_keeps_time.ensures

@@ -1,0 +1,14 @@
+pub mod Names
+pub mod Given
+pub mod Events
+pub mod Line
+pub mod Scripted
+pub mod Text
+pub mod Written
+pub mod inside
+pub mod Answers
+pub mod Reading
+pub mod Replay
+pub mod Script
+pub mod Session
+pub mod ReadAgain

@@ -1,0 +1,34 @@
+//! The lines of events of a station and their answers, recorded sessions and scripts, and the replay of a session.
+#![tactic(auto)]
+
+mod agreement;
+mod answers_read;
+mod answers_written;
+mod laws;
+mod line;
+mod lines_written;
+mod names;
+mod nodes;
+mod reply;
+mod round_trip;
+mod script;
+mod session;
+mod text;
+mod words;
+
+pub use agreement::{Apply, Replayed, replay};
+pub use answers_read::read_answer;
+pub use answers_written::AnswerText;
+pub use laws::{names_are_read_again, names_are_words};
+pub use line::{ROUND, SimLine, read_line};
+pub use lines_written::write_event;
+pub use names::{
+    name_word, point_named, point_word, route_named, route_word, section_named, section_word,
+};
+pub use nodes::{node_count, node_name, node_named};
+pub use reply::recorded;
+pub use round_trip::written_events_are_read_again;
+pub use script::read_script;
+pub use session::{Entry, read_session};
+pub use text::{LineFault, read_lines};
+pub use words::{read_event, read_script_event};

@@ -1,3 +1,0 @@
-pub mod Replay
-pub mod Script
-pub mod Session

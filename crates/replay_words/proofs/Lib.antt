@@ -1,0 +1,4 @@
+pub mod Cuts
+pub mod Spelled
+pub mod Written
+pub mod Taking

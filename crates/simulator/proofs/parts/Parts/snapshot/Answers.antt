@@ -1,0 +1,6 @@
+use Rattle.simulator_ixl.specs.simulator_field.Controllers.{world_of}
+use Rattle.simulator.proofs.parts.Parts.snapshot.Goals as goal
+
+pub returns : goal.returns
+unfolding world_of
+returns c = record { shows = c.shows.ensures; held = c.held.ensures; position = c.stands.ensures; driven = c.drives.ensures }

@@ -1,0 +1,10 @@
+use Rattle.std.proofs.Common.{◌≡◌, ◌≤◌, take}
+use Rattle.simulator.specs.Runs.{Runs}
+use Rattle.simulator.proofs.world.World.run.Given as goal
+
+abbrev pub invariant-loop-event : goal.invariant-loop-event
+invariant-loop-event l = record {
+  ran : Runs (take l.event-index l.events) l.initial.self l.accepted l.self;
+  few : l.accepted ≤ l.event-index;
+  sited : l.self.sited ≡ l.initial.self.sited;
+}

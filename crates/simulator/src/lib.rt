@@ -1,0 +1,25 @@
+//! A whole station in one process: every node with its clock, every link, the network between them, where the points stand
+//! and which sections are occupied. Events happen to it one after another.
+#![tactic(auto)]
+
+mod application;
+mod events;
+mod node_steps;
+mod nodes;
+mod parts;
+mod picture;
+mod refusals;
+mod restarts;
+mod sight;
+mod time_limits;
+mod words;
+mod world;
+
+pub use world::World;
+
+// What crates above need of the crates below.
+pub use simulator_headline;
+pub use simulator_ixl::{
+    control_table, ixl_rules, ixl_table, layout, rasta_core, sci_telegram, simulator_event,
+    simulator_field, simulator_run, simulator_snapshot,
+};

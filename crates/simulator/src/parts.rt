@@ -1,0 +1,101 @@
+//! The parts of a world.
+
+ghost use Rattle.std.specs.Prelude.{◌≡◌, ◌<◌, ◌≤◌, IfOk, length, slice_get};
+ghost use Rattle.std.specs.Option.{option_map};
+ghost use Rattle.simulator_ixl.specs.layout.Once.{Once};
+ghost use Rattle.simulator_ixl.specs.layout.Station.{IsStation};
+ghost use Rattle.simulator_ixl.specs.ixl_table.Table.{IsTableOf};
+ghost use Rattle.simulator_ixl.specs.simulator_run.First.{first_world};
+ghost use Rattle.simulator_ixl.specs.simulator_run.Refusals.{driven_at};
+ghost use Rattle.simulator_ixl.specs.simulator_run.Seen.{shown_by};
+ghost use Rattle.simulator_ixl.specs.simulator_run.Station.{held_of};
+ghost use Rattle.simulator.specs.inside.Parts.{IsWhole, site_of, seen, table_of};
+
+use arrayvec::ArrayVec;
+use simulator_ixl::ClockedInterlocking;
+use simulator_ixl::control_table::Checked;
+use simulator_ixl::layout::{Layout, PointId, SignalId};
+use simulator_ixl::sci_telegram::{Aspect, Side};
+use simulator_ixl::simulator_field::Controllers;
+use simulator_ixl::simulator_snapshot::Held;
+use std::alloc::{AllocError, Global};
+
+/// The interlocking, all else of a world, and the pairs of signal and route that were held when the interlocking was last
+/// made anew outside a hold.
+#[derive(Drop)]
+pub(crate) struct Parts {
+    pub(crate) station: ClockedInterlocking,
+    pub(crate) controllers: Controllers,
+    pub(crate) frozen: ArrayVec<Held, 64>,
+    pub(crate) alloc: Global,
+}
+
+impl Parts {
+    /// The parts of the first world of a table.
+    pub(crate) fn new(alloc: Global, checked: Checked) -> Result<Parts, AllocError>
+        ensures site { IfOk result (λ parts. site_of parts ≡ checked) }
+        ensures first { IfOk result (λ parts. seen parts ≡ first_world (site_of parts) (table_of parts)) }
+        ensures whole { IfOk result IsWhole }
+    {
+        let controllers = Controllers::new(alloc, &checked)?;
+        let station = ClockedInterlocking::new(alloc, checked)?;
+        Ok(Parts {
+            station,
+            controllers,
+            frozen: ArrayVec::new(),
+            alloc,
+        })
+    }
+
+    /// The table that the world was made from.
+    pub(crate) fn table(&self) -> &Checked
+        ensures { result.now ≡ site_of self.now }
+    {
+        self.station.table().checked()
+    }
+
+    /// The layout of the station.
+    pub(crate) fn layout(&self) -> &Layout
+        ensures entries { result.now ≡ site_of self.now }
+        ensures few_signals { length (site_of self.now).signals ≤ 32 }
+        ensures few_points { length (site_of self.now).points ≤ 32 }
+    {
+        self.table().layout()
+    }
+
+    /// What is always true of the table that the world was made from.
+    pub(crate) fn facts(&self)
+        ensures once { Once (site_of self.now) }
+        ensures station { IsStation (site_of self.now) }
+        ensures table { IsTableOf (site_of self.now) (table_of self.now) }
+    {
+        self.station.table().checked();
+        self.layout();
+    }
+
+    /// What a signal shows at its clock.
+    pub(crate) fn shown(&self, signal: SignalId) -> Aspect
+        requires { signal.0 < length self.now.controllers.signals.items }
+        ensures { option_map shown_by (slice_get self.now.controllers.signals.items signal.0) ≡ Some result }
+    {
+        let server = &self.controllers.signals[signal.0];
+        server.object().shown(server.now())
+    }
+
+    /// The side to which a point is driven at its controller's clock.
+    #[tactic(auto, using(crate::proofs::Reading::driven_read))]
+    pub(crate) fn driven(&self, point: PointId) -> Option<Side>
+        requires { point.0 < length self.now.controllers.points.items }
+        ensures { result ≡ driven_at point.0 self.now.controllers.points.items }
+    {
+        let server = &self.controllers.points[point.0];
+        server.object().drives(server.now())
+    }
+
+    /// The pairs that are held.
+    pub(crate) fn held(&self) -> ArrayVec<Held, 64>
+        ensures { result.items ≡ held_of (table_of self.now) self.now.station.station self.now.frozen.items }
+    {
+        self.station.held(&self.frozen)
+    }
+}

@@ -1,0 +1,59 @@
+//! Nodes that are made anew.
+
+ghost use Rattle.std.specs.Prelude.{◌≡◌, ◌≤◌, ◌*◌, OnErr, OnOk, Some};
+ghost use Rattle.simulator_ixl.specs.simulator_run.Happens.{made_anew};
+ghost use Rattle.simulator_ixl.specs.simulator_run.Nodes.{Station, node_at};
+ghost use Rattle.simulator_ixl.specs.simulator_run.Refusals.{clock_limit};
+ghost use Rattle.simulator.specs.inside.Parts.{IsWhole, Restarts, site_of, table_of};
+
+use crate::nodes::{Node, node_at};
+use crate::parts::Parts;
+use simulator_ixl::rasta_core::Millis;
+use simulator_ixl::simulator_event::NodeId;
+use std::alloc::AllocError;
+
+impl Parts {
+    /// The interlocking is made anew. What was held stands for its locks in its hold.
+    #[tactic(auto, unfolding(crate::proofs::Below::world_of))]
+    fn restart_station(&mut self, clock: Millis, first: u32) -> Result<(), AllocError>
+        requires whole { IsWhole self.old }
+        requires fits { clock * 1000 ≤ clock_limit }
+        ensures made { OnOk result (Restarts (made_anew (site_of self.old) (table_of self.old) (record { clock = clock; first = first }) (Some Station)) self.old self.new) }
+        ensures same { OnErr result (self.new ≡ self.old) }
+    {
+        let held = self.held();
+        self.station.restart(self.alloc, clock, first)?;
+        self.frozen = held;
+        Ok(())
+    }
+
+    /// A node is made anew, with its clock in milliseconds and the number of its first PDU.
+    pub(crate) fn restart(
+        &mut self,
+        node: NodeId,
+        clock: Millis,
+        first: u32,
+    ) -> Result<(), AllocError>
+        requires whole { IsWhole self.old }
+        requires fits { clock * 1000 ≤ clock_limit }
+        ensures made { OnOk result (Restarts (made_anew (site_of self.old) (table_of self.old) (record { clock = clock; first = first }) (node_at (site_of self.old) node.0)) self.old self.new) }
+        ensures same { OnErr result (self.new ≡ self.old) }
+    {
+        let alloc = self.alloc;
+        let table = self.station.table().checked();
+        let controllers = &mut self.controllers;
+        match node_at(table.layout(), node) {
+            Some(Node::Station) => self.restart_station(clock, first),
+            Some(Node::Signal(place)) => {
+                controllers.restart_signal(alloc, table, place, clock, first)
+            }
+            Some(Node::Point(place)) => {
+                controllers.restart_point(alloc, table, place, clock, first)
+            }
+            Some(Node::Detector(place)) => {
+                controllers.restart_detector(alloc, table, place, clock, first)
+            }
+            None => Ok(()),
+        }
+    }
+}

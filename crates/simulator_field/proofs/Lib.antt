@@ -1,0 +1,12 @@
+mod Copies
+mod Kept
+mod Order
+mod Searches
+mod Views
+mod Below
+mod Taking
+mod Inside
+mod Lists
+mod Changes
+mod First
+mod Later

@@ -1,0 +1,25 @@
+//! The field of a station: true time, the network with every datagram that was sent, and the object controllers with
+//! their exact clocks.
+#![tactic(auto)]
+
+mod bag;
+mod clocked_controller;
+mod controller_steps;
+mod controllers;
+mod controllers_anew;
+mod copies_found;
+mod datagrams_sent;
+mod entry;
+mod first_controllers;
+mod first_server;
+mod network;
+mod sent_on;
+mod stay;
+mod time_passed;
+
+pub use bag::Bag;
+pub use clocked_controller::{ClockedController, MOST_SENT};
+pub use controllers::Controllers;
+pub use first_server::{new_detector, new_point, new_signal};
+pub use network::Network;
+pub use sent_on::SentOn;

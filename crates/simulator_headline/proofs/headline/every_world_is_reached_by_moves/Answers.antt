@@ -1,0 +1,34 @@
+use Rattle.std.proofs.Common.{List, Some}
+use Rattle.simulator_run.specs.layout.Entries.{Site}
+use Rattle.simulator_run.specs.layout.Once.{Once}
+use Rattle.simulator_run.specs.layout.Station.{IsStation}
+use Rattle.simulator_run.specs.ixl_rules.Table.{Table}
+use Rattle.ixl_table.specs.Table.{IsTableOf}
+use Rattle.simulator_run.specs.simulator_event.declared.event.Event.{Event}
+use Rattle.simulator_machine.specs.Machine.{Machine}
+use Rattle.simulator_machine.specs.Point.{Left}
+use Rattle.simulator_machine.specs.Run.{first}
+use Rattle.simulator_headline.specs.Represents.{Represents, RepresentsAfter}
+use Rattle.simulator_machine_interlocking.specs.Rows.{machine_table}
+use Rattle.simulator_run.specs.Run.{CanHappen, after_all}
+use Rattle.simulator_run.specs.First.{first_world}
+use Rattle.simulator_run.specs.State.{WorldState}
+use Rattle.simulator_headline.proofs.AllEvents.{MovingLaws, all_kept}
+use Rattle.simulator_headline.proofs.headline.every_world_is_reached_by_moves.Goals as goal
+
+pub returns : goal.returns
+returns c =
+    let laws : (site : Site) (table : Table) → Once site → IsStation site → IsTableOf site table → MovingLaws site table
+    = λ site table once station is. record {
+      none = c.lists_of_moves_compose.ensures.none (machine_table table);
+      compose = c.lists_of_moves_compose.ensures.then (machine_table table);
+      each = λ happening world machine represented none. c.every_event_is_represented.ensures site table happening world machine once station is represented none;
+    }
+    in let on : (site : Site) (table : Table) (events : List Event) (world : WorldState) (machine : Machine) → Once site → IsStation site → IsTableOf site table
+    → Represents site table world machine → CanHappen site table events world → RepresentsAfter site table machine (after_all site table events world)
+    = λ site table events world machine once station is represented can. all_kept site table (laws site table once station is) events world machine represented can
+    in record {
+      on = on;
+      first = λ site table events once station is can.
+          on site table events (first_world site table) (first (λ place. Some Left)) once station is (c.first_worlds_are_represented.ensures site table station once) can;
+    }

@@ -1,0 +1,22 @@
+//! The interlocking of a world with its exact clock: its steps, which send on the links of their receivers, time that goes
+//! on, and what is held.
+#![tactic(auto)]
+
+mod clocked_interlocking;
+mod connections;
+mod datagram;
+mod held;
+
+pub use clocked_interlocking::{ClockedInterlocking, MOST_SENT};
+
+// What crates above need of the crates below.
+pub use ixl;
+pub use ixl_state;
+pub use ixl_state::{
+    bit_row, control_table, ixl_rules, ixl_table, layout, rasta_core, rasta_pdu, sci_telegram,
+};
+pub use simulator_field;
+pub use simulator_run;
+pub use simulator_run::{
+    object_host, point_ctl, signal_ctl, simulator_event, simulator_snapshot, tds_ctl,
+};

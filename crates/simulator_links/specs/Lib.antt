@@ -1,4 +1,0 @@
-pub mod Picture
-pub mod LinkMoves
-pub mod Lawful
-pub mod Flows

@@ -1,0 +1,10 @@
+pub mod Lists
+pub mod Places
+pub mod Lamps
+pub mod Turns
+pub mod Moves
+pub mod Telling
+pub mod Starts
+pub mod KnownPoints
+pub mod Reported
+pub mod Steps

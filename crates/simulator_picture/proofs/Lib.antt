@@ -1,7 +1,0 @@
-mod Lists
-mod Rows
-mod Safe
-mod Held
-mod There
-mod Pictured
-mod FirstWorld

@@ -1,9 +1,0 @@
-mod Lists
-mod Elsewhere
-mod Changed
-mod Stepping
-mod AtSignals
-mod AtPoints
-mod Reached
-mod AtDetectors
-mod AtNodes

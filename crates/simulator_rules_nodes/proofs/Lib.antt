@@ -1,9 +1,0 @@
-pub mod Signals
-pub mod During
-pub mod Switching
-pub mod Nodes
-pub mod SwitchNodes
-pub mod Routes
-pub mod Watching
-pub mod NodeTicks
-pub mod Ticks

@@ -1,2 +1,0 @@
-pub mod During
-pub mod Behind

@@ -1,0 +1,21 @@
+//! A whole station as its theorem speaks of it: its nodes with their clocks, the network between them, where the points
+//! stand, which sections are occupied, and what each event changes.
+#![tactic(auto)]
+
+mod laws;
+
+pub use laws::{
+    a_restarted_station_holds, an_event_at_no_node_is_refused, the_first_world_begins_its_links,
+};
+
+// What crates above need of the crates below.
+pub use ixl_rules;
+pub use ixl_rules::{
+    bit_row, control_table, ixl_client, layout, rasta_core, rasta_pdu, sci_telegram,
+};
+pub use object_host;
+pub use point_ctl;
+pub use signal_ctl;
+pub use simulator_event;
+pub use simulator_snapshot;
+pub use tds_ctl;

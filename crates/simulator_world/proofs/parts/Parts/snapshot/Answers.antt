@@ -1,6 +1,0 @@
-use Rattle.simulator_world_controllers.specs.Controllers.{world_of}
-use Rattle.simulator_world.proofs.parts.Parts.snapshot.Goals as goal
-
-pub returns : goal.returns
-unfolding world_of
-returns c = record { shows = c.shows.ensures; held = c.held.ensures; position = c.stands.ensures; driven = c.drives.ensures }

@@ -1,6 +1,0 @@
-use Rattle.ixl.specs.Interlocking.{meant, told}
-use Rattle.simulator_world.proofs.Going.{station_goes}
-use Rattle.simulator_world.proofs.parts.Parts.step_station.Goals as goal
-
-pub returns-clause-goes : goal.returns-clause-goes
-returns-clause-goes c = station_goes (meant c.args.input) c.args.self.now c.step.new.self c.step.new.network (told c.step.result) c.requires.whole c.step.ensures

@@ -1,3 +1,0 @@
-pub mod World
-pub mod Runs
-pub mod inside

@@ -1,5 +1,0 @@
-mod Copies
-mod Kept
-mod Order
-mod Searches
-mod Views

@@ -1,3 +1,0 @@
-pub mod Network
-pub mod Bag
-pub mod inside

@@ -1,2 +1,0 @@
--- How a network keeps its datagrams. No promise of `Network` names any of it.
-pub mod Entries

@@ -1,3 +1,0 @@
-mod Changes
-mod First
-mod Later

@@ -1,7 +1,0 @@
--- Definitions of the layers below that proofs here unfold.
-unfoldable pub use Rattle.rasta_core.specs.Calls.{created}
-unfoldable pub use Rattle.rasta_core.specs.Clock.{alive_until, deadline, settled}
-unfoldable pub use Rattle.rasta_core.specs.Outbox.{posted}
-unfoldable pub use Rattle.object_host.specs.Host.{keeping}
-unfoldable pub use Rattle.object_host.specs.Hosted.{new_host}
-unfoldable pub use Rattle.simulator_world_run.specs.Servers.{sent_by_server, server_after, server_anew, server_later}

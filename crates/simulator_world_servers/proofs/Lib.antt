@@ -1,4 +1,0 @@
-mod Below
-mod Taking
-mod Inside
-mod Lists

@@ -1,6 +1,0 @@
-use Rattle.std.proofs.Common.{◌≡◌, map, take}
-use Rattle.simulator_world_run.specs.First.{named_section}
-use Rattle.simulator_world_servers.proofs.making.named_sections.Given as goal
-
-abbrev pub invariant-loop-section : goal.invariant-loop-section
-invariant-loop-section l = l.named.items ≡ map (named_section l.layout l.occupied) (take l.section-index l.sections)

@@ -1,2 +1,0 @@
--- How the code notes connections. No public promise names it.
-pub mod Stay

@@ -1,2 +1,0 @@
-pub mod Station
-pub mod inside

@@ -1,2 +1,0 @@
--- How the connections are kept. No promise of `Station` names any of it.
-pub mod Connections

@@ -1,4 +1,0 @@
-pub mod Answering
-pub mod Noted
-pub mod Rounds
-pub mod Transcripts

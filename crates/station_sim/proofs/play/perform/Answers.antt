@@ -1,0 +1,26 @@
+use Rattle.station_sim.specs.inside.Runs.{flowing_of}
+use Rattle.station_sim.proofs.Transcripts.{goes-on-begins, goes-on-ends, goes-on-next}
+use Rattle.station_sim.proofs.play.perform.Goals as goal
+
+pub loop-line-init : goal.loop-line-init
+loop-line-init g c =
+    let first = flowing_of g.S.Playable.picture c.in_ok-run.run'
+    in (first, c.in_ok-run.ensures, goes-on-begins g.S.Playable.sight first c.args.lines.now (g.W.Write.contents c.args.out.now))
+
+pub loop-line-preserved : goal.loop-line-preserved
+loop-line-preserved g c =
+    let before = c.loop-line.invariant
+    in let wrote = c.in_ok-carry_out.ensures.done
+    in (
+      before.0,
+      before.1,
+      goes-on-next g.S.Playable.sight before.0 c.args.lines.now c.loop-line.line-index c.line-item.result
+          (flowing_of g.S.Playable.picture c.loop-line.run) (flowing_of g.S.Playable.picture c.carry_out.new.run) (g.W.Write.contents c.args.out.now) (g.W.Write.contents c.loop-line.out) (g.W.Write.contents c.carry_out.new.out) wrote.0
+          c.loop-line-test.true c.line-item.is wrote.1 wrote.2 before.2,
+    )
+
+pub returns-clause-done : goal.returns-clause-done
+returns-clause-done g c =
+    let before = c.loop-line.invariant
+    in goes-on-ends g.S.Playable.sight c.args.table before.0 before.1 c.args.lines.now c.loop-line.line-index (flowing_of g.S.Playable.picture c.loop-line.run)
+    (g.W.Write.contents c.args.out.now) (g.W.Write.contents c.loop-line.out) (g.W.Write.contents c.flush.new.self) c.loop-line-test.false before.2 c.in_ok-flush.ensures.bytes

@@ -1,0 +1,77 @@
+-- What the lines of a file do to a station, and what is written as they are carried out.
+use Rattle.std.specs.Prelude.{◌≡◌, ℕ, ◌/◌, codes, List, [], ◌∷◌, ◌++◌, Option, Result, Ok, Err, IsOk}
+use Rattle.std.specs.Io.KnownBytes.{Appends}
+use Rattle.simulator.specs.layout.Entries.{Site}
+use Rattle.simulator.specs.simulator_event.declared.event.Event.{Event}
+use Rattle.simulator.specs.simulator_event.declared.refused.Refused.{Refused}
+use Rattle.simulator.specs.simulator_event.declared.refused.Refused.TheVariants.{OutOfMemory}
+use Rattle.simulator.specs.simulator_event.declared.reply.Answer.{Answer}
+use Rattle.replay.specs.Answers.{answer_text}
+use Rattle.replay.specs.Text.{FailsAt, lines_said}
+use Rattle.replay.specs.declared.line.SimLine.{SimLine}
+use Rattle.replay.specs.declared.line.SimLine.TheVariants as said
+use Rattle.station_check.specs.Report.{IsSound}
+use Rattle.station_check.specs.Failures.{ExplainsTable, Leaves, Tells}
+use Rattle.station_check.specs.declared.failure.Failure.{Failure}
+use Rattle.station_check.specs.declared.failure.Failure.TheVariants as failure
+use Rattle.station_sim.specs.Flow.{Flowing, Flows, IsBeginning}
+use Rattle.station_sim.specs.Sight.{Sight}
+
+-- a text, and a line feed
+abbrev pub feed : List ℕ → List ℕ
+feed text = text ++ codes "\n"
+
+module _ {Picture : Type 0} (sight : Sight Picture) where
+  -- What an event answers and changes: it is answered, or memory is lacking for it.
+  pub data Answers (event : Event) (old : Flowing Picture) : Result Answer Refused → Flowing Picture → Type 0 where
+    answers_so : Answers event old (sight.answer old.picture event) (record old { picture = sight.after old.picture event })
+    lacks_memory : Answers event old (Err OutOfMemory) old
+
+  -- the line of an answer
+  abbrev pub answer_line : Result Answer Refused → Flowing Picture → List ℕ
+  answer_line reply flowing = feed (answer_text (sight.layout flowing.picture) reply)
+
+  -- what a line writes and changes
+  pub data Writes (old : Flowing Picture) : SimLine → List ℕ → Flowing Picture → Type 0 where
+    event : {event : Event} {reply : Result Answer Refused} {new : Flowing Picture} → Answers event old reply new → Writes old (said.Event event) (answer_line reply new) new
+    flow : {length : ℕ} {reply : Result Answer Refused} {new : Flowing Picture} → Flows sight (length / 10) old reply new → Writes old (said.Flow length) (answer_line reply new) new
+    picture : {text : List ℕ} → sight.IsText old.picture text → Writes old said.Picture (feed text) old
+
+  -- what lines write, one after the other
+  pub data Transcript : Flowing Picture → List SimLine → List ℕ → Type 0 where
+    nothing : {old : Flowing Picture} → Transcript old [] []
+    line : {old new : Flowing Picture} {line : SimLine} {later : List SimLine} {text rest : List ℕ} → Writes old line text new → Transcript new later rest → Transcript old (line ∷ later) (text ++ rest)
+
+  -- Where what was written before is known, what lines write with a new station of this site stands behind it.
+  pub record IsTold (site : Site) (lines : List SimLine) (before now : Option (List ℕ)) : Type 0 where
+    pub first : Flowing Picture
+    pub begins : IsBeginning sight site first
+    pub written : List ℕ
+    pub transcript : Transcript first lines written
+    pub appended : Appends before now written
+
+  -- The layout is sound, no line is faulty, and what the lines write was told.
+  pub record IsPlayed (layout events : List ℕ) (before now : Option (List ℕ)) : Type 0 where
+    pub site : Site
+    pub sound : IsSound layout site
+    pub lines : List SimLine
+    pub says : lines_said site events ≡ Ok lines
+    pub told : IsTold site lines before now
+
+-- a layout is sound, and lines can be played on it
+pub record CanPlay (layout events : List ℕ) : Type 0 where
+  pub site : Site
+  pub sound : IsSound layout site
+  pub says : IsOk (lines_said site events)
+
+-- Why lines aren't played to their end: the layout gives no table; or a line is faulty, the first; or neither, but memory
+-- is lacking, or an answer couldn't be written.
+abbrev pub Explains : List ℕ → List ℕ → Failure → Type 0
+Explains layout events (failure.Line fault) = (site : Site) × IsSound layout site × FailsAt fault.line fault.fault (lines_said site events)
+Explains layout events failure.OutOfMemory = CanPlay layout events
+Explains layout events failure.NotWritten = CanPlay layout events
+Explains layout events why = ExplainsTable layout why
+
+-- Why lines weren't played to their end was told.
+abbrev pub Explained : {W : Type 0} → List ℕ → List ℕ → W → W → Option (List ℕ) → Option (List ℕ) → Type 0
+Explained layout events out_old out_new old new = (why : Failure) × Explains layout events why × Leaves why out_old out_new × Tells why old new

@@ -1,0 +1,52 @@
+//! A station that can be played.
+
+ghost use Rattle.std.specs.Prelude.{◌≡◌, IfOk, OnErr, string_bytes};
+ghost use Rattle.std.specs.Option.{option_map};
+ghost use Rattle.station_sim.specs.Sight.{Applies, Sight};
+
+use simulator::control_table::Checked;
+use simulator::layout::{Layout, PointId};
+use simulator::sci_telegram::Side;
+use simulator::simulator_event::{Event, NodeId, Refused, Reply};
+use std::alloc::{AllocError, Global};
+
+/// A station that is made of its table, to which events happen, and of which can be seen what a flow of time needs.
+pub trait Playable: Drop {
+    /// What answers depend on.
+    ghost Picture: { Type 0 };
+
+    /// How it is now.
+    ghost picture: { Self → Picture };
+
+    /// What is seen of it in each picture, and what events answer and change.
+    ghost sight: { Sight Picture };
+
+    /// A new station of this table.
+    fn new(alloc: Global, table: Checked) -> Result<Self, AllocError>
+        ensures { IfOk result (λ station. sight.IsFirst table (picture station)) };
+
+    /// Applies an event. Want of memory is answered instead where it is lacking, and nothing has happened then.
+    fn apply(&mut self, event: &Event) -> Result<Reply, Refused>
+        ensures applies { Applies sight event.now (picture self.old) result (picture self.new) }
+        ensures same { OnErr result (picture self.new ≡ picture self.old) };
+
+    /// Its layout.
+    fn layout(&self) -> &Layout
+        ensures { result.now ≡ sight.layout (picture self.now) };
+
+    /// How many datagrams were sent, lost ones too.
+    fn sent(&self) -> usize
+        ensures { result ≡ sight.sent (picture self.now) };
+
+    /// The datagram at a place of those that were sent, and the node that it is for, unless it is lost.
+    fn arrival(&self, place: usize) -> Option<(NodeId, &[u8])>
+        ensures { option_map (λ a. (a.0, a.1.now)) result ≡ sight.arrival (picture self.now) place };
+
+    /// The side to which a point is driven.
+    fn driven(&self, point: PointId) -> Option<Side>
+        ensures { result ≡ sight.driven (picture self.now) point };
+
+    /// The text of its picture, without a line feed at its end.
+    fn picture_text(&self, alloc: Global) -> Result<String, AllocError>
+        ensures { IfOk result (λ text. sight.IsText (picture self.now) (string_bytes text)) };
+}

@@ -1,0 +1,119 @@
+//! A station as the lines of a file drive it.
+
+ghost use Rattle.std.specs.Prelude.{◌≡◌, ◌/◌, ℕ, take, IfOk, OnOk, OnErr};
+ghost use Rattle.station_sim.specs.inside.Runs.{flowing_of};
+
+use crate::drive::{Drive, note_drives};
+use crate::due::{Due, add_deliveries, add_reaches, add_ticks, round_of_time};
+use crate::playable::Playable;
+use replay::{ROUND, node_count, recorded};
+use simulator::control_table::Checked;
+use simulator::simulator_event::{Answer, Event, Refused};
+use std::alloc::{AllocError, Global};
+
+/// A station, and how far the flows of time have come on it.
+#[derive(Drop)]
+pub(crate) struct Run<S> {
+    pub(crate) station: S,
+    /// How many of the datagrams that were sent a flow has gone past.
+    passed: usize,
+    /// For how long each point was found driven.
+    drives: Vec<Option<Drive>>,
+}
+
+impl<S: Playable> Run<S> {
+    ghost use Rattle.station_sim.specs.Flow.{Flows, StopsIn, all_did, IsBeginning, did, due, rested, round};
+    ghost use Rattle.station_sim.specs.Transcript.{Answers};
+
+    /// A new station, on which nothing has flowed.
+    pub(crate) fn new(alloc: Global, table: Checked) -> Result<Self, AllocError>
+        ensures { IfOk result (λ run. IsBeginning S.sight table (flowing_of S.picture run)) }
+    {
+        let points = table.layout().points().len();
+        Ok(Run {
+            station: S::new(alloc, table)?,
+            passed: 0,
+            drives: vec![in alloc; None; points]?,
+        })
+    }
+
+    /// Applies an event.
+    pub(crate) fn event(&mut self, event: &Event) -> Result<Answer, Refused>
+        ensures { Answers S.sight event.now (flowing_of S.picture self.old) result (flowing_of S.picture self.new) }
+    {
+        recorded(self.station.apply(event))
+    }
+
+    /// Lets time flow for so many milliseconds.
+    pub(crate) fn flow(&mut self, alloc: Global, length: u64) -> Result<Answer, Refused>
+        ensures { Flows S.sight (length / 10) (flowing_of S.picture self.old) result (flowing_of S.picture self.new) }
+    {
+        for _ in 0..length / ROUND {
+            let Ok(()) = self.round(alloc) else {
+                return Err(Refused::OutOfMemory);
+            };
+        }
+        Ok(Answer::Done)
+    }
+
+    /// A round of a flow. Where memory is lacking it stops, in front of one of its events.
+    fn round(&mut self, alloc: Global) -> Result<(), AllocError>
+        ensures ok { OnOk result (flowing_of S.picture self.new ≡ round S.sight (flowing_of S.picture self.old)) }
+        ensures err { OnErr result (StopsIn S.sight (flowing_of S.picture self.old) (flowing_of S.picture self.new)) }
+    {
+        let due = self.due(alloc)?;
+        self.apply_all(&due)?;
+        self.rest();
+        Ok(())
+    }
+
+    /// Tries the events of a round, one after the other.
+    fn apply_all(&mut self, due: &[Due]) -> Result<(), AllocError>
+        ensures ok { OnOk result (flowing_of S.picture self.new ≡ all_did S.sight due.now (flowing_of S.picture self.old)) }
+        ensures err { OnErr result ((count : ℕ) × (flowing_of S.picture self.new ≡ all_did S.sight (take count due.now) (flowing_of S.picture self.old))) }
+    {
+        for one in due {
+            self.apply(one)?;
+        }
+        Ok(())
+    }
+
+    /// The events of a round that begins now.
+    fn due(&self, alloc: Global) -> Result<Vec<Due>, AllocError>
+        ensures { IfOk result (λ all. all.items ≡ due S.sight (flowing_of S.picture self.now)) }
+    {
+        let layout = self.station.layout();
+        let sent = self.station.sent();
+        let event = round_of_time(alloc, layout)?;
+        let mut due = Vec::new(alloc);
+        due.push(Due {
+            event,
+            passed: self.passed,
+        })?;
+        add_deliveries(alloc, &self.station, self.passed, sent, &mut due)?;
+        add_ticks(node_count(layout), sent, &mut due)?;
+        add_reaches(&self.drives, sent, &mut due)?;
+        Ok(due)
+    }
+
+    /// Tries an event of a round: where it can't happen, it is passed over.
+    fn apply(&mut self, one: &Due) -> Result<(), AllocError>
+        ensures ok { OnOk result (flowing_of S.picture self.new ≡ did S.sight one.now (flowing_of S.picture self.old)) }
+        ensures err { OnErr result (flowing_of S.picture self.new ≡ flowing_of S.picture self.old) }
+    {
+        match self.station.apply(&one.event) {
+            Err(Refused::OutOfMemory) => Err(AllocError),
+            _ => {
+                self.passed = one.passed;
+                Ok(())
+            }
+        }
+    }
+
+    /// A round ends: it is noted which points are driven.
+    fn rest(&mut self)
+        ensures { flowing_of S.picture self.new ≡ rested S.sight (flowing_of S.picture self.old) }
+    {
+        note_drives(&self.station, &mut self.drives);
+    }
+}

@@ -1,0 +1,30 @@
+//! Tests of what the programs `station` and `pair` do: reports, files, want of memory, runs over memory and sockets, and command
+//! lines.
+#![tactic(auto)]
+
+#[cfg(test)]
+mod bell;
+#[cfg(test)]
+mod check_faults;
+#[cfg(test)]
+mod command_bench;
+#[cfg(test)]
+mod memory;
+#[cfg(test)]
+mod pair;
+#[cfg(test)]
+mod run_bench;
+#[cfg(test)]
+mod run_faults;
+#[cfg(test)]
+mod runs;
+#[cfg(test)]
+mod sockets;
+#[cfg(test)]
+mod station;
+#[cfg(test)]
+mod station_files;
+#[cfg(test)]
+mod station_memory;
+#[cfg(test)]
+mod writers;

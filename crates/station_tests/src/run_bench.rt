@@ -1,0 +1,179 @@
+//! A small station that is driven over memory, and what comes of it.
+
+use station_drive::{Clock, Datagrams};
+use station_network::{MemoryNetwork, NetCall};
+use station_run::{Asked, Prepared, prepare, run};
+use station_sim::replay_text;
+use std::alloc::Global;
+use std::io;
+use std::io::Write;
+
+/// One point, with a route over each of its legs from the same signal, and one back over its left leg.
+pub(crate) const SMALL: &str = r#"section = ["GA", "GP", "G1", "G2"]
+border = ["W", "E1", "E2"]
+joint = [["W.end","A1.a"], ["A1.b","P1.tip"], ["P1.left","T1.a"], ["P1.right","T2.a"], ["T1.b","E1.end"], ["T2.b","E2.end"]]
+track = [{name="A1",section="GA"}, {name="T1",section="G1"}, {name="T2",section="G2"}]
+point = [{name="P1",id=10,section="GP"}]
+signal = [{name="S1",id=2,at="A1.b"}, {name="S3",id=3,at="T1.a"}, {name="S4",id=4,at="T2.a"}]
+detector = [{name="D1",id=20,sections=["GA","GP","G1","G2"]}]
+route = [{name="R1",entry="S1",exit="E2",path=["P1.right","T2.b"],points={P1="right"},approach=["GA"]}, {name="R2",entry="S1",exit="E1",path=["P1.left","T1.b"],points={P1="left"},approach=["GA"]}, {name="R3",entry="S3",exit="W",path=["P1.tip","A1.a"],points={P1="left"},approach=["G1"]}]
+[station]
+name = "IXL1"
+id = 1
+"#;
+
+/// A disk that is full after so many bytes.
+#[derive(Drop)]
+struct Disk {
+    kept: Vec<u8>,
+    left: usize,
+}
+
+impl Write for Disk {
+    fn write(&mut self, buf: &[u8]) -> io::Result<usize> {
+        let taken = buf.len().min(self.left);
+        let (front, _) = buf.split_at(taken);
+        self.kept.extend_from_slice(front)?;
+        self.left -= taken;
+        Ok(taken)
+    }
+
+    fn flush(&mut self) -> io::Result<()> {
+        Ok(())
+    }
+}
+
+/// A clock that reads 0, then the time of the first round, and then goes on by 10 ms at each reading.
+#[derive(Drop)]
+struct HastyClock {
+    latest: u64,
+    /// By how much it goes on at the next reading, and at the one behind that, in microseconds.
+    steps: (u64, u64),
+}
+
+impl Clock for HastyClock {
+    ghost latest = { λ clock. clock.latest };
+
+    fn read(&mut self) -> u64 {
+        self.latest = self.latest.saturating_add(self.steps.0);
+        self.steps = (self.steps.1, 10_000);
+        self.latest
+    }
+}
+
+/// How a station is driven over memory.
+#[derive(Clone, Copy)]
+pub(crate) struct Drive<'a> {
+    pub(crate) script: &'a str,
+    /// When its first round is, in microseconds. The others are 10 ms apart.
+    pub(crate) begins: u64,
+    pub(crate) for_ms: u64,
+    /// For how many bytes of its record there is room.
+    pub(crate) room: usize,
+    /// Which call of its network fails, counted from 1; none at 0.
+    pub(crate) failing: u64,
+}
+
+/// What a run left.
+#[derive(Drop)]
+pub(crate) struct Left {
+    pub(crate) status: u8,
+    pub(crate) record: Vec<u8>,
+    pub(crate) out: Vec<u8>,
+    pub(crate) err: Vec<u8>,
+    /// How many calls of its network failed.
+    pub(crate) faults: u64,
+    /// Which call of its network was the first that sent, counted from 1.
+    pub(crate) first_sent: u64,
+}
+
+/// Which call of a network was the first that sent, counted from 1. Where none did, the one behind the last.
+fn first_sent(net: &MemoryNetwork) -> u64 {
+    let mut number: u64 = 1;
+    for call in net.calls() {
+        if matches!(call, NetCall::Sent(..)) {
+            break;
+        }
+        number = number.saturating_add(1);
+    }
+    number
+}
+
+/// Runs a station over memory.
+fn run_prepared(alloc: Global, prepared: Prepared, drive: Drive<'_>) -> Left {
+    let mut net = MemoryNetwork::new(alloc, drive.failing);
+    let mut clock = HastyClock {
+        latest: 0,
+        steps: (0, drive.begins),
+    };
+    let mut disk = Disk {
+        kept: Vec::new(alloc),
+        left: drive.room,
+    };
+    let (mut out, mut err) = (Vec::new(alloc), Vec::new(alloc));
+    let for_ms = drive.for_ms;
+    let status = prepared.run(
+        alloc, &mut net, &mut clock, for_ms, &mut disk, &mut out, &mut err,
+    );
+    Left {
+        status,
+        record: disk.kept,
+        out,
+        err,
+        faults: net.faults(),
+        first_sent: first_sent(&net),
+    }
+}
+
+/// Runs the small station over memory, unless its script is faulty.
+pub(crate) fn run_small(alloc: Global, drive: Drive<'_>) -> Option<Left> {
+    match prepare(alloc, SMALL, drive.script) {
+        Ok(prepared) => Some(run_prepared(alloc, prepared, drive)),
+        Err(_) => None,
+    }
+}
+
+/// What a run of the small station told.
+#[derive(Drop)]
+pub(crate) struct Told {
+    pub(crate) status: u8,
+    pub(crate) out: Vec<u8>,
+    pub(crate) err: Vec<u8>,
+}
+
+/// Runs a station over sockets.
+pub(crate) fn run_over_sockets(rt: &HostRuntime, asked: &Asked<'_>) -> Told {
+    let (mut out, mut err) = (Vec::new(rt.alloc()), Vec::new(rt.alloc()));
+    let status = run(rt, asked, &mut out, &mut err, false);
+    Told { status, out, err }
+}
+
+/// Whether the record of the small station answers the same again.
+pub(crate) fn is_same(alloc: Global, record: &[u8]) -> bool {
+    let (mut out, mut err) = (Vec::new(alloc), Vec::new(alloc));
+    let text = str::from_utf8(record).unwrap_or("=");
+    let status = replay_text(alloc, SMALL, text, &mut out, &mut err);
+    status == 0 && out.as_slice() == b"same\n".as_slice()
+}
+
+/// The whole lines of a record that may end within one.
+pub(crate) fn whole_lines(record: &[u8]) -> &[u8] {
+    match record.iter().rposition(|byte| *byte == b'\n') {
+        Some(place) => record.get(..=place).unwrap_or(&[]),
+        None => &[],
+    }
+}
+
+/// Whether a record is the same as another one up to a line of that one, which delivers a datagram.
+pub(crate) fn lacks_delivery(record: &[u8], other: &[u8]) -> bool {
+    let mut same: usize = 0;
+    for (one, two) in record.iter().zip(other) {
+        if *one != *two {
+            break;
+        }
+        same = same.saturating_add(1);
+    }
+    let (front, _) = other.split_at(same.min(other.len()));
+    let (_, line) = other.split_at(whole_lines(front).len().min(other.len()));
+    line.starts_with(b"deliver ")
+}

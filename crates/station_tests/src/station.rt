@@ -1,0 +1,365 @@
+//! The texts for command lines, which no contract says. What takes memory is done again where it is lacking, so that
+//! the answers also hold with any one allocation refused.
+
+use crate::command_bench::expect_printed;
+use station_command::{Asked, Error, is_memory, read_words};
+use std::alloc::Global;
+use std::process::Abort;
+use std::test::Fail;
+
+const HELP: &str = "The interlocking of a railway station
+
+Usage: station <COMMAND>
+
+Commands:
+  check   Checks the layout of a station and its table of routes
+  sim     Applies lines of events to a station of a layout
+  replay  Applies a recorded session to a station of a layout again
+  run     Runs a station of a layout over loopback sockets
+  help    Print this message or the help of the given subcommand(s)
+
+Options:
+  -h, --help     Print help
+  -V, --version  Print version
+";
+
+const CHECK_HELP: &str = "Checks the layout of a station and its table of routes.
+
+A layout is a TOML file that says what lies where (tracks, points, signals, detection sections) and
+which routes there are. It is sound where each route has an unbroken path, names exactly the points
+that it needs on its path and at its flanks, and has its signals at the right places.
+
+For a sound layout it prints how many signals, points, sections and routes the station has, and each
+pair of routes that can't be set at the same time. Otherwise it prints the first fault, and ends with
+status 1. docs/INTERLOCKING.md has the keys of the file and all faults, examples/ has stations.
+
+Example: station check examples/junction.toml
+
+Usage: station check <FILE>
+
+Arguments:
+  <FILE>
+          The layout, a TOML file
+
+Options:
+  -h, --help
+          Print help (see a summary with '-h')
+";
+
+const SHORT_CHECK_HELP: &str = "Checks the layout of a station and its table of routes
+
+Usage: station check <FILE>
+
+Arguments:
+  <FILE>  The layout, a TOML file
+
+Options:
+  -h, --help  Print help (see more with '--help')
+";
+
+const SIM_HELP: &str = "Applies lines of events to a station of a layout.
+
+The station runs in this process: the interlocking, a controller for each signal, point and detector,
+a clock for each, and the network between them. Each line is an event, or asks for something:
+
+  set R, cancel R, resume     a command to the interlocking
+  occupy S, clear S           a section is occupied, or clear
+  tick NODE                   the timer of a node calls it
+  time D NODE=E ..            D microseconds pass, and E on the clock of a node that is named
+  deliver NODE HEX            the network delivers bytes to a node (a hyphen for none)
+  lose HEX                    the network loses the oldest copy of a datagram
+  reach P left|right|none     a point that is driven comes to lie somewhere
+  restart NODE CLOCK SN       a node is made anew
+  flow MS                     so much time flows in rounds of 10 ms, and all datagrams are delivered
+  picture                     what is seen of the station
+
+All lines are judged before the first event. Each is then answered on a line of its own: `ok`,
+`accepted`, `refused N` by the interlocking, or `no N` for an event that can't happen.
+
+Example: station sim examples/small.toml examples/proceed.events
+
+Usage: station sim <FILE> <EVENTS>
+
+Arguments:
+  <FILE>
+          The layout, a TOML file
+
+  <EVENTS>
+          The lines of events
+
+Options:
+  -h, --help
+          Print help (see a summary with '-h')
+";
+
+const REPLAY_HELP: &str = "Applies a recorded session to a station of a layout again.
+
+Each line of a session is an event and what it answered, as EVENT = ANSWER. Where each event answers
+the same, it prints `same`. Otherwise it prints the first line that differs, and ends with status 3.
+
+Example: station replay examples/small.toml examples/commands.session
+
+Usage: station replay <FILE> <RECORD>
+
+Arguments:
+  <FILE>
+          The layout, a TOML file
+
+  <RECORD>
+          The recorded session
+
+Options:
+  -h, --help
+          Print help (see a summary with '-h')
+";
+
+const RUN_HELP: &str = "Runs a station of a layout over loopback sockets.
+
+Each node has a UDP socket of its own. About every 10 ms time passes, each datagram that has come is
+delivered, the lines of the script that are due are applied, and every node ticks. Each line of a
+script is `at MS EVENT`, with the events set, cancel, resume, occupy, clear and restart, in rising
+order of MS.
+
+Each event is recorded with what it answered; the record of a run that was stopped is good as far as
+it goes. At the end it prints what is seen of the station.
+
+Example: station run examples/small.toml --script examples/proceed.script --record run.session --for 12000
+
+Usage: station run --script <S> --record <R> --for <MS> <FILE>
+
+Arguments:
+  <FILE>
+          The layout, a TOML file
+
+Options:
+      --script <S>
+          The lines that are applied, each at its time
+
+      --record <R>
+          The file to which the session is written
+
+      --for <MS>
+          How long the station runs, from 1000 to 600000 milliseconds
+
+  -h, --help
+          Print help (see a summary with '-h')
+";
+
+const NO_FILE: &str = "error: the following required arguments were not provided:
+  <FILE>
+
+Usage: station check <FILE>
+
+For more information, try '--help'.
+";
+
+const NO_SUCH_COMMAND: &str = "error: unrecognized subcommand 'frobnicate'
+
+Usage: station <COMMAND>
+
+For more information, try '--help'.
+";
+
+const A_WORD_TOO_MANY: &str = "error: unexpected argument 'b.toml' found
+
+Usage: station check <FILE>
+
+For more information, try '--help'.
+";
+
+const NO_EVENTS: &str = "error: the following required arguments were not provided:
+  <EVENTS>
+
+Usage: station sim <FILE> <EVENTS>
+
+For more information, try '--help'.
+";
+
+const A_RECORD_TOO_MANY: &str = "error: unexpected argument 'c' found
+
+Usage: station replay <FILE> <RECORD>
+
+For more information, try '--help'.
+";
+
+const NO_RECORD_AND_NO_TIME: &str = "error: the following required arguments were not provided:
+  --record <R>
+  --for <MS>
+
+Usage: station run --script <S> --record <R> --for <MS> <FILE>
+
+For more information, try '--help'.
+";
+
+const TOO_SHORT: &str = "error: invalid value '999' for '--for <MS>': 999 is not in 1000..=600000
+
+For more information, try '--help'.
+";
+
+const TOO_LONG: &str =
+    "error: invalid value '600001' for '--for <MS>': 600001 is not in 1000..=600000
+
+For more information, try '--help'.
+";
+
+const NO_TIME: &str = "error: invalid value '1s' for '--for <MS>': invalid digit found in string
+
+For more information, try '--help'.
+";
+
+const A_SECOND_SCRIPT: &str = "error: the argument '--script <S>' cannot be used multiple times
+
+Usage: station run --script <S> --record <R> --for <MS> <FILE>
+
+For more information, try '--help'.
+";
+
+/// Reads the words of a command line; where memory is lacking they are read once more.
+fn read<'a>(alloc: Global, words: &'a [&str]) -> Result<Asked<'a>, Error> {
+    match read_words(alloc, words) {
+        Err(error) if is_memory(&error) => read_words(alloc, words),
+        answer => answer,
+    }
+}
+
+// What is printed for a command line, to the standard error where the status is 2.
+fn expect_text(
+    rt: &impl Abort,
+    alloc: Global,
+    words: &[&str],
+    status: i32,
+    text: &str,
+) -> Result<(), Fail> {
+    match read(alloc, words) {
+        Ok(asked) => assert!(rt; false, "{asked:?} was asked"),
+        Err(error) => {
+            assert!(rt; !is_memory(&error), "there is memory");
+            assert!(rt; error.exit_code() == status);
+            expect_printed(rt, alloc, &error, status == 2, text)?;
+        }
+    }
+    Ok(())
+}
+
+#[test]
+fn help_and_the_version_are_printed_where_they_are_asked_for(rt: HostRuntime) -> Result<(), Fail> {
+    for (words, text) in [
+        (["station", "--help"].as_slice(), HELP),
+        (["station", "help"].as_slice(), HELP),
+        (["station", "check", "--help"].as_slice(), CHECK_HELP),
+        (["station", "check", "-h"].as_slice(), SHORT_CHECK_HELP),
+        (["station", "sim", "--help"].as_slice(), SIM_HELP),
+        (["station", "help", "replay"].as_slice(), REPLAY_HELP),
+        (["station", "run", "--help"].as_slice(), RUN_HELP),
+        (["station", "--version"].as_slice(), "station 1.0.0\n"),
+        (["station", "-V"].as_slice(), "station 1.0.0\n"),
+    ] {
+        expect_text(&rt, rt.alloc(), words, 0, text)?;
+    }
+    Ok(())
+}
+
+#[test]
+fn a_wrong_command_line_has_status_2(rt: HostRuntime) -> Result<(), Fail> {
+    let run = ["station", "run", "f", "--script", "s", "--for", "999"];
+    for (words, text) in [
+        (["station"].as_slice(), HELP),
+        (["station", "check"].as_slice(), NO_FILE),
+        (["station", "frobnicate"].as_slice(), NO_SUCH_COMMAND),
+        (
+            ["station", "check", "a.toml", "b.toml"].as_slice(),
+            A_WORD_TOO_MANY,
+        ),
+        (["station", "sim", "a.toml"].as_slice(), NO_EVENTS),
+        (
+            ["station", "replay", "a", "b", "c"].as_slice(),
+            A_RECORD_TOO_MANY,
+        ),
+        (&run[..5], NO_RECORD_AND_NO_TIME),
+        (run.as_slice(), TOO_SHORT),
+        (["station", "run", "--for=600001"].as_slice(), TOO_LONG),
+        (["station", "run", "--for=1s"].as_slice(), NO_TIME),
+        (
+            ["station", "run", "--script=a", "--script=b"].as_slice(),
+            A_SECOND_SCRIPT,
+        ),
+    ] {
+        expect_text(&rt, rt.alloc(), words, 2, text)?;
+    }
+    Ok(())
+}
+
+#[test]
+fn words_are_read(rt: HostRuntime) {
+    let (layout, script, record) = ("a b", "s", "-");
+    let sim = Asked::Sim {
+        layout,
+        events: "-",
+    };
+    let replay = Asked::Replay {
+        layout,
+        recording: "--help",
+    };
+    let short = [
+        "station", "run", "a b", "--script", "s", "--record", "-", "--for", "1000",
+    ];
+    let long = [
+        "station",
+        "run",
+        "--for=+600000",
+        "--record=-",
+        "--script",
+        "s",
+        "--",
+        "a b",
+    ];
+    for (words, asked) in [
+        (
+            ["station", "check", "small.toml"].as_slice(),
+            Asked::Check("small.toml"),
+        ),
+        (
+            ["/usr/bin/other", "check", "a b/c"].as_slice(),
+            Asked::Check("a b/c"),
+        ),
+        (
+            ["station", "check", "--", "--help"].as_slice(),
+            Asked::Check("--help"),
+        ),
+        (["station", "sim", "a b", "-"].as_slice(), sim),
+        (["station", "sim", "--", "a b", "-"].as_slice(), sim),
+        (["station", "sim", "a b", "--", "-"].as_slice(), sim),
+        (["station", "sim", "a b", "-", "--"].as_slice(), sim),
+        (
+            ["station", "replay", "--", "a b", "--help"].as_slice(),
+            replay,
+        ),
+        (
+            ["station", "replay", "a b", "--", "--help"].as_slice(),
+            replay,
+        ),
+        (
+            short.as_slice(),
+            Asked::Run {
+                layout,
+                script,
+                record,
+                for_ms: 1000,
+            },
+        ),
+        (
+            long.as_slice(),
+            Asked::Run {
+                layout,
+                script,
+                record,
+                for_ms: 600_000,
+            },
+        ),
+    ] {
+        match read(rt.alloc(), words) {
+            Ok(read) => assert!(rt; read == asked),
+            Err(error) => assert!(rt; false, "{error}"),
+        }
+    }
+}
