@@ -175,7 +175,7 @@ module _ (laws : ChangeLaws) (site : Site) (table : Table) (world new : WorldSta
 
     stays_gone : (other : ℕ) → (other ≡ place) ⊎ (other ≢ place) → slice_get world.station.ixl.known_signals other ≡ None → (machine.signals other).link.server ≡ Gone → (with_one_signal.signals other).link.server ≡ Gone
     stays_gone other (inl same) none gone =
-        let lamp = some_within world.station.ixl.known_signals place (subst (λ n. place < n) (sym represented.linked.whole.clients.known_signals) below)
+        let known_signal = some_within world.station.ixl.known_signals place (subst (λ n. place < n) (sym represented.linked.whole.clients.known_signals) below)
         in absurd (none_some known_signal.0 (sym none ∙ ap (slice_get world.station.ixl.known_signals) same ∙ known_signal.1))
     stays_gone other (inr differ) none gone = ap (λ (s : MachineSignal). s.link.server) (signal_elsewhere other differ) ∙ gone
 

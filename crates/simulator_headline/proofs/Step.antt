@@ -283,7 +283,7 @@ module _ (laws : StepLaws) (site : Site) (table : Table) (input : ixl.Input) (co
       each = λ place server server_at.
           let within : place < length site.signals = subst (λ n. place < n) represented.linked.whole.signals (within_some world.signals place server server_at)
           in let first = first_known_signal place within
-          in let lamp = get_below part.ixl.known_signals place (subst (λ n. place < n) (sym known_signals_same) within)
+          in let known_signal = get_below part.ixl.known_signals place (subst (λ n. place < n) (sym known_signals_same) within)
           in one_signal place first.0 known_signal.0 first.1 known_signal.1 server server_at;
       hosts = represented.signals.hosts;
     }

@@ -341,7 +341,7 @@ module _ (laws : TimeLaws) (site : Site) (table : Table) (elapsed : ℕ) (steps 
 
     one_signal : (place : ℕ) (server : ServerState SignalState) → slice_get world.signals place ≡ Some server → IsSignalSeen (seen place after) server.host (new.signals place)
     one_signal place server at =
-        let lamp = get_below kept.known_signals place (subst (λ n. place < n) (represented_is.linked.whole.signals ∙ sym represented_is.linked.whole.clients.known_signals) (within_some world.signals place server at))
+        let known_signal = get_below kept.known_signals place (subst (λ n. place < n) (represented_is.linked.whole.signals ∙ sym represented_is.linked.whole.clients.known_signals) (within_some world.signals place server at))
         in let end = known_signal_after place known_signal.0 known_signal.1
         in subst (λ (e : Ends). IsSignalSeen e server.host (new.signals place)) (whole_is place)
         (signal_passed elapsed (slice_index_or steps 0 0) (slice_index_or (drop 1 steps) place 0) (seen place network) laws.ends reading known_signal.0.client.link
