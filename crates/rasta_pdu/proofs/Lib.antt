@@ -9,3 +9,4 @@ pub mod PduLaws
 pub mod CodecLaws
 pub mod FaultLaws
 pub mod Intact
+pub mod HeaderLaws

@@ -38,7 +38,7 @@ pub length-text : (pdu : Pdu) → length (text pdu) ≡ 28 + length (payload pdu
 unfolding text fields
 length-text pdu = omega arith
 
-type_small : (body : Body) → type_of body < 2 ^ 16
+pub type_small : (body : Body) → type_of body < 2 ^ 16
 type_small (ConnectionRequest opening) = omega arith
 type_small (ConnectionResponse opening) = omega arith
 type_small RetransmissionRequest = omega arith

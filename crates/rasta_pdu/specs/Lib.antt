@@ -4,3 +4,4 @@ pub mod SafetyCode
 pub mod Spelling
 pub mod Reading
 pub mod Faults
+pub mod Header

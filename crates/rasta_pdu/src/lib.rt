@@ -4,6 +4,7 @@
 
 mod body;
 mod fault;
+mod header;
 mod item;
 mod items;
 mod key;
@@ -17,6 +18,7 @@ mod writer;
 
 pub use body::{Body, Opening};
 pub use fault::PduFault;
+pub use header::{is_request, receiver_of};
 pub use item::Item;
 pub use items::Items;
 pub use key::Key;
