@@ -12,6 +12,7 @@ use Rattle.sci_telegram.specs.declared.telegram.Telegram.{Telegram}
 use Rattle.object_host.specs.declared.report.Report.{Report}
 use Rattle.object_host.specs.declared.sense.Sense.{Sense}
 use Rattle.object_host.specs.declared.sense.Sense.TheVariants as sense
+use Rattle.point_ctl.specs.declared.drive.Drive.{Drive}
 use Rattle.point_ctl.specs.declared.progress.Progress.{Progress}
 use Rattle.point_ctl.specs.declared.progress.Progress.TheVariants.{Answered, Driving, Arrived, TimedOut}
 
@@ -134,3 +135,15 @@ driven now until _ = None
 
 abbrev pub drives : ℕ → PointState → Option Side
 drives now point = driven now point.until point.progress
+
+-- the drive of the move in progress: its side, and the earlier of its limit and the moment last kept
+abbrev pub drive_of : PointState → Option Drive
+drive_of point = under_way point.progress where
+  under_way : Progress → Option Drive
+  under_way (Driving side since) = Some (record { side = side; until = min (drive_end since) point.until })
+  under_way _ = None
+
+-- the side to which a drive drives at a clock reading
+abbrev pub driven_by : Option Drive → ℕ → Option Side
+driven_by None now = None
+driven_by (Some drive) now = if nat_lt now drive.until then Some drive.side else None

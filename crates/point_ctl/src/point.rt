@@ -1,9 +1,10 @@
 //! The controller of a point.
 
-ghost use Rattle.std.specs.Prelude.{◌≡◌};
-ghost use Rattle.point_ctl.specs.Drive.{commanded_by, move_taken, own_report, position_report, made, drives};
+ghost use Rattle.std.specs.Prelude.{◌≡◌, ℕ};
+ghost use Rattle.point_ctl.specs.Drive.{commanded_by, drive_of, driven_by, drives, made, move_taken, own_report, position_report};
 ghost use Rattle.point_ctl.specs.Controlled.{point_behaviour};
 
+use crate::drive::Drive;
 use crate::parameters::DRIVE_LIMIT;
 use crate::progress::{Progress, is_at};
 use object_host::{Controller, Report, Sense};
@@ -76,6 +77,19 @@ impl Point {
         };
         let is_in_time = now < since.saturating_add(DRIVE_LIMIT) && now < self.until;
         is_in_time.then_some(side)
+    }
+
+    /// The drive of the move in progress, with the moment at which it ends if nothing ends it before. At each reading of its
+    /// own clock the point is driven exactly as this says, with no call in between.
+    pub fn drive(&self) -> Option<Drive>
+        ensures drive { result ≡ drive_of self.now }
+        ensures drives { (now : ℕ) → drives now self.now ≡ driven_by result now }
+    {
+        let Progress::Driving { side, since } = self.progress else {
+            return None;
+        };
+        let until = since.saturating_add(DRIVE_LIMIT).min(self.until);
+        Some(Drive { side, until })
     }
 
     /// What the point tells of where it lies.

@@ -75,4 +75,11 @@ impl Lamp {
     {
         self.indicated
     }
+
+    /// The moment last kept, in ms of the controller's own clock: from then on only stop is shown.
+    pub fn until(&self) -> u64
+        ensures { result ≡ self.now.until }
+    {
+        self.until
+    }
 }

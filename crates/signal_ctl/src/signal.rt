@@ -1,6 +1,6 @@
 //! A signal as the object of a host.
 
-ghost use Rattle.std.specs.Prelude.{◌≡◌, false};
+ghost use Rattle.std.specs.Prelude.{◌≡◌, ◌<◌, ◌≤◌, ℕ, false};
 
 use crate::lamp::Lamp;
 use object_host::{Controller, Report, Sense};
@@ -51,6 +51,15 @@ impl Signal {
         ensures { result ≡ self.now.lamp.indicated }
     {
         self.lamp.indicated()
+    }
+
+    /// The moment last kept, in ms of its own clock: from then on it shows only stop, with no call in between.
+    pub fn until(&self) -> Millis
+        ensures until { result ≡ self.now.lamp.until }
+        ensures dark { (now : ℕ) → result ≤ now → aspect_shown self.now.lamp now ≡ Aspect.Stop }
+        ensures standing { (now : ℕ) → now < result → aspect_shown self.now.lamp now ≡ self.now.lamp.indicated }
+    {
+        self.lamp.until()
     }
 
     /// The report of the aspect indicated.
