@@ -1,6 +1,7 @@
 -- The control table, as the rules read it. Signals, points, detectors, sections and routes are numbers: their places in
 -- the layout.
 use Rattle.std.specs.Prelude.{ℕ, Bool, true, false, ◌&&◌, List, Option, Some, None, slice_get}
+use Rattle.control_table.specs.layout.Entries.{Site}
 use Rattle.control_table.specs.sci_telegram.declared.message.Aspect.{Aspect}
 use Rattle.control_table.specs.sci_telegram.declared.message.Side.{Side}
 use Rattle.control_table.specs.sci_telegram.declared.message.Side.TheVariants as sides
@@ -33,6 +34,11 @@ pub record Table : Type 0 where
   pub reporters : List (ℕ × ℕ)
   -- the sections of each detector, in its own order
   pub detectors : List (List ℕ)
+
+-- the control table of a site
+pub record SitedTable : Type 0 where
+  pub site : Site
+  pub table : Table
 
 abbrev pub is_same_side : Side → Side → Bool
 is_same_side sides.Right sides.Right = true

@@ -11,6 +11,7 @@ use Rattle.ixl_rules.specs.control_table.Topology.{IsRoute}
 use Rattle.ixl_rules.specs.control_table.Freeing.{Awaits}
 use Rattle.ixl_rules.specs.control_table.Table.{AreRequired, AreSections, HasAspect}
 use Rattle.ixl_rules.specs.Table.{Need, Row, Table}
+pub use Rattle.ixl_rules.specs.Table.{SitedTable}
 
 -- ---- numbers and what they name
 
@@ -74,11 +75,6 @@ pub record IsTableOf (l : Site) (table : Table) : Type 0 where
   pub point_sections : map as_section table.point_sections ≡ map (λ point. point.section) l.points
   pub reporters : AreReporters l table.reporters
   pub detectors : map (λ sections. map as_section sections) table.detectors ≡ map (λ detector. detector.sections) l.detectors
-
--- The control table of a site, as the rules read it.
-pub record SitedTable : Type 0 where
-  pub site : Site
-  pub table : Table
 
 -- ---- limits
 

@@ -6,6 +6,7 @@ ghost use Rattle.simulator_ixl.specs.simulator_run.Refusals.{refusal, refusal_of
 ghost use Rattle.simulator.specs.inside.Finding.{Finds};
 ghost use Rattle.simulator.specs.inside.Parts.{Goes, IsWhole, site_of, room_of, seen, table_of};
 
+use crate::found::Found;
 use crate::parts::Parts;
 use simulator_ixl::simulator_event::{Answer, Event};
 use std::alloc::AllocError;
@@ -24,7 +25,7 @@ impl Parts {
 
     /// An event that can happen does, with what its test found. Only a restart may lack memory.
     #[tactic(auto, unfolding(crate::proofs::Below::happens, crate::proofs::Below::answered, crate::proofs::Below::refusal, crate::proofs::Below::world_of))]
-    pub(crate) fn happen(&mut self, event: &Event, found: usize) -> Result<Answer, AllocError>
+    pub(crate) fn happen(&mut self, event: &Event, found: Found) -> Result<Answer, AllocError>
         requires whole { IsWhole self.old }
         requires room { 5120 ≤ room_of self.old }
         requires allowed { refusal (site_of self.old) event.now (seen self.old) ≡ None }
@@ -34,19 +35,26 @@ impl Parts {
         ensures same { OnErr result (self.new ≡ self.old) }
         ensures only_restarts { OnErr result (IsTrue (is_restart event.now)) }
     {
-        match event {
-            Event::Request(command) => return Ok(self.request(*command)),
-            Event::Occupy { section, occupancy } => self.occupy(*section, *occupancy),
-            Event::Tick(node) => self.tick(*node),
-            Event::Time { elapsed, clocks } => self.pass(*elapsed, clocks.as_slice()),
-            Event::Deliver { node, bytes } => self.deliver(*node, bytes.as_slice(), found),
-            Event::Lose(_) => self.controllers.network.lose(found),
-            Event::Reach { point, position } => self.reach(*point, *position),
-            Event::Restart {
-                node,
-                clock,
-                first_sequence_number,
-            } => self.restart(*node, *clock, *first_sequence_number)?,
+        match (event, found) {
+            (Event::Request(command), _) => return Ok(self.request(*command)),
+            (Event::Occupy { section, occupancy }, _) => self.occupy(*section, *occupancy),
+            (Event::Tick(node), _) => self.tick(*node),
+            (Event::Time { elapsed, clocks }, _) => self.pass(*elapsed, clocks.as_slice()),
+            (Event::Deliver { node, bytes }, Found::Connection(connection)) => {
+                self.deliver(*node, bytes.as_slice(), connection);
+            }
+            (Event::Lose(_), Found::Place(place)) => self.controllers.network.lose(place),
+            // The tests of deliveries and losses find nothing else.
+            (Event::Deliver { .. } | Event::Lose(_), _) => {}
+            (Event::Reach { point, position }, _) => self.reach(*point, *position),
+            (
+                Event::Restart {
+                    node,
+                    clock,
+                    first_sequence_number,
+                },
+                _,
+            ) => self.restart(*node, *clock, *first_sequence_number)?,
         }
         Ok(Answer::Done)
     }

@@ -4,6 +4,7 @@
 
 mod application;
 mod events;
+mod found;
 mod node_steps;
 mod nodes;
 mod parts;

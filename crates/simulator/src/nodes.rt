@@ -2,11 +2,12 @@
 
 ghost use Rattle.std.specs.Prelude.{◌≡◌};
 ghost use Rattle.std.specs.Option.{option_map};
-ghost use Rattle.simulator_ixl.specs.simulator_run.Nodes.{controller_at, links, node_at};
+ghost use Rattle.simulator_ixl.specs.simulator_run.Nodes.{controller_at, node_at};
 ghost use Rattle.simulator.specs.inside.Nodes.{meant_node};
 
 use simulator_ixl::layout::Layout;
 use simulator_ixl::simulator_event::NodeId;
+use simulator_ixl::simulator_run::links;
 
 /// A node: the station, or a controller by its place among those of its kind.
 #[derive(Clone, Copy, Debug)]
@@ -15,13 +16,6 @@ pub(crate) enum Node {
     Signal(usize),
     Point(usize),
     Detector(usize),
-}
-
-/// How many links there are.
-pub(crate) fn links(layout: &Layout) -> usize
-    ensures { result ≡ links layout.now }
-{
-    layout.signals().len() + layout.points().len() + layout.detectors().len()
 }
 
 /// The controller of a link: the links of signals come first, then those of points, and last those of detectors.

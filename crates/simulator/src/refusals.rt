@@ -7,7 +7,7 @@ ghost use Rattle.simulator_ixl.specs.simulator_run.Refusals.{is_missing, may_rea
 ghost use Rattle.simulator.specs.inside.Finding.{Tells};
 ghost use Rattle.simulator.specs.inside.Parts.{IsWhole, site_of, seen};
 
-use crate::nodes::links;
+use crate::found::Found;
 use crate::parts::Parts;
 use crate::time_limits::CLOCK_LIMIT;
 use simulator_ixl::ixl_rules::key_of;
@@ -15,6 +15,7 @@ use simulator_ixl::layout::{PointId, SectionId};
 use simulator_ixl::rasta_core::Millis;
 use simulator_ixl::sci_telegram::{Position, Side};
 use simulator_ixl::simulator_event::{Event, NodeId, Refused};
+use simulator_ixl::simulator_run::links;
 
 /// How many microseconds a millisecond has.
 const MICROS: u64 = 1000;
@@ -41,41 +42,41 @@ impl Parts {
 
     /// Whether a section can be occupied or cleared.
     #[tactic(auto, unfolding(crate::proofs::Below::refusal))]
-    fn tested_section(&self, section: SectionId) -> Result<usize, Refused>
+    fn tested_section(&self, section: SectionId) -> Result<Found, Refused>
         ensures { (occupancy : Occupancy) → Tells (site_of self.now) (events.Occupy section occupancy) (seen self.now) result }
     {
         if section.0 >= self.layout().sections().len() {
             return Err(Refused::NoSuchNode);
         }
-        Ok(0)
+        Ok(Found::Nothing)
     }
 
     /// Whether a node can be called.
     #[tactic(auto, unfolding(crate::proofs::Below::refusal))]
-    fn tested_tick(&self, node: NodeId) -> Result<usize, Refused>
+    fn tested_tick(&self, node: NodeId) -> Result<Found, Refused>
         ensures { Tells (site_of self.now) (events.Tick node) (seen self.now) result }
     {
         if self.is_missing(node) {
             return Err(Refused::NoSuchNode);
         }
-        Ok(0)
+        Ok(Found::Nothing)
     }
 
     /// Whether time can go on so.
     #[tactic(auto, unfolding(crate::proofs::Below::refusal))]
-    fn tested_time(&self, elapsed: u64, steps: &[u64]) -> Result<usize, Refused>
+    fn tested_time(&self, elapsed: u64, steps: &[u64]) -> Result<Found, Refused>
         requires { IsWhole self.now }
         ensures { Tells (site_of self.now) (events.Time elapsed steps.now) (seen self.now) result }
     {
         match self.refusal_of_time(elapsed, steps) {
             Some(why) => Err(why),
-            None => Ok(0),
+            None => Ok(Found::Nothing),
         }
     }
 
     /// The connection in which bytes were sent that can be delivered to a node.
     #[tactic(auto, unfolding(crate::proofs::Below::refusal, crate::proofs::Below::world_of))]
-    fn tested_delivery(&self, node: NodeId, bytes: &[u8]) -> Result<usize, Refused>
+    fn tested_delivery(&self, node: NodeId, bytes: &[u8]) -> Result<Found, Refused>
         ensures { Tells (site_of self.now) (events.Deliver node bytes.now) (seen self.now) result }
     {
         if self.is_missing(node) {
@@ -83,25 +84,25 @@ impl Parts {
         }
         let key = key_of(self.layout());
         match self.controllers.network.delivered(&key, bytes) {
-            Some(connection) => Ok(connection),
+            Some(connection) => Ok(Found::Connection(connection)),
             None => Err(Refused::NeverSent),
         }
     }
 
     /// The place of the oldest copy of bytes.
     #[tactic(auto, unfolding(crate::proofs::Below::refusal, crate::proofs::Below::world_of))]
-    fn tested_loss(&self, bytes: &[u8]) -> Result<usize, Refused>
+    fn tested_loss(&self, bytes: &[u8]) -> Result<Found, Refused>
         ensures { Tells (site_of self.now) (events.Lose bytes.now) (seen self.now) result }
     {
         match self.controllers.network.oldest_copy(bytes) {
-            Some(place) => Ok(place),
+            Some(place) => Ok(Found::Place(place)),
             None => Err(Refused::NeverSent),
         }
     }
 
     /// Whether a point can come to lie somewhere.
     #[tactic(auto, unfolding(crate::proofs::Below::refusal, crate::proofs::Below::world_of))]
-    fn tested_reach(&self, point: PointId, position: Position) -> Result<usize, Refused>
+    fn tested_reach(&self, point: PointId, position: Position) -> Result<Found, Refused>
         requires { IsWhole self.now }
         ensures { Tells (site_of self.now) (events.Reach point position) (seen self.now) result }
     {
@@ -111,12 +112,12 @@ impl Parts {
         if !may_reach(self.driven(point), position) {
             return Err(Refused::NotDriven);
         }
-        Ok(0)
+        Ok(Found::Nothing)
     }
 
     /// Whether a node can be made anew.
     #[tactic(auto, unfolding(crate::proofs::Below::refusal))]
-    fn tested_restart(&self, node: NodeId, clock: Millis, first: u32) -> Result<usize, Refused>
+    fn tested_restart(&self, node: NodeId, clock: Millis, first: u32) -> Result<Found, Refused>
         ensures { Tells (site_of self.now) (events.Restart node clock first) (seen self.now) result }
     {
         if self.is_missing(node) {
@@ -125,18 +126,17 @@ impl Parts {
         if clock > CLOCK_LIMIT / MICROS {
             return Err(Refused::ClockLimit);
         }
-        Ok(0)
+        Ok(Found::Nothing)
     }
 
-    /// What an event needs that can happen, or why it can't: of a delivery the connection in which the bytes were sent,
-    /// and of a loss the place of the datagram.
+    /// What an event needs that can happen, or why it can't.
     #[tactic(auto, unfolding(crate::proofs::Below::refusal, crate::proofs::Below::world_of))]
-    pub(crate) fn tested(&self, event: &Event) -> Result<usize, Refused>
+    pub(crate) fn tested(&self, event: &Event) -> Result<Found, Refused>
         requires { IsWhole self.now }
         ensures { Tells (site_of self.now) event.now (seen self.now) result }
     {
         match event {
-            Event::Request(_) => Ok(0),
+            Event::Request(_) => Ok(Found::Nothing),
             Event::Occupy { section, .. } => self.tested_section(*section),
             Event::Tick(node) => self.tested_tick(*node),
             Event::Time { elapsed, clocks } => self.tested_time(*elapsed, clocks.as_slice()),

@@ -6,11 +6,11 @@ ghost use Rattle.simulator_ixl.specs.simulator_run.Nodes.{nodes};
 ghost use Rattle.simulator_ixl.specs.simulator_run.Refusals.{all_within, are_within, clock_limit, keeps_time, refusal_of_time};
 ghost use Rattle.simulator.specs.inside.Parts.{IsWhole, site_of, seen};
 
-use crate::nodes::links;
 use crate::parts::Parts;
 use simulator_ixl::object_host::Controller;
 use simulator_ixl::simulator_event::Refused;
 use simulator_ixl::simulator_field::ClockedController;
+use simulator_ixl::simulator_run::nodes;
 
 /// The greatest true time and the greatest clock, in microseconds.
 pub(crate) const CLOCK_LIMIT: u64 = 9_000_000_000_000_000;
@@ -78,7 +78,7 @@ impl Parts {
         requires { IsWhole self.now }
         ensures { result ≡ refusal_of_time (site_of self.now) elapsed steps.now (seen self.now) }
     {
-        if steps.len() != links(self.layout()) + 1 {
+        if steps.len() != nodes(self.layout()) {
             return Some(Refused::NoSuchNode);
         }
         if !all_keep_time(elapsed, steps) {

@@ -1,5 +1,4 @@
 mod Below
-mod Bytes
 mod Clocks
 mod Made
 mod Pairs

@@ -4,7 +4,6 @@
 
 mod clocked_interlocking;
 mod connections;
-mod datagram;
 mod held;
 
 pub use clocked_interlocking::{ClockedInterlocking, MOST_SENT};

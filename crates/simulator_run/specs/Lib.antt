@@ -10,6 +10,8 @@ pub mod Run
 pub mod Seen
 pub mod Picture
 pub mod Links
+pub mod Tried
+pub mod Flow
 -- what crates above need of the crates below
 pub use Rattle.ixl_rules.specs as ixl_rules
 pub use Rattle.object_host.specs as object_host

@@ -2,7 +2,7 @@
 use Rattle.std.specs.Prelude.{ℕ, zero, suc, ◌*◌, ◌==◌, ◌&&◌, Bool, List, [], ◌∷◌, ◌++◌, length, Option, Some, None, slice_index_or, slice_set, unwrap_or, if◌then◌else◌}
 use Rattle.std.specs.List.{position}
 use Rattle.ixl_rules.specs.layout.Entries.{Site}
-use Rattle.ixl_rules.specs.rasta_pdu.Reading.{u16_at, u32_at}
+use Rattle.ixl_rules.specs.rasta_pdu.Header.{is_request, receiver_of}
 use Rattle.ixl_rules.specs.rasta_core.Ends.{handed_out, reading_of}
 use Rattle.ixl_rules.specs.rasta_core.Links.{OnLink, sent_on}
 use Rattle.ixl_rules.specs.rasta_core.Outbox.{OutboxState}
@@ -26,13 +26,9 @@ station_step site table input station =
 abbrev pub station_reply : Site → Table → ixl.Input → StationState → ixl.Reply
 station_reply site table input station = ixl.reply (reading_of station.clock) table (key_of site) input station.ixl
 
--- the type number of a connection request, and where type and receiver stand in a datagram
-abbrev pub is_request : List ℕ → Bool
-is_request bytes = u16_at 2 bytes == 6200
-
 -- the link to the controller that a datagram names as its receiver
 abbrev pub link_of : Site → List ℕ → ℕ
-link_of site bytes = unwrap_or (position (λ id. id == u32_at 4 bytes) (partners site)) (length (partners site))
+link_of site bytes = unwrap_or (position (λ id. id == receiver_of bytes) (partners site)) (length (partners site))
 
 -- the connections that were begun on each link, and every datagram that was sent
 pub record Sending : Type 0 where

@@ -3,10 +3,14 @@
 #![tactic(auto)]
 
 mod laws;
+mod node_count;
+mod round;
 
 pub use laws::{
     a_restarted_station_holds, an_event_at_no_node_is_refused, the_first_world_begins_its_links,
 };
+pub use node_count::{links, nodes};
+pub use round::{FoundDriven, RoundEvent};
 
 // What crates above need of the crates below.
 pub use ixl_rules;

@@ -27,7 +27,8 @@ use Rattle.simulator_run.specs.rasta_pdu.declared.pdu.Pdu.{Pdu}
 use Rattle.simulator_machine_links.specs.Flows.{AsksNone, AsksOnce, begins}
 use Rattle.simulator_run.specs.Links.{names_at}
 use Rattle.simulator_run.specs.Nodes.{links}
-use Rattle.simulator_run.specs.Station.{Sending, is_request, link_of, sending_all, sending_one}
+use Rattle.simulator_run.specs.Station.{Sending, link_of, sending_all, sending_one}
+use Rattle.simulator_run.specs.rasta_pdu.Header.{is_request}
 use Rattle.simulator_run_links.proofs.Answering.{is_made}
 use Rattle.simulator_run_links.proofs.Controllers.{end_may}
 use Rattle.simulator_run_links.proofs.Laws.{ClientLaws, LinkLaws}

@@ -22,7 +22,8 @@ use Rattle.simulator_run.specs.rasta_pdu.declared.key.Key.{Key}
 use Rattle.simulator_run.specs.rasta_pdu.declared.pdu.Pdu.{Pdu}
 use Rattle.simulator_run.specs.Links.{names_at}
 use Rattle.simulator_run.specs.Nodes.{links, partners}
-use Rattle.simulator_run.specs.Station.{is_request, link_of}
+use Rattle.simulator_run.specs.Station.{link_of}
+use Rattle.simulator_run.specs.rasta_pdu.Header.{is_request}
 use Rattle.simulator_run_links.proofs.Lists.{itself, unequal}
 use Rattle.simulator_run_links.proofs.Partners.{named_at, partners_count}
 

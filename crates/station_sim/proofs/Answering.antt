@@ -7,16 +7,16 @@ use Rattle.simulator.specs.simulator_event.declared.refused.Refused.TheVariants.
 use Rattle.simulator.specs.simulator_event.declared.reply.Answer.{Answer}
 use Rattle.simulator.specs.simulator_event.declared.reply.Reply.{Reply}
 use Rattle.replay.specs.Answers.{recorded}
-use Rattle.station_sim.specs.declared.drive.Drive.{Drive}
-use Rattle.station_sim.specs.Flow.{Flowing}
+use Rattle.simulator.specs.simulator_run.declared.round.FoundDriven.{FoundDriven}
+use Rattle.simulator.specs.simulator_run.Flow.{Flowing}
 use Rattle.station_sim.specs.Sight.{Applies, Sight}
 use Rattle.station_sim.specs.Transcript.{Answers, answers_so, lacks_memory}
 
 -- a picture, with what the flows so far left
-abbrev pub at : {Picture : Type 0} → ℕ → List (Option Drive) → Picture → Flowing Picture
+abbrev pub at : {Picture : Type 0} → ℕ → List (Option FoundDriven) → Picture → Flowing Picture
 at passed drives picture = record { picture = picture; passed = passed; drives = drives }
 
-pub answered : {Picture : Type 0} (sight : Sight Picture) (event : Event) (passed : ℕ) (drives : List (Option Drive)) (old new : Picture) (reply : Result Reply Refused)
+pub answered : {Picture : Type 0} (sight : Sight Picture) (event : Event) (passed : ℕ) (drives : List (Option FoundDriven)) (old new : Picture) (reply : Result Reply Refused)
     → Applies sight event old reply new → Answers sight event (at passed drives old) (recorded reply) (at passed drives new)
 answered {Picture} sight event passed drives old new reply (inl h) =
     subst (λ (said : Result Answer Refused). Answers sight event (at passed drives old) said (at passed drives new)) (sym h.0)

@@ -5,11 +5,9 @@ use Rattle.simulator.specs.simulator_event.declared.event.Event.TheVariants as e
 use Rattle.simulator.specs.simulator_event.declared.event.NodeId.{NodeId}
 use Rattle.simulator.specs.simulator_event.declared.refused.Refused.TheVariants.{OutOfMemory}
 use Rattle.simulator.specs.simulator_event.declared.reply.Answer.TheVariants.{Done}
-use Rattle.station_sim.specs.declared.drive.Drive.{Drive}
-use Rattle.station_sim.specs.declared.due.Due.{Due}
-use Rattle.station_sim.specs.Flow.{Flowing, Flows, StopsIn, all_did, did, goes, round, rounds, stops}
-use Rattle.station_sim.specs.Round.{deliveries, delivery, reach, reaches, ticks}
-use Rattle.station_sim.specs.Sight.{Sight}
+use Rattle.simulator.specs.simulator_run.declared.round.FoundDriven.{FoundDriven}
+use Rattle.simulator.specs.simulator_run.declared.round.RoundEvent.{RoundEvent}
+use Rattle.simulator.specs.simulator_run.Flow.{Flowable, Flowing, Flows, StopsIn, all_did, deliveries, delivery, did, goes, reach, reaches, round, rounds, stops, ticks}
 
 one_less : (index end : ℕ) → index < end → end - index ≡ suc (end - (index + 1))
 one_less index end h = omega arith
@@ -21,17 +19,17 @@ none_left : (index end : ℕ) → end ≤ index → end - index ≡ 0
 none_left index end h = omega arith
 
 -- some entries are added, and then those behind them
-then_added : (old here later whole left new : List Due) → left ≡ here ++ later → new ≡ old ++ here → old ++ left ≡ whole → new ++ later ≡ whole
+then_added : (old here later whole left new : List RoundEvent) → left ≡ here ++ later → new ≡ old ++ here → old ++ left ≡ whole → new ++ later ≡ whole
 then_added old here later whole left new split e before =
     ap (λ all. all ++ later) e ∙ append_assoc old here later ∙ ap (λ all. old ++ all) (sym split) ∙ before
 
 -- nothing is left to be added
-all_added : (old left whole : List Due) → left ≡ [] → old ++ left ≡ whole → old ≡ whole
+all_added : (old left whole : List RoundEvent) → left ≡ [] → old ++ left ≡ whole → old ≡ whole
 all_added old left whole none before = sym (append-nil old) ∙ ap (λ rest. old ++ rest) (sym none) ∙ before
 
 -- ---- deliveries
 
-pub deliveries-add : (arrival : ℕ → Option (NodeId × List ℕ)) (place end : ℕ) (old new whole : List Due) → place < end
+pub deliveries-add : (arrival : ℕ → Option (NodeId × List ℕ)) (place end : ℕ) (old new whole : List RoundEvent) → place < end
     → new ≡ old ++ delivery place (arrival place) → old ++ deliveries arrival place (end - place) ≡ whole
     → new ++ deliveries arrival (place + 1) (end - (place + 1)) ≡ whole
 unfolding deliveries
@@ -41,7 +39,7 @@ deliveries-add arrival place end old new whole h e before =
     ∙ ap (λ (next : ℕ). delivery place (arrival place) ++ deliveries arrival next (end - (place + 1))) (one_more place))
     e before
 
-pub deliveries-all : (arrival : ℕ → Option (NodeId × List ℕ)) (place end : ℕ) (old whole : List Due) → end ≤ place
+pub deliveries-all : (arrival : ℕ → Option (NodeId × List ℕ)) (place end : ℕ) (old whole : List RoundEvent) → end ≤ place
     → old ++ deliveries arrival place (end - place) ≡ whole → old ≡ whole
 unfolding deliveries
 deliveries-all arrival place end old whole past before =
@@ -49,24 +47,24 @@ deliveries-all arrival place end old whole past before =
 
 -- ---- ticks
 
-pub ticks-add : (passed node nodes : ℕ) (old new whole : List Due) → node < nodes
+pub ticks-add : (passed node nodes : ℕ) (old new whole : List RoundEvent) → node < nodes
     → new ≡ old ++ record { event = event.Tick (record { 0 = node }); passed = passed } ∷ [] → old ++ ticks passed node (nodes - node) ≡ whole
     → new ++ ticks passed (node + 1) (nodes - (node + 1)) ≡ whole
 unfolding ticks
 ticks-add passed node nodes old new whole h e before =
-    let this : Due = record { event = event.Tick (record { 0 = node }); passed = passed }
+    let this : RoundEvent = record { event = event.Tick (record { 0 = node }); passed = passed }
     in then_added old (this ∷ []) (ticks passed (node + 1) (nodes - (node + 1))) whole (ticks passed node (nodes - node)) new
     (ap (ticks passed node) (one_less node nodes h) ∙ ap (λ (next : ℕ). this ∷ ticks passed next (nodes - (node + 1))) (one_more node))
     e before
 
-pub ticks-all : (passed node nodes : ℕ) (old whole : List Due) → nodes ≤ node → old ++ ticks passed node (nodes - node) ≡ whole → old ≡ whole
+pub ticks-all : (passed node nodes : ℕ) (old whole : List RoundEvent) → nodes ≤ node → old ++ ticks passed node (nodes - node) ≡ whole → old ≡ whole
 unfolding ticks
 ticks-all passed node nodes old whole past before =
     all_added old (ticks passed node (nodes - node)) whole (ap (ticks passed node) (none_left node nodes past)) before
 
 -- ---- points that come to lie
 
-pub reaches-add : (passed place : ℕ) (drives : List (Option Drive)) (default : Option Drive) (old new whole : List Due) → place < length drives
+pub reaches-add : (passed place : ℕ) (drives : List (Option FoundDriven)) (default : Option FoundDriven) (old new whole : List RoundEvent) → place < length drives
     → new ≡ old ++ reach passed place (get_or drives place default) → old ++ reaches passed place (drop place drives) ≡ whole
     → new ++ reaches passed (place + 1) (drop (place + 1) drives) ≡ whole
 unfolding reaches
@@ -77,7 +75,7 @@ reaches-add passed place drives default old new whole h e before =
     ∙ ap (λ (next : ℕ). reach passed place drive ++ reaches passed next (drop (place + 1) drives)) (one_more place))
     e before
 
-pub reaches-all : (passed place : ℕ) (drives : List (Option Drive)) (old whole : List Due) → length drives ≤ place
+pub reaches-all : (passed place : ℕ) (drives : List (Option FoundDriven)) (old whole : List RoundEvent) → length drives ≤ place
     → old ++ reaches passed place (drop place drives) ≡ whole → old ≡ whole
 unfolding reaches
 reaches-all passed place drives old whole past before =
@@ -85,40 +83,40 @@ reaches-all passed place drives old whole past before =
 
 -- ---- events one after the other
 
-module _ {Picture : Type 0} (sight : Sight Picture) where
-  all_did-one : (first : List Due) (one : Due) (flowing : Flowing Picture) → all_did sight (first ++ one ∷ []) flowing ≡ did sight one (all_did sight first flowing)
+module _ {Picture : Type 0} (station : Flowable Picture) where
+  all_did-one : (first : List RoundEvent) (one : RoundEvent) (flowing : Flowing Picture) → all_did station (first ++ one ∷ []) flowing ≡ did station one (all_did station first flowing)
   unfolding all_did
   all_did-one [] one flowing = refl
-  all_did-one (other ∷ first) one flowing = all_did-one first one (did sight other flowing)
+  all_did-one (other ∷ first) one flowing = all_did-one first one (did station other flowing)
 
-  pub none_did : (flowing : Flowing Picture) → flowing ≡ all_did sight [] flowing
+  pub none_did : (flowing : Flowing Picture) → flowing ≡ all_did station [] flowing
   unfolding all_did
   none_did flowing = refl
 
-  pub did-next : (all : List Due) (index : ℕ) (one : Due) (old now new : Flowing Picture) → index < length all → one ≡ get_or all index one
-      → now ≡ all_did sight (take index all) old → new ≡ did sight one now → new ≡ all_did sight (take (index + 1) all) old
+  pub did-next : (all : List RoundEvent) (index : ℕ) (one : RoundEvent) (old now new : Flowing Picture) → index < length all → one ≡ get_or all index one
+      → now ≡ all_did station (take index all) old → new ≡ did station one now → new ≡ all_did station (take (index + 1) all) old
   did-next all index one old now new h at before e =
-      e ∙ ap (did sight one) before
+      e ∙ ap (did station one) before
       ∙ sym (all_did-one (take index all) one old)
-      ∙ ap (λ d. all_did sight (take index all ++ d ∷ []) old) at
-      ∙ ap (λ first. all_did sight first old) (sym (take_more all index one h))
+      ∙ ap (λ d. all_did station (take index all ++ d ∷ []) old) at
+      ∙ ap (λ first. all_did station first old) (sym (take_more all index one h))
 
 -- ---- rounds one after the other
 
-module _ {Picture : Type 0} (sight : Sight Picture) where
-  pub rounds-none : (flowing : Flowing Picture) → flowing ≡ rounds sight 0 flowing
+module _ {Picture : Type 0} (station : Flowable Picture) where
+  pub rounds-none : (flowing : Flowing Picture) → flowing ≡ rounds station 0 flowing
   unfolding rounds
   rounds-none flowing = refl
 
-  pub rounds-next : (count : ℕ) (flowing : Flowing Picture) → round sight (rounds sight count flowing) ≡ rounds sight (count + 1) flowing
+  pub rounds-next : (count : ℕ) (flowing : Flowing Picture) → round station (rounds station count flowing) ≡ rounds station (count + 1) flowing
   unfolding rounds
-  rounds-next count flowing = ap (λ (n : ℕ). rounds sight n flowing) (one_more count)
+  rounds-next count flowing = ap (λ (n : ℕ). rounds station n flowing) (one_more count)
 
   -- a flow goes to its end, or stops in a round
-  pub flow-goes : (count done : ℕ) (old new : Flowing Picture) → new ≡ rounds sight done old → done ≡ count → Flows sight count old (Ok Done) new
+  pub flow-goes : (count done : ℕ) (old new : Flowing Picture) → new ≡ rounds station done old → done ≡ count → Flows station count old (Ok Done) new
   flow-goes count done old new e whole =
-      subst (Flows sight count old (Ok Done)) (sym (e ∙ ap (λ (n : ℕ). rounds sight n old) whole)) goes
+      subst (Flows station count old (Ok Done)) (sym (e ∙ ap (λ (n : ℕ). rounds station n old) whole)) goes
 
-  pub flow-stops : (count done : ℕ) (old now new : Flowing Picture) → now ≡ rounds sight done old → done < count → StopsIn sight now new
-      → Flows sight count old (Err OutOfMemory) new
-  flow-stops count done old now new e less within = stops done less (subst (λ (from : Flowing Picture). StopsIn sight from new) e within)
+  pub flow-stops : (count done : ℕ) (old now new : Flowing Picture) → now ≡ rounds station done old → done < count → StopsIn station now new
+      → Flows station count old (Err OutOfMemory) new
+  flow-stops count done old now new e less within = stops done less (subst (λ (from : Flowing Picture). StopsIn station from new) e within)

@@ -7,7 +7,7 @@ use Rattle.std.specs.Io.KnownBytes.{Appends, Keeps}
 use Rattle.simulator.specs.layout.Entries.{Site}
 use Rattle.replay.specs.declared.line.SimLine.{SimLine}
 use Rattle.replay.specs.declared.line.SimLine.TheVariants as said
-use Rattle.station_sim.specs.Flow.{Flowing, IsBeginning}
+use Rattle.simulator.specs.simulator_run.Flow.{Flowing}
 use Rattle.station_sim.specs.Sight.{Sight}
 use Rattle.station_sim.specs.Transcript.{IsTold, Transcript, Writes, feed, line, nothing, picture}
 

@@ -33,7 +33,7 @@ module _ {Picture : Type 0} (sight : Sight Picture) where
     pub says : session site text ≡ Ok entries
     pub first : Picture
     pub begins : sight.IsFirst site first
-    pub judged : Judges sight.answer sight.after first entries verdict
+    pub judged : Judges sight.answer sight.station.after first entries verdict
     pub appended : Appends before now (verdict_line verdict)
 
 -- a layout is sound, and a record is one of a session on it

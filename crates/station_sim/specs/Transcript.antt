@@ -1,5 +1,5 @@
 -- What the lines of a file do to a station, and what is written as they are carried out.
-use Rattle.std.specs.Prelude.{◌≡◌, ℕ, ◌/◌, codes, List, [], ◌∷◌, ◌++◌, Option, Result, Ok, Err, IsOk}
+use Rattle.std.specs.Prelude.{◌≡◌, ℕ, ◌/◌, codes, List, [], ◌∷◌, ◌++◌, length, replicate, Option, None, Result, Ok, Err, IsOk}
 use Rattle.std.specs.Io.KnownBytes.{Appends}
 use Rattle.simulator.specs.layout.Entries.{Site}
 use Rattle.simulator.specs.simulator_event.declared.event.Event.{Event}
@@ -14,7 +14,7 @@ use Rattle.station_check.specs.Report.{IsSound}
 use Rattle.station_check.specs.Failures.{ExplainsTable, Leaves, Tells}
 use Rattle.station_check.specs.declared.failure.Failure.{Failure}
 use Rattle.station_check.specs.declared.failure.Failure.TheVariants as failure
-use Rattle.station_sim.specs.Flow.{Flowing, Flows, IsBeginning}
+use Rattle.simulator.specs.simulator_run.Flow.{Flowing, Flows}
 use Rattle.station_sim.specs.Sight.{Sight}
 
 -- a text, and a line feed
@@ -22,19 +22,25 @@ abbrev pub feed : List ℕ → List ℕ
 feed text = text ++ codes "\n"
 
 module _ {Picture : Type 0} (sight : Sight Picture) where
+  -- a new station, on which nothing has flowed
+  pub record IsBeginning (site : Site) (flowing : Flowing Picture) : Type 0 where
+    pub first : sight.IsFirst site flowing.picture
+    pub none_passed : flowing.passed ≡ 0
+    pub none_driven : flowing.drives ≡ replicate (length site.points) None
+
   -- What an event answers and changes: it is answered, or memory is lacking for it.
   pub data Answers (event : Event) (old : Flowing Picture) : Result Answer Refused → Flowing Picture → Type 0 where
-    answers_so : Answers event old (sight.answer old.picture event) (record old { picture = sight.after old.picture event })
+    answers_so : Answers event old (sight.answer old.picture event) (record old { picture = sight.station.after old.picture event })
     lacks_memory : Answers event old (Err OutOfMemory) old
 
   -- the line of an answer
   abbrev pub answer_line : Result Answer Refused → Flowing Picture → List ℕ
-  answer_line reply flowing = feed (answer_text (sight.layout flowing.picture) reply)
+  answer_line reply flowing = feed (answer_text (sight.station.layout flowing.picture) reply)
 
   -- what a line writes and changes
   pub data Writes (old : Flowing Picture) : SimLine → List ℕ → Flowing Picture → Type 0 where
     event : {event : Event} {reply : Result Answer Refused} {new : Flowing Picture} → Answers event old reply new → Writes old (said.Event event) (answer_line reply new) new
-    flow : {length : ℕ} {reply : Result Answer Refused} {new : Flowing Picture} → Flows sight (length / 10) old reply new → Writes old (said.Flow length) (answer_line reply new) new
+    flow : {length : ℕ} {reply : Result Answer Refused} {new : Flowing Picture} → Flows sight.station (length / 10) old reply new → Writes old (said.Flow length) (answer_line reply new) new
     picture : {text : List ℕ} → sight.IsText old.picture text → Writes old said.Picture (feed text) old
 
   -- what lines write, one after the other

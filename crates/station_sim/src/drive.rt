@@ -1,25 +1,18 @@
 //! For how long a point was found driven.
 
 ghost use Rattle.std.specs.Prelude.{◌≡◌};
-ghost use Rattle.station_sim.specs.Drives.{next_drive, next_drives, position_of};
+ghost use Rattle.simulator.specs.simulator_run.Flow.{next_drive, next_drives, position_of};
 
 use crate::playable::Playable;
 use simulator::layout::PointId;
 use simulator::sci_telegram::{Position, Side};
+use simulator::simulator_run::FoundDriven;
 
 /// At the ends of how many rounds one after the other a point is found driven before it comes to lie.
 pub(crate) const ROUNDS_DRIVEN: u8 = 50;
 
-/// The side to which a point was found driven, and at the ends of how many rounds one after the other; 50 stands for
-/// any greater number.
-#[derive(Clone, Copy, Debug)]
-pub(crate) struct Drive {
-    pub(crate) side: Side,
-    pub(crate) rounds: u8,
-}
-
 /// What is known of a point's drive at the end of a round in which it is found so.
-fn next_drive(found: Option<Side>, before: Option<Drive>) -> Option<Drive>
+fn next_drive(found: Option<Side>, before: Option<FoundDriven>) -> Option<FoundDriven>
     ensures { result ≡ next_drive found before }
 {
     let side = found?;
@@ -30,15 +23,15 @@ fn next_drive(found: Option<Side>, before: Option<Drive>) -> Option<Drive>
             } else {
                 drive.rounds
             };
-            Some(Drive { side, rounds })
+            Some(FoundDriven { side, rounds })
         }
-        _ => Some(Drive { side, rounds: 1 }),
+        _ => Some(FoundDriven { side, rounds: 1 }),
     }
 }
 
 /// Notes at the end of a round which points are driven.
-pub(crate) fn note_drives<S: Playable>(station: &S, drives: &mut [Option<Drive>])
-    ensures { drives.new ≡ next_drives (S.sight.driven (S.picture station.now)) 0 drives.old }
+pub(crate) fn note_drives<S: Playable>(station: &S, drives: &mut [Option<FoundDriven>])
+    ensures { drives.new ≡ next_drives (S.sight.station.driven (S.picture station.now)) 0 drives.old }
 {
     for place in 0..drives.len() {
         let found = station.driven(PointId(place));

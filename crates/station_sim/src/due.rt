@@ -1,30 +1,23 @@
 //! The events of a round of a flow.
 
 ghost use Rattle.std.specs.Prelude.{◌≡◌, ◌++◌, ◌-◌, ◌+◌, ◌^◌, ◌<◌, IfOk, OnOk};
-ghost use Rattle.station_sim.specs.Round.{delivery, deliveries, reach, reaches, round_of_time, ticks};
+ghost use Rattle.simulator.specs.simulator_run.Flow.{delivery, deliveries, reach, reaches, round_of_time, ticks};
 
-use crate::drive::{Drive, ROUNDS_DRIVEN, position_of};
+use crate::drive::{ROUNDS_DRIVEN, position_of};
 use crate::playable::Playable;
-use replay::node_count;
 use simulator::layout::{Layout, PointId};
 use simulator::simulator_event::{ClockSteps, Event, NodeId, RawDatagram};
+use simulator::simulator_run::{FoundDriven, RoundEvent, nodes};
 use std::alloc::{AllocError, Global};
 
 /// How many microseconds a round has.
 const ROUND_MICROS: u64 = 10000;
 
-/// An event of a round, and how many of the datagrams that were sent the flow has gone past with it.
-#[derive(Debug, Drop)]
-pub(crate) struct Due {
-    pub(crate) event: Event,
-    pub(crate) passed: usize,
-}
-
 /// The time of a round, at equal rates.
 pub(crate) fn round_of_time(alloc: Global, layout: &Layout) -> Result<Event, AllocError>
     ensures { IfOk result (λ event. event ≡ round_of_time layout.now) }
 {
-    let steps = vec![in alloc; ROUND_MICROS; node_count(layout)]?;
+    let steps = vec![in alloc; ROUND_MICROS; nodes(layout)]?;
     Ok(Event::Time {
         elapsed: ROUND_MICROS,
         clocks: ClockSteps::of(steps),
@@ -37,9 +30,9 @@ pub(crate) fn add_deliveries<S: Playable>(
     station: &S,
     first: usize,
     end: usize,
-    due: &mut Vec<Due>,
+    due: &mut Vec<RoundEvent>,
 ) -> Result<(), AllocError>
-    ensures { OnOk result (due.new.items ≡ due.old.items ++ deliveries (S.sight.arrival (S.picture station.now)) first (end - first)) }
+    ensures { OnOk result (due.new.items ≡ due.old.items ++ deliveries (S.sight.station.arrival (S.picture station.now)) first (end - first)) }
 {
     for place in first..end {
         add_delivery(alloc, station, place, due)?;
@@ -52,10 +45,10 @@ fn add_delivery<S: Playable>(
     alloc: Global,
     station: &S,
     place: usize,
-    due: &mut Vec<Due>,
+    due: &mut Vec<RoundEvent>,
 ) -> Result<(), AllocError>
     requires { place + 1 < 2 ^ 64 }
-    ensures { OnOk result (due.new.items ≡ due.old.items ++ delivery place (S.sight.arrival (S.picture station.now) place)) }
+    ensures { OnOk result (due.new.items ≡ due.old.items ++ delivery place (S.sight.station.arrival (S.picture station.now) place)) }
 {
     let Some((node, bytes)) = station.arrival(place) else {
         return Ok(());
@@ -63,26 +56,26 @@ fn add_delivery<S: Playable>(
     let bytes = RawDatagram::of(Vec::from_slice(alloc, bytes)?);
     let event = Event::Deliver { node, bytes };
     let passed = place + 1;
-    due.push(Due { event, passed })?;
+    due.push(RoundEvent { event, passed })?;
     Ok(())
 }
 
 /// Adds a tick of each of so many nodes.
-pub(crate) fn add_ticks(nodes: usize, passed: usize, due: &mut Vec<Due>) -> Result<(), AllocError>
+pub(crate) fn add_ticks(nodes: usize, passed: usize, due: &mut Vec<RoundEvent>) -> Result<(), AllocError>
     ensures { OnOk result (due.new.items ≡ due.old.items ++ ticks passed 0 nodes) }
 {
     for node in 0..nodes {
         let event = Event::Tick(NodeId(node));
-        due.push(Due { event, passed })?;
+        due.push(RoundEvent { event, passed })?;
     }
     Ok(())
 }
 
 /// Adds that each point comes to lie that was found driven for long enough.
 pub(crate) fn add_reaches(
-    drives: &[Option<Drive>],
+    drives: &[Option<FoundDriven>],
     passed: usize,
-    due: &mut Vec<Due>,
+    due: &mut Vec<RoundEvent>,
 ) -> Result<(), AllocError>
     ensures { OnOk result (due.new.items ≡ due.old.items ++ reaches passed 0 drives.now) }
 {
@@ -95,9 +88,9 @@ pub(crate) fn add_reaches(
 /// Adds that a point comes to lie, if it was found driven for long enough.
 fn add_reach(
     point: PointId,
-    drive: Option<Drive>,
+    drive: Option<FoundDriven>,
     passed: usize,
-    due: &mut Vec<Due>,
+    due: &mut Vec<RoundEvent>,
 ) -> Result<(), AllocError>
     ensures { OnOk result (due.new.items ≡ due.old.items ++ reach passed point.0 drive) }
 {
@@ -109,6 +102,6 @@ fn add_reach(
     }
     let position = position_of(drive.side);
     let event = Event::Reach { point, position };
-    due.push(Due { event, passed })?;
+    due.push(RoundEvent { event, passed })?;
     Ok(())
 }

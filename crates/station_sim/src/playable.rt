@@ -32,19 +32,19 @@ pub trait Playable: Drop {
 
     /// Its layout.
     fn layout(&self) -> &Layout
-        ensures { result.now ≡ sight.layout (picture self.now) };
+        ensures { result.now ≡ sight.station.layout (picture self.now) };
 
     /// How many datagrams were sent, lost ones too.
     fn sent(&self) -> usize
-        ensures { result ≡ sight.sent (picture self.now) };
+        ensures { result ≡ sight.station.sent (picture self.now) };
 
     /// The datagram at a place of those that were sent, and the node that it is for, unless it is lost.
     fn arrival(&self, place: usize) -> Option<(NodeId, &[u8])>
-        ensures { option_map (λ a. (a.0, a.1.now)) result ≡ sight.arrival (picture self.now) place };
+        ensures { option_map (λ a. (a.0, a.1.now)) result ≡ sight.station.arrival (picture self.now) place };
 
     /// The side to which a point is driven.
     fn driven(&self, point: PointId) -> Option<Side>
-        ensures { result ≡ sight.driven (picture self.now) point };
+        ensures { result ≡ sight.station.driven (picture self.now) point };
 
     /// The text of its picture, without a line feed at its end.
     fn picture_text(&self, alloc: Global) -> Result<String, AllocError>

@@ -3,12 +3,13 @@
 ghost use Rattle.std.specs.Prelude.{◌≡◌, ◌/◌, ℕ, take, IfOk, OnOk, OnErr};
 ghost use Rattle.station_sim.specs.inside.Runs.{flowing_of};
 
-use crate::drive::{Drive, note_drives};
-use crate::due::{Due, add_deliveries, add_reaches, add_ticks, round_of_time};
+use crate::drive::note_drives;
+use crate::due::{add_deliveries, add_reaches, add_ticks, round_of_time};
 use crate::playable::Playable;
-use replay::{ROUND, node_count, recorded};
+use replay::{ROUND, recorded};
 use simulator::control_table::Checked;
 use simulator::simulator_event::{Answer, Event, Refused};
+use simulator::simulator_run::{FoundDriven, RoundEvent, nodes};
 use std::alloc::{AllocError, Global};
 
 /// A station, and how far the flows of time have come on it.
@@ -18,12 +19,12 @@ pub(crate) struct Run<S> {
     /// How many of the datagrams that were sent a flow has gone past.
     passed: usize,
     /// For how long each point was found driven.
-    drives: Vec<Option<Drive>>,
+    drives: Vec<Option<FoundDriven>>,
 }
 
 impl<S: Playable> Run<S> {
-    ghost use Rattle.station_sim.specs.Flow.{Flows, StopsIn, all_did, IsBeginning, did, due, rested, round};
-    ghost use Rattle.station_sim.specs.Transcript.{Answers};
+    ghost use Rattle.simulator.specs.simulator_run.Flow.{Flows, StopsIn, all_did, did, due, rested, round};
+    ghost use Rattle.station_sim.specs.Transcript.{Answers, IsBeginning};
 
     /// A new station, on which nothing has flowed.
     pub(crate) fn new(alloc: Global, table: Checked) -> Result<Self, AllocError>
@@ -46,7 +47,7 @@ impl<S: Playable> Run<S> {
 
     /// Lets time flow for so many milliseconds.
     pub(crate) fn flow(&mut self, alloc: Global, length: u64) -> Result<Answer, Refused>
-        ensures { Flows S.sight (length / 10) (flowing_of S.picture self.old) result (flowing_of S.picture self.new) }
+        ensures { Flows S.sight.station (length / 10) (flowing_of S.picture self.old) result (flowing_of S.picture self.new) }
     {
         for _ in 0..length / ROUND {
             let Ok(()) = self.round(alloc) else {
@@ -58,8 +59,8 @@ impl<S: Playable> Run<S> {
 
     /// A round of a flow. Where memory is lacking it stops, in front of one of its events.
     fn round(&mut self, alloc: Global) -> Result<(), AllocError>
-        ensures ok { OnOk result (flowing_of S.picture self.new ≡ round S.sight (flowing_of S.picture self.old)) }
-        ensures err { OnErr result (StopsIn S.sight (flowing_of S.picture self.old) (flowing_of S.picture self.new)) }
+        ensures ok { OnOk result (flowing_of S.picture self.new ≡ round S.sight.station (flowing_of S.picture self.old)) }
+        ensures err { OnErr result (StopsIn S.sight.station (flowing_of S.picture self.old) (flowing_of S.picture self.new)) }
     {
         let due = self.due(alloc)?;
         self.apply_all(&due)?;
@@ -68,9 +69,9 @@ impl<S: Playable> Run<S> {
     }
 
     /// Tries the events of a round, one after the other.
-    fn apply_all(&mut self, due: &[Due]) -> Result<(), AllocError>
-        ensures ok { OnOk result (flowing_of S.picture self.new ≡ all_did S.sight due.now (flowing_of S.picture self.old)) }
-        ensures err { OnErr result ((count : ℕ) × (flowing_of S.picture self.new ≡ all_did S.sight (take count due.now) (flowing_of S.picture self.old))) }
+    fn apply_all(&mut self, due: &[RoundEvent]) -> Result<(), AllocError>
+        ensures ok { OnOk result (flowing_of S.picture self.new ≡ all_did S.sight.station due.now (flowing_of S.picture self.old)) }
+        ensures err { OnErr result ((count : ℕ) × (flowing_of S.picture self.new ≡ all_did S.sight.station (take count due.now) (flowing_of S.picture self.old))) }
     {
         for one in due {
             self.apply(one)?;
@@ -79,26 +80,26 @@ impl<S: Playable> Run<S> {
     }
 
     /// The events of a round that begins now.
-    fn due(&self, alloc: Global) -> Result<Vec<Due>, AllocError>
-        ensures { IfOk result (λ all. all.items ≡ due S.sight (flowing_of S.picture self.now)) }
+    fn due(&self, alloc: Global) -> Result<Vec<RoundEvent>, AllocError>
+        ensures { IfOk result (λ all. all.items ≡ due S.sight.station (flowing_of S.picture self.now)) }
     {
         let layout = self.station.layout();
         let sent = self.station.sent();
         let event = round_of_time(alloc, layout)?;
         let mut due = Vec::new(alloc);
-        due.push(Due {
+        due.push(RoundEvent {
             event,
             passed: self.passed,
         })?;
         add_deliveries(alloc, &self.station, self.passed, sent, &mut due)?;
-        add_ticks(node_count(layout), sent, &mut due)?;
+        add_ticks(nodes(layout), sent, &mut due)?;
         add_reaches(&self.drives, sent, &mut due)?;
         Ok(due)
     }
 
     /// Tries an event of a round: where it can't happen, it is passed over.
-    fn apply(&mut self, one: &Due) -> Result<(), AllocError>
-        ensures ok { OnOk result (flowing_of S.picture self.new ≡ did S.sight one.now (flowing_of S.picture self.old)) }
+    fn apply(&mut self, one: &RoundEvent) -> Result<(), AllocError>
+        ensures ok { OnOk result (flowing_of S.picture self.new ≡ did S.sight.station one.now (flowing_of S.picture self.old)) }
         ensures err { OnErr result (flowing_of S.picture self.new ≡ flowing_of S.picture self.old) }
     {
         match self.station.apply(&one.event) {
@@ -112,7 +113,7 @@ impl<S: Playable> Run<S> {
 
     /// A round ends: it is noted which points are driven.
     fn rest(&mut self)
-        ensures { flowing_of S.picture self.new ≡ rested S.sight (flowing_of S.picture self.old) }
+        ensures { flowing_of S.picture self.new ≡ rested S.sight.station (flowing_of S.picture self.old) }
     {
         note_drives(&self.station, &mut self.drives);
     }

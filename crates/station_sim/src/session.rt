@@ -97,7 +97,7 @@ impl<S: Playable> Apply for Applied<S> {
 
     ghost answer = { S.sight.answer };
 
-    ghost after = { S.sight.after };
+    ghost after = { S.sight.station.after };
 
     fn apply(&mut self, event: &Event) -> Result<Reply, Refused> {
         self.0.apply(event)

@@ -3,7 +3,7 @@
 ghost use Rattle.std.specs.Prelude.{◌≡◌, None, slice_get};
 ghost use Rattle.std.specs.Option.{option_map};
 ghost use Rattle.simulator.specs.simulator_field.declared.sent_on.SentOn.{SentOn};
-ghost use Rattle.station_sim.specs.World.{receiver};
+ghost use Rattle.simulator.specs.simulator_run.Tried.{receiver};
 
 use crate::Playable;
 use simulator::World;

@@ -1,4 +1,5 @@
-use Rattle.station_sim.specs.Flow.{Flowing, IsBeginning}
+use Rattle.simulator.specs.simulator_run.Flow.{Flowing}
+use Rattle.station_sim.specs.Transcript.{IsBeginning}
 use Rattle.station_sim.specs.inside.Runs.{flowing_of}
 use Rattle.station_sim.proofs.Transcripts.{GoesOn}
 use Rattle.station_sim.proofs.play.perform.Given as goal
