@@ -5,7 +5,7 @@ ghost use Rattle.std.specs.Option.{option_map};
 ghost use Rattle.ixl_state.specs.bit_row.Places.{Has};
 ghost use Rattle.ixl_state.specs.layout.declared.ids.RouteId.{RouteId};
 ghost use Rattle.ixl_state.specs.ixl_rules.Due.{HoldsSection};
-ghost use Rattle.ixl_state.specs.ixl_rules.View.{authority_from, is_holding, is_set};
+ghost use Rattle.ixl_state.specs.ixl_rules.View.{authority_from, indicated, is_holding, is_set};
 ghost use Rattle.ixl_state.specs.State.{AtRoute, MayStepAll};
 ghost use Rattle.ixl_state.specs.ixl_rules.StepSoFar.{empty_outbox};
 ghost use Rattle.ixl.specs.Interlocking.{HasStepped, meant, told};
@@ -21,6 +21,7 @@ use ixl_state::ixl_table::Table;
 use ixl_state::layout::{RouteId, SignalId};
 use ixl_state::rasta_core::{Millis, Outbox};
 use ixl_state::rasta_pdu::{Datagram, Key};
+use ixl_state::sci_telegram::Aspect;
 use ixl_state::{State, key_of};
 use std::alloc::{AllocError, Global};
 use std::marker::Model;
@@ -163,6 +164,14 @@ impl Interlocking {
         ensures { AtRoute self.now.state route.0 (λ row kept. (section : ℕ) → Has result section ↔ HoldsSection row kept.phase section) }
     {
         self.state.locked(route.0)
+    }
+
+    /// The aspect that a signal's controller last indicated in the present connection: with its last report, or else with
+    /// the state that it told in the initialisation.
+    pub fn indicated(&self, signal: SignalId) -> Option<Aspect>
+        ensures { result ≡ indicated self.now.state.ixl signal.0 }
+    {
+        self.state.field().indicated(signal.0)
     }
 
     /// The route that has authority from a signal: its aspect was given, and its authority isn't ended.

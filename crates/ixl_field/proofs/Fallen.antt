@@ -10,8 +10,8 @@ use Rattle.ixl_rules.specs.ixl_client.Client.{ClientState, IsClient, is_outside}
 use Rattle.ixl_rules.specs.StepSoFar.{detector_after, known_signal_after, known_point_after}
 use Rattle.ixl_rules.specs.State.{KnownDetectorState, KnownSignalState, KnownPointState}
 
-abbrev pub known_signal_of : ClientState → Option Aspect → ℕ → KnownSignalState
-known_signal_of client aspect number = record { client = client; aspect = aspect; number = number }
+abbrev pub known_signal_of : ClientState → Option Aspect → ℕ → Option Aspect → KnownSignalState
+known_signal_of client aspect number indicated = record { client = client; aspect = aspect; number = number; indicated = indicated }
 
 abbrev pub known_point_of : ClientState → Option Side → Places → KnownPointState
 known_point_of client side moved = record { client = client; side = side; moved = moved }
@@ -25,13 +25,13 @@ outside client is down = is.outside ∙ ap not down
 inside : (client : ClientState) → IsClient client → is_up client.link.phase ≡ true → is_outside client.stage ≡ false
 inside client is up = is.outside ∙ ap not up
 
-pub known_signal_falls : (aspect : Option Aspect) (number : ℕ) (client : ClientState) → IsClient client → is_up client.link.phase ≡ false → known_signal_of client None 0 ≡ known_signal_after aspect number client
+pub known_signal_falls : (aspect : Option Aspect) (number : ℕ) (indicated : Option Aspect) (client : ClientState) → IsClient client → is_up client.link.phase ≡ false → known_signal_of client None 0 None ≡ known_signal_after aspect number indicated client
 unfolding known_signal_after
-known_signal_falls aspect number client is down = rw (outside client is down) refl
+known_signal_falls aspect number indicated client is down = rw (outside client is down) refl
 
-pub known_signal_stays : (aspect : Option Aspect) (number : ℕ) (client : ClientState) → IsClient client → is_up client.link.phase ≡ true → known_signal_of client aspect number ≡ known_signal_after aspect number client
+pub known_signal_stays : (aspect : Option Aspect) (number : ℕ) (indicated : Option Aspect) (client : ClientState) → IsClient client → is_up client.link.phase ≡ true → known_signal_of client aspect number indicated ≡ known_signal_after aspect number indicated client
 unfolding known_signal_after
-known_signal_stays aspect number client is up = rw (inside client is up) refl
+known_signal_stays aspect number indicated client is up = rw (inside client is up) refl
 
 pub known_point_falls : (side : Option Side) (moved : Places) (client : ClientState) → IsClient client → is_up client.link.phase ≡ false → known_point_of client None empty ≡ known_point_after side moved client
 unfolding known_point_after
@@ -51,10 +51,10 @@ detector_stays occupied client is up = rw (inside client is up) refl
 
 -- ---- the client stays as it is
 
-pub known_signal_client : (aspect : Option Aspect) (number : ℕ) (client : ClientState) → (known_signal_after aspect number client).client ≡ client
+pub known_signal_client : (aspect : Option Aspect) (number : ℕ) (indicated : Option Aspect) (client : ClientState) → (known_signal_after aspect number indicated client).client ≡ client
 unfolding known_signal_after
-known_signal_client aspect number client = cases (is_outside client.stage) where
-  cases : (b : Bool) → (if b then known_signal_of client None 0 else known_signal_of client aspect number).client ≡ client
+known_signal_client aspect number indicated client = cases (is_outside client.stage) where
+  cases : (b : Bool) → (if b then known_signal_of client None 0 None else known_signal_of client aspect number indicated).client ≡ client
   cases true = refl
   cases false = refl
 

@@ -1,5 +1,6 @@
 -- What the rows say of sections and points.
 use Rattle.std.proofs.Common.{◌≡◌, ℕ, ◌<◌, ◌≤◌, Bool, false, not, List, length, get_or, refl, ap, sym, ◌∙◌}
+use Rattle.std.specs.Prelude.{None}
 use Rattle.std.specs.FinSet.{contains}
 use Rattle.std.proofs.lemmas.Option.{slice_get_past, slice_get_read}
 use Rattle.ixl_rules.specs.bit_row.Places.{Places}
@@ -8,7 +9,7 @@ use Rattle.ixl_rules.specs.ixl_client.Client.{is_ready}
 use Rattle.ixl_rules.specs.Rules.{is_unmoved}
 use Rattle.ixl_rules.specs.State.{KnownSignalState, KnownPointState}
 use Rattle.ixl_rules.specs.Table.{Table, at, passes}
-use Rattle.ixl_rules.specs.View.{is_at_known_stop, is_clear, is_known, is_known_signal_at_stop, is_occupied, is_signal_ready}
+use Rattle.ixl_rules.specs.View.{indicated, indicated_by, is_at_known_stop, is_clear, is_known, is_known_signal_at_stop, is_occupied, is_signal_ready}
 use Rattle.ixl_field.specs.Field.{FieldState, Rest, kept}
 use Rattle.ixl_field.specs.inside.Rows.{is_at, is_told_clear, is_told_occupied}
 
@@ -49,6 +50,13 @@ known_stop now rest inside old signal known_signal same within is = sym (there i
 pub no_known_stop : (now : ℕ) (rest : Rest) (inside old : FieldState) (signal : ℕ) → inside ≡ old → length inside.known_signals ≤ signal → false ≡ is_at_known_stop now (kept old rest) signal
 unfolding is_at_known_stop
 no_known_stop now rest inside old signal same beyond = sym (nowhere inside.known_signals (is_known_signal_at_stop now) signal beyond) ∙ ap (λ (f : FieldState). at f.known_signals signal (is_known_signal_at_stop now)) same
+
+pub indicated_at : (rest : Rest) (inside old : FieldState) (signal : ℕ) (known_signal : KnownSignalState) → inside ≡ old → signal < length inside.known_signals → known_signal ≡ get_or inside.known_signals signal known_signal → known_signal.indicated ≡ indicated (kept old rest) signal
+indicated_at rest inside old signal known_signal same within is =
+    sym (ap indicated_by (slice_get_read inside.known_signals (length inside.known_signals) signal known_signal refl within is)) ∙ ap (λ (f : FieldState). indicated (kept f rest) signal) same
+
+pub none_indicated : (rest : Rest) (inside old : FieldState) (signal : ℕ) → inside ≡ old → length inside.known_signals ≤ signal → None ≡ indicated (kept old rest) signal
+none_indicated rest inside old signal same beyond = sym (ap indicated_by (slice_get_past inside.known_signals signal beyond)) ∙ ap (λ (f : FieldState). indicated (kept f rest) signal) same
 
 pub unmoved : (rest : Rest) (inside old : FieldState) (point route : ℕ) (known_point : KnownPointState) → inside ≡ old → point < length inside.known_points → known_point ≡ get_or inside.known_points point known_point →
     not (contains known_point.moved route) ≡ is_unmoved (kept old rest) point route

@@ -1,6 +1,5 @@
 pub mod Fallen
 pub mod Peers
-pub mod Heard
 pub mod Went
 pub mod Renewing
 pub mod RowLaws

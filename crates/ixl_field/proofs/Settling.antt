@@ -71,8 +71,8 @@ clocked_at : (now : ℕ) (client : ClientState) → (clocked now client).link.cl
 unfolding clocked
 clocked_at now client = ap (λ (l : LinkState). l.clock) (fallen_link _) ∙ settled_at now client.link
 
-abbrev known_signal_of : ClientState → Option Aspect → ℕ → KnownSignalState
-known_signal_of client aspect number = record { client = client; aspect = aspect; number = number }
+abbrev known_signal_of : ClientState → Option Aspect → ℕ → Option Aspect → KnownSignalState
+known_signal_of client aspect number indicated = record { client = client; aspect = aspect; number = number; indicated = indicated }
 
 abbrev pub known_point_of : ClientState → Option Side → Places → KnownPointState
 known_point_of client side moved = record { client = client; side = side; moved = moved }
@@ -80,10 +80,10 @@ known_point_of client side moved = record { client = client; side = side; moved 
 abbrev pub detector_of : ClientState → Places → KnownDetectorState
 detector_of client occupied = record { client = client; occupied = occupied }
 
-known_signal_client : (aspect : Option Aspect) (number : ℕ) (client : ClientState) → (known_signal_after aspect number client).client ≡ client
+known_signal_client : (aspect : Option Aspect) (number : ℕ) (indicated : Option Aspect) (client : ClientState) → (known_signal_after aspect number indicated client).client ≡ client
 unfolding known_signal_after
-known_signal_client aspect number client = cases (is_outside client.stage) where
-  cases : (b : Bool) → (if b then known_signal_of client None 0 else known_signal_of client aspect number).client ≡ client
+known_signal_client aspect number indicated client = cases (is_outside client.stage) where
+  cases : (b : Bool) → (if b then known_signal_of client None 0 None else known_signal_of client aspect number indicated).client ≡ client
   cases true = refl
   cases false = refl
 
@@ -109,7 +109,7 @@ clocked_all now field = record {
 }
   where
     known_signal_at : (known_signal : KnownSignalState) → (clocked_known_signal now known_signal).client.link.clock ≡ now
-    known_signal_at known_signal = ap (λ (c : ClientState). c.link.clock) (known_signal_client known_signal.aspect known_signal.number (clocked now known_signal.client)) ∙ clocked_at now known_signal.client
+    known_signal_at known_signal = ap (λ (c : ClientState). c.link.clock) (known_signal_client known_signal.aspect known_signal.number known_signal.indicated (clocked now known_signal.client)) ∙ clocked_at now known_signal.client
 
     known_point_at : (known_point : KnownPointState) → (clocked_known_point now known_point).client.link.clock ≡ now
     known_point_at known_point = ap (λ (c : ClientState). c.link.clock) (known_point_client known_point.side known_point.moved (clocked now known_point.client)) ∙ clocked_at now known_point.client

@@ -14,7 +14,7 @@ use Rattle.ixl_rules.specs.ixl_client.declared.command.Command.TheVariants as co
 use Rattle.ixl_rules.specs.ixl_client.declared.indication.Indication.{Indication}
 use Rattle.ixl_rules.specs.StepSoFar.{all_below, detector_after, known_signal_after, known_point_after}
 use Rattle.ixl_rules.specs.State.{KnownDetectorState, KnownSignalState, KnownPointState}
-use Rattle.ixl_rules.specs.Step.{clocked_detector, clocked_known_signal, clocked_known_point, occupied_heard, side_heard}
+use Rattle.ixl_rules.specs.Step.{clocked_detector, clocked_known_signal, clocked_known_point, indicated_heard, occupied_heard, side_heard}
 use Rattle.ixl_field.specs.Nodes.{DetectorGoes, Goes, KnownSignalGoes, KnownPointGoes, detector_heard, detector_ticked, known_signal_given, known_signal_heard, known_signal_ticked, known_point_given, known_point_heard, known_point_ticked}
 use Rattle.ixl_field.proofs.Fallen.{detector_client, known_signal_client, known_point_client}
 
@@ -44,33 +44,33 @@ goes_so client_of now most does part old after new box out told goes node box_is
 
 pub gives_aspect : (now : ℕ) (aspect : Aspect) (old after : KnownSignalState) (new : ClientState) (number : ℕ) (box out : OutboxState) →
     way.Goes now 2 (commanding now (commands.Indicate aspect)) (view_of old.client box []) (view_of new out []) →
-    number ≡ new.link.given → after ≡ known_signal_after (Some aspect) number new → KnownSignalGoes now 2 (known_signal_given now aspect) old box after out
+    number ≡ new.link.given → after ≡ known_signal_after (Some aspect) number old.indicated new → KnownSignalGoes now 2 (known_signal_given now aspect) old box after out
 unfolding known_signal_given
 gives_aspect now aspect old after new number box out goes count is =
     let so : seen (commanding now (commands.Indicate aspect) (begun old.client box)) ≡ view_of new out [] = done now 2 _ old.client new box out [] goes
     in goes_so _ now 2 _ _ old after new box out [] goes
-    (is ∙ ap (λ n. known_signal_after (Some aspect) n new) count ∙ ap (λ (s : Seen). known_signal_after (Some aspect) s.client.link.given s.client) (sym so))
-    (ap (λ (s : Seen). s.outbox) (sym so)) (ap (λ (l : KnownSignalState). l.client) is ∙ known_signal_client (Some aspect) number new)
+    (is ∙ ap (λ n. known_signal_after (Some aspect) n old.indicated new) count ∙ ap (λ (s : Seen). known_signal_after (Some aspect) s.client.link.given old.indicated s.client) (sym so))
+    (ap (λ (s : Seen). s.outbox) (sym so)) (ap (λ (l : KnownSignalState). l.client) is ∙ known_signal_client (Some aspect) number old.indicated new)
 
-pub known_signal_hears : (now : ℕ) (bytes : List ℕ) (old after : KnownSignalState) (new : ClientState) (box out : OutboxState) (told : List Indication) →
+pub known_signal_hears : (now : ℕ) (bytes : List ℕ) (old after : KnownSignalState) (new : ClientState) (indicated : Option Aspect) (box out : OutboxState) (told : List Indication) →
     way.Goes now 30 (hearing now bytes) (view_of old.client box []) (view_of new out told) →
-    after ≡ known_signal_after old.aspect old.number new → KnownSignalGoes now 30 (known_signal_heard now bytes) old box after out
+    indicated ≡ indicated_heard told old.indicated → after ≡ known_signal_after old.aspect old.number indicated new → KnownSignalGoes now 30 (known_signal_heard now bytes) old box after out
 unfolding known_signal_heard
-known_signal_hears now bytes old after new box out told goes is =
+known_signal_hears now bytes old after new indicated box out told goes heard is =
     let so : seen (hearing now bytes (begun old.client box)) ≡ view_of new out told = done now 30 _ old.client new box out told goes
     in goes_so _ now 30 _ _ old after new box out told goes
-    (is ∙ ap (λ (s : Seen). known_signal_after old.aspect old.number s.client) (sym so))
-    (ap (λ (s : Seen). s.outbox) (sym so)) (ap (λ (l : KnownSignalState). l.client) is ∙ known_signal_client old.aspect old.number new)
+    (is ∙ ap (λ i. known_signal_after old.aspect old.number i new) heard ∙ ap (λ (s : Seen). known_signal_after old.aspect old.number (indicated_heard s.heard old.indicated) s.client) (sym so))
+    (ap (λ (s : Seen). s.outbox) (sym so)) (ap (λ (l : KnownSignalState). l.client) is ∙ known_signal_client old.aspect old.number indicated new)
 
 pub known_signal_ticks : (now : ℕ) (old after : KnownSignalState) (new : ClientState) (box out : OutboxState) →
     way.Goes now 2 (ticking now) (view_of old.client box []) (view_of new out []) →
-    after ≡ known_signal_after old.aspect old.number new → KnownSignalGoes now 2 (known_signal_ticked now) old box after out
+    after ≡ known_signal_after old.aspect old.number old.indicated new → KnownSignalGoes now 2 (known_signal_ticked now) old box after out
 unfolding known_signal_ticked
 known_signal_ticks now old after new box out goes is =
     let so : seen (ticking now (begun old.client box)) ≡ view_of new out [] = done now 2 _ old.client new box out [] goes
     in goes_so _ now 2 _ _ old after new box out [] goes
-    (is ∙ ap (λ (s : Seen). known_signal_after old.aspect old.number s.client) (sym so))
-    (ap (λ (s : Seen). s.outbox) (sym so)) (ap (λ (l : KnownSignalState). l.client) is ∙ known_signal_client old.aspect old.number new)
+    (is ∙ ap (λ (s : Seen). known_signal_after old.aspect old.number old.indicated s.client) (sym so))
+    (ap (λ (s : Seen). s.outbox) (sym so)) (ap (λ (l : KnownSignalState). l.client) is ∙ known_signal_client old.aspect old.number old.indicated new)
 
 pub known_signal_in : (now most : ℕ) (does : KnownSignalState → OutboxState → KnownSignalState × OutboxState) (inside old : KnownSignalState) (box : OutboxState) (new : KnownSignalState) (out : OutboxState) →
     inside ≡ old → KnownSignalGoes now most does inside box new out → KnownSignalGoes now most does old box new out
@@ -78,14 +78,14 @@ known_signal_in now most does inside old box new out is goes = subst (λ (o : Kn
 
 -- the clock
 pub known_signal_settles : (now : ℕ) (inside old after : KnownSignalState) (new : ClientState) → inside ≡ old → new ≡ clocked now inside.client →
-    after ≡ known_signal_after inside.aspect inside.number new → after ≡ clocked_known_signal now old
+    after ≡ known_signal_after inside.aspect inside.number inside.indicated new → after ≡ clocked_known_signal now old
 known_signal_settles now inside old after new same settled is =
-    is ∙ ap (λ c. known_signal_after inside.aspect inside.number c) settled ∙ ap (λ (l : KnownSignalState). clocked_known_signal now l) same
+    is ∙ ap (λ c. known_signal_after inside.aspect inside.number inside.indicated c) settled ∙ ap (λ (l : KnownSignalState). clocked_known_signal now l) same
 
 pub known_signal_kept : (now : ℕ) (inside old after : KnownSignalState) (new : ClientState) → inside ≡ old → IsAt now inside.client.link new.link →
-    after ≡ known_signal_after inside.aspect inside.number new → IsAt now old.client.link after.client.link
+    after ≡ known_signal_after inside.aspect inside.number inside.indicated new → IsAt now old.client.link after.client.link
 known_signal_kept now inside old after new same at is =
-    let client : after.client ≡ new = ap (λ (l : KnownSignalState). l.client) is ∙ known_signal_client inside.aspect inside.number new
+    let client : after.client ≡ new = ap (λ (l : KnownSignalState). l.client) is ∙ known_signal_client inside.aspect inside.number inside.indicated new
     in record {
       clock = ap (λ (c : ClientState). c.link.clock) client ∙ at.clock;
       identity = ap (λ (c : ClientState). c.link.identity) client ∙ at.identity ∙ ap (λ (l : KnownSignalState). l.client.link.identity) same;

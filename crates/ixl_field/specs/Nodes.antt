@@ -10,7 +10,7 @@ use Rattle.ixl_rules.specs.ixl_client.declared.command.Command.TheVariants as co
 use Rattle.ixl_rules.specs.ixl_client.declared.indication.Indication.{Indication}
 use Rattle.ixl_rules.specs.StepSoFar.{all_below, detector_after, known_signal_after, known_point_after}
 use Rattle.ixl_rules.specs.State.{KnownDetectorState, KnownSignalState, KnownPointState}
-use Rattle.ixl_rules.specs.Step.{occupied_heard, side_heard}
+use Rattle.ixl_rules.specs.Step.{indicated_heard, occupied_heard, side_heard}
 
 -- A part of a step at a clock reading leaves this of a node and of the outbox. The node's link keeps its identity, and at
 -- most so many datagrams are handed out.
@@ -37,17 +37,17 @@ DetectorGoes = Goes (λ (detector : KnownDetectorState). detector.client)
 unfoldable pub known_signal_given : ℕ → Aspect → KnownSignalState → OutboxState → KnownSignalState × OutboxState
 known_signal_given now aspect known_signal box =
     let done = commanding now (commands.Indicate aspect) (begun known_signal.client box)
-    in (known_signal_after (Some aspect) done.client.link.given done.client, done.outbox)
+    in (known_signal_after (Some aspect) done.client.link.given known_signal.indicated done.client, done.outbox)
 
 unfoldable pub known_signal_heard : ℕ → List ℕ → KnownSignalState → OutboxState → KnownSignalState × OutboxState
 known_signal_heard now bytes known_signal box =
     let done = hearing now bytes (begun known_signal.client box)
-    in (known_signal_after known_signal.aspect known_signal.number done.client, done.outbox)
+    in (known_signal_after known_signal.aspect known_signal.number (indicated_heard done.heard known_signal.indicated) done.client, done.outbox)
 
 unfoldable pub known_signal_ticked : ℕ → KnownSignalState → OutboxState → KnownSignalState × OutboxState
 known_signal_ticked now known_signal box =
     let done = ticking now (begun known_signal.client box)
-    in (known_signal_after known_signal.aspect known_signal.number done.client, done.outbox)
+    in (known_signal_after known_signal.aspect known_signal.number known_signal.indicated done.client, done.outbox)
 
 -- ---- points
 

@@ -5,22 +5,24 @@ ghost use Rattle.ixl_rules.specs.rasta_core.Calls.{MayStep, IsAt, receiving};
 ghost use Rattle.ixl_rules.specs.rasta_core.Outbox.{HasRoomFor};
 ghost use Rattle.ixl_rules.specs.ixl_client.Client.{is_ready};
 ghost use Rattle.ixl_rules.specs.StepSoFar.{known_signal_after};
-ghost use Rattle.ixl_rules.specs.Step.{clocked_known_signal};
+ghost use Rattle.ixl_rules.specs.Step.{aspect_of, clocked_known_signal, indicated_heard};
 ghost use Rattle.ixl_rules.specs.rasta_core.State.{confirmed_items};
 ghost use Rattle.ixl_rules.specs.View.{has_taken_stop, is_known_signal_at_stop};
 ghost use Rattle.ixl_field.specs.Nodes.{KnownSignalGoes, known_signal_given, known_signal_heard, known_signal_ticked};
 
-use ixl_rules::ixl_client::{Client, Command, Indications};
+use ixl_rules::ixl_client::{Client, Command, Indication, Indications, ObjectState};
 use ixl_rules::rasta_core::{Millis, Outbox, Verdict};
 use ixl_rules::sci_telegram::Aspect;
 use std::marker::Model;
 
-/// A signal: its client, the last aspect given in the present connection, and how many items were given there with it.
+/// A signal: its client, the last aspect given in the present connection, how many items were given there with it, and the
+/// aspect that the last report of the connection told.
 #[derive(Debug, Drop)]
 pub struct KnownSignal {
     client: Client,
     aspect: Option<Aspect>,
     number: u64,
+    indicated: Option<Aspect>,
 }
 
 impl Model for KnownSignal {
@@ -28,18 +30,40 @@ impl Model for KnownSignal {
 
     ghost Value = { KnownSignalState };
 
-    ghost view = { λ l. record { client = l.client; aspect = l.aspect; number = l.number } };
+    ghost view = { λ l. record { client = l.client; aspect = l.aspect; number = l.number; indicated = l.indicated } };
+}
+
+/// The aspect that a signal's report tells.
+fn aspect_of(state: ObjectState) -> Option<Aspect>
+    ensures { result ≡ aspect_of state }
+{
+    match state {
+        ObjectState::Aspect(aspect) => Some(aspect),
+        _ => None,
+    }
+}
+
+/// The aspect that is indicated once these reports were heard: the last stands.
+fn indicated_heard(heard: &[Indication], indicated: Option<Aspect>) -> Option<Aspect>
+    ensures { result ≡ indicated_heard heard.now indicated }
+{
+    let mut last = indicated;
+    for indication in heard {
+        last = aspect_of(indication.state);
+    }
+    last
 }
 
 impl KnownSignal {
-    /// The signal of this client, which has given nothing.
+    /// The signal of this client, to which nothing was given and of which nothing was heard.
     pub fn new(client: Client) -> KnownSignal
-        ensures { result ≡ record { client = client; aspect = None; number = 0 } }
+        ensures { result ≡ record { client = client; aspect = None; number = 0; indicated = None } }
     {
         KnownSignal {
             client,
             aspect: None,
             number: 0,
+            indicated: None,
         }
     }
 
@@ -55,6 +79,13 @@ impl KnownSignal {
         ensures { result ≡ is_ready self.now.client.stage }
     {
         self.client.is_ready()
+    }
+
+    /// The aspect that its controller last indicated in the present connection.
+    pub fn indicated(&self) -> Option<Aspect>
+        ensures { result ≡ self.now.indicated }
+    {
+        self.indicated
     }
 
     /// Whether the controller is known to have taken stop as the last aspect given, or none was given.
@@ -80,14 +111,15 @@ impl KnownSignal {
         }
     }
 
-    /// Outside of a connection nothing was given.
+    /// Outside of a connection nothing was given or heard.
     #[tactic(auto, unfolding(ixl_rules::specs::StepSoFar::known_signal_after))]
     fn fall(&mut self)
-        ensures { self.new ≡ known_signal_after self.old.aspect self.old.number self.old.client }
+        ensures { self.new ≡ known_signal_after self.old.aspect self.old.number self.old.indicated self.old.client }
     {
         if !self.client.link().is_up_now() {
             self.aspect = None;
             self.number = 0;
+            self.indicated = None;
         }
     }
 
@@ -101,7 +133,7 @@ impl KnownSignal {
         self.fall();
     }
 
-    /// A datagram has come. What the signal indicates isn't used.
+    /// A datagram has come: the last report stands.
     pub fn hear(&mut self, now: Millis, datagram: &[u8], outbox: &mut Outbox) -> Verdict
         requires clock { self.old.client.link.clock ≡ now }
         requires room { HasRoomFor 56 outbox.old }
@@ -110,6 +142,7 @@ impl KnownSignal {
     {
         let mut heard = Indications::new();
         let verdict = self.client.receive(now, datagram, outbox, &mut heard);
+        self.indicated = indicated_heard(heard.as_slice(), self.indicated);
         self.fall();
         verdict
     }

@@ -7,7 +7,7 @@ ghost use Rattle.ixl_rules.specs.State.{KnownDetectorState as DetectorAt, KnownS
 ghost use Rattle.ixl_rules.specs.Step.{partner_at};
 ghost use Rattle.ixl_rules.specs.sci_telegram.declared.message.Side.TheVariants as side;
 ghost use Rattle.ixl_rules.specs.ixl_client.Client.{is_ready};
-ghost use Rattle.ixl_rules.specs.View.{is_at_known_stop, is_clear, is_known, is_occupied, is_point_available, is_signal_ready};
+ghost use Rattle.ixl_rules.specs.View.{indicated, is_at_known_stop, is_clear, is_known, is_occupied, is_point_available, is_signal_ready};
 ghost use Rattle.ixl_rules.specs.Rules.{is_unmoved};
 ghost use Rattle.ixl_rules.specs.Table.{Table};
 ghost use Rattle.ixl_field.specs.Field.{Rest, kept};
@@ -16,7 +16,7 @@ use crate::field::Field;
 use ixl_rules::bit_row::BitRow;
 use ixl_rules::ixl_client::Client;
 use ixl_rules::rasta_core::Millis;
-use ixl_rules::sci_telegram::Side;
+use ixl_rules::sci_telegram::{Aspect, Side};
 
 /// Whether a client's controller has this identity.
 fn is_partner(client: &Client, id: u32) -> bool
@@ -97,6 +97,17 @@ impl Field {
         ensures { (rest : Rest) → result ≡ is_at_known_stop now (kept self.now rest) signal }
     {
         signal < self.known_signals.len() && self.known_signals[signal].is_at_stop(now)
+    }
+
+    /// The aspect that a signal's controller last indicated in the present connection.
+    pub fn indicated(&self, signal: usize) -> Option<Aspect>
+        ensures { (rest : Rest) → result ≡ indicated (kept self.now rest) signal }
+    {
+        if signal < self.known_signals.len() {
+            self.known_signals[signal].indicated()
+        } else {
+            None
+        }
     }
 
     /// How many signals there are.

@@ -42,6 +42,7 @@ new_known_signal_of site begins signal = record {
   client = client_of protocols.LightSignal site begins signal.name signal.id (signal.name ∷ []);
   aspect = None;
   number = 0;
+  indicated = None;
 }
 
 abbrev pub new_known_point_of : Site → Beginning → Point → KnownPointState

@@ -20,6 +20,8 @@ pub record KnownSignalState : Type 0 where
   -- the last aspect given in the present connection, and how many items were given there with it
   pub aspect : Option Aspect
   pub number : ℕ
+  -- the aspect that the last report of the present connection told
+  pub indicated : Option Aspect
 
 pub record KnownPointState : Type 0 where
   pub client : ClientState

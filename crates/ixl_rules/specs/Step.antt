@@ -11,6 +11,7 @@ use Rattle.rasta_pdu.specs.declared.pdu.Pdu.{Pdu}
 use Rattle.rasta_core.specs.Calls.{receiving}
 use Rattle.rasta_core.specs.verdict.Verdict.{Verdict}
 use Rattle.rasta_core.specs.verdict.Verdict.TheVariants as verdicts
+use Rattle.control_table.specs.sci_telegram.declared.message.Aspect.{Aspect}
 use Rattle.control_table.specs.sci_telegram.declared.message.Occupancy.TheVariants as occupancy
 use Rattle.control_table.specs.sci_telegram.declared.message.Position.{Position}
 use Rattle.control_table.specs.sci_telegram.declared.message.Position.TheVariants as positions
@@ -35,7 +36,7 @@ use Rattle.ixl_rules.specs.declared.command.Refusal.{Refusal}
 -- ---- the clock
 
 abbrev pub clocked_known_signal : ℕ → KnownSignalState → KnownSignalState
-clocked_known_signal now known_signal = known_signal_after known_signal.aspect known_signal.number (clocked now known_signal.client)
+clocked_known_signal now known_signal = known_signal_after known_signal.aspect known_signal.number known_signal.indicated (clocked now known_signal.client)
 
 abbrev pub clocked_known_point : ℕ → KnownPointState → KnownPointState
 clocked_known_point now known_point = known_point_after known_point.side known_point.moved (clocked now known_point.client)
@@ -51,6 +52,16 @@ all_clocked now ixl = record ixl {
 }
 
 -- ---- what is heard
+
+-- the aspect that a signal's report tells
+abbrev pub aspect_of : ObjectState → Option Aspect
+aspect_of (states.Aspect aspect) = Some aspect
+aspect_of _ = None
+
+-- the last report stands
+abbrev pub indicated_heard : List Indication → Option Aspect → Option Aspect
+indicated_heard [] indicated = indicated
+indicated_heard (first ∷ others) indicated = indicated_heard others (aspect_of first.state)
 
 -- the side that a point's report tells
 abbrev pub side_of : ObjectState → Option Side
@@ -72,13 +83,13 @@ occupied_heard [] occupied = occupied
 occupied_heard (first ∷ others) occupied =
     occupied_heard others (if is_told_occupied first.state then insert occupied first.place else remove occupied first.place)
 
--- what the signal indicates is not used: the route's rules rest on what was given and confirmed
+-- what a signal indicates is kept, and no rule uses it: the rules rest on what was given and confirmed
 unfoldable pub known_signal_hearing : ℕ → List ℕ → ℕ → StepSoFar → StepSoFar
 known_signal_hearing now bytes signal part = with_one (slice_get part.ixl.known_signals signal) hear part where
   hear : KnownSignalState → StepSoFar → StepSoFar
   hear known_signal part =
       let done = hearing now bytes (begun known_signal.client part.outbox)
-      in with_known_signal signal (known_signal_after known_signal.aspect known_signal.number done.client) (noted (Signal signal) done part)
+      in with_known_signal signal (known_signal_after known_signal.aspect known_signal.number (indicated_heard done.heard known_signal.indicated) done.client) (noted (Signal signal) done part)
 
 unfoldable pub known_point_hearing : ℕ → List ℕ → ℕ → StepSoFar → StepSoFar
 known_point_hearing now bytes point part = with_one (slice_get part.ixl.known_points point) hear part where
@@ -197,7 +208,7 @@ known_signal_ticking now signal part = with_one (slice_get part.ixl.known_signal
   tick : KnownSignalState → StepSoFar → StepSoFar
   tick known_signal part =
       let done = ticking now (begun known_signal.client part.outbox)
-      in with_known_signal signal (known_signal_after known_signal.aspect known_signal.number done.client) (noted (Signal signal) done part)
+      in with_known_signal signal (known_signal_after known_signal.aspect known_signal.number known_signal.indicated done.client) (noted (Signal signal) done part)
 
 unfoldable pub known_point_ticking : ℕ → ℕ → StepSoFar → StepSoFar
 known_point_ticking now point part = with_one (slice_get part.ixl.known_points point) tick part where

@@ -50,11 +50,11 @@ with_one (Some one) does part = does one part
 
 -- ---- signals
 
--- outside nothing was given
-unfoldable pub known_signal_after : Option Aspect → ℕ → ClientState → KnownSignalState
-known_signal_after aspect number client =
-    if is_outside client.stage then record { client = client; aspect = None; number = 0 }
-    else record { client = client; aspect = aspect; number = number }
+-- outside nothing was given or heard
+unfoldable pub known_signal_after : Option Aspect → ℕ → Option Aspect → ClientState → KnownSignalState
+known_signal_after aspect number indicated client =
+    if is_outside client.stage then record { client = client; aspect = None; number = 0; indicated = None }
+    else record { client = client; aspect = aspect; number = number; indicated = indicated }
 
 abbrev pub with_known_signal : ℕ → KnownSignalState → StepSoFar → StepSoFar
 with_known_signal signal known_signal part = record part { ixl = record part.ixl { known_signals = changed (λ old. known_signal) signal part.ixl.known_signals } }
@@ -65,7 +65,7 @@ giving_aspect now signal aspect part = with_one (slice_get part.ixl.known_signal
   give : KnownSignalState → StepSoFar → StepSoFar
   give known_signal part =
       let done = commanding now (commands.Indicate aspect) (begun known_signal.client part.outbox)
-      in with_known_signal signal (known_signal_after (Some aspect) done.client.link.given done.client) (noted (Signal signal) done part)
+      in with_known_signal signal (known_signal_after (Some aspect) done.client.link.given known_signal.indicated done.client) (noted (Signal signal) done part)
 
 -- ---- points
 

@@ -86,6 +86,14 @@ is_known_signal_at_stop now known_signal =
 unfoldable pub is_at_known_stop : ℕ → IxlState → ℕ → Bool
 is_at_known_stop now ixl signal = at ixl.known_signals signal (is_known_signal_at_stop now)
 
+-- the aspect that a signal's controller last indicated in the present connection; nothing where there is no such signal
+abbrev pub indicated_by : Option KnownSignalState → Option Aspect
+indicated_by None = None
+indicated_by (Some known_signal) = known_signal.indicated
+
+abbrev pub indicated : IxlState → ℕ → Option Aspect
+indicated ixl signal = indicated_by (slice_get ixl.known_signals signal)
+
 -- ---- routes
 
 -- the place of a section in the path of a route

@@ -37,7 +37,7 @@ clocked_clients now (Signal place) ixl =
   where
     kept : (known_signal : Option KnownSignalState) → known_signal_kept (option_map (clocked_known_signal now) known_signal) ≡ option_map (clocked now) (known_signal_kept known_signal)
     kept None = refl
-    kept (Some known_signal) = ap Some (known_signal_client known_signal.aspect known_signal.number (clocked now known_signal.client))
+    kept (Some known_signal) = ap Some (known_signal_client known_signal.aspect known_signal.number known_signal.indicated (clocked now known_signal.client))
 clocked_clients now (Point place) ixl =
     point_at place (all_clocked now ixl) ∙ ap known_point_kept (mapped_option (clocked_known_point now) place ixl.known_points) ∙ kept (slice_get ixl.known_points place) ∙ ap (option_map (clocked now)) (sym (point_at place ixl))
   where

@@ -7,7 +7,7 @@ use Rattle.ixl_state.specs.ixl_client.Step.{hearing}
 use Rattle.ixl_state.specs.ixl_rules.Commands.{commanded_by, obeyed, refusal, unmoved_for}
 use Rattle.ixl_state.specs.ixl_rules.StepSoFar.{Detector, Node, StepSoFar, Point, Signal, begun_with, detector_after, empty_outbox, known_signal_after, known_point_after, with_one}
 use Rattle.ixl_state.specs.ixl_rules.State.{KnownDetectorState, IxlState, KnownSignalState, KnownPointState, changed}
-use Rattle.ixl_state.specs.ixl_rules.Step.{Commands, Datagram, Input, Tick, addressed, all_clocked, client_at, detector_hearing, given, known_signal_hearing, looking, looks, node_hearing, occupied_heard, side_heard, known_point_hearing}
+use Rattle.ixl_state.specs.ixl_rules.Step.{Commands, Datagram, Input, Tick, addressed, all_clocked, client_at, detector_hearing, given, indicated_heard, known_signal_hearing, looking, looks, node_hearing, occupied_heard, side_heard, known_point_hearing}
 use Rattle.ixl_state.specs.ixl_rules.Table.{Table}
 use Rattle.ixl_state.specs.ixl_rules.declared.command.Command.{Command}
 use Rattle.ixl_state.specs.ixl_rules.declared.command.Command.TheVariants as commands
@@ -35,10 +35,10 @@ module _ (now : ℕ) (laws : ClientLaws now) (first : IxlState) (table : Table) 
   signal_called place = with_one_or_none (From (Some (Signal place))) (slice_get first.known_signals place) _ begins
       (λ known_signal there.
       let heard = hearing now bytes (begun known_signal.client empty_outbox)
-      in let new : KnownSignalState = known_signal_after known_signal.aspect known_signal.number heard.client
+      in let new : KnownSignalState = known_signal_after known_signal.aspect known_signal.number (indicated_heard heard.heard known_signal.indicated) heard.client
       in let ixl : IxlState = record first { known_signals = changed (λ old. new) place first.known_signals }
       in received now first laws table bytes (Signal place) known_signal.client (signal_at place first ∙ ap known_signal_kept there) refl ixl
-      (subst (λ c. Puts (Signal place) c first ixl) (known_signal_client known_signal.aspect known_signal.number heard.client) (known_signal_put place known_signal new first there)))
+      (subst (λ c. Puts (Signal place) c first ixl) (known_signal_client known_signal.aspect known_signal.number (indicated_heard heard.heard known_signal.indicated) heard.client) (known_signal_put place known_signal new first there)))
       (λ none. nobody now first laws table bytes (Signal place) (signal_at place first ∙ ap known_signal_kept none))
 
   point_called : (place : ℕ) → From (Some (Point place)) (known_point_hearing now bytes place begins)

@@ -67,13 +67,13 @@ module _ (now : ℕ) (laws : ClientLaws now) (first : IxlState) (receipt : Node 
 
   -- ---- what is done with a signal, a point, a detector
 
-  known_signal_next : (place : ℕ) (known_signal : KnownSignalState) (part : StepSoFar) → slice_get part.ixl.known_signals place ≡ Some known_signal → (done : client.ClientSoFar) (aspect : Option Aspect) (number : ℕ) → DoesAt (Signal place) known_signal.client part.outbox done →
-      On part → On (with_known_signal place (known_signal_after aspect number done.client) (noted (Signal place) done part))
-  known_signal_next place known_signal part there done aspect number does on = called_next now first receipt (Signal place) known_signal.client part done new (signal_at place part.ixl ∙ ap known_signal_kept there) does
-      (subst (λ c. Puts (Signal place) c part.ixl new) (known_signal_client aspect number done.client) (known_signal_put place known_signal (known_signal_after aspect number done.client) part.ixl there)) on
+  known_signal_next : (place : ℕ) (known_signal : KnownSignalState) (part : StepSoFar) → slice_get part.ixl.known_signals place ≡ Some known_signal → (done : client.ClientSoFar) (aspect : Option Aspect) (number : ℕ) (indicated : Option Aspect) → DoesAt (Signal place) known_signal.client part.outbox done →
+      On part → On (with_known_signal place (known_signal_after aspect number indicated done.client) (noted (Signal place) done part))
+  known_signal_next place known_signal part there done aspect number indicated does on = called_next now first receipt (Signal place) known_signal.client part done new (signal_at place part.ixl ∙ ap known_signal_kept there) does
+      (subst (λ c. Puts (Signal place) c part.ixl new) (known_signal_client aspect number indicated done.client) (known_signal_put place known_signal (known_signal_after aspect number indicated done.client) part.ixl there)) on
     where
       new : IxlState
-      new = record part.ixl { known_signals = changed (λ old. known_signal_after aspect number done.client) place part.ixl.known_signals }
+      new = record part.ixl { known_signals = changed (λ old. known_signal_after aspect number indicated done.client) place part.ixl.known_signals }
 
   known_point_next : (place : ℕ) (known_point : KnownPointState) (part : StepSoFar) → slice_get part.ixl.known_points place ≡ Some known_point → (done : client.ClientSoFar) (side : Option Side) (moved : Places) → DoesAt (Point place) known_point.client part.outbox done →
       On part → On (with_known_point place (known_point_after side moved done.client) (noted (Point place) done part))
@@ -104,7 +104,7 @@ module _ (now : ℕ) (laws : ClientLaws now) (first : IxlState) (receipt : Node 
   unfolding giving_aspect
   aspect_called signal aspect part on = with_one_holds On (slice_get part.ixl.known_signals signal) _ part (λ known_signal there.
       let done = commanding now (commands.Indicate aspect) (begun known_signal.client part.outbox)
-      in known_signal_next signal known_signal part there done (Some aspect) done.client.link.given (commanded (Signal signal) known_signal.client part.outbox (commands.Indicate aspect)) on) on
+      in known_signal_next signal known_signal part there done (Some aspect) done.client.link.given known_signal.indicated (commanded (Signal signal) known_signal.client part.outbox (commands.Indicate aspect)) on) on
 
   move_called : (point : ℕ) (side : Side) (part : StepSoFar) → On part → On (giving_move now point side part)
   unfolding giving_move
@@ -124,7 +124,7 @@ module _ (now : ℕ) (laws : ClientLaws now) (first : IxlState) (receipt : Node 
     known_signal_ticks : (signal : ℕ) (part : StepSoFar) → On part → On (known_signal_ticking now signal part)
     unfolding known_signal_ticking
     known_signal_ticks signal part on = with_one_holds On (slice_get part.ixl.known_signals signal) _ part (λ known_signal there.
-        known_signal_next signal known_signal part there (ticking now (begun known_signal.client part.outbox)) known_signal.aspect known_signal.number (beaten (Signal signal) known_signal.client part.outbox (none (Signal signal))) on) on
+        known_signal_next signal known_signal part there (ticking now (begun known_signal.client part.outbox)) known_signal.aspect known_signal.number known_signal.indicated (beaten (Signal signal) known_signal.client part.outbox (none (Signal signal))) on) on
 
     known_point_ticks : (point : ℕ) (part : StepSoFar) → On part → On (known_point_ticking now point part)
     unfolding known_point_ticking

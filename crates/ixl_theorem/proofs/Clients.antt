@@ -9,9 +9,9 @@ use Rattle.ixl_state.specs.ixl_rules.Step.{client_at}
 use Rattle.ixl_theorem.specs.Nodes.{is_node}
 use Rattle.ixl_theorem.proofs.Picking.{changed_elsewhere, either, none_is, some_same}
 
-pub known_signal_client : (aspect : _) (number : ℕ) (client : ClientState) → (known_signal_after aspect number client).client ≡ client
+pub known_signal_client : (aspect : _) (number : ℕ) (indicated : _) (client : ClientState) → (known_signal_after aspect number indicated client).client ≡ client
 unfolding known_signal_after
-known_signal_client aspect number client = either (λ (l : KnownSignalState). l.client ≡ client) (is_outside client.stage) _ _ refl refl
+known_signal_client aspect number indicated client = either (λ (l : KnownSignalState). l.client ≡ client) (is_outside client.stage) _ _ refl refl
 
 pub known_point_client : (side : _) (moved : _) (client : ClientState) → (known_point_after side moved client).client ≡ client
 unfolding known_point_after

@@ -118,7 +118,7 @@ detectors_of part = part.ixl.detectors
 known_signal_ticked : ℕ → ℕ → KnownSignalState → StepSoFar → StepSoFar
 known_signal_ticked now place known_signal part =
     let done = ticking now (begun known_signal.client part.outbox)
-    in with_known_signal place (known_signal_after known_signal.aspect known_signal.number done.client) (noted (Signal place) done part)
+    in with_known_signal place (known_signal_after known_signal.aspect known_signal.number known_signal.indicated done.client) (noted (Signal place) done part)
 
 known_signals_tick : (now : ℕ) → Ticks now → Keeps now → Does known_signals_of (known_signal_ticking now) (λ known_signal. IsTended now known_signal.client)
 unfolding known_signal_ticking known_signals_of known_signal_ticked Puts
@@ -129,9 +129,9 @@ known_signals_tick now opens keeps = record {
 } where
   puts : (place : ℕ) (part : StepSoFar) (known_signal : KnownSignalState) → (new : KnownSignalState) × (known_signals_of (known_signal_ticked now place known_signal part) ≡ changed (λ old. new) place (known_signals_of part)) × IsTended now new.client
   puts place part known_signal = (
-    known_signal_after known_signal.aspect known_signal.number (ticking now (begun known_signal.client part.outbox)).client,
+    known_signal_after known_signal.aspect known_signal.number known_signal.indicated (ticking now (begun known_signal.client part.outbox)).client,
     refl,
-    subst (IsTended now) (sym (known_signal_client known_signal.aspect known_signal.number _)) (tended now opens keeps (begun known_signal.client part.outbox)),
+    subst (IsTended now) (sym (known_signal_client known_signal.aspect known_signal.number known_signal.indicated _)) (tended now opens keeps (begun known_signal.client part.outbox)),
   )
 
 -- what a tick does where there is such a controller

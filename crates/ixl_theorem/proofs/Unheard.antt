@@ -24,7 +24,7 @@ use Rattle.ixl_state.specs.ixl_client.declared.stage.Stage.TheVariants as stage
 use Rattle.ixl_state.specs.ixl_rules.StepSoFar.{Detector, Node, StepSoFar, Point, Signal, along, begun_with, detector_after, empty_outbox, known_signal_after, noted, over, known_point_after, with_detector, with_known_signal, with_one, with_known_point}
 use Rattle.ixl_state.specs.ixl_rules.Rules.{count, ruled}
 use Rattle.ixl_state.specs.ixl_rules.State.{KnownDetectorState, IxlState, KnownSignalState, KnownPointState, changed}
-use Rattle.ixl_state.specs.ixl_rules.Step.{Accepted, Datagram, Received, Refused, Reply, Ticked, addressed, all_clocked, client_at, client_of, clocked_detector, clocked_known_signal, clocked_known_point, detector_hearing, given, known_signal_hearing, looking, looks, node_hearing, occupied_heard, reply, side_heard, stepped, known_point_hearing, ticked, verdict_at, verdict_of, watching}
+use Rattle.ixl_state.specs.ixl_rules.Step.{Accepted, Datagram, Received, Refused, Reply, Ticked, addressed, all_clocked, client_at, client_of, clocked_detector, clocked_known_signal, clocked_known_point, detector_hearing, given, indicated_heard, known_signal_hearing, looking, looks, node_hearing, occupied_heard, reply, side_heard, stepped, known_point_hearing, ticked, verdict_at, verdict_of, watching}
 use Rattle.ixl_state.specs.ixl_rules.Table.{Table}
 use Rattle.ixl_state.specs.First.{key_of}
 use Rattle.ixl.specs.Interlocking.{HasStepped, InterlockingState}
@@ -104,9 +104,11 @@ clocked_settled : (now : ℕ) (one : ClientState) → settled now (clocked now o
 unfolding clocked fallen
 clocked_settled now one = either (λ (c : ClientState). settled now c.link ≡ c.link) (is_up (settled now one.link).phase) _ _ (settled_again now one.link) (settled_again now one.link)
 
-known_signal_again : (aspect : _) (number : ℕ) (one : ClientState) → known_signal_after (known_signal_after aspect number one).aspect (known_signal_after aspect number one).number (known_signal_after aspect number one).client ≡ known_signal_after aspect number one
+known_signal_again : (aspect : _) (number : ℕ) (indicated : _) (one : ClientState) →
+    (λ (l : KnownSignalState). known_signal_after l.aspect l.number l.indicated l.client) (known_signal_after aspect number indicated one) ≡ known_signal_after aspect number indicated one
 unfolding known_signal_after
-known_signal_again aspect number one = picked (λ (l : KnownSignalState). (if is_outside l.client.stage then record { client = l.client; aspect = None; number = 0 } else record { client = l.client; aspect = l.aspect; number = l.number }) ≡ l)
+known_signal_again aspect number indicated one =
+    picked (λ (l : KnownSignalState). (if is_outside l.client.stage then record { client = l.client; aspect = None; number = 0; indicated = None } else record { client = l.client; aspect = l.aspect; number = l.number; indicated = l.indicated }) ≡ l)
     (is_outside one.stage) _ _ (λ out. rw out refl) (λ inside. rw inside refl)
 
 known_point_again : (side : _) (moved : _) (one : ClientState) → known_point_after (known_point_after side moved one).side (known_point_after side moved one).moved (known_point_after side moved one).client ≡ known_point_after side moved one
@@ -134,7 +136,7 @@ changed_self (suc place) new (first ∷ others) old is same = ap (λ list. first
 known_signal_by : ℕ → List ℕ → ℕ → KnownSignalState → StepSoFar → StepSoFar
 known_signal_by now bytes place known_signal part =
     let done = hearing now bytes (begun known_signal.client part.outbox)
-    in with_known_signal place (known_signal_after known_signal.aspect known_signal.number done.client) (noted (Signal place) done part)
+    in with_known_signal place (known_signal_after known_signal.aspect known_signal.number (indicated_heard done.heard known_signal.indicated) done.client) (noted (Signal place) done part)
 
 known_point_by : ℕ → List ℕ → ℕ → KnownPointState → StepSoFar → StepSoFar
 known_point_by now bytes place known_point part =
@@ -146,13 +148,16 @@ detector_by now bytes place detector part =
     let done = hearing now bytes (begun detector.client part.outbox)
     in with_detector place (detector_after (occupied_heard done.heard detector.occupied) done.client) (noted (Detector place) done part)
 
-known_signal_unheard : (now : ℕ) (bytes : List ℕ) (place : ℕ) (known_signal : KnownSignalState) (part : StepSoFar) → slice_get part.ixl.known_signals place ≡ Some known_signal → known_signal_after known_signal.aspect known_signal.number known_signal.client ≡ known_signal →
+known_signal_unheard : (now : ℕ) (bytes : List ℕ) (place : ℕ) (known_signal : KnownSignalState) (part : StepSoFar) → slice_get part.ixl.known_signals place ≡ Some known_signal → known_signal_after known_signal.aspect known_signal.number known_signal.indicated known_signal.client ≡ known_signal →
     Refuses now bytes known_signal.client → Alike (known_signal_by now bytes place known_signal part) part
 unfolding known_signal_by
 known_signal_unheard now bytes place known_signal part there again refuses =
-    let nothing = unheard now bytes known_signal.client part.outbox refuses
+    let done = hearing now bytes (begun known_signal.client part.outbox)
+    in let nothing = unheard now bytes known_signal.client part.outbox refuses
     in record {
-      ixl = ap (λ (known_signals : List KnownSignalState). record part.ixl { known_signals = known_signals }) (changed_self place _ part.ixl.known_signals known_signal there (ap (known_signal_after known_signal.aspect known_signal.number) nothing.client ∙ again));
+      ixl = ap (λ (known_signals : List KnownSignalState). record part.ixl { known_signals = known_signals }) (changed_self place _ part.ixl.known_signals known_signal there
+          (ap (λ heard. known_signal_after known_signal.aspect known_signal.number (indicated_heard heard known_signal.indicated) done.client) nothing.heard
+          ∙ ap (known_signal_after known_signal.aspect known_signal.number known_signal.indicated) nothing.client ∙ again));
       outbox = nothing.outbox;
     }
 
@@ -211,8 +216,8 @@ module _ (now : ℕ) (table : Table) (bytes : List ℕ) (ixl : IxlState) (outbox
     by_known_signal (Some known_signal) there =
         let old = was_mapped (clocked_known_signal now) place ixl.known_signals known_signal there
         in let same : known_signal.client ≡ one = some_same (rw there at is)
-        in let client_is = ap (λ (l : KnownSignalState). l.client) old.1 ∙ known_signal_client old.0.aspect old.0.number (clocked now old.0.client)
-        in known_signal_unheard now bytes place known_signal part there (subst (λ (l : KnownSignalState). known_signal_after l.aspect l.number l.client ≡ l) (sym old.1) (known_signal_again old.0.aspect old.0.number (clocked now old.0.client)))
+        in let client_is = ap (λ (l : KnownSignalState). l.client) old.1 ∙ known_signal_client old.0.aspect old.0.number old.0.indicated (clocked now old.0.client)
+        in known_signal_unheard now bytes place known_signal part there (subst (λ (l : KnownSignalState). known_signal_after l.aspect l.number l.indicated l.client ≡ l) (sym old.1) (known_signal_again old.0.aspect old.0.number old.0.indicated (clocked now old.0.client)))
         (refuses known_signal.client old.0.client client_is (subst Said (sym same) said))
 
   point_unheard : (place : ℕ) (one : ClientState) → client_at (Point place) part.ixl ≡ Some one → Said one → Alike (known_point_hearing now bytes place part) part

@@ -105,41 +105,41 @@ module _ (now : ℕ) (input : Input) (table : Table) (ixl : IxlState) (given : G
     first_known_signal (Some one) None known_signal before calls old new is so_far = absurd so_far
     first_known_signal (Some one) (Some other) known_signal before calls old new is so_far = (one, refl, subst (λ (l : Option KnownSignalState). KnownSignalSoFar now input table ixl given machine (Some one) before calls l old new) is so_far)
 
-    pub known_signal_client : (aspect : Option TelegramAspect) (number : ℕ) (client : ClientState) → (known_signal_after aspect number client).client ≡ client
+    pub known_signal_client : (aspect : Option TelegramAspect) (number : ℕ) (indicated : Option TelegramAspect) (client : ClientState) → (known_signal_after aspect number indicated client).client ≡ client
     unfolding known_signal_after
-    known_signal_client aspect number client = by_test (λ (l : KnownSignalState). l.client ≡ client) (is_outside client.stage) (record { client = client; aspect = None; number = 0 })
-        (record { client = client; aspect = aspect; number = number }) (λ e. refl) (λ e. refl)
+    known_signal_client aspect number indicated client = by_test (λ (l : KnownSignalState). l.client ≡ client) (is_outside client.stage) (record { client = client; aspect = None; number = 0; indicated = None })
+        (record { client = client; aspect = aspect; number = number; indicated = indicated }) (λ e. refl) (λ e. refl)
 
     -- a lamp that is outside notes no aspect, and has none
-    pub known_signal_arrives : (aspect : Option TelegramAspect) (number : ℕ) (client : ClientState) (items : Items) (commands : List Command) (signal : MachineSignal) → ClientFits now client items commands →
+    pub known_signal_arrives : (aspect : Option TelegramAspect) (number : ℕ) (indicated : Option TelegramAspect) (client : ClientState) (items : Items) (commands : List Command) (signal : MachineSignal) → ClientFits now client items commands →
         SignalFacts now client.link items signal → (is_inside now client.link ≡ true → aspects_given signal ≡ aspects_of commands) →
         (is_inside now client.link ≡ true → is_outside client.stage ≡ false → IsLastGiven aspect number commands) →
-        (is_inside now client.link ≡ true → is_up client.link.phase ≡ false → signal.link.client ≡ Start) → SignalGoes (KnownSignalFits now (known_signal_after aspect number client) items) signal
+        (is_inside now client.link ≡ true → is_up client.link.phase ≡ false → signal.link.client ≡ Start) → SignalGoes (KnownSignalFits now (known_signal_after aspect number indicated client) items) signal
     unfolding known_signal_after
-    known_signal_arrives aspect number client items commands signal fits facts aspects last start =
+    known_signal_arrives aspect number indicated client items commands signal fits facts aspects last start =
         by_test (λ (l : KnownSignalState). SignalGoes (KnownSignalFits now l items) signal) (is_outside client.stage) none some
         (λ e. arrives now none items commands signal fits facts aspects (λ inside. fits.early inside (not_ready client.stage e)) start)
         (λ e. arrives now some items commands signal fits facts aspects (λ inside. last inside e) start)
       where
         none : KnownSignalState
-        none = record { client = client; aspect = None; number = 0 }
+        none = record { client = client; aspect = None; number = 0; indicated = None }
 
         some : KnownSignalState
-        some = record { client = client; aspect = aspect; number = number }
+        some = record { client = client; aspect = aspect; number = number; indicated = indicated }
 
-    pub known_signal_next : (place : ℕ) (known_signal : KnownSignalState) (part : StepSoFar) (new between : Machine) (done : client.ClientSoFar) (aspect : Option TelegramAspect) (number : ℕ) → During now input table ixl given machine part new →
+    pub known_signal_next : (place : ℕ) (known_signal : KnownSignalState) (part : StepSoFar) (new between : Machine) (done : client.ClientSoFar) (aspect : Option TelegramAspect) (number : ℕ) (indicated : Option TelegramAspect) → During now input table ixl given machine part new →
         slice_get part.ixl.known_signals place ≡ Some known_signal →
         ((first : KnownSignalState) → slice_get ixl.known_signals place ≡ Some first → KnownSignalDuring now input table ixl given machine first (given.signals place) (calls_at (Signal place) part.calls) known_signal (machine.signals place) (new.signals place) →
         NextKnownSignal place known_signal (items_after now (calls_at (Signal place) part.calls) (settled now first.client.link) (given.signals place)) part new between done aspect number) →
-        Leads now input table ixl given machine (with_known_signal place (known_signal_after aspect number done.client) (noted (Signal place) done part))
-    known_signal_next place known_signal part new between done aspect number during is next = on (first_known_signal (slice_get ixl.known_signals place) (slice_get part.ixl.known_signals place) known_signal (given.signals place) (calls_at (Signal place) part.calls)
+        Leads now input table ixl given machine (with_known_signal place (known_signal_after aspect number indicated done.client) (noted (Signal place) done part))
+    known_signal_next place known_signal part new between done aspect number indicated during is next = on (first_known_signal (slice_get ixl.known_signals place) (slice_get part.ixl.known_signals place) known_signal (given.signals place) (calls_at (Signal place) part.calls)
         (machine.signals place) (new.signals place) is (during.signals place))
       where
         calls : List LinkCall
         calls = calls_at (Signal place) part.calls
 
         on : (one : KnownSignalState) × (slice_get ixl.known_signals place ≡ Some one) × KnownSignalDuring now input table ixl given machine one (given.signals place) calls known_signal (machine.signals place) (new.signals place) →
-            Leads now input table ixl given machine (with_known_signal place (known_signal_after aspect number done.client) (noted (Signal place) done part))
+            Leads now input table ixl given machine (with_known_signal place (known_signal_after aspect number indicated done.client) (noted (Signal place) done part))
         on (first, is_first, was) = (
           with_signal place arrived between,
           record {
@@ -204,8 +204,8 @@ module _ (now : ℕ) (input : Input) (table : Table) (ixl : IxlState) (given : G
                 cases true up = absurd (true≢false (sym (stays_up known_signal.client.link.phase done.client.link.phase went.may up (inside_open now done.client.link inside)) ∙ down))
                 cases false e = e
 
-          goes : SignalGoes (KnownSignalFits now (known_signal_after aspect number done.client) (items_after now behind start (given.signals place))) (between.signals place)
-          goes = known_signal_arrives aspect number done.client (items_after now behind start (given.signals place)) it.commands (between.signals place)
+          goes : SignalGoes (KnownSignalFits now (known_signal_after aspect number indicated done.client) (items_after now behind start (given.signals place))) (between.signals place)
+          goes = known_signal_arrives aspect number indicated done.client (items_after now behind start (given.signals place)) it.commands (between.signals place)
               (subst (λ i. ClientFits now done.client i it.commands) items_are (fits_behind now input known_signal.client.link items known_signal.client.peer it.commands false 0 done it.stands it.outside))
               facts (λ inside. it.aspects (was_inside inside) inside) (λ inside. it.last (was_inside inside) inside
               (facts.ends.counted (inside_open now done.client.link inside) ∙ ap (λ (i : Items). length i.given) (sym items_are))) asked
@@ -214,10 +214,10 @@ module _ (now : ℕ) (input : Input) (table : Table) (ixl : IxlState) (given : G
           arrived = signal_chained goes.moves (between.signals place)
 
           known_signal_now : KnownSignalState
-          known_signal_now = known_signal_after aspect number done.client
+          known_signal_now = known_signal_after aspect number indicated done.client
 
           link_now : known_signal_now.client.link ≡ done.client.link
-          link_now = ap (λ (c : ClientState). c.link) (known_signal_client aspect number done.client)
+          link_now = ap (λ (c : ClientState). c.link) (known_signal_client aspect number indicated done.client)
 
           so_far : KnownSignalDuring now input table ixl given machine first (given.signals place) behind known_signal_now (machine.signals place) arrived
           so_far = record {
@@ -225,7 +225,7 @@ module _ (now : ℕ) (input : Input) (table : Table) (ixl : IxlState) (given : G
             held = λ holds. subst (IsClosedSince ixl.created) (sym link_now) (stays_closed ixl.created known_signal.client.link done.client.link went (was.held holds));
             are = are;
             made = link_now ∙ made;
-            same = ap (λ (c : ClientState). c.peer) (known_signal_client aspect number done.client) ∙ it.stands.runs.same ∙ was.same;
+            same = ap (λ (c : ClientState). c.peer) (known_signal_client aspect number indicated done.client) ∙ it.stands.runs.same ∙ was.same;
             stays = record { server = goes.stays.server ∙ same_signal.server; done = goes.stays.done ∙ same_signal.done };
             totals = λ readable as_given. goes.given
                 ∙ it.totals (open_inside now done.client.link facts.ends.alive) (subst IsReadable (sym was.same) readable) (was.totals readable as_given)

@@ -56,10 +56,10 @@ pub record PointComes (Is : MachinePoint → Type 0) (old : MachinePoint) : Type
   pub may : PointMayChain moves old
   pub is : Is (point_chained moves old)
 
-known_signal_anew : (aspect : Option TelegramAspect) (number : ℕ) (client : ClientState) (link : LinkState) → is_up link.phase ≡ false →
-    known_signal_after aspect number (fallen (record client { link = link })) ≡ record { client = record client { link = link; stage = stage.Outside }; aspect = None; number = 0 }
+known_signal_anew : (aspect : Option TelegramAspect) (number : ℕ) (indicated : Option TelegramAspect) (client : ClientState) (link : LinkState) → is_up link.phase ≡ false →
+    known_signal_after aspect number indicated (fallen (record client { link = link })) ≡ record { client = record client { link = link; stage = stage.Outside }; aspect = None; number = 0; indicated = None }
 unfolding known_signal_after
-known_signal_anew aspect number client link down = ap (known_signal_after aspect number) (anew_outside client link down)
+known_signal_anew aspect number indicated client link down = ap (known_signal_after aspect number indicated) (anew_outside client link down)
 
 known_point_anew : (side : Option TelegramSide) (moved : Places) (client : ClientState) (link : LinkState) → is_up link.phase ≡ false →
     known_point_after side moved (fallen (record client { link = link })) ≡ record { client = record client { link = link; stage = stage.Outside }; side = None; moved = empty }
@@ -88,7 +88,7 @@ module _ (now : ℕ) (table : Table) (ixl : IxlState) (given : Given) (machine :
     pub known_signal_ticks : (place : ℕ) (first known_signal : KnownSignalState) (calls : List LinkCall) (new : MachineSignal) → slice_get ixl.known_signals place ≡ Some first →
         KnownSignalDuring now Tick table ixl given machine first (given.signals place) calls known_signal (machine.signals place) new →
         SignalComes (KnownSignalBehind now Tick table ixl given machine first (given.signals place) (calls ++ Ticks ∷ Opens ∷ [])
-        (known_signal_after known_signal.aspect known_signal.number (fallen (record known_signal.client { link = ticked_link now known_signal.client.link }))) (machine.signals place)) new
+        (known_signal_after known_signal.aspect known_signal.number known_signal.indicated (fallen (record known_signal.client { link = ticked_link now known_signal.client.link }))) (machine.signals place)) new
     known_signal_ticks place first known_signal calls new is_first was = cases (opens now between) refl where
       start : LinkState
       start = settled now first.client.link
@@ -112,10 +112,10 @@ module _ (now : ℕ) (table : Table) (ixl : IxlState) (given : Given) (machine :
       client = fallen (record known_signal.client { link = link })
 
       known_signal_now : KnownSignalState
-      known_signal_now = known_signal_after known_signal.aspect known_signal.number client
+      known_signal_now = known_signal_after known_signal.aspect known_signal.number known_signal.indicated client
 
       client_now : known_signal_now.client ≡ client
-      client_now = known_signal_client now Tick table ixl given machine far chain onward known_signal.aspect known_signal.number client
+      client_now = known_signal_client now Tick table ixl given machine far chain onward known_signal.aspect known_signal.number known_signal.indicated client
 
       link_now : known_signal_now.client.link ≡ link
       link_now = ap (λ (c : ClientState). c.link) client_now ∙ fallen_link (record known_signal.client { link = link })
@@ -187,7 +187,7 @@ module _ (now : ℕ) (table : Table) (ixl : IxlState) (given : Given) (machine :
           was_in is = went_inside now known_signal.client link it.goes it.up alive (inside is)
 
           goes : SignalGoes (KnownSignalFits now known_signal_now items) new
-          goes = known_signal_arrives now Tick table ixl given machine far chain onward known_signal.aspect known_signal.number client items was.fits.commands new (went_fits now known_signal.client link it.goes it.up alive items was.fits.commands was.fits.client)
+          goes = known_signal_arrives now Tick table ixl given machine far chain onward known_signal.aspect known_signal.number known_signal.indicated client items was.fits.commands new (went_fits now known_signal.client link it.goes it.up alive items was.fits.commands was.fits.client)
               facts_now (λ is. was.fits.aspects (was_in is)) (λ is out. was.fits.last (was_in is))
               (λ is down. was.fits.place ∙ inside_start now known_signal.client.link (was_in is)
               (still_down now known_signal.client link it.goes it.up alive (inside is) (ap (λ (l : LinkState). is_up l.phase) (sym link_went) ∙ down)))
@@ -209,7 +209,7 @@ module _ (now : ℕ) (table : Table) (ixl : IxlState) (given : Given) (machine :
           down = ap is_up it.phase
 
           fits : KnownSignalFits now known_signal_now no_items (signal_chained (SignalLink QuietEnds ∷ SignalLink LinkOpens ∷ []) new)
-          fits = subst (λ l. KnownSignalFits now l no_items (signal_chained (SignalLink QuietEnds ∷ SignalLink LinkOpens ∷ []) new)) (sym (known_signal_anew known_signal.aspect known_signal.number known_signal.client link down)) (record {
+          fits = subst (λ l. KnownSignalFits now l no_items (signal_chained (SignalLink QuietEnds ∷ SignalLink LinkOpens ∷ []) new)) (sym (known_signal_anew known_signal.aspect known_signal.number known_signal.indicated known_signal.client link down)) (record {
             commands = [];
             client = anew_fits now known_signal.client link down (ap (λ i. is_client i.role) it.identity ∙ was.fits.client.steady.opens);
             place = sym it.place;

@@ -16,7 +16,7 @@ use Rattle.ixl_rules.specs.ixl_client.declared.stage.Stage.{Stage}
 use Rattle.ixl_rules.specs.ixl_client.declared.stage.Stage.TheVariants as stage
 use Rattle.ixl_rules.specs.StepSoFar.{Signal, StepSoFar, giving_aspect, known_signal_after, noted, with_known_signal}
 use Rattle.ixl_rules.specs.State.{IxlState, KnownSignalState}
-use Rattle.ixl_rules.specs.Step.{Datagram, Input, known_signal_hearing}
+use Rattle.ixl_rules.specs.Step.{Datagram, Input, indicated_heard, known_signal_hearing}
 use Rattle.simulator_machine.specs.Lists.{last_of}
 use Rattle.simulator_machine.specs.Signal.{Signal as MachineSignal, SignalMove, Stop, aspect_given, aspects_given}
 use Rattle.simulator_machine.specs.Machine.{Machine, with_signal}
@@ -102,7 +102,7 @@ module _ (now : ℕ) (input : Input) (table : Table) (ixl : IxlState) (given : G
       (λ e. absurd (false≢true e))
 
   known_signal_hearing_is : (bytes : List ℕ) (place : ℕ) (part : StepSoFar) (known_signal : KnownSignalState) → slice_get part.ixl.known_signals place ≡ Some known_signal →
-      known_signal_hearing now bytes place part ≡ with_known_signal place (known_signal_after known_signal.aspect known_signal.number (hearing now bytes (begun known_signal.client part.outbox)).client) (noted (Signal place) (hearing now bytes (begun known_signal.client part.outbox)) part)
+      known_signal_hearing now bytes place part ≡ with_known_signal place (known_signal_after known_signal.aspect known_signal.number (indicated_heard (hearing now bytes (begun known_signal.client part.outbox)).heard known_signal.indicated) (hearing now bytes (begun known_signal.client part.outbox)).client) (noted (Signal place) (hearing now bytes (begun known_signal.client part.outbox)) part)
   unfolding known_signal_hearing
   known_signal_hearing_is bytes place part known_signal is = rw is refl
 
@@ -113,8 +113,8 @@ module _ (now : ℕ) (input : Input) (table : Table) (ixl : IxlState) (given : G
   pub known_signal_hears : (bytes : List ℕ) (place : ℕ) (part : StepSoFar) → input ≡ Datagram bytes → On part → On (known_signal_hearing now bytes place part)
   known_signal_hears bytes place part from (new, during) = cases (slice_get part.ixl.known_signals place) refl where
     some : (known_signal : KnownSignalState) → slice_get part.ixl.known_signals place ≡ Some known_signal →
-        On (with_known_signal place (known_signal_after known_signal.aspect known_signal.number (hearing now bytes (begun known_signal.client part.outbox)).client) (noted (Signal place) (hearing now bytes (begun known_signal.client part.outbox)) part))
-    some known_signal is = known_signal_next now input table ixl given machine far chain onward place known_signal part new new done known_signal.aspect known_signal.number during is next where
+        On (with_known_signal place (known_signal_after known_signal.aspect known_signal.number (indicated_heard (hearing now bytes (begun known_signal.client part.outbox)).heard known_signal.indicated) (hearing now bytes (begun known_signal.client part.outbox)).client) (noted (Signal place) (hearing now bytes (begun known_signal.client part.outbox)) part))
+    some known_signal is = known_signal_next now input table ixl given machine far chain onward place known_signal part new new done known_signal.aspect known_signal.number (indicated_heard done.heard known_signal.indicated) during is next where
       done : client.ClientSoFar
       done = hearing now bytes (begun known_signal.client part.outbox)
 
@@ -150,7 +150,7 @@ module _ (now : ℕ) (input : Input) (table : Table) (ixl : IxlState) (given : G
   -- ---- an aspect is given
 
   giving_aspect_is : (place : ℕ) (aspect : TelegramAspect) (part : StepSoFar) (known_signal : KnownSignalState) → slice_get part.ixl.known_signals place ≡ Some known_signal →
-      giving_aspect now place aspect part ≡ with_known_signal place (known_signal_after (Some aspect) (commanding now (commands.Indicate aspect) (begun known_signal.client part.outbox)).client.link.given
+      giving_aspect now place aspect part ≡ with_known_signal place (known_signal_after (Some aspect) (commanding now (commands.Indicate aspect) (begun known_signal.client part.outbox)).client.link.given known_signal.indicated
       (commanding now (commands.Indicate aspect) (begun known_signal.client part.outbox)).client) (noted (Signal place) (commanding now (commands.Indicate aspect) (begun known_signal.client part.outbox)) part)
   unfolding giving_aspect
   giving_aspect_is place aspect part known_signal is = rw is refl
@@ -243,6 +243,6 @@ module _ (now : ℕ) (input : Input) (table : Table) (ixl : IxlState) (given : G
       totals = λ alive readable as_given. as_given ∙ ap aspects_in (sym ((sent first is_first was).refused (shut_not_open (is_open done.client.link.phase) refl alive shut)));
     }
 
-    cases : (b : Bool) → is_inside now done.client.link ≡ b → On (with_known_signal place (known_signal_after (Some aspect) done.client.link.given done.client) (noted (Signal place) done part))
-    cases true e = known_signal_next now input table ixl given machine far chain onward place known_signal part new between done (Some aspect) done.client.link.given during is (accepted e)
-    cases false e = known_signal_next now input table ixl given machine far chain onward place known_signal part new new done (Some aspect) done.client.link.given during is (refused e)
+    cases : (b : Bool) → is_inside now done.client.link ≡ b → On (with_known_signal place (known_signal_after (Some aspect) done.client.link.given known_signal.indicated done.client) (noted (Signal place) done part))
+    cases true e = known_signal_next now input table ixl given machine far chain onward place known_signal part new between done (Some aspect) done.client.link.given known_signal.indicated during is (accepted e)
+    cases false e = known_signal_next now input table ixl given machine far chain onward place known_signal part new new done (Some aspect) done.client.link.given known_signal.indicated during is (refused e)

@@ -83,10 +83,10 @@ known_signal_clocked now known_signal items signal fits = by_test (λ (l : Known
     (λ e. fit some refl (λ inside. fits.last (was_inside now known_signal.client inside)))
   where
     none : KnownSignalState
-    none = record { client = clocked now known_signal.client; aspect = None; number = 0 }
+    none = record { client = clocked now known_signal.client; aspect = None; number = 0; indicated = None }
 
     some : KnownSignalState
-    some = record { client = clocked now known_signal.client; aspect = known_signal.aspect; number = known_signal.number }
+    some = record { client = clocked now known_signal.client; aspect = known_signal.aspect; number = known_signal.number; indicated = known_signal.indicated }
 
     fit : (l : KnownSignalState) → l.client ≡ clocked now known_signal.client → (is_inside now (clocked now known_signal.client).link ≡ true → IsLastGiven l.aspect l.number fits.commands) → KnownSignalFits now l items signal
     fit l same last = record {
@@ -129,7 +129,7 @@ known_point_clocked now known_point items point fits = by_test (λ (l : KnownPoi
 known_signal_after_client : (now : ℕ) (known_signal : KnownSignalState) → (clocked_known_signal now known_signal).client ≡ clocked now known_signal.client
 unfolding known_signal_after
 known_signal_after_client now known_signal = by_test (λ (l : KnownSignalState). l.client ≡ clocked now known_signal.client) (is_outside (clocked now known_signal.client).stage)
-    (record { client = clocked now known_signal.client; aspect = None; number = 0 }) (record { client = clocked now known_signal.client; aspect = known_signal.aspect; number = known_signal.number }) (λ e. refl) (λ e. refl)
+    (record { client = clocked now known_signal.client; aspect = None; number = 0; indicated = None }) (record { client = clocked now known_signal.client; aspect = known_signal.aspect; number = known_signal.number; indicated = known_signal.indicated }) (λ e. refl) (λ e. refl)
 
 known_point_after_client : (now : ℕ) (known_point : KnownPointState) → (clocked_known_point now known_point).client ≡ clocked now known_point.client
 unfolding known_point_after

@@ -217,7 +217,7 @@ module _ (now : ℕ) (table : Table) (ixl : IxlState) (given : Given) (machine :
   -- ---- a signal
 
   known_signal_ticking_is : (place : ℕ) (part : StepSoFar) (known_signal : KnownSignalState) → slice_get part.ixl.known_signals place ≡ Some known_signal →
-      known_signal_ticking now place part ≡ with_known_signal place (known_signal_after known_signal.aspect known_signal.number (ticking now (begun known_signal.client part.outbox)).client) (noted (Signal place) (ticking now (begun known_signal.client part.outbox)) part)
+      known_signal_ticking now place part ≡ with_known_signal place (known_signal_after known_signal.aspect known_signal.number known_signal.indicated (ticking now (begun known_signal.client part.outbox)).client) (noted (Signal place) (ticking now (begun known_signal.client part.outbox)) part)
   unfolding known_signal_ticking
   known_signal_ticking_is place part known_signal is = rw is refl
 
@@ -228,18 +228,18 @@ module _ (now : ℕ) (table : Table) (ixl : IxlState) (given : Given) (machine :
   one_known_signal : (known_points place : ℕ) (part : StepSoFar) → Ticks_at place known_points part → Ticks_at (suc place) known_points (known_signal_ticking now place part)
   one_known_signal known_points place part (new, so_far) = cases (slice_get part.ixl.known_signals place) refl where
     some : (known_signal : KnownSignalState) → slice_get part.ixl.known_signals place ≡ Some known_signal →
-        Ticks_at (suc place) known_points (with_known_signal place (known_signal_after known_signal.aspect known_signal.number (ticking now (begun known_signal.client part.outbox)).client) (noted (Signal place) (ticking now (begun known_signal.client part.outbox)) part))
+        Ticks_at (suc place) known_points (with_known_signal place (known_signal_after known_signal.aspect known_signal.number known_signal.indicated (ticking now (begun known_signal.client part.outbox)).client) (noted (Signal place) (ticking now (begun known_signal.client part.outbox)) part))
     some known_signal is = on (first_known_signal now Tick table ixl given machine far chain_signal onward (slice_get ixl.known_signals place) (slice_get part.ixl.known_signals place) known_signal (given.signals place)
         (calls_at (Signal place) part.calls) (machine.signals place) (new.signals place) is (so_far.known_signals_left place (omega arith))) where
           done : client.ClientSoFar
           done = ticking now (begun known_signal.client part.outbox)
 
           on : (first : KnownSignalState) × (slice_get ixl.known_signals place ≡ Some first) × KnownSignalDuring now Tick table ixl given machine first (given.signals place) (calls_at (Signal place) part.calls) known_signal (machine.signals place) (new.signals place) →
-              Ticks_at (suc place) known_points (with_known_signal place (known_signal_after known_signal.aspect known_signal.number done.client) (noted (Signal place) done part))
-          on (first, is_first, was) = known_signal_moved place part new known_signal (known_signal_after known_signal.aspect known_signal.number done.client) done known_points so_far is
-              (subst (λ f. SignalComes (KnownSignalIsBehind now Tick table ixl given machine f (given.signals place) (calls_at (Signal place) part.calls ++ done.calls) (Some (known_signal_after known_signal.aspect known_signal.number done.client)) (machine.signals place)) (new.signals place)) (sym is_first)
-              (subst (λ cs. SignalComes (KnownSignalBehind now Tick table ixl given machine first (given.signals place) (calls_at (Signal place) part.calls ++ cs) (known_signal_after known_signal.aspect known_signal.number done.client) (machine.signals place)) (new.signals place)) (sym (ticking_calls now known_signal.client part.outbox))
-              (subst (λ c. SignalComes (KnownSignalBehind now Tick table ixl given machine first (given.signals place) (calls_at (Signal place) part.calls ++ Ticks ∷ Opens ∷ []) (known_signal_after known_signal.aspect known_signal.number c) (machine.signals place)) (new.signals place)) (sym (ticking_client now known_signal.client part.outbox))
+              Ticks_at (suc place) known_points (with_known_signal place (known_signal_after known_signal.aspect known_signal.number known_signal.indicated done.client) (noted (Signal place) done part))
+          on (first, is_first, was) = known_signal_moved place part new known_signal (known_signal_after known_signal.aspect known_signal.number known_signal.indicated done.client) done known_points so_far is
+              (subst (λ f. SignalComes (KnownSignalIsBehind now Tick table ixl given machine f (given.signals place) (calls_at (Signal place) part.calls ++ done.calls) (Some (known_signal_after known_signal.aspect known_signal.number known_signal.indicated done.client)) (machine.signals place)) (new.signals place)) (sym is_first)
+              (subst (λ cs. SignalComes (KnownSignalBehind now Tick table ixl given machine first (given.signals place) (calls_at (Signal place) part.calls ++ cs) (known_signal_after known_signal.aspect known_signal.number known_signal.indicated done.client) (machine.signals place)) (new.signals place)) (sym (ticking_calls now known_signal.client part.outbox))
+              (subst (λ c. SignalComes (KnownSignalBehind now Tick table ixl given machine first (given.signals place) (calls_at (Signal place) part.calls ++ Ticks ∷ Opens ∷ []) (known_signal_after known_signal.aspect known_signal.number known_signal.indicated c) (machine.signals place)) (new.signals place)) (sym (ticking_client now known_signal.client part.outbox))
               (known_signal_ticks now table ixl given machine far chain_signal onward place first known_signal (calls_at (Signal place) part.calls) (new.signals place) is_first was))))
 
     cases : (l : Option KnownSignalState) → slice_get part.ixl.known_signals place ≡ l → Ticks_at (suc place) known_points (known_signal_ticking now place part)

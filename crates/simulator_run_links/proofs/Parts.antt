@@ -73,9 +73,9 @@ known_point_clients ixl = map (λ (known_point : KnownPointState). known_point.c
 abbrev detector_clients : IxlState → List ClientState
 detector_clients ixl = map (λ (detector : KnownDetectorState). detector.client) ixl.detectors
 
-pub known_signal_client : (aspect : Option Aspect) (number : ℕ) (one : ClientState) → (known_signal_after aspect number one).client ≡ one
+pub known_signal_client : (aspect : Option Aspect) (number : ℕ) (indicated : Option Aspect) (one : ClientState) → (known_signal_after aspect number indicated one).client ≡ one
 unfolding known_signal_after
-known_signal_client aspect number one = by_test (λ (l : KnownSignalState). l.client ≡ one) (is_outside one.stage) (record { client = one; aspect = None; number = 0 }) (record { client = one; aspect = aspect; number = number }) (λ e. refl) (λ e. refl)
+known_signal_client aspect number indicated one = by_test (λ (l : KnownSignalState). l.client ≡ one) (is_outside one.stage) (record { client = one; aspect = None; number = 0; indicated = None }) (record { client = one; aspect = aspect; number = number; indicated = indicated }) (λ e. refl) (λ e. refl)
 
 pub known_point_client : (side : Option Side) (gone : Places) (one : ClientState) → (known_point_after side gone one).client ≡ one
 unfolding known_point_after
@@ -174,9 +174,9 @@ module _ (laws : LinkLaws) (client_laws : ClientLaws) (site : Site) (are : AreLi
   known_signal_peer : (part : StepSoFar) → On part → (place : ℕ) (known_signal : KnownSignalState) → slice_get part.ixl.known_signals place ≡ Some known_signal → IsPeer known_signal.client.peer
   known_signal_peer part on place known_signal is = let found = on.clients place (signal_link part on place known_signal is) in subst (λ (c : ClientState). IsPeer c.peer) (same_Some found.client known_signal.client (sym found.there ∙ known_signal_at part place known_signal is)) found.peer
 
-  known_signal_kept : (part : StepSoFar) → On part → (place : ℕ) (known_signal : KnownSignalState) → slice_get part.ixl.known_signals place ≡ Some known_signal → (done : client.ClientSoFar) (aspect : Option Aspect) (number : ℕ) → IsDone place known_signal.client part.outbox done
-      → On (with_known_signal place (known_signal_after aspect number done.client) (noted (Signal place) done part))
-  known_signal_kept part on place known_signal is done aspect number made = next (Signal place) known_signal.client part done (record part.ixl { known_signals = changed (λ old. known_signal_after aspect number done.client) place part.ixl.known_signals }) on (record {
+  known_signal_kept : (part : StepSoFar) → On part → (place : ℕ) (known_signal : KnownSignalState) → slice_get part.ixl.known_signals place ≡ Some known_signal → (done : client.ClientSoFar) (aspect : Option Aspect) (number : ℕ) (indicated : Option Aspect) → IsDone place known_signal.client part.outbox done
+      → On (with_known_signal place (known_signal_after aspect number indicated done.client) (noted (Signal place) done part))
+  known_signal_kept part on place known_signal is done aspect number indicated made = next (Signal place) known_signal.client part done (record part.ixl { known_signals = changed (λ old. known_signal_after aspect number indicated done.client) place part.ixl.known_signals }) on (record {
     node_is = subst (λ n. place < n) on.manned.known_signals (within_some part.ixl.known_signals place known_signal is);
     below = signal_link part on place known_signal is;
     at = known_signal_at part place known_signal is;
@@ -184,27 +184,27 @@ module _ (laws : LinkLaws) (client_laws : ClientLaws) (site : Site) (are : AreLi
     makes = made.makes;
     may = made.may;
     same_peer = made.same_peer;
-    set = ap (λ l. map (λ (known_signal : KnownSignalState). known_signal.client) l ++ (known_point_clients part.ixl ++ detector_clients part.ixl)) (changed_to (known_signal_after aspect number done.client) place part.ixl.known_signals)
-        ∙ ap (λ l. l ++ (known_point_clients part.ixl ++ detector_clients part.ixl)) (map_set (λ (known_signal : KnownSignalState). known_signal.client) part.ixl.known_signals place (known_signal_after aspect number done.client))
-        ∙ ap (λ c. slice_set (known_signal_clients part.ixl) place c ++ (known_point_clients part.ixl ++ detector_clients part.ixl)) (known_signal_client aspect number done.client)
+    set = ap (λ l. map (λ (known_signal : KnownSignalState). known_signal.client) l ++ (known_point_clients part.ixl ++ detector_clients part.ixl)) (changed_to (known_signal_after aspect number indicated done.client) place part.ixl.known_signals)
+        ∙ ap (λ l. l ++ (known_point_clients part.ixl ++ detector_clients part.ixl)) (map_set (λ (known_signal : KnownSignalState). known_signal.client) part.ixl.known_signals place (known_signal_after aspect number indicated done.client))
+        ∙ ap (λ c. slice_set (known_signal_clients part.ixl) place c ++ (known_point_clients part.ixl ++ detector_clients part.ixl)) (known_signal_client aspect number indicated done.client)
         ∙ first_set (known_signal_clients part.ixl) (known_point_clients part.ixl) (detector_clients part.ixl) place done.client
         (subst (λ n. place < n) (sym (length_map (λ (known_signal : KnownSignalState). known_signal.client) part.ixl.known_signals)) (within_some part.ixl.known_signals place known_signal is));
-    manned = record { known_signals = length_changed (known_signal_after aspect number done.client) place part.ixl.known_signals ∙ on.manned.known_signals; known_points = on.manned.known_points; detectors = on.manned.detectors };
+    manned = record { known_signals = length_changed (known_signal_after aspect number indicated done.client) place part.ixl.known_signals ∙ on.manned.known_signals; known_points = on.manned.known_points; detectors = on.manned.detectors };
   })
 
   aspect_given : (place : ℕ) (aspect : Aspect) (part : StepSoFar) → On part → On (giving_aspect now place aspect part)
   unfolding giving_aspect
-  aspect_given place aspect part on = one_kept On (slice_get part.ixl.known_signals place) _ part (λ known_signal is. known_signal_kept part on place known_signal is (commanding now (commands.Indicate aspect) (begun known_signal.client part.outbox)) _ _
+  aspect_given place aspect part on = one_kept On (slice_get part.ixl.known_signals place) _ part (λ known_signal is. known_signal_kept part on place known_signal is (commanding now (commands.Indicate aspect) (begun known_signal.client part.outbox)) _ _ _
       (commanded_done place known_signal.client part.outbox (commands.Indicate aspect) (known_signal_peer part on place known_signal is))) on
 
   known_signal_ticks : (place : ℕ) (part : StepSoFar) → On part → On (known_signal_ticking now place part)
   unfolding known_signal_ticking
-  known_signal_ticks place part on = one_kept On (slice_get part.ixl.known_signals place) _ part (λ known_signal is. known_signal_kept part on place known_signal is (ticking now (begun known_signal.client part.outbox)) _ _
+  known_signal_ticks place part on = one_kept On (slice_get part.ixl.known_signals place) _ part (λ known_signal is. known_signal_kept part on place known_signal is (ticking now (begun known_signal.client part.outbox)) _ _ _
       (ticked_done place known_signal.client part.outbox (known_signal_peer part on place known_signal is))) on
 
   known_signal_hears : (bytes : List ℕ) → MayHear bytes → (place : ℕ) (part : StepSoFar) → On part → On (known_signal_hearing now bytes place part)
   unfolding known_signal_hearing
-  known_signal_hears bytes may place part on = one_kept On (slice_get part.ixl.known_signals place) _ part (λ known_signal is. known_signal_kept part on place known_signal is (hearing now bytes (begun known_signal.client part.outbox)) _ _
+  known_signal_hears bytes may place part on = one_kept On (slice_get part.ixl.known_signals place) _ part (λ known_signal is. known_signal_kept part on place known_signal is (hearing now bytes (begun known_signal.client part.outbox)) _ _ _
       (heard_done place known_signal.client part.outbox bytes (signal_link part on place known_signal is) may (known_signal_peer part on place known_signal is))) on
 
   -- ---- points

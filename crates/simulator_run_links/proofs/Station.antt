@@ -89,7 +89,7 @@ clients_clocked : (now : ℕ) (ixl : IxlState) → client_states (all_clocked no
 unfolding all_clocked
 clients_clocked now ixl =
     three_same _ _ _ _ _ _
-    (map_then (clocked_known_signal now) (λ (known_signal : KnownSignalState). known_signal.client) ixl.known_signals ∙ map_same _ _ (λ (known_signal : KnownSignalState). known_signal_client known_signal.aspect known_signal.number (clocked now known_signal.client)) ixl.known_signals ∙ sym (map_then (λ (known_signal : KnownSignalState). known_signal.client) (clocked now) ixl.known_signals))
+    (map_then (clocked_known_signal now) (λ (known_signal : KnownSignalState). known_signal.client) ixl.known_signals ∙ map_same _ _ (λ (known_signal : KnownSignalState). known_signal_client known_signal.aspect known_signal.number known_signal.indicated (clocked now known_signal.client)) ixl.known_signals ∙ sym (map_then (λ (known_signal : KnownSignalState). known_signal.client) (clocked now) ixl.known_signals))
     (map_then (clocked_known_point now) (λ (known_point : KnownPointState). known_point.client) ixl.known_points ∙ map_same _ _ (λ (known_point : KnownPointState). known_point_client known_point.side known_point.moved (clocked now known_point.client)) ixl.known_points ∙ sym (map_then (λ (known_point : KnownPointState). known_point.client) (clocked now) ixl.known_points))
     (map_then (clocked_detector now) (λ (detector : KnownDetectorState). detector.client) ixl.detectors ∙ map_same _ _ (λ (detector : KnownDetectorState). detector_client detector.occupied (clocked now detector.client)) ixl.detectors ∙ sym (map_then (λ (detector : KnownDetectorState). detector.client) (clocked now) ixl.detectors))
     ∙ sym (three_joined (clocked now) (map (λ (known_signal : KnownSignalState). known_signal.client) ixl.known_signals) (map (λ (known_point : KnownPointState). known_point.client) ixl.known_points) (map (λ (detector : KnownDetectorState). detector.client) ixl.detectors))
