@@ -1,14 +1,14 @@
 -- Parts of a step, one after another.
-use Rattle.std.proofs.Common.{◌≡◌, ℕ, ◌+◌, ◌≤◌, List, [], ◌∷◌, ◌++◌, arith, add-one, refl, sym, ◌∙◌, subst}
+use Rattle.std.proofs.Common.{◌≡◌, ℕ, ◌+◌, ◌≤◌, List, [], arith, add-one, refl, sym, ◌∙◌, subst}
 use Rattle.ixl_state.specs.rasta_core.Outbox.{OutboxState}
 use Rattle.ixl_state.specs.ixl_client.ClientSoFar.{LinkCall}
-use Rattle.ixl_state.specs.ixl_rules.StepSoFar.{Leads, Node, StepSoFar, along, at_route, over, with_route}
+use Rattle.ixl_state.specs.ixl_rules.StepSoFar.{Leads, Node, StepSoFar, at_route, over, with_route}
 use Rattle.ixl_state.specs.ixl_rules.State.{IxlState, RouteState, changed}
 use Rattle.ixl_state.specs.ixl_rules.Table.{Row, Table}
 use Rattle.ixl_state.specs.ixl_table.Locks.{IsKeptRoute}
 use Rattle.ixl_state.specs.ixl_table.Table.{SitedTable}
 use Rattle.ixl_state.specs.State.{AllAt, Goes, StateView, route_changed}
-use Rattle.ixl.specs.inside.Parts.{Passes, Remains}
+use Rattle.ixl.specs.inside.Parts.{Passes}
 
 abbrev pub part_at : IxlState → OutboxState → List (Node × LinkCall) → List (Node × List ℕ) → StepSoFar
 part_at ixl box calls acted = record { ixl = ixl; outbox = box; calls = calls; acted = acted }
@@ -99,33 +99,3 @@ pub route_stays : (now number : ℕ) (does : Row → RouteState → StepSoFar �
 route_stays now number does old row route at kept is box = goes_nowhere now 0 (at_route old.sited.table number does) old box at
     (at_kept old.sited.table number does old.ixl box old.ixl box row route kept
     (leads_at (does row route) old.ixl box old.ixl box (λ calls acted. subst (λ (p : StepSoFar). Comes p old.ixl box) (sym (is (part_at old.ixl box calls acted))) (refl, refl))))
-
--- ---- a list of things to be done
-
-pub all_remains : (now : ℕ) (does : StepSoFar → StepSoFar) (old : StateView) → AllAt now old → Remains now does does old old
-all_remains now does old at = record { leads = λ box new out leads. leads; sited = refl; clock = at }
-
--- what is to be done is done by a part and a rest
-pub part_remains : (now : ℕ) (does rest : StepSoFar → StepSoFar) (part : StepSoFar → StepSoFar) (after : StepSoFar → StepSoFar) (old mid new : StateView) →
-    Remains now does rest old mid → Passes now part mid new → ((p : StepSoFar) → rest p ≡ after (part p)) → Remains now does after old new
-part_remains now does rest part after old mid new remains passes splits = record {
-  leads = λ box new_ixl out leads. remains.leads box new_ixl out
-      (leads_at rest mid.ixl box new_ixl out (λ calls acted.
-      let both : Leads (λ p. after (part p)) mid.ixl box new_ixl out = leads_then part after mid.ixl box new.ixl box new_ixl out (passes box).leads leads
-      in subst (λ (p : StepSoFar). Comes p new_ixl out) (sym (splits (part_at mid.ixl box calls acted))) (both (part_at mid.ixl box calls acted) refl refl)));
-  sited = passed_site now part mid new passes ∙ remains.sited;
-  clock = passed_clock now part mid new passes;
-}
-
-pub none_remains : (now : ℕ) (does rest : StepSoFar → StepSoFar) (old new : StateView) → Remains now does rest old new → ((p : StepSoFar) → rest p ≡ p) → Passes now does old new
-none_remains now does rest old new remains is box = record {
-  leads = remains.leads box new.ixl box (leads_at rest new.ixl box new.ixl box (λ calls acted. subst (λ (p : StepSoFar). Comes p new.ixl box) (sym (is (part_at new.ixl box calls acted))) (refl, refl)));
-  sited = remains.sited;
-  clock = remains.clock;
-  capacity = refl;
-  few = omega arith;
-}
-
-pub told_then : {A : Type 0} (does : A → StepSoFar → StepSoFar) (first second : List A) (part : StepSoFar) → along does (first ++ second) part ≡ along does second (along does first part)
-told_then does [] second part = refl
-told_then does (one ∷ first) second part = told_then does first second (does one part)

@@ -12,8 +12,8 @@ use Rattle.ixl_state.specs.ixl_rules.declared.command.Command.{Command}
 use Rattle.ixl.specs.Interlocking.{meant}
 use Rattle.ixl.specs.declared.input.Input.{Input as GivenInput}
 use Rattle.ixl.specs.declared.input.Input.TheVariants as inputs
-use Rattle.ixl_state.specs.State.{AllAt, Goes, StateView}
-use Rattle.ixl.specs.inside.Parts.{Passes, heard_from}
+use Rattle.ixl_state.specs.State.{AllAt, Goes, StateView, heard_from}
+use Rattle.ixl.specs.inside.Parts.{Passes}
 use Rattle.ixl.proofs.Chaining.{goes_as, goes_nowhere, goes_within, leads_at, part_at}
 
 -- a tick gives nothing

@@ -7,7 +7,6 @@ pub mod Giver
 pub mod Causes
 pub mod Chaining
 pub mod Giving
-pub mod Heard
 pub mod Looks
 pub mod Obeying
 pub mod Views

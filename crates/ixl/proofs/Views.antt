@@ -38,8 +38,3 @@ get_read (first ∷ others) (suc place) one found is read = get_read others plac
 pub row_read : (sited seen : SitedTable) (rows : List Row) (number : ℕ) (one row : Row) → rows ≡ seen.table.rows → seen ≡ sited → one ≡ get_or rows number one → slice_get sited.table.rows number ≡ Some row → one ≡ row
 row_read sited seen rows number one row is same read there =
     get_read sited.table.rows number one row there (subst (λ (list : List Row). one ≡ get_or list number one) (is ∙ ap (λ (p : SitedTable). p.table.rows) same) read)
-
-pub get_within : {A : Type 0} (list : List A) (place : ℕ) (d : A) → place < length list → slice_get list place ≡ Some (get_or list place d)
-get_within [] place d within = absurd (omega (arith, within))
-get_within (first ∷ others) zero d within = refl
-get_within (first ∷ others) (suc place) d within = get_within others place d (omega (arith, within))

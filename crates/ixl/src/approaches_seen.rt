@@ -17,7 +17,7 @@ fn watch_by(state: &mut State, now: Millis, number: usize)
     requires clock { AllAt now state.old }
     ensures { Passes now (watching state.old.sited.table number) state.old state.new }
 {
-    state.table();
+    state.keeps_route(number);
     // Watching a clear approach changes nothing.
     if state.route(number).has_authority() && !is_approach_clear(state, number) {
         state.watch(number, false);

@@ -7,7 +7,7 @@ ghost use Rattle.ixl_state.specs.ixl_rules.View.{is_at_known_stop};
 ghost use Rattle.ixl_state.specs.State.{AtRoute};
 ghost use Rattle.ixl.specs.inside.Changes.{Changes};
 
-use crate::field_known::{a_route_of_the_table_is_kept, is_at_known_stop};
+use crate::field_known::is_at_known_stop;
 use ixl_state::State;
 use ixl_state::ixl_rules::Phase;
 use ixl_state::rasta_core::Millis;
@@ -28,7 +28,7 @@ fn end_authority(state: &mut State, now: Millis, number: usize)
     requires { number < length state.old.sited.table.rows }
     ensures { Changes (ending_authority now state.old.sited.table number) state.old state.new }
 {
-    a_route_of_the_table_is_kept(state, number);
+    state.keeps_route(number);
     if is_end_due(state, now, number) {
         state.end_authority(number, now);
     }

@@ -6,7 +6,7 @@ ghost use Rattle.ixl_state.specs.ixl_rules.Rules.{count, freeing_by_cancel, free
 ghost use Rattle.ixl_state.specs.State.{AtRoute};
 ghost use Rattle.ixl.specs.inside.Changes.{Changes};
 
-use crate::field_known::{a_route_of_the_table_is_kept, are_sections_clear, is_at_known_stop};
+use crate::field_known::{are_sections_clear, is_at_known_stop};
 use ixl_state::State;
 use ixl_state::ixl_rules::Phase;
 use ixl_state::rasta_core::Millis;
@@ -16,7 +16,7 @@ fn was_none_seen(state: &State, number: usize) -> bool
     requires { number < length state.now.sited.table.rows }
     ensures { AtRoute state.now number (λ row route. result ≡ none_seen (length row.sections) route.passage) }
 {
-    a_route_of_the_table_is_kept(state, number);
+    state.keeps_route(number);
     !state.route(number).passage().is_reached()
 }
 
@@ -46,7 +46,7 @@ fn free_by_cancel(state: &mut State, now: Millis, number: usize)
     requires { number < length state.old.sited.table.rows }
     ensures { Changes (freeing_by_cancel now state.old.sited.table number) state.old state.new }
 {
-    a_route_of_the_table_is_kept(state, number);
+    state.keeps_route(number);
     if is_cancel_due(state, now, number) {
         state.free(number);
     }

@@ -18,7 +18,7 @@ fn obey(state: &mut State, now: Millis, command: Command)
     requires { refusal now state.old.sited.table command state.old.ixl ≡ None }
     ensures { state.new ≡ record state.old { ixl = obeyed command state.old.ixl } }
 {
-    state.table();
+    state.keeps_each_route();
     match command {
         Command::Request(route) => state.set(route.0),
         Command::Cancel(route) => state.cancel(route.0),

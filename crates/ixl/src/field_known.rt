@@ -1,27 +1,15 @@
 //! What the rules read of a route: its row, what the field tells of its points, its sections and its signal, and what is
 //! due for it.
 
-ghost use Rattle.std.specs.Prelude.{◌≡◌, ◌<◌, ℕ, Some, IsTrue, length, slice_get};
-ghost use Rattle.ixl_state.specs.bit_row.Places.{Has};
+ghost use Rattle.std.specs.Prelude.{◌≡◌, ◌<◌, Some, length, slice_get};
 ghost use Rattle.ixl_state.specs.ixl_rules.Rules.{is_over_clear, is_unmoved};
-ghost use Rattle.ixl_state.specs.ixl_rules.View.{all_clear, all_known, freed_sections, is_approach_clear, is_at_known_stop, is_clear, is_known, is_point_available, is_set, is_signal_ready};
-ghost use Rattle.ixl_state.specs.State.{AtRoute, HasRoute};
+ghost use Rattle.ixl_state.specs.ixl_rules.View.{all_clear, all_known, is_approach_clear, is_at_known_stop, is_clear, is_known, is_point_available, is_signal_ready};
+ghost use Rattle.ixl_state.specs.State.{AtRoute};
 
 use ixl_state::State;
 use ixl_state::ixl_table::Row;
 use ixl_state::rasta_core::Millis;
 use ixl_state::sci_telegram::{Aspect, Side};
-
-/// Each route of the table is kept, with a passage over its own sections. Of a route that is set not all are freed.
-pub(crate) fn a_route_of_the_table_is_kept(state: &State, number: usize)
-    requires { number < length state.now.sited.table.rows }
-    ensures kept { HasRoute state.now number }
-    ensures sections { AtRoute state.now number (λ row route. route.passage.sections ≡ length row.sections) }
-    ensures seen { AtRoute state.now number (λ row route. (place : ℕ) → Has route.passage.seen place → place < length row.sections) }
-    ensures left { AtRoute state.now number (λ row route. IsTrue (is_set route.phase) → freed_sections route.phase < length row.sections) }
-{
-    state.table();
-}
 
 /// The row of a route.
 pub(crate) fn row_of(state: &State, number: usize) -> &Row

@@ -6,7 +6,7 @@ ghost use Rattle.ixl_state.specs.ixl_rules.Rules.{count, freeing_by_passage, fre
 ghost use Rattle.ixl_state.specs.State.{AtRoute};
 ghost use Rattle.ixl.specs.inside.Changes.{Changes};
 
-use crate::field_known::{a_route_of_the_table_is_kept, is_section_clear, row_of};
+use crate::field_known::{is_section_clear, row_of};
 use ixl_state::State;
 use ixl_state::ixl_rules::Phase;
 
@@ -15,7 +15,7 @@ fn is_next_freeable(state: &State, number: usize) -> bool
     requires { number < length state.now.sited.table.rows }
     ensures { AtRoute state.now number (λ row route. result ≡ frees_next state.now.sited.table state.now.ixl row route route.phase) }
 {
-    a_route_of_the_table_is_kept(state, number);
+    state.keeps_route(number);
     let route = state.route(number);
     match route.phase() {
         Phase::Ended { freed, .. } => {
@@ -31,9 +31,9 @@ fn free_by_passage(state: &mut State, number: usize)
     requires { number < length state.old.sited.table.rows }
     ensures { Changes (freeing_by_passage state.old.sited.table number) state.old state.new }
 {
-    a_route_of_the_table_is_kept(state, number);
+    state.keeps_route(number);
     for _place in 0..row_of(state, number).sections().len() {
-        a_route_of_the_table_is_kept(state, number);
+        state.keeps_route(number);
         if !is_next_freeable(state, number) {
             return;
         }

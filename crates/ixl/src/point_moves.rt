@@ -8,8 +8,7 @@ ghost use Rattle.ixl_state.specs.ixl_rules.View.{all_known};
 ghost use Rattle.ixl_state.specs.State.{AllAt, AtRoute, Goes};
 
 use crate::field_known::{
-    a_route_of_the_table_is_kept, are_points_known, is_over_clear, is_point_available,
-    is_point_known, is_point_unmoved, row_of,
+    are_points_known, is_over_clear, is_point_available, is_point_known, is_point_unmoved, row_of,
 };
 use ixl_state::State;
 use ixl_state::ixl_rules::Phase;
@@ -49,7 +48,7 @@ fn move_point(state: &mut State, now: Millis, number: usize, need: Need, outbox:
     requires room { HasRoomFor 26 outbox.old }
     ensures { Goes now 2 (moving_one now state.old.sited.table number need) state.old outbox.old state.new outbox.new }
 {
-    a_route_of_the_table_is_kept(state, number);
+    state.keeps_route(number);
     if is_move_due(state, number, need) {
         state.give_move(now, need.point(), need.side(), outbox);
     }
@@ -60,7 +59,7 @@ fn required_points_are_few(state: &State, number: usize)
     requires { number < length state.now.sited.table.rows }
     ensures { AtRoute state.now number (λ row route. length row.needs ≤ 32) }
 {
-    state.table().checked();
+    state.table().names_what_is_there();
 }
 
 /// The points of a route are moved, one after another. Where all of them are known at their sides there is none to move.
@@ -70,7 +69,7 @@ fn move_points(state: &mut State, now: Millis, number: usize, outbox: &mut Outbo
     requires room { HasRoomFor (24 + 64) outbox.old }
     ensures { Goes now 64 (moving now state.old.sited.table number) state.old outbox.old state.new outbox.new }
 {
-    a_route_of_the_table_is_kept(state, number);
+    state.keeps_route(number);
     required_points_are_few(state, number);
     if !waits(state, number) || are_points_known(state, number) {
         return;

@@ -7,8 +7,8 @@ ghost use Rattle.ixl_state.specs.ixl_rules.Rules.{count, is_proceed_due, proceed
 ghost use Rattle.ixl_state.specs.State.{AllAt, AtRoute, Goes};
 
 use crate::field_known::{
-    a_route_of_the_table_is_kept, are_points_known, are_sections_clear, aspect, entry,
-    is_approach_clear, is_at_known_stop, is_signal_ready,
+    are_points_known, are_sections_clear, aspect, entry, is_approach_clear, is_at_known_stop,
+    is_signal_ready,
 };
 use ixl_state::State;
 use ixl_state::ixl_rules::Phase;
@@ -39,7 +39,7 @@ fn proceed(state: &mut State, now: Millis, number: usize, outbox: &mut Outbox)
     requires room { HasRoomFor 26 outbox.old }
     ensures { Goes now 2 (proceeding now state.old.sited.table number) state.old outbox.old state.new outbox.new }
 {
-    a_route_of_the_table_is_kept(state, number);
+    state.keeps_route(number);
     if !is_proceed_due(state, now, number) {
         return;
     }

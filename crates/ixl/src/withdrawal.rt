@@ -6,9 +6,7 @@ ghost use Rattle.ixl_state.specs.ixl_rules.StepSoFar.{over};
 ghost use Rattle.ixl_state.specs.ixl_rules.Rules.{count, is_stop_due, withdrawing};
 ghost use Rattle.ixl_state.specs.State.{AllAt, AtRoute, Goes};
 
-use crate::field_known::{
-    a_route_of_the_table_is_kept, are_points_known, are_sections_clear, entry, is_signal_ready,
-};
+use crate::field_known::{are_points_known, are_sections_clear, entry, is_signal_ready};
 use ixl_state::State;
 use ixl_state::ixl_rules::Phase;
 use ixl_state::rasta_core::{Millis, Outbox};
@@ -39,7 +37,7 @@ fn withdraw(state: &mut State, now: Millis, number: usize, outbox: &mut Outbox)
     requires room { HasRoomFor 26 outbox.old }
     ensures { Goes now 2 (withdrawing now state.old.sited.table number) state.old outbox.old state.new outbox.new }
 {
-    a_route_of_the_table_is_kept(state, number);
+    state.keeps_route(number);
     if !is_stop_due(state, number) {
         return;
     }

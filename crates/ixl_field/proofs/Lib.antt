@@ -9,3 +9,4 @@ pub mod Settling
 pub mod FieldGoing
 pub mod Known
 pub mod Alike
+pub mod Sought

@@ -1,14 +1,16 @@
 -- The controllers of a station, as its interlocking knows them.
-use Rattle.std.specs.Prelude.{◌≡◌, ℕ, ◌+◌, ◌≤◌, Bool, List, length, map}
+use Rattle.std.specs.Prelude.{◌≡◌, ℕ, ◌+◌, ◌<◌, ◌≤◌, Bool, List, length, map}
 use Rattle.std.specs.List.{All}
 use Rattle.ixl_rules.specs.rasta_core.Calls.{MayStep}
 use Rattle.ixl_rules.specs.rasta_core.Outbox.{OutboxState}
 use Rattle.ixl_rules.specs.ixl_client.Client.{ClientState}
 use Rattle.ixl_rules.specs.ixl_client.ClientSoFar.{begun}
 use Rattle.ixl_rules.specs.ixl_client.Step.{hearing}
-use Rattle.ixl_rules.specs.StepSoFar.{Detector, Leads, StepSoFar, detector_after, noted, with_detector, with_one}
+use Rattle.ixl_rules.specs.StepSoFar.{Node, Signal, Point, Detector, Leads, StepSoFar, detector_after, noted, with_detector, with_one}
 use Rattle.ixl_rules.specs.State.{KnownDetectorState, IxlState, KnownSignalState, RouteState, KnownPointState}
 use Rattle.ixl_rules.specs.Step.{clocked_detector, clocked_known_signal, clocked_known_point, occupied_heard}
+use Rattle.ixl_field.specs.declared.node.Node.{Node as NamedNode}
+use Rattle.ixl_field.specs.declared.node.Node.TheVariants as nodes
 use Rattle.std.specs.Prelude.{slice_get}
 
 -- its nodes, and where each section is reported
@@ -34,6 +36,21 @@ kept field rest = record {
   created = rest.created;
   resumed = rest.resumed;
 }
+
+-- ---- nodes by their places
+
+-- a node that the code names is there
+abbrev pub IsThere : FieldState → NamedNode → Type 0
+IsThere field (nodes.Signal place) = place < length field.known_signals
+IsThere field (nodes.Point place) = place < length field.known_points
+IsThere field (nodes.Detector place) = place < length field.detectors
+
+abbrev pub node_at : NamedNode → Node
+node_at (nodes.Signal place) = Signal place
+node_at (nodes.Point place) = Point place
+node_at (nodes.Detector place) = Detector place
+
+-- ---- every link
 
 -- a fact of every link
 pub record OfEach (fact : ClientState → Type 0) (field : FieldState) : Type 0 where

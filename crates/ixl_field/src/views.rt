@@ -3,16 +3,18 @@
 ghost use Rattle.std.specs.Prelude.{◌≡◌, ◌<◌, ℕ, length, slice_get, IfSome};
 ghost use Rattle.std.specs.FinSet.{contains};
 ghost use Rattle.std.specs.List.{position};
+ghost use Rattle.std.specs.Option.{option_map};
 ghost use Rattle.ixl_rules.specs.State.{KnownDetectorState as DetectorAt, KnownSignalState as KnownSignalAt, KnownPointState as KnownPointAt};
-ghost use Rattle.ixl_rules.specs.Step.{partner_at};
+ghost use Rattle.ixl_rules.specs.Step.{node_of, partner_at};
 ghost use Rattle.ixl_rules.specs.sci_telegram.declared.message.Side.TheVariants as side;
 ghost use Rattle.ixl_rules.specs.ixl_client.Client.{is_ready};
 ghost use Rattle.ixl_rules.specs.View.{indicated, is_at_known_stop, is_clear, is_known, is_occupied, is_point_available, is_signal_ready};
 ghost use Rattle.ixl_rules.specs.Rules.{is_unmoved};
 ghost use Rattle.ixl_rules.specs.Table.{Table};
-ghost use Rattle.ixl_field.specs.Field.{Rest, kept};
+ghost use Rattle.ixl_field.specs.Field.{IsThere, Rest, kept, node_at};
 
 use crate::field::Field;
+use crate::node::Node;
 use ixl_rules::bit_row::BitRow;
 use ixl_rules::ixl_client::Client;
 use ixl_rules::rasta_core::Millis;
@@ -148,7 +150,7 @@ impl Field {
     }
 
     /// The signal whose controller has this identity.
-    pub fn signal_of(&self, id: u32) -> Option<usize>
+    fn signal_of(&self, id: u32) -> Option<usize>
         ensures { result ≡ position (λ (known_signal : KnownSignalAt). partner_at id known_signal.client) self.now.known_signals }
     {
         self.known_signals
@@ -157,7 +159,7 @@ impl Field {
     }
 
     /// The point whose controller has this identity.
-    pub fn point_of(&self, id: u32) -> Option<usize>
+    fn point_of(&self, id: u32) -> Option<usize>
         ensures { result ≡ position (λ (known_point : KnownPointAt). partner_at id known_point.client) self.now.known_points }
     {
         self.known_points
@@ -166,11 +168,28 @@ impl Field {
     }
 
     /// The detector whose controller has this identity.
-    pub fn detector_of(&self, id: u32) -> Option<usize>
+    fn detector_of(&self, id: u32) -> Option<usize>
         ensures { result ≡ position (λ (detector : DetectorAt). partner_at id detector.client) self.now.detectors }
     {
         self.detectors
             .iter()
             .position(|detector| is_partner(detector.client(), id))
+    }
+
+    /// The controller with this identity: the first of the signals, else of the points, else of the detectors.
+    pub fn node_of(&self, id: u32) -> Option<Node>
+        ensures node { (rest : Rest) → option_map node_at result ≡ node_of id (kept self.now rest) }
+        ensures there { IfSome result (IsThere self.now) }
+    {
+        if let Some(place) = self.signal_of(id) {
+            return Some(Node::Signal(place));
+        }
+        if let Some(place) = self.point_of(id) {
+            return Some(Node::Point(place));
+        }
+        if let Some(place) = self.detector_of(id) {
+            return Some(Node::Detector(place));
+        }
+        None
     }
 }

@@ -6,3 +6,6 @@ pub mod Looking
 pub mod Turns
 pub mod Walking
 pub mod Made
+pub mod Chaining
+pub mod Looks
+pub mod Heard

@@ -1,9 +1,10 @@
 -- The state of an interlocking, beside the control table that it was made from.
-use Rattle.std.specs.Prelude.{◌≡◌, ℕ, ◌+◌, ◌≤◌, length}
+use Rattle.std.specs.Prelude.{◌≡◌, ℕ, ◌+◌, ◌≤◌, List, length}
 use Rattle.ixl_rules.specs.rasta_core.Outbox.{OutboxState}
-use Rattle.ixl_rules.specs.StepSoFar.{Leads, StepSoFar}
+use Rattle.ixl_rules.specs.StepSoFar.{Leads, StepSoFar, with_one}
 use Rattle.ixl_rules.specs.State.{IxlState, RouteState, changed}
-use Rattle.ixl_rules.specs.Table.{Row}
+use Rattle.ixl_rules.specs.Step.{node_hearing, node_of}
+use Rattle.ixl_rules.specs.Table.{Row, Table}
 use Rattle.ixl_table.specs.Locks.{IsKeptRoute}
 use Rattle.ixl_table.specs.Table.{SitedTable}
 use Rattle.ixl_field.specs.Field as field
@@ -53,3 +54,7 @@ pub record Goes (now most : ℕ) (does : StepSoFar → StepSoFar) (old : StateVi
   pub clock : AllAt now new
   pub capacity : out.capacity ≡ box.capacity
   pub few : length out.datagrams ≤ length box.datagrams + most
+
+-- a datagram comes from the controller with this identity
+abbrev pub heard_from : ℕ → Table → List ℕ → ℕ → StepSoFar → StepSoFar
+heard_from now table bytes id part = with_one (node_of id part.ixl) (node_hearing now table bytes) part

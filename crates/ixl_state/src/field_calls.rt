@@ -37,7 +37,7 @@ impl State {
         requires room { HasRoomFor (24 + 160) outbox.old }
         ensures { Goes now 160 (ticked now Tick) self.old outbox.old self.new outbox.new }
     {
-        self.table.checked();
+        self.table.names_what_is_there();
         self.field.tick(now, outbox);
     }
 
@@ -56,13 +56,14 @@ impl State {
         requires room { HasRoomFor 26 outbox.old }
         ensures { Goes now 2 (giving_move now point side) self.old outbox.old self.new outbox.new }
     {
-        self.table.checked();
+        self.table.is_of_its_site();
+        self.table.names_what_is_there();
         self.field
             .give_move(now, point, side, self.routes.len(), outbox);
     }
 
     /// A datagram has come from a signal.
-    pub fn hear_signal(
+    pub(crate) fn hear_signal(
         &mut self,
         now: Millis,
         place: usize,
@@ -79,7 +80,7 @@ impl State {
     }
 
     /// A datagram has come from a point.
-    pub fn hear_point(
+    pub(crate) fn hear_point(
         &mut self,
         now: Millis,
         place: usize,
@@ -95,8 +96,8 @@ impl State {
         self.field.hear_point(now, place, datagram, outbox)
     }
 
-    /// A datagram has come from a detector: what it tells of its sections is heard.
-    pub fn hear_detector(
+    /// A datagram has come from a detector: what it tells of its sections is heard, and not yet looked at.
+    pub(crate) fn hear_detector_alone(
         &mut self,
         now: Millis,
         place: usize,

@@ -1,6 +1,7 @@
 //! What an interlocking keeps: its table, its controllers, what is locked, and how far each route is.
 #![tactic(auto)]
 
+mod datagrams_heard;
 mod field_calls;
 mod first_state;
 mod progress;

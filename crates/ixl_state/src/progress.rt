@@ -18,6 +18,7 @@ use ixl_rules::control_table::a_route_leads_over_its_sections_alone;
 use ixl_rules::layout::RouteId;
 use ixl_rules::rasta_core::Millis;
 use ixl_table::{Row, set_routes_lock_sections, the_first_blocking_route_is_told_by_phase};
+use route_lock::Locks;
 
 /// The place of a section in the path of a route.
 fn place_in(section: usize, sections: &[usize]) -> Option<usize>
@@ -35,6 +36,13 @@ fn place_on(row: &Row, section: usize) -> Option<usize>
     } else {
         None
     }
+}
+
+/// Locks are kept for each route.
+fn keeps_each_route(locks: &Locks)
+    ensures { length locks.now.locked ≡ length locks.now.table.routes }
+{
+    locks.table();
 }
 
 impl State {
@@ -82,7 +90,7 @@ impl State {
             return;
         };
         let table = self.table();
-        table.checked();
+        table.names_what_is_there();
         let sections = table.rows()[number].sections().len();
         if freed + 1 == sections {
             self.free(number);
@@ -98,8 +106,9 @@ impl State {
         requires more { AtRoute self.old number (λ row route. done + 1 < length row.sections) }
         ensures { self.new ≡ route_changed (come_to (phase.Ended clock (done + 1))) number self.old }
     {
-        self.table.checked();
-        self.locks.table();
+        self.table.is_of_its_site();
+        self.table.names_what_is_there();
+        keeps_each_route(&self.locks);
         self.locks.free_section(RouteId(number), done);
         let ended = Phase::Ended {
             clock,
@@ -113,8 +122,8 @@ impl State {
         requires there { number < length self.old.sited.table.rows }
         ensures { self.new ≡ route_changed freed number self.old }
     {
-        self.table.checked();
-        self.locks.table();
+        self.table.is_of_its_site();
+        keeps_each_route(&self.locks);
         self.locks.free(RouteId(number));
         self.routes[number] = self.routes[number].freed();
     }
@@ -125,7 +134,7 @@ impl State {
         requires waiting { AtRoute self.old number (λ row route. route.phase ≡ phase.Waiting) }
         ensures { AtRoute self.old number (λ row route. self.new ≡ route_changed (λ old. record old { phase = phase.Proceeding; passage = passage_after (length row.sections) []; approached = not is_approach_clear }) number self.old) }
     {
-        self.table();
+        self.keeps_route(number);
         let route = self.route(number).authorised(is_approach_clear);
         self.keep(number, route);
     }
@@ -159,8 +168,9 @@ impl State {
         a_route_leads_over_its_sections_alone();
         set_routes_lock_sections();
         the_first_blocking_route_is_told_by_phase();
-        self.table.checked();
-        self.locks.table();
+        self.table.is_of_its_site();
+        self.table.names_what_is_there();
+        keeps_each_route(&self.locks);
         let _reserved = self.locks.reserve(RouteId(number));
         self.field.unmove(number);
         self.routes[number] = self.routes[number].set_anew();

@@ -45,7 +45,7 @@ impl State {
         requires { number < length self.now.sited.table.rows }
         ensures { AtRoute self.now number (λ row route. (section : ℕ) → Has result section ↔ HoldsSection row route.phase section) }
     {
-        self.table.checked();
+        self.table.is_of_its_site();
         self.locks.locked(RouteId(number))
     }
 
@@ -54,7 +54,7 @@ impl State {
         ensures { result ≡ is_held_at self.now.sited.table self.now.ixl point side }
     {
         points_are_held_by_some_phase();
-        self.table.checked();
+        self.table.is_of_its_site();
         self.locks.is_held(PointId(point), side)
     }
 
@@ -63,7 +63,7 @@ impl State {
         ensures { result ≡ is_held_with_authority self.now.sited.table self.now.ixl point }
     {
         points_are_held_by_phase_at_a_side();
-        self.table.checked();
+        self.table.is_of_its_site();
         some_holds_with_authority(&self.locks, &self.routes, point)
     }
 
@@ -75,7 +75,7 @@ impl State {
     {
         set_routes_lock_sections();
         the_first_blocking_route_is_told_by_phase();
-        self.table.checked();
+        self.table.is_of_its_site();
         match self.locks.fault(RouteId(number)) {
             None => None,
             Some(LockFault::Conflict(route)) => Some(route.0),

@@ -52,8 +52,34 @@ impl State {
         ensures lengths { (length self.now.ixl.known_signals ≤ 32) × (length self.now.ixl.known_points ≤ 32) × (length self.now.ixl.detectors ≤ 16) }
         ensures within { (number : ℕ) → AtRoute self.now number (λ row route. (route.passage.sections ≡ length row.sections) × ((place : ℕ) → Has route.passage.seen place → place < length row.sections) × (IsTrue (is_set route.phase) → freed_sections route.phase < length row.sections)) }
     {
-        self.table.checked();
+        self.table.is_of_its_site();
+        self.table.names_what_is_there();
         &self.table
+    }
+
+    /// A route is kept for each row of the table.
+    pub fn keeps_each_route(&self)
+        ensures { length self.now.ixl.routes ≡ length self.now.sited.table.rows }
+    {
+        self.table();
+    }
+
+    /// A detector is kept for each of the table.
+    pub fn keeps_each_detector(&self)
+        ensures { length self.now.ixl.detectors ≡ length self.now.sited.table.detectors }
+    {
+        self.table();
+    }
+
+    /// A route of the table is kept, with a passage over its own sections. Where it is set not all of them are freed.
+    pub fn keeps_route(&self, number: usize)
+        requires { number < length self.now.sited.table.rows }
+        ensures kept { HasRoute self.now number }
+        ensures sections { AtRoute self.now number (λ row route. route.passage.sections ≡ length row.sections) }
+        ensures seen { AtRoute self.now number (λ row route. (place : ℕ) → Has route.passage.seen place → place < length row.sections) }
+        ensures left { AtRoute self.now number (λ row route. IsTrue (is_set route.phase) → freed_sections route.phase < length row.sections) }
+    {
+        self.table();
     }
 
     /// The controllers.

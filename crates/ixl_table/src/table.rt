@@ -105,6 +105,22 @@ impl Table {
         &self.checked
     }
 
+    /// What the rules read is the table of its site, in which each name is used once.
+    pub fn is_of_its_site(&self)
+        ensures table { IsTableOf self.now.site self.now.table }
+        ensures once { Once self.now.site }
+    {
+        self.checked();
+    }
+
+    /// All that the table names is there, within the limits of a station.
+    pub fn names_what_is_there(&self)
+        ensures there { IsTableThere self.now.site self.now.table }
+        ensures station { IsStation self.now.site }
+    {
+        self.checked();
+    }
+
     /// A row for each route.
     pub fn rows(&self) -> &[Row]
         ensures { result.now ≡ self.now.table.rows }

@@ -7,7 +7,7 @@ pub end_authority-requires-clause-withdrawn : goal.end_authority-requires-clause
 end_authority-requires-clause-withdrawn c row route kept = phase_withdrawn route.phase (and_yes _ _ (sym (c.is_end_due.ensures row route kept) ∙ c.if-is_end_due.true)).0
 
 pub returns-then-is_end_due : goal.returns-then-is_end_due
-returns-then-is_end_due c = authority_ended c.args.now c.args.number c.args.state.now c.end_authority.new.self c.is_end_due.result c.a_route_of_the_table_is_kept.ensures.kept c.is_end_due.ensures c.if-is_end_due.true c.end_authority.ensures
+returns-then-is_end_due c = authority_ended c.args.now c.args.number c.args.state.now c.end_authority.new.self c.is_end_due.result c.keeps_route.ensures.kept c.is_end_due.ensures c.if-is_end_due.true c.end_authority.ensures
 
 pub returns-else-is_end_due : goal.returns-else-is_end_due
-returns-else-is_end_due c = nothing_ended c.args.now c.args.number c.args.state.now c.is_end_due.result c.a_route_of_the_table_is_kept.ensures.kept c.is_end_due.ensures c.if-is_end_due.false
+returns-else-is_end_due c = nothing_ended c.args.now c.args.number c.args.state.now c.is_end_due.result c.keeps_route.ensures.kept c.is_end_due.ensures c.if-is_end_due.false

@@ -11,4 +11,4 @@ returns c row route kept =
     let same : c.passage.result ≡ route.passage = c.passage.ensures ∙ ap (λ (r : RouteState). r.passage) (c.route.ensures row route kept)
     in none_reached (length row.sections) route.passage c.is_reached.result
     (subst (λ (p : PassageState). IsTrue c.is_reached.result ↔ ((k : ℕ) × Has p.seen k)) same c.is_reached.ensures.value)
-    (c.a_route_of_the_table_is_kept.ensures.seen row route kept)
+    (c.keeps_route.ensures.seen row route kept)

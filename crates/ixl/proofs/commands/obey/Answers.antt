@@ -17,7 +17,7 @@ pub set-requires-clause-unblocked : goal.set-requires-clause-unblocked
 set-requires-clause-unblocked c = is_unblocked c.args.state.now c.in-Request.route.0 (set_there c.args.now c.args.state.now c.args.command c.in-Request.route c.in-Request.is c.requires)
 
 pub cancel-requires : goal.cancel-requires
-cancel-requires c = omega (arith, cancelled_there c.args.now c.args.state.now c.args.command c.in-Cancel.route c.in-Cancel.is c.requires, c.table.ensures.each)
+cancel-requires c = omega (arith, cancelled_there c.args.now c.args.state.now c.args.command c.in-Cancel.route c.in-Cancel.is c.requires, c.keeps_each_route.ensures)
 
 pub returns-in-Request : goal.returns-in-Request
 unfolding obeyed

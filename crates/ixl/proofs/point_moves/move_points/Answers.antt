@@ -9,8 +9,8 @@ use Rattle.ixl.proofs.point_moves.move_points.Goals as goal
 
 pub returns-then-not-waits : goal.returns-then-not-waits
 returns-then-not-waits c = elim c.then-not-waits.branch [
-  | then-not-waits-via-then-not-waits w ↦ no_route_moved c.args.now c.args.number c.args.state.now c.args.outbox.now c.waits.result c.a_route_of_the_table_is_kept.ensures.kept c.requires.clock c.waits.ensures w.if-not-waits.true
-  | then-not-waits-via-else-not-waits+then-are_points_known w ↦ no_point_moved c.args.now c.args.number c.args.state.now c.args.outbox.now w.are_points_known.result c.a_route_of_the_table_is_kept.ensures.kept c.requires.clock w.are_points_known.ensures w.if-are_points_known.true
+  | then-not-waits-via-then-not-waits w ↦ no_route_moved c.args.now c.args.number c.args.state.now c.args.outbox.now c.waits.result c.keeps_route.ensures.kept c.requires.clock c.waits.ensures w.if-not-waits.true
+  | then-not-waits-via-else-not-waits+then-are_points_known w ↦ no_point_moved c.args.now c.args.number c.args.state.now c.args.outbox.now w.are_points_known.result c.keeps_route.ensures.kept c.requires.clock w.are_points_known.ensures w.if-are_points_known.true
 ]
 
 pub loop-place-preserved : goal.loop-place-preserved
@@ -24,7 +24,7 @@ loop-place-preserved c =
     c.move_point.ensures
 
 pub returns : goal.returns
-returns c = all_moved c.args.now c.args.number c.loop-place.place c.args.state.now c.args.outbox.now c.loop-place.state c.loop-place.outbox c.a_route_of_the_table_is_kept.ensures.kept
+returns c = all_moved c.args.now c.args.number c.loop-place.place c.args.state.now c.args.outbox.now c.loop-place.state c.loop-place.outbox c.keeps_route.ensures.kept
     (λ row route kept.
     let same : length c.needs-place-end.result.now ≡ length row.needs = ap length (c.needs-place-end.ensures ∙ ap (λ (r : Row). r.needs) (same_row c.args.state.now.sited.table.rows c.args.number c.row_of.result.now row c.row_of.ensures kept.0))
     in (omega (arith, same, c.loop-place-test.false, c.loop-place.auto.place-end), c.required_points_are_few.ensures row route kept)) c.loop-place.invariant

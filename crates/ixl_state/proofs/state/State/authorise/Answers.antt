@@ -31,6 +31,6 @@ returns c = λ row route at.
     let change : RouteState → RouteState = λ r. record r { phase = phase.Proceeding; passage = passage_after r.passage.sections []; approached = not c.args.is_approach_clear } in
     c.keep.ensures (λ old. record old { phase = phase.Proceeding; passage = passage_after (length row.sections) []; approached = not c.args.is_approach_clear })
     (λ other old its.
-    let long : old.passage.sections ≡ length row.sections = (c.table.ensures.within c.args.number other old its).0 ∙ ap (λ (r : Row). length r.sections) (same_Some other row (sym its.0 ∙ at.0)) in
+    let long : old.passage.sections ≡ length row.sections = c.keeps_route.ensures.sections other old its ∙ ap (λ (r : Row). length r.sections) (same_Some other row (sym its.0 ∙ at.0)) in
     c.authorised-route.ensures ∙ ap change (c.route.ensures other old its)
     ∙ ap (λ (n : ℕ). record old { phase = phase.Proceeding; passage = passage_after n []; approached = not c.args.is_approach_clear }) long)

@@ -22,7 +22,7 @@ returns-in-None c =
     let inside = c.self.inside in
     let is = c.self.invariant in
     let n = c.args.number in
-    let law = c.the_first_blocking_route_is_told_by_phase.ensures.none inside.table inside.routes.items inside.locks c.checked.ensures.once c.checked.ensures.table is.routes_are.each is.locks_are is.routes_are.left n in
+    let law = c.the_first_blocking_route_is_told_by_phase.ensures.none inside.table inside.routes.items inside.locks c.is_of_its_site.ensures.once c.is_of_its_site.ensures.table is.routes_are.each is.locks_are is.routes_are.left n in
     subst (λ (s : StateView). AtRoute s n (λ row route. None ≡ first_blocking n row 0 s.sited.table.rows s.ixl.routes)) c.self.view_is (λ row route at. sym ((law row route at).0 c.in-None.ensures.none))
 
 pub returns-in-Some-Conflict : goal.returns-in-Some-Conflict
@@ -30,7 +30,7 @@ returns-in-Some-Conflict c =
     let inside = c.self.inside in
     let is = c.self.invariant in
     let n = c.args.number in
-    let law = c.the_first_blocking_route_is_told_by_phase.ensures.some inside.table inside.routes.items inside.locks c.checked.ensures.once c.checked.ensures.table is.routes_are.each is.locks_are is.routes_are.left n in
+    let law = c.the_first_blocking_route_is_told_by_phase.ensures.some inside.table inside.routes.items inside.locks c.is_of_its_site.ensures.once c.is_of_its_site.ensures.table is.routes_are.each is.locks_are is.routes_are.left n in
     let fault = subst (IsFault inside.locks (as_route n)) c.in-Some-Conflict.field-0-is c.in-Some-Conflict.ensures.some in
     subst (λ (s : StateView). AtRoute s n (λ row route. Some c.in-Some-Conflict.route.0 ≡ first_blocking n row 0 s.sited.table.rows s.ixl.routes)) c.self.view_is (λ row route at. sym ((law row route at c.in-Some-Conflict.route.0).0 fault.0))
 
@@ -39,6 +39,6 @@ returns-in-Some-PointHeld c =
     let inside = c.self.inside in
     let is = c.self.invariant in
     let n = c.args.number in
-    let law = c.the_first_blocking_route_is_told_by_phase.ensures.some inside.table inside.routes.items inside.locks c.checked.ensures.once c.checked.ensures.table is.routes_are.each is.locks_are is.routes_are.left n in
+    let law = c.the_first_blocking_route_is_told_by_phase.ensures.some inside.table inside.routes.items inside.locks c.is_of_its_site.ensures.once c.is_of_its_site.ensures.table is.routes_are.each is.locks_are is.routes_are.left n in
     let fault = subst (IsFault inside.locks (as_route n)) c.in-Some-PointHeld.field-0-is c.in-Some-PointHeld.ensures.some in
     subst (λ (s : StateView). AtRoute s n (λ row route. Some c.in-Some-PointHeld.route.0 ≡ first_blocking n row 0 s.sited.table.rows s.ixl.routes)) c.self.view_is (λ row route at. sym ((law row route at c.in-Some-PointHeld.route.0).0 fault.0))

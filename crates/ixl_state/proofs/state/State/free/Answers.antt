@@ -17,7 +17,7 @@ invariant_of-self c =
     let there = place-below inside.table inside.field inside.routes.items inside.created inside.resumed c.args.self.now n c.self.view_is is.routes_are c.requires.there in
     let at = kept-at inside.table inside.routes.items n is.routes_are there.0 in
     let new = c.freed.ensures ∙ ap freed (read-is inside.routes.items n at.1 c.index.result.now at.2.1 c.index.ensures) in
-    let within = lock-within inside.table inside.routes.items inside.locks n is.locks_are c.checked.ensures.table c.table.ensures.each there.0 in
+    let within = lock-within inside.table inside.routes.items inside.locks n is.locks_are c.is_of_its_site.ensures.table c.keeps_each_route.ensures there.0 in
     subst (λ (r : RouteState). IsState inside.table inside.field (slice_set inside.routes.items n r) c.free.new.self) (sym new)
     (put-state inside.table inside.field inside.routes.items inside.locks c.free.new.self n at.0 at.1 (freed at.1) empty at.2 is within c.free.ensures (none-held at.0) (λ set. absurd (false≢true set)) refl)
 

@@ -23,7 +23,7 @@ overflow_add-freed c =
     let at = kept.2 in
     let ended = sym (ap (λ (r : RouteState). r.phase) (c.route.ensures row route at)) ∙ sym c.phase.ensures ∙ c.in-Ended.is in
     let lt = subst (λ (p : Phase). IsTrue (is_set p) → freed_sections p < length row.sections) ended (c.table-table.ensures.within c.args.number row route at).2 refl in
-    let there = subst (λ (p : SitedTable). IsTableThere p.site p.table) c.table-table.ensures.sited c.checked.ensures.there in
+    let there = subst (λ (p : SitedTable). IsTableThere p.site p.table) c.table-table.ensures.sited c.names_what_is_there.ensures.there in
     let few = (there.rows c.args.number row at.0).few in
     record { fits = omega (arith, lt, few) }
 

@@ -32,16 +32,16 @@ invariant_of-self c =
     let at = kept-at inside.table inside.routes.items n is.routes_are there.0 in
     let none = subst (λ (s : StateView). AtRoute s n (λ row route. first_blocking n row 0 s.sited.table.rows s.ixl.routes ≡ None)) (sym c.self.view_is) c.requires.unblocked at.0 at.1 at.2 in
     let unblocked =
-    (c.the_first_blocking_route_is_told_by_phase.ensures.none inside.table inside.routes.items inside.locks c.checked.ensures.once c.checked.ensures.table is.routes_are.each is.locks_are is.routes_are.left n at.0 at.1 at.2).1 none in
+    (c.the_first_blocking_route_is_told_by_phase.ensures.none inside.table inside.routes.items inside.locks c.is_of_its_site.ensures.once c.is_of_its_site.ensures.table is.routes_are.each is.locks_are is.routes_are.left n at.0 at.1 at.2).1 none in
     let done : (sections : Places) × AreAllSections inside.locks.table (as_route n) sections × (c.reserve-reserved.new.self ≡ locking inside.locks (as_route n) sections) =
     reserved _ inside.locks (as_route n) c.reserve-reserved.result c.reserve-reserved.ensures.set c.reserve-reserved.ensures.refused unblocked in
     let new = c.set_anew.ensures ∙ ap set_anew (read-is inside.routes.items n at.1 c.index.result.now at.2.1 c.index.ensures) in
-    let within = lock-within inside.table inside.routes.items inside.locks n is.locks_are c.checked.ensures.table c.table.ensures.each there.0 in
-    let some = (c.checked.ensures.there.rows n at.0 at.2.0).some in
+    let within = lock-within inside.table inside.routes.items inside.locks n is.locks_are c.is_of_its_site.ensures.table c.keeps_each_route.ensures there.0 in
+    let some = (c.names_what_is_there.ensures.there.rows n at.0 at.2.0).some in
     subst (λ (r : RouteState). IsState inside.table c.unmove.new.self (slice_set inside.routes.items n r) c.reserve-reserved.new.self) (sym new)
     (put-state inside.table c.unmove.new.self inside.routes.items inside.locks c.reserve-reserved.new.self n at.0 at.1 (set_anew at.1) done.0 at.2
     (unmoved-state inside.table inside.field c.unmove.new.self inside.routes.items inside.locks n c.unmove.ensures is) within done.2
-    (all-locked inside.table inside.routes.items inside.locks c.checked.ensures.table is.locks_are n at.0 at.1 at.2 (c.a_route_leads_over_its_sections_alone.ensures inside.table.site c.checked.ensures.once (as_route n)) done.0 done.1)
+    (all-locked inside.table inside.routes.items inside.locks c.is_of_its_site.ensures.table is.locks_are n at.0 at.1 at.2 (c.a_route_leads_over_its_sections_alone.ensures inside.table.site c.is_of_its_site.ensures.once (as_route n)) done.0 done.1)
     (λ set. omega (arith, some)) refl)
 
 pub returns : goal.returns

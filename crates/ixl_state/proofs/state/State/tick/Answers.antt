@@ -13,5 +13,5 @@ pub returns : goal.returns
 returns c =
     let inside = c.self.inside in
     let rest : Rest = record { routes = inside.routes.items; created = inside.created; resumed = inside.resumed } in
-    let few = few-controllers inside.table inside.field c.self.invariant.field_is c.checked.ensures.station in
+    let few = few-controllers inside.table inside.field c.self.invariant.field_is c.names_what_is_there.ensures.station in
     goes-at-most inside.table rest c.args.now _ 160 _ inside.field c.args.self.now c.args.outbox.now c.tick.new.self c.tick.new.outbox c.self.view_is (omega (arith, few.0, few.1, few.2)) (c.tick.ensures rest)

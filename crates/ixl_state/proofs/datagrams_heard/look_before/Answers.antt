@@ -1,11 +1,11 @@
 use Rattle.std.proofs.Common.{◌≡◌, Some, length, ap, refl, subst, arith}
 use Rattle.std.specs.Prelude.{slice_get}
-use Rattle.ixl_state.specs.ixl_rules.StepSoFar.{along}
-use Rattle.ixl_state.specs.ixl_rules.Step.{looking, told_before}
-use Rattle.ixl_state.specs.ixl_table.Table.{SitedTable}
-use Rattle.ixl.specs.inside.Parts.{Passes}
-use Rattle.ixl.proofs.Looks.{all_before, for_some, looked_before, none_before, same_list}
-use Rattle.ixl.proofs.datagrams_heard.look_before.Goals as goal
+use Rattle.ixl_rules.specs.StepSoFar.{along}
+use Rattle.ixl_rules.specs.Step.{looking, told_before}
+use Rattle.ixl_table.specs.Table.{SitedTable}
+use Rattle.ixl_state.specs.inside.Hearing.{Passes}
+use Rattle.ixl_state.proofs.Looks.{all_before, for_some, looked_before, none_before, same_list}
+use Rattle.ixl_state.proofs.datagrams_heard.look_before.Goals as goal
 
 pub loop-own-init : goal.loop-own-init
 loop-own-init c = none_before c.args.now c.args.occupied c.args.place c.args.state.now c.requires.clock

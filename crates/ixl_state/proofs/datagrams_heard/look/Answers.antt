@@ -1,10 +1,10 @@
 use Rattle.std.proofs.Common.{ℕ, ◌<◌, ◌∙◌, length, ap, sym, subst, arith}
-use Rattle.ixl_state.specs.ixl_rules.StepSoFar.{over}
-use Rattle.ixl_state.specs.ixl_rules.Step.{looking_by}
-use Rattle.ixl_state.specs.ixl_table.Table.{SitedTable}
-use Rattle.ixl.specs.inside.Parts.{Passes}
-use Rattle.ixl.proofs.Chaining.{one_over, passed_clock, passed_site}
-use Rattle.ixl.proofs.datagrams_heard.look.Goals as goal
+use Rattle.ixl_rules.specs.StepSoFar.{over}
+use Rattle.ixl_rules.specs.Step.{looking_by}
+use Rattle.ixl_table.specs.Table.{SitedTable}
+use Rattle.ixl_state.specs.inside.Hearing.{Passes}
+use Rattle.ixl_state.proofs.Chaining.{one_over, passed_clock, passed_site}
+use Rattle.ixl_state.proofs.datagrams_heard.look.Goals as goal
 
 pub look_by-requires-clause-there : goal.look_by-requires-clause-there
 look_by-requires-clause-there c = subst (λ (p : SitedTable). c.loop-number.number < length p.table.rows) (sym (passed_site c.args.now (over (looking_by c.args.section c.args.occupied c.args.state.now.sited.table) c.loop-number.number) c.args.state.now c.loop-number.state c.loop-number.invariant))

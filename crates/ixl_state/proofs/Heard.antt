@@ -2,52 +2,33 @@
 use Rattle.std.proofs.Common.{◌≡◌, ℕ, zero, suc, ◌<◌, Bool, true, false, not, if◌then◌else◌, List, [], ◌∷◌, ◌++◌, length, arith, refl, ap, sym, ◌∙◌, subst}
 use Rattle.std.specs.Prelude.{Option, Some, None, slice_get, IfSome}
 use Rattle.std.specs.FinSet.{empty}
-use Rattle.std.specs.List.{position}
-use Rattle.std.proofs.lemmas.List.Quantifiers.{position-Some}
-use Rattle.ixl_state.specs.bit_row.Places.{Places}
-use Rattle.ixl_state.specs.rasta_core.Calls.{receiving}
-use Rattle.ixl_state.specs.rasta_core.Outbox.{OutboxState}
-use Rattle.ixl_state.specs.rasta_core.verdict.Verdict.{Verdict}
-use Rattle.ixl_state.specs.rasta_core.verdict.Verdict.TheVariants as verdicts
-use Rattle.ixl_state.specs.ixl_client.Client.{ClientState, is_outside, is_ready}
-use Rattle.ixl_state.specs.ixl_client.ClientSoFar.{begun}
-use Rattle.ixl_state.specs.ixl_client.ClientSoFar as client
-use Rattle.ixl_state.specs.ixl_client.Step.{hearing}
-use Rattle.ixl_state.specs.ixl_client.declared.indication.Indication.{Indication}
-use Rattle.ixl_state.specs.ixl_rules.StepSoFar.{Node, Signal, Point, Detector, StepSoFar, along, detector_after}
-use Rattle.ixl_state.specs.ixl_rules.State.{KnownDetectorState, IxlState, KnownSignalState, KnownPointState, changed}
-use Rattle.ixl_state.specs.ixl_rules.Step.{client_of, detector_hearing, known_signal_hearing, looking, looks, node_hearing, node_of, occupied_heard, partner_at, known_point_hearing, told_before, told_now, verdict_at}
-use Rattle.ixl_state.specs.ixl_rules.Table.{Table}
-use Rattle.ixl_state.specs.ixl_field.Field.{FieldState, detector_hearing_alone}
-use Rattle.ixl_state.specs.State.{AllAt, Goes, StateView, field_of}
-use Rattle.ixl_state.specs.ixl_field.Nodes.{AreHeardBy}
-use Rattle.ixl_state.specs.ixl_table.Table.{SitedTable}
-use Rattle.ixl.specs.inside.Parts.{Passes, heard_from, told_since}
-use Rattle.ixl.proofs.Causes.{get_inside}
-use Rattle.ixl.proofs.Chaining.{Comes, goes_nowhere, goes_then, goes_as, leads_at, part_at}
+use Rattle.ixl_rules.specs.bit_row.Places.{Places}
+use Rattle.ixl_rules.specs.rasta_core.Calls.{receiving}
+use Rattle.ixl_rules.specs.rasta_core.Outbox.{OutboxState}
+use Rattle.ixl_rules.specs.rasta_core.verdict.Verdict.{Verdict}
+use Rattle.ixl_rules.specs.rasta_core.verdict.Verdict.TheVariants as verdicts
+use Rattle.ixl_rules.specs.ixl_client.Client.{ClientState, is_outside, is_ready}
+use Rattle.ixl_rules.specs.ixl_client.ClientSoFar.{begun}
+use Rattle.ixl_rules.specs.ixl_client.ClientSoFar as client
+use Rattle.ixl_rules.specs.ixl_client.Step.{hearing}
+use Rattle.ixl_rules.specs.ixl_client.declared.indication.Indication.{Indication}
+use Rattle.ixl_rules.specs.StepSoFar.{Node, Signal, Point, Detector, StepSoFar, along, detector_after}
+use Rattle.ixl_rules.specs.State.{KnownDetectorState, IxlState, KnownSignalState, KnownPointState, changed}
+use Rattle.ixl_rules.specs.Step.{client_at, client_of, detector_hearing, known_signal_hearing, looking, looks, node_hearing, node_of, occupied_heard, known_point_hearing, told_before, told_now, verdict_at}
+use Rattle.ixl_rules.specs.Table.{Table}
+use Rattle.ixl_field.specs.Field.{detector_hearing_alone, node_at}
+use Rattle.ixl_field.specs.declared.node.Node.{Node as NamedNode}
+use Rattle.ixl_field.specs.declared.node.Node.TheVariants as nodes
+use Rattle.ixl_state.specs.State.{AllAt, Goes, StateView}
+use Rattle.ixl_field.specs.Nodes.{AreHeardBy}
+use Rattle.ixl_table.specs.Table.{SitedTable}
+use Rattle.ixl_state.specs.inside.Hearing.{Passes, told_since}
+use Rattle.ixl_state.specs.State.{heard_from}
+use Rattle.std.proofs.lemmas.Option.{slice_get_within}
+use Rattle.ixl_state.proofs.Lists.{get-below}
+use Rattle.ixl_state.proofs.Chaining.{Comes, goes_nowhere, goes_then, goes_as, leads_at, part_at}
 
 -- ---- the node of a sender
-
-pub signal_node : (id : ℕ) (ixl : IxlState) (place : ℕ) → position (λ (known_signal : KnownSignalState). partner_at id known_signal.client) ixl.known_signals ≡ Some place → node_of id ixl ≡ Some (Signal place)
-unfolding node_of
-signal_node id ixl place is = rw is
-
-pub point_node : (id : ℕ) (ixl : IxlState) (place : ℕ) → position (λ (known_signal : KnownSignalState). partner_at id known_signal.client) ixl.known_signals ≡ None →
-    position (λ (known_point : KnownPointState). partner_at id known_point.client) ixl.known_points ≡ Some place → node_of id ixl ≡ Some (Point place)
-unfolding node_of
-point_node id ixl place none is = rw (none, is)
-
-pub detector_node : (id : ℕ) (ixl : IxlState) (place : ℕ) → position (λ (known_signal : KnownSignalState). partner_at id known_signal.client) ixl.known_signals ≡ None →
-    position (λ (known_point : KnownPointState). partner_at id known_point.client) ixl.known_points ≡ None → position (λ (detector : KnownDetectorState). partner_at id detector.client) ixl.detectors ≡ Some place →
-    node_of id ixl ≡ Some (Detector place)
-unfolding node_of
-detector_node id ixl place none nothing is = rw (none, nothing, is)
-
-pub no_node : (id : ℕ) (ixl : IxlState) → position (λ (known_signal : KnownSignalState). partner_at id known_signal.client) ixl.known_signals ≡ None →
-    position (λ (known_point : KnownPointState). partner_at id known_point.client) ixl.known_points ≡ None → position (λ (detector : KnownDetectorState). partner_at id detector.client) ixl.detectors ≡ None →
-    node_of id ixl ≡ None
-unfolding node_of
-no_node id ixl none nothing neither = rw (none, nothing, neither)
 
 -- a datagram is heard at the node of its sender
 pub heard_at : (now most : ℕ) (table : Table) (bytes : List ℕ) (id : ℕ) (node : Node) (old : StateView) (box : OutboxState) (new : StateView) (out : OutboxState) →
@@ -55,39 +36,26 @@ pub heard_at : (now most : ℕ) (table : Table) (bytes : List ℕ) (id : ℕ) (n
 heard_at now most table bytes id node old box new out is goes = goes_as now most (node_hearing now table bytes node) (heard_from now table bytes id) old box new out
     (λ leads. leads_at (heard_from now table bytes id) old.ixl box new.ixl out (λ calls acted. rw is (leads (part_at old.ixl box calls acted) refl refl))) goes
 
-pub signal_heard : (now most : ℕ) (table : Table) (bytes : List ℕ) (id place : ℕ) (old : StateView) (box : OutboxState) (new : StateView) (out : OutboxState) →
-    node_of id old.ixl ≡ Some (Signal place) → Goes now most (known_signal_hearing now bytes place) old box new out → Goes now most (heard_from now table bytes id) old box new out
+-- at the node that the code names
+pub signal_heard : (now : ℕ) (table : Table) (bytes : List ℕ) (place : ℕ) (node : NamedNode) (old : StateView) (box : OutboxState) (new : StateView) (out : OutboxState) → node ≡ nodes.Signal place →
+    Goes now 30 (known_signal_hearing now bytes place) old box new out → Goes now 30 (node_hearing now table bytes (node_at node)) old box new out
 unfolding node_hearing
-signal_heard now most table bytes id place old box new out is goes = heard_at now most table bytes id (Signal place) old box new out is goes
+signal_heard now table bytes place node old box new out is goes = subst (λ (n : NamedNode). Goes now 30 (node_hearing now table bytes (node_at n)) old box new out) (sym is) goes
 
-pub point_heard : (now most : ℕ) (table : Table) (bytes : List ℕ) (id place : ℕ) (old : StateView) (box : OutboxState) (new : StateView) (out : OutboxState) →
-    node_of id old.ixl ≡ Some (Point place) → Goes now most (known_point_hearing now bytes place) old box new out → Goes now most (heard_from now table bytes id) old box new out
+pub point_heard : (now : ℕ) (table : Table) (bytes : List ℕ) (place : ℕ) (node : NamedNode) (old : StateView) (box : OutboxState) (new : StateView) (out : OutboxState) → node ≡ nodes.Point place →
+    Goes now 30 (known_point_hearing now bytes place) old box new out → Goes now 30 (node_hearing now table bytes (node_at node)) old box new out
 unfolding node_hearing
-point_heard now most table bytes id place old box new out is goes = heard_at now most table bytes id (Point place) old box new out is goes
+point_heard now table bytes place node old box new out is goes = subst (λ (n : NamedNode). Goes now 30 (node_hearing now table bytes (node_at n)) old box new out) (sym is) goes
 
-pub detector_heard : (now most : ℕ) (table : Table) (bytes : List ℕ) (id place : ℕ) (old : StateView) (box : OutboxState) (new : StateView) (out : OutboxState) →
-    node_of id old.ixl ≡ Some (Detector place) → Goes now most (detector_hearing now table bytes place) old box new out → Goes now most (heard_from now table bytes id) old box new out
+pub detector_heard : (now : ℕ) (table : Table) (bytes : List ℕ) (place : ℕ) (node : NamedNode) (old : StateView) (box : OutboxState) (new : StateView) (out : OutboxState) → node ≡ nodes.Detector place →
+    Goes now 30 (detector_hearing now table bytes place) old box new out → Goes now 30 (node_hearing now table bytes (node_at node)) old box new out
 unfolding node_hearing
-detector_heard now most table bytes id place old box new out is goes = heard_at now most table bytes id (Detector place) old box new out is goes
+detector_heard now table bytes place node old box new out is goes = subst (λ (n : NamedNode). Goes now 30 (node_hearing now table bytes (node_at n)) old box new out) (sym is) goes
 
 pub heard_nowhere : (now most : ℕ) (table : Table) (bytes : List ℕ) (id : ℕ) (old : StateView) (box : OutboxState) → AllAt now old → node_of id old.ixl ≡ None →
     Goes now most (heard_from now table bytes id) old box old box
 heard_nowhere now most table bytes id old box at none = goes_nowhere now most (heard_from now table bytes id) old box at
     (leads_at (heard_from now table bytes id) old.ixl box old.ixl box (λ calls acted. rw none (refl, refl)))
-
--- ---- what its link says of it
-
-pub signal_says : (now : ℕ) (bytes : List ℕ) (id place : ℕ) (ixl : IxlState) (known_signal : KnownSignalState) (verdict : Verdict) → node_of id ixl ≡ Some (Signal place) → slice_get ixl.known_signals place ≡ Some known_signal →
-    verdict ≡ (receiving now bytes known_signal.client.link).verdict → verdict ≡ verdict_at now bytes (client_of (node_of id ixl) ixl)
-signal_says now bytes id place ixl known_signal verdict node is says = rw (node, is) says
-
-pub point_says : (now : ℕ) (bytes : List ℕ) (id place : ℕ) (ixl : IxlState) (known_point : KnownPointState) (verdict : Verdict) → node_of id ixl ≡ Some (Point place) → slice_get ixl.known_points place ≡ Some known_point →
-    verdict ≡ (receiving now bytes known_point.client.link).verdict → verdict ≡ verdict_at now bytes (client_of (node_of id ixl) ixl)
-point_says now bytes id place ixl known_point verdict node is says = rw (node, is) says
-
-pub detector_says : (now : ℕ) (bytes : List ℕ) (id place : ℕ) (ixl : IxlState) (detector : KnownDetectorState) (verdict : Verdict) → node_of id ixl ≡ Some (Detector place) → slice_get ixl.detectors place ≡ Some detector →
-    verdict ≡ (receiving now bytes detector.client.link).verdict → verdict ≡ verdict_at now bytes (client_of (node_of id ixl) ixl)
-detector_says now bytes id place ixl detector verdict node is says = rw (node, is) says
 
 -- ---- a detector
 
@@ -153,61 +121,31 @@ ready_after now bytes place detector old box mid between ready is hears told =
 
 -- ---- what is there
 
-get_below : {A : Type 0} (list : List A) (place : ℕ) → place < length list → (one : A) × (slice_get list place ≡ Some one)
-get_below [] place within = absurd (omega (arith, within))
-get_below (first ∷ others) zero within = (first, refl)
-get_below (first ∷ others) (suc place) within = get_below others place (omega (arith, within))
+-- what the link of a node says
+pub signal_told : (now : ℕ) (bytes : List ℕ) (place : ℕ) (ixl : IxlState) (verdict : Verdict) → place < length ixl.known_signals →
+    IfSome (slice_get ixl.known_signals place) (λ (known_signal : KnownSignalState). verdict ≡ (receiving now bytes known_signal.client.link).verdict) → verdict ≡ verdict_at now bytes (client_at (Signal place) ixl)
+signal_told now bytes place ixl verdict within says =
+    let there = get-below ixl.known_signals place within
+    in rw there.1 (subst (λ (o : Option KnownSignalState). IfSome o (λ (known_signal : KnownSignalState). verdict ≡ (receiving now bytes known_signal.client.link).verdict)) there.1 says)
 
-pub found_inside : {A : Type 0} (passes : A → Bool) (list : List A) (place : ℕ) → position passes list ≡ Some place → place < length list
-found_inside passes [] place is = cc
-found_inside passes (first ∷ others) place is = (position-Some passes (first ∷ others) place first is).0
+pub point_told : (now : ℕ) (bytes : List ℕ) (place : ℕ) (ixl : IxlState) (verdict : Verdict) → place < length ixl.known_points →
+    IfSome (slice_get ixl.known_points place) (λ (known_point : KnownPointState). verdict ≡ (receiving now bytes known_point.client.link).verdict) → verdict ≡ verdict_at now bytes (client_at (Point place) ixl)
+point_told now bytes place ixl verdict within says =
+    let there = get-below ixl.known_points place within
+    in rw there.1 (subst (λ (o : Option KnownPointState). IfSome o (λ (known_point : KnownPointState). verdict ≡ (receiving now bytes known_point.client.link).verdict)) there.1 says)
 
-pub signal_told : (now : ℕ) (bytes : List ℕ) (id place : ℕ) (ixl : IxlState) (verdict : Verdict) → node_of id ixl ≡ Some (Signal place) → place < length ixl.known_signals →
-    IfSome (slice_get ixl.known_signals place) (λ (known_signal : KnownSignalState). verdict ≡ (receiving now bytes known_signal.client.link).verdict) → verdict ≡ verdict_at now bytes (client_of (node_of id ixl) ixl)
-signal_told now bytes id place ixl verdict node within says =
-    let there = get_below ixl.known_signals place within
-    in signal_says now bytes id place ixl there.0 verdict node there.1 (subst (λ (o : Option KnownSignalState). IfSome o (λ (known_signal : KnownSignalState). verdict ≡ (receiving now bytes known_signal.client.link).verdict)) there.1 says)
+pub detector_told : (now : ℕ) (bytes : List ℕ) (place : ℕ) (ixl : IxlState) (verdict : Verdict) → place < length ixl.detectors →
+    IfSome (slice_get ixl.detectors place) (λ (detector : KnownDetectorState). verdict ≡ (receiving now bytes detector.client.link).verdict) → verdict ≡ verdict_at now bytes (client_at (Detector place) ixl)
+detector_told now bytes place ixl verdict within says =
+    let there = get-below ixl.detectors place within
+    in rw there.1 (subst (λ (o : Option KnownDetectorState). IfSome o (λ (detector : KnownDetectorState). verdict ≡ (receiving now bytes detector.client.link).verdict)) there.1 says)
 
-pub point_told : (now : ℕ) (bytes : List ℕ) (id place : ℕ) (ixl : IxlState) (verdict : Verdict) → node_of id ixl ≡ Some (Point place) → place < length ixl.known_points →
-    IfSome (slice_get ixl.known_points place) (λ (known_point : KnownPointState). verdict ≡ (receiving now bytes known_point.client.link).verdict) → verdict ≡ verdict_at now bytes (client_of (node_of id ixl) ixl)
-point_told now bytes id place ixl verdict node within says =
-    let there = get_below ixl.known_points place within
-    in point_says now bytes id place ixl there.0 verdict node there.1 (subst (λ (o : Option KnownPointState). IfSome o (λ (known_point : KnownPointState). verdict ≡ (receiving now bytes known_point.client.link).verdict)) there.1 says)
-
-pub detector_told : (now : ℕ) (bytes : List ℕ) (id place : ℕ) (ixl : IxlState) (verdict : Verdict) → node_of id ixl ≡ Some (Detector place) → place < length ixl.detectors →
-    IfSome (slice_get ixl.detectors place) (λ (detector : KnownDetectorState). verdict ≡ (receiving now bytes detector.client.link).verdict) → verdict ≡ verdict_at now bytes (client_of (node_of id ixl) ixl)
-detector_told now bytes id place ixl verdict node within says =
-    let there = get_below ixl.detectors place within
-    in detector_says now bytes id place ixl there.0 verdict node there.1 (subst (λ (o : Option KnownDetectorState). IfSome o (λ (detector : KnownDetectorState). verdict ≡ (receiving now bytes detector.client.link).verdict)) there.1 says)
+pub node_told : (now : ℕ) (bytes : List ℕ) (id : ℕ) (node : Node) (ixl : IxlState) (verdict : Verdict) → node_of id ixl ≡ Some node → verdict ≡ verdict_at now bytes (client_at node ixl) →
+    verdict ≡ verdict_at now bytes (client_of (node_of id ixl) ixl)
+node_told now bytes id node ixl verdict is says = rw is says
 
 pub nobody_told : (now : ℕ) (bytes : List ℕ) (id : ℕ) (ixl : IxlState) → node_of id ixl ≡ None → verdicts.WrongSender ≡ verdict_at now bytes (client_of (node_of id ixl) ixl)
 nobody_told now bytes id ixl none = rw none
-
--- ---- where a sender is found in the field
-
-pub signal_found : (id place : ℕ) (field : FieldState) (state : StateView) → field ≡ field_of state → Some place ≡ position (λ (known_signal : KnownSignalState). partner_at id known_signal.client) field.known_signals →
-    position (λ (known_signal : KnownSignalState). partner_at id known_signal.client) state.ixl.known_signals ≡ Some place
-signal_found id place field state same is = sym (is ∙ ap (λ (f : FieldState). position (λ (known_signal : KnownSignalState). partner_at id known_signal.client) f.known_signals) same)
-
-pub no_signal : (id : ℕ) (field : FieldState) (state : StateView) → field ≡ field_of state → None ≡ position (λ (known_signal : KnownSignalState). partner_at id known_signal.client) field.known_signals →
-    position (λ (known_signal : KnownSignalState). partner_at id known_signal.client) state.ixl.known_signals ≡ None
-no_signal id field state same is = sym (is ∙ ap (λ (f : FieldState). position (λ (known_signal : KnownSignalState). partner_at id known_signal.client) f.known_signals) same)
-
-pub point_found : (id place : ℕ) (field : FieldState) (state : StateView) → field ≡ field_of state → Some place ≡ position (λ (known_point : KnownPointState). partner_at id known_point.client) field.known_points →
-    position (λ (known_point : KnownPointState). partner_at id known_point.client) state.ixl.known_points ≡ Some place
-point_found id place field state same is = sym (is ∙ ap (λ (f : FieldState). position (λ (known_point : KnownPointState). partner_at id known_point.client) f.known_points) same)
-
-pub no_point : (id : ℕ) (field : FieldState) (state : StateView) → field ≡ field_of state → None ≡ position (λ (known_point : KnownPointState). partner_at id known_point.client) field.known_points →
-    position (λ (known_point : KnownPointState). partner_at id known_point.client) state.ixl.known_points ≡ None
-no_point id field state same is = sym (is ∙ ap (λ (f : FieldState). position (λ (known_point : KnownPointState). partner_at id known_point.client) f.known_points) same)
-
-pub detector_found : (id place : ℕ) (field : FieldState) (state : StateView) → field ≡ field_of state → Some place ≡ position (λ (detector : KnownDetectorState). partner_at id detector.client) field.detectors →
-    position (λ (detector : KnownDetectorState). partner_at id detector.client) state.ixl.detectors ≡ Some place
-detector_found id place field state same is = sym (is ∙ ap (λ (f : FieldState). position (λ (detector : KnownDetectorState). partner_at id detector.client) f.detectors) same)
-
-pub no_detector : (id : ℕ) (field : FieldState) (state : StateView) → field ≡ field_of state → None ≡ position (λ (detector : KnownDetectorState). partner_at id detector.client) field.detectors →
-    position (λ (detector : KnownDetectorState). partner_at id detector.client) state.ixl.detectors ≡ None
-no_detector id field state same is = sym (is ∙ ap (λ (f : FieldState). position (λ (detector : KnownDetectorState). partner_at id detector.client) f.detectors) same)
 
 -- ---- all that comes of hearing a detector
 
@@ -237,8 +175,8 @@ pub ready_heard : (now : ℕ) (bytes : List ℕ) (place : ℕ) (old : StateView)
     IfSome (slice_get mid.sited.table.detectors place) (λ sections. Passes now (along (looking mid.sited.table) (told_since was_ready occupied sections heard)) mid new) →
     Goes now 30 (detector_hearing now old.sited.table bytes place) old box new between
 ready_heard now bytes place old box mid between new was_ready ready occupied heard is holds passes =
-    let one = get_below old.ixl.detectors place is.there
-    in let list = get_below old.sited.table.detectors place (omega (arith, is.there, is.each))
+    let one = get-below old.ixl.detectors place is.there
+    in let list = get-below old.sited.table.detectors place (omega (arith, is.there, is.each))
     in let was : was_ready ≡ is_ready one.0.client.stage = at_some (slice_get old.ixl.detectors place) one.0 (λ (d : KnownDetectorState). was_ready ≡ is_ready d.client.stage) one.1 is.was_ready
     in let were : occupied ≡ one.0.occupied = at_some (slice_get old.ixl.detectors place) one.0 (λ (d : KnownDetectorState). occupied ≡ d.occupied) one.1 is.occupied
     in let told : heard ≡ (done_by now bytes one.0 box).heard = at_some (slice_get old.ixl.detectors place) one.0 (λ (d : KnownDetectorState). AreHeardBy now bytes d box heard) one.1 is.heard
@@ -255,8 +193,8 @@ ready_heard now bytes place old box mid between new was_ready ready occupied hea
 pub unready_heard : (now : ℕ) (bytes : List ℕ) (place : ℕ) (old : StateView) (box : OutboxState) (mid : StateView) (between : OutboxState) (was_ready ready : Bool) (occupied : Places) (heard : List Indication) →
     IsHeard now bytes place old box mid between was_ready ready occupied heard → ready ≡ false → Goes now 30 (detector_hearing now old.sited.table bytes place) old box mid between
 unready_heard now bytes place old box mid between was_ready ready occupied heard is fails =
-    let one = get_below old.ixl.detectors place is.there
-    in let list = get_below old.sited.table.detectors place (omega (arith, is.there, is.each))
+    let one = get-below old.ixl.detectors place is.there
+    in let list = get-below old.sited.table.detectors place (omega (arith, is.there, is.each))
     in let is_not : is_ready (done_by now bytes one.0 box).client.stage ≡ false = sym (ready_after now bytes place one.0 old box mid between ready one.1 is.goes is.ready) ∙ fails
     in detector_looks now bytes place list.0 one.0 old box mid between mid list.1 one.1 is.goes
     (subst (λ told_list. Passes now (along (looking old.sited.table) told_list) mid mid) (sym (looks_not_ready list.0 one.0 (done_by now bytes one.0 box).heard (done_by now bytes one.0 box).client is_not))
@@ -265,5 +203,5 @@ unready_heard now bytes place old box mid between was_ready ready occupied heard
 pub still_there : (now : ℕ) (bytes : List ℕ) (place : ℕ) (old : StateView) (box : OutboxState) (mid : StateView) (between : OutboxState) → place < length old.ixl.detectors →
     Goes now 30 (detector_hearing_alone now bytes place) old box mid between → place < length mid.ixl.detectors
 still_there now bytes place old box mid between there goes =
-    let one = get_below old.ixl.detectors place there
-    in get_inside mid.ixl.detectors place (heard_detector now bytes one.0 box) (alone_leaves now bytes place one.0 old box mid between one.1 goes)
+    let one = get-below old.ixl.detectors place there
+    in slice_get_within mid.ixl.detectors place (heard_detector now bytes one.0 box) (alone_leaves now bytes place one.0 old box mid between one.1 goes)

@@ -1,4 +1,4 @@
-use Rattle.ixl.proofs.field_known.a_route_of_the_table_is_kept.Goals as goal
+use Rattle.ixl_state.proofs.state.State.keeps_route.Goals as goal
 
 pub returns-clause-sections : goal.returns-clause-sections
 returns-clause-sections c row route kept = (c.table.ensures.within c.args.number row route kept).0

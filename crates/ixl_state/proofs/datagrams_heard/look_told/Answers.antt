@@ -1,11 +1,11 @@
 use Rattle.std.proofs.Common.{◌<◌, ◌∙◌, Bool, length, ap, sym, subst}
 use Rattle.std.specs.Prelude.{IfSome, slice_get}
-use Rattle.ixl_state.specs.ixl_rules.StepSoFar.{along}
-use Rattle.ixl_state.specs.ixl_rules.Step.{looking, told_before, told_now}
-use Rattle.ixl_state.specs.ixl_table.Table.{SitedTable}
-use Rattle.ixl.specs.inside.Parts.{Passes, told_since}
-use Rattle.ixl.proofs.Looks.{at_list, both_looked, for_some, told_site}
-use Rattle.ixl.proofs.datagrams_heard.look_told.Goals as goal
+use Rattle.ixl_rules.specs.StepSoFar.{along}
+use Rattle.ixl_rules.specs.Step.{looking, told_before, told_now}
+use Rattle.ixl_table.specs.Table.{SitedTable}
+use Rattle.ixl_state.specs.inside.Hearing.{Passes, told_since}
+use Rattle.ixl_state.proofs.Looks.{at_list, both_looked, for_some, told_site}
+use Rattle.ixl_state.proofs.datagrams_heard.look_told.Goals as goal
 
 pub look_now-requires-else-was_ready-clause-there : goal.look_now-requires-else-was_ready-clause-there
 look_now-requires-else-was_ready-clause-there c = subst (λ (p : SitedTable). c.args.place < length p.table.detectors)

@@ -1,13 +1,13 @@
 use Rattle.std.proofs.Common.{◌≡◌, List, ℕ, [], ◌∷◌, Some, length, ap, subst, arith}
 use Rattle.std.specs.Prelude.{slice_get, slice_index_or}
 use Rattle.std.proofs.lemmas.Option.{slice_get_past}
-use Rattle.ixl_state.specs.ixl_rules.StepSoFar.{along}
-use Rattle.ixl_state.specs.ixl_rules.Step.{looking, told_now}
-use Rattle.ixl_state.specs.ixl_table.Table.{SitedTable}
-use Rattle.ixl.specs.inside.Parts.{Passes}
-use Rattle.ixl.proofs.Looks.{for_some, none_looked, one_looked, same_list}
-use Rattle.ixl.proofs.Views.{get_within}
-use Rattle.ixl.proofs.datagrams_heard.look_at.Goals as goal
+use Rattle.ixl_rules.specs.StepSoFar.{along}
+use Rattle.ixl_rules.specs.Step.{looking, told_now}
+use Rattle.ixl_table.specs.Table.{SitedTable}
+use Rattle.ixl_state.specs.inside.Hearing.{Passes}
+use Rattle.ixl_state.proofs.Looks.{for_some, none_looked, one_looked, same_list}
+use Rattle.ixl_state.proofs.Looks.{get_within}
+use Rattle.ixl_state.proofs.datagrams_heard.look_at.Goals as goal
 
 pub returns-then-told-sections : goal.returns-then-told-sections
 returns-then-told-sections c = for_some (λ sections. Passes c.args.now (along (looking c.args.state.now.sited.table) (told_now sections (c.args.told ∷ []))) c.args.state.now c.look.new.state)

@@ -1,6 +1,6 @@
 use Rattle.ixl_field.specs.Field.{Rest}
 use Rattle.ixl_state.proofs.Turns.{goes-of, state-kept}
-use Rattle.ixl_state.proofs.state.State.hear_detector.Goals as goal
+use Rattle.ixl_state.proofs.state.State.hear_detector_alone.Goals as goal
 
 pub invariant_of-self : goal.invariant_of-self
 invariant_of-self c =

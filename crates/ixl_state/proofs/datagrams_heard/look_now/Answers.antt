@@ -1,14 +1,14 @@
 use Rattle.std.proofs.Common.{◌<◌, List, [], ◌∷◌, ℕ, length, get_or, refl, sym, subst, arith}
 use Rattle.std.specs.Prelude.{slice_get}
-use Rattle.ixl_state.specs.sci_telegram.declared.message.Aspect.TheVariants as aspects
-use Rattle.ixl_state.specs.ixl_client.declared.indication.Indication.{Indication}
-use Rattle.ixl_state.specs.ixl_client.declared.indication.ObjectState.TheVariants as states
-use Rattle.ixl_state.specs.ixl_table.Table.{SitedTable}
-use Rattle.ixl_state.specs.ixl_rules.StepSoFar.{along}
-use Rattle.ixl_state.specs.ixl_rules.Step.{looking, told_now}
-use Rattle.ixl.specs.inside.Parts.{Passes}
-use Rattle.ixl.proofs.Looks.{all_now, at_list, for_some, looked_now, none_now, told_site}
-use Rattle.ixl.proofs.datagrams_heard.look_now.Goals as goal
+use Rattle.ixl_rules.specs.sci_telegram.declared.message.Aspect.TheVariants as aspects
+use Rattle.ixl_rules.specs.ixl_client.declared.indication.Indication.{Indication}
+use Rattle.ixl_rules.specs.ixl_client.declared.indication.ObjectState.TheVariants as states
+use Rattle.ixl_table.specs.Table.{SitedTable}
+use Rattle.ixl_rules.specs.StepSoFar.{along}
+use Rattle.ixl_rules.specs.Step.{looking, told_now}
+use Rattle.ixl_state.specs.inside.Hearing.{Passes}
+use Rattle.ixl_state.proofs.Looks.{all_now, at_list, for_some, looked_now, none_now, told_site}
+use Rattle.ixl_state.proofs.datagrams_heard.look_now.Goals as goal
 
 abbrev told_at : List Indication → ℕ → Indication
 told_at heard place = get_or heard place (record { place = 0; state = states.Aspect aspects.Stop })

@@ -1,7 +1,0 @@
-use Rattle.ixl_state.specs.ixl_rules.StepSoFar.{over}
-use Rattle.ixl_state.specs.ixl_rules.Step.{looking_by}
-use Rattle.ixl.specs.inside.Parts.{Passes}
-use Rattle.ixl.proofs.datagrams_heard.look.Given as goal
-
-abbrev pub invariant-loop-number : goal.invariant-loop-number
-invariant-loop-number l = Passes l.now (over (looking_by l.section l.occupied l.fn.state.sited.table) l.number) l.fn.state l.state
