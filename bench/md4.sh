@@ -4,9 +4,9 @@
 # of all rounds counts. It wants a quiet machine: other work takes more from whichever it meets.
 set -eu
 rounds=${1:-20}
-cd "$(dirname "$0")/../crates/md4_speed"
-rt run >/dev/null 2>&1 # proves it where it isn't yet, and leaves out/md4_speed
-exec python3 - "$PWD/out/md4_speed" "$rounds" <<'PY'
+cd "$(dirname "$0")/../crates/rasta_pdu_speed"
+rt run -- md4 1 0 >/dev/null 2>&1 # proves it where it isn't yet, and leaves out/rasta_pdu_speed
+exec python3 - "$PWD/out/rasta_pdu_speed" "$rounds" <<'PY'
 import os, platform, re, resource, subprocess, sys
 
 program, rounds = sys.argv[1], int(sys.argv[2])
@@ -22,7 +22,7 @@ def used():
 def seconds(more):
     """The processor time of a run: one pass over the buffer, and so many more."""
     before = used()
-    subprocess.run([program, str(MEBIBYTES), str(more)], check=True, stdout=subprocess.DEVNULL)
+    subprocess.run([program, "md4", str(MEBIBYTES), str(more)], check=True, stdout=subprocess.DEVNULL)
     return used() - before
 
 

@@ -2,7 +2,7 @@
 
 ghost use Rattle.std.specs.Prelude.{◌≡◌};
 ghost use Rattle.md4.specs.Md4.{block_words};
-ghost use Rattle.md4_speed.specs.Passes.{digest_again};
+ghost use Rattle.rasta_pdu_speed.specs.Digests.{digest_again};
 
 use md4::{STANDARD, digest_from};
 

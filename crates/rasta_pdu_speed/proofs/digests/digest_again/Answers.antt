@@ -1,7 +1,7 @@
 use Rattle.std.proofs.Common.{◌≡◌, ◌∙◌, ◌+◌, ℕ, List, suc, ap, arith}
 use Rattle.md4.specs.Md4.{block_words, digest}
-use Rattle.md4_speed.specs.Passes.{digest_again}
-use Rattle.md4_speed.proofs.passes.digest_again.Goals as goal
+use Rattle.rasta_pdu_speed.specs.Digests.{digest_again}
+use Rattle.rasta_pdu_speed.proofs.digests.digest_again.Goals as goal
 
 pub loop-pass-init : goal.loop-pass-init
 unfolding digest_again
