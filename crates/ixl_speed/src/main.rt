@@ -8,6 +8,7 @@
 // It prints how many signals show proceed, and how often what is done went as it has to.
 #![tactic(auto)]
 
+mod controllers;
 mod passes;
 mod station;
 
@@ -18,31 +19,53 @@ use ixl_state::layout::Layout;
 use std::alloc::Global;
 use std::{env, fs};
 
-fn table_of(alloc: Global, text: &str) -> anyhow::Result<Checked> {
-    let layout = Layout::read(alloc, text).ok().context("no layout")?;
-    check(alloc, layout).ok().context("no sound table")
-}
+const USAGE: &str =
+    "usage: ixl_speed LAYOUT ROUTES WORK TIMES, where WORK is tick, report, read or write";
 
-fn work_of(word: &str) -> anyhow::Result<Work> {
-    match word {
-        "tick" => Ok(Work::Tick),
-        "report" => Ok(Work::Report),
-        "read" => Ok(Work::Read),
-        "write" => Ok(Work::Write),
-        _ => bail!("WORK is tick, report, read or write"),
-    }
-}
-
-/// How many signals show proceed, and how often what was done went as it has to.
-fn measured(
-    alloc: Global,
-    table: Checked,
+/// How much of which work is done, behind how many routes that show proceed.
+#[derive(Clone, Copy)]
+struct Asked {
     routes: usize,
     work: Work,
     times: u32,
-) -> anyhow::Result<(usize, u32)> {
-    let mut station = Station::new(alloc, table)?;
-    station.measured(alloc, routes, work, times)
+}
+
+fn table_of(alloc: Global, text: &str) -> Option<Checked> {
+    let layout = Layout::read(alloc, text).ok()?;
+    check(alloc, layout).ok()
+}
+
+fn work_of(word: &str) -> Option<Work> {
+    match word {
+        "tick" => Some(Work::Tick),
+        "report" => Some(Work::Report),
+        "read" => Some(Work::Read),
+        "write" => Some(Work::Write),
+        _ => None,
+    }
+}
+
+fn read_words(routes: &str, work: &str, times: &str) -> Option<Asked> {
+    Some(Asked {
+        routes: routes.parse().ok()?,
+        work: work_of(work)?,
+        times: times.parse().ok()?,
+    })
+}
+
+/// How many signals show proceed on a station of the layout in a text, and how often what was done went as it has to.
+fn measured(alloc: Global, text: &str, asked: Asked) -> Option<(usize, u32)> {
+    let table = table_of(alloc, text)?;
+    let mut station = Station::new(alloc, table).ok()?;
+    Some(station.measured(alloc, asked.routes, asked.work, asked.times))
+}
+
+/// Does what is asked on a station of the layout in a file, and prints what came of it.
+fn measure(rt: &HostRuntime, path: &str, asked: Asked) -> anyhow::Result<()> {
+    let text = fs::read_to_string(rt, path)?;
+    let (proceeding, done) = measured(rt.alloc(), text.as_str(), asked).context("no sound table")?;
+    println!(rt; "{proceeding} {done}")?;
+    Ok(())
 }
 
 fn main(rt: HostRuntime) -> anyhow::Result<()> {
@@ -53,13 +76,10 @@ fn main(rt: HostRuntime) -> anyhow::Result<()> {
         args.next(),
         args.next(),
     ) else {
-        bail!("usage: ixl_speed LAYOUT ROUTES WORK TIMES");
+        bail!(USAGE);
     };
-    let (routes, times): (usize, u32) = (routes.parse()?, times.parse()?);
-    let work = work_of(work.as_str())?;
-    let text = fs::read_to_string(&rt, path.as_str())?;
-    let table = table_of(rt.alloc(), text.as_str())?;
-    let (proceeding, done) = measured(rt.alloc(), table, routes, work, times)?;
-    println!(rt; "{proceeding} {done}")?;
-    Ok(())
+    match read_words(routes.as_str(), work.as_str(), times.as_str()) {
+        Some(asked) => measure(&rt, path.as_str(), asked),
+        None => bail!(USAGE),
+    }
 }

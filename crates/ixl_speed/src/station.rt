@@ -1,20 +1,16 @@
-// An interlocking with its controllers, between which nothing is lost.
+// An interlocking with its controllers, between which nothing is lost. Where a growth is refused or a clock has fallen a
+// datagram or a step is missing, and so what is counted at the end tells it.
 
+use crate::controllers::Controllers;
 use crate::passes::{read, report, tick, write};
-use anyhow::{bail, ensure};
-use ixl::{Command, Input as StationInput, Interlocking, Reply};
+use ixl::{Command, Input as StationInput, Interlocking};
 use ixl_state::control_table::Checked;
 use ixl_state::ixl_rules::key_of;
 use ixl_state::layout::{RouteId, SignalId};
 use ixl_state::rasta_core::Millis;
 use ixl_state::rasta_pdu::{Datagram, Key, Pdu};
-use ixl_state::sci_telegram::{Occupancy, Position};
-use object_host::{Controller, Hosted, Input, Sense};
-use point_ctl::Point;
-use signal_ctl::Signal;
-use simulator_field::{new_detector, new_point, new_signal};
+use object_host::Input;
 use std::alloc::{AllocError, Global};
-use tds_ctl::Detection;
 
 /// How long a round takes.
 const ROUND: Millis = 100;
@@ -38,98 +34,35 @@ pub enum Work {
 #[derive(Drop)]
 pub struct Station {
     interlocking: Interlocking,
-    signals: Vec<Hosted<Signal>>,
-    points: Vec<Hosted<Point>>,
-    detectors: Vec<Hosted<Detection>>,
+    controllers: Controllers,
     now: Millis,
     sent: Vec<Datagram>,
 }
 
-/// A controller makes a step, and what it sends is added.
-fn step_one<C: Controller>(
-    controller: &mut Hosted<C>,
+/// The interlocking makes a step, and what it sends is added.
+fn step(
+    interlocking: &mut Interlocking,
     now: Millis,
-    input: Input<'_>,
+    input: StationInput<'_>,
     sent: &mut Vec<Datagram>,
-) -> Result<(), AllocError> {
-    if !controller.may_step(now) {
-        return Ok(());
-    }
-    controller.step(now, input);
-    for _ in 0..controller.outbox().len() {
-        if let Some(datagram) = controller.take_first() {
-            sent.push(datagram)?;
+) {
+    if interlocking.may_step(now) {
+        let _ = interlocking.step(now, input);
+        for _ in 0..interlocking.outbox().len() {
+            if let Some(datagram) = interlocking.take_first() {
+                let _ = sent.push(datagram);
+            }
         }
     }
-    Ok(())
-}
-
-/// Controllers make a step each, and what they send is added.
-fn step_each<C: Controller>(
-    controllers: &mut Vec<Hosted<C>>,
-    now: Millis,
-    input: Input<'_>,
-    sent: &mut Vec<Datagram>,
-) -> Result<(), AllocError> {
-    for place in 0..controllers.len() {
-        step_one(&mut controllers[place], now, input, sent)?;
-    }
-    Ok(())
-}
-
-/// The report that a detector sends as its first section changes.
-fn report_of(
-    detector: &mut Hosted<Detection>,
-    now: Millis,
-    key: &Key,
-    occupancy: Occupancy,
-) -> Option<Pdu> {
-    if !detector.may_step(now) {
-        return None;
-    }
-    detector.step(now, Input::Sense(Sense::Section(0, occupancy)));
-    let datagram = detector.take_first()?;
-    ixl_state::rasta_pdu::read(key, datagram.as_slice()).ok()
-}
-
-/// The controllers of all signals.
-fn signals(alloc: Global, table: &Checked) -> Result<Vec<Hosted<Signal>>, AllocError> {
-    let mut signals = Vec::new(alloc);
-    for entry in table.layout().signals() {
-        signals.push(new_signal(alloc, table, entry, 0, 0)?)?;
-    }
-    Ok(signals)
-}
-
-/// The controllers of all points, each of which stands right.
-fn points(alloc: Global, table: &Checked) -> Result<Vec<Hosted<Point>>, AllocError> {
-    let mut points = Vec::new(alloc);
-    for entry in table.layout().points() {
-        points.push(new_point(alloc, table, entry, Position::Right, 0, 0)?)?;
-    }
-    Ok(points)
-}
-
-/// The controllers of all detectors, whose sections are clear.
-fn detectors(alloc: Global, table: &Checked) -> Result<Vec<Hosted<Detection>>, AllocError> {
-    let mut detectors = Vec::new(alloc);
-    for entry in table.layout().detectors() {
-        detectors.push(new_detector(alloc, table, entry, &[], 0, 0)?)?;
-    }
-    Ok(detectors)
 }
 
 impl Station {
     /// All nodes were just made.
     pub fn new(alloc: Global, table: Checked) -> Result<Station, AllocError> {
-        let signals = signals(alloc, &table)?;
-        let points = points(alloc, &table)?;
-        let detectors = detectors(alloc, &table)?;
+        let controllers = Controllers::new(alloc, &table)?;
         Ok(Station {
             interlocking: Interlocking::new(alloc, table, 0, 0)?,
-            signals,
-            points,
-            detectors,
+            controllers,
             now: 0,
             sent: Vec::new(alloc),
         })
@@ -139,100 +72,58 @@ impl Station {
         key_of(self.interlocking.table().checked().layout())
     }
 
-    /// What the interlocking has sent is kept.
-    fn collect(&mut self) -> Result<(), AllocError> {
-        for _ in 0..self.interlocking.outbox().len() {
-            if let Some(datagram) = self.interlocking.take_first() {
-                self.sent.push(datagram)?;
-            }
-        }
-        Ok(())
-    }
-
     /// The interlocking makes a step, and what it sends is kept.
-    fn step_station(&mut self, input: StationInput<'_>) -> anyhow::Result<Reply> {
-        if !self.interlocking.may_step(self.now) {
-            bail!("its clock has fallen");
-        }
-        let reply = self.interlocking.step(self.now, input);
-        self.collect()?;
-        Ok(reply)
-    }
-
-    /// All controllers make a step, and what they send is added. A datagram comes to each, and only its receiver takes it.
-    fn step_controllers(
-        &mut self,
-        input: Input<'_>,
-        answers: &mut Vec<Datagram>,
-    ) -> Result<(), AllocError> {
-        step_each(&mut self.signals, self.now, input, answers)?;
-        step_each(&mut self.points, self.now, input, answers)?;
-        step_each(&mut self.detectors, self.now, input, answers)
+    fn step(&mut self, input: StationInput<'_>) {
+        step(&mut self.interlocking, self.now, input, &mut self.sent);
     }
 
     /// What the interlocking sent comes, and is answered; then each node ticks.
-    fn round(&mut self, alloc: Global) -> anyhow::Result<()> {
+    fn round(&mut self, alloc: Global) {
         self.now = self.now.saturating_add(ROUND);
+        let answers = self.answers(alloc);
+        for datagram in &answers {
+            self.step(StationInput::Datagram(datagram.as_slice()));
+        }
+        self.step(StationInput::Tick);
+    }
+
+    /// What the controllers send as that comes which the interlocking sent, and as each of them ticks.
+    fn answers(&mut self, alloc: Global) -> Vec<Datagram> {
         let sent = std::mem::replace(&mut self.sent, Vec::new(alloc));
         let mut answers = Vec::new(alloc);
         for datagram in &sent {
-            self.step_controllers(Input::Datagram(datagram.as_slice()), &mut answers)?;
+            let input = Input::Datagram(datagram.as_slice());
+            self.controllers.step(self.now, input, &mut answers);
         }
-        self.step_controllers(Input::Tick, &mut answers)?;
-        for datagram in &answers {
-            self.step_station(StationInput::Datagram(datagram.as_slice()))?;
-        }
-        self.step_station(StationInput::Tick)?;
-        Ok(())
+        self.controllers.step(self.now, Input::Tick, &mut answers);
+        answers
     }
 
-    fn rounds(&mut self, alloc: Global, count: u32) -> anyhow::Result<()> {
+    fn rounds(&mut self, alloc: Global, count: u32) {
         for _ in 0..count {
-            self.round(alloc)?;
-        }
-        Ok(())
-    }
-
-    fn command(&mut self, command: Command) -> anyhow::Result<()> {
-        match self.step_station(StationInput::Command(command))? {
-            Reply::Accepted => Ok(()),
-            _ => bail!("a command is refused"),
+            self.round(alloc);
         }
     }
 
     /// All links are opened, and the first routes of the table are set and come to show proceed.
-    fn come_up(&mut self, alloc: Global, routes: usize) -> anyhow::Result<()> {
-        self.rounds(alloc, ROUNDS_OF_HOLD)?;
-        self.command(Command::Resume)?;
+    fn come_up(&mut self, alloc: Global, routes: usize) {
+        self.rounds(alloc, ROUNDS_OF_HOLD);
+        self.step(StationInput::Command(Command::Resume));
         for number in 0..routes {
-            self.command(Command::Request(RouteId(number)))?;
+            self.step(StationInput::Command(Command::Request(RouteId(number))));
         }
-        self.rounds(alloc, ROUNDS_OF_SETTING)
+        self.rounds(alloc, ROUNDS_OF_SETTING);
     }
 
     /// From how many signals a route has authority.
     fn proceeding(&self) -> usize {
-        let signals = self.interlocking.table().checked().layout().signals();
-        let signals = 0..signals.len();
-        signals
-            .filter(|number| self.interlocking.authority(SignalId(*number)).is_some())
-            .count()
-    }
-
-    /// Of each detector the report that its first section is occupied, and then of each that it is clear again. They are
-    /// numbered so that they can come next.
-    fn reports(&mut self, alloc: Global) -> Result<Vec<Pdu>, AllocError> {
-        let key = self.key();
-        let mut reports = Vec::new(alloc);
-        for occupancy in [Occupancy::Occupied, Occupancy::Clear] {
-            for place in 0..self.detectors.len() {
-                let detector = &mut self.detectors[place];
-                if let Some(report) = report_of(detector, self.now, &key, occupancy) {
-                    reports.push(report)?;
-                }
+        let mut count: usize = 0;
+        for place in 0..self.interlocking.table().checked().layout().signals().len() {
+            if self.interlocking.authority(SignalId(place)).is_some() {
+                count = count.saturating_add(1);
             }
         }
-        Ok(reports)
+        count
     }
 
     /// The work is done so often.
@@ -258,14 +149,11 @@ impl Station {
         routes: usize,
         work: Work,
         times: u32,
-    ) -> anyhow::Result<(usize, u32)> {
-        self.come_up(alloc, routes)?;
+    ) -> (usize, u32) {
+        self.come_up(alloc, routes);
         let proceeding = self.proceeding();
-        let mut reports = self.reports(alloc)?;
-        ensure!(
-            reports.len() / 2 == self.detectors.len(),
-            "a report is missing"
-        );
-        Ok((proceeding, self.done(&mut reports, work, times)))
+        let (key, now) = (self.key(), self.now);
+        let mut reports = self.controllers.reports(alloc, now, &key);
+        (proceeding, self.done(&mut reports, work, times))
     }
 }
