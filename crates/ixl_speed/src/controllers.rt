@@ -19,19 +19,18 @@ pub struct Controllers {
     detectors: Vec<Hosted<Detection>>,
 }
 
-/// A controller makes a step, and what it sends is added.
-fn step_one<C: Controller>(
-    controller: &mut Hosted<C>,
-    now: Millis,
-    input: Input<'_>,
-    sent: &mut Vec<Datagram>,
-) {
+/// A controller makes a step, if it may.
+fn step_one<C: Controller>(controller: &mut Hosted<C>, now: Millis, input: Input<'_>) {
     if controller.may_step(now) {
         controller.step(now, input);
-        for _ in 0..controller.outbox().len() {
-            if let Some(datagram) = controller.take_first() {
-                let _ = sent.push(datagram);
-            }
+    }
+}
+
+/// What a controller sent in its last step is added.
+fn collect<C: Controller>(controller: &mut Hosted<C>, sent: &mut Vec<Datagram>) {
+    for _ in 0..controller.outbox().len() {
+        if let Some(datagram) = controller.take_first() {
+            let _ = sent.push(datagram);
         }
     }
 }
@@ -44,7 +43,16 @@ fn step_each<C: Controller>(
     sent: &mut Vec<Datagram>,
 ) {
     for place in 0..controllers.len() {
-        step_one(&mut controllers[place], now, input, sent);
+        step_one(&mut controllers[place], now, input);
+        collect(&mut controllers[place], sent);
+    }
+}
+
+/// The PDU in a datagram.
+fn pdu_in(key: &Key, datagram: &Datagram) -> Option<Pdu> {
+    match ixl_state::rasta_pdu::read(key, datagram.as_slice()) {
+        Ok(pdu) => Some(pdu),
+        Err(_) => None,
     }
 }
 
@@ -55,12 +63,9 @@ fn report_of(
     key: &Key,
     occupancy: Occupancy,
 ) -> Option<Pdu> {
-    if !detector.may_step(now) {
-        return None;
-    }
-    detector.step(now, Input::Sense(Sense::Section(0, occupancy)));
+    step_one(detector, now, Input::Sense(Sense::Section(0, occupancy)));
     let datagram = detector.take_first()?;
-    ixl_state::rasta_pdu::read(key, datagram.as_slice()).ok()
+    pdu_in(key, &datagram)
 }
 
 /// The controllers of all signals.

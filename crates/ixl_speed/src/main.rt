@@ -30,9 +30,18 @@ struct Asked {
     times: u32,
 }
 
-fn table_of(alloc: Global, text: &str) -> Option<Checked> {
-    let layout = Layout::read(alloc, text).ok()?;
-    check(alloc, layout).ok()
+fn layout_in(alloc: Global, text: &str) -> Option<Layout> {
+    match Layout::read(alloc, text) {
+        Ok(layout) => Some(layout),
+        Err(_) => None,
+    }
+}
+
+fn table_of(alloc: Global, layout: Layout) -> Option<Checked> {
+    match check(alloc, layout) {
+        Ok(table) => Some(table),
+        Err(_) => None,
+    }
 }
 
 fn work_of(word: &str) -> Option<Work> {
@@ -55,7 +64,7 @@ fn read_words(routes: &str, work: &str, times: &str) -> Option<Asked> {
 
 /// How many signals show proceed on a station of the layout in a text, and how often what was done went as it has to.
 fn measured(alloc: Global, text: &str, asked: Asked) -> Option<(usize, u32)> {
-    let table = table_of(alloc, text)?;
+    let table = table_of(alloc, layout_in(alloc, text)?)?;
     let mut station = Station::new(alloc, table).ok()?;
     Some(station.measured(alloc, asked.routes, asked.work, asked.times))
 }

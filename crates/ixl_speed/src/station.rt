@@ -39,19 +39,18 @@ pub struct Station {
     sent: Vec<Datagram>,
 }
 
-/// The interlocking makes a step, and what it sends is added.
-fn step(
-    interlocking: &mut Interlocking,
-    now: Millis,
-    input: StationInput<'_>,
-    sent: &mut Vec<Datagram>,
-) {
+/// The interlocking makes a step, if it may.
+fn step(interlocking: &mut Interlocking, now: Millis, input: StationInput<'_>) {
     if interlocking.may_step(now) {
         let _ = interlocking.step(now, input);
-        for _ in 0..interlocking.outbox().len() {
-            if let Some(datagram) = interlocking.take_first() {
-                let _ = sent.push(datagram);
-            }
+    }
+}
+
+/// What the interlocking sent in its last step is added.
+fn collect(interlocking: &mut Interlocking, sent: &mut Vec<Datagram>) {
+    for _ in 0..interlocking.outbox().len() {
+        if let Some(datagram) = interlocking.take_first() {
+            let _ = sent.push(datagram);
         }
     }
 }
@@ -74,7 +73,8 @@ impl Station {
 
     /// The interlocking makes a step, and what it sends is kept.
     fn step(&mut self, input: StationInput<'_>) {
-        step(&mut self.interlocking, self.now, input, &mut self.sent);
+        step(&mut self.interlocking, self.now, input);
+        collect(&mut self.interlocking, &mut self.sent);
     }
 
     /// What the interlocking sent comes, and is answered; then each node ticks.
