@@ -1,10 +1,10 @@
 //! A small station whose lines are read. What takes memory is done again where it is lacking, so that the answers also
 //! hold with any one allocation refused.
 
-use control_table::layout::{Layout, LayoutFault};
-use control_table::{Checked, check};
+use control_table::Checked;
+use station_check::table_of;
 use std::alloc::Global;
-use std::test::Fail;
+use std::process::Abort;
 
 /// A station of one point, three signals and three routes.
 const SMALL: &str = "section = [\"GA\", \"GP\", \"G1\", \"G2\"]
@@ -26,17 +26,15 @@ name = \"IXL1\"
 id = 1
 ";
 
-fn read(alloc: Global) -> Result<Layout, LayoutFault> {
-    match Layout::read(alloc, SMALL) {
-        Err(LayoutFault::OutOfMemory) => Layout::read(alloc, SMALL),
-        answer => answer,
+/// The table of the small station; where memory is lacking it is made once more.
+pub(crate) fn small(rt: &impl Abort, alloc: Global) -> Checked {
+    match table_of(alloc, SMALL) {
+        Ok(table) => table,
+        Err(_) => table_of(alloc, SMALL).expect(rt, "the small station is sound"),
     }
 }
 
-/// The table of the small station; where memory is lacking it is made once more.
-pub(crate) fn small(alloc: Global) -> Result<Checked, Fail> {
-    match check(alloc, read(alloc)?) {
-        Ok(table) => Ok(table),
-        Err(_) => Ok(check(alloc, read(alloc)?)?),
-    }
+/// Expects what is so at a row of a table.
+pub(crate) fn expect(rt: &impl Abort, is_so: bool, row: &str) {
+    assert!(rt; is_so, "at {row:?}");
 }

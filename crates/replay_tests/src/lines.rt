@@ -1,17 +1,17 @@
 //! What single lines say, which faults they have, and how events are written.
 
-use crate::bench::small;
+use crate::bench::{expect, small};
 use control_table::Checked;
 use control_table::layout::{PointId, SectionId};
 use control_table::sci_telegram::{Occupancy, Position};
 use replay::{read_event, read_line, write_event};
 use replay_words::{Fault, Words};
 use simulator_event::{Event, NodeId};
-use std::alloc::{AllocError, Global};
-use std::test::Fail;
+use std::alloc::Global;
+use std::process::Abort;
 
-/// Lines with their faults, by number.
-const FAULTY: [(&str, u8); 68] = [
+/// Lines with the numbers of their faults, 0 for none.
+const LINES: [(&str, u8); 72] = [
     ("", 1),
     ("frobnicate", 1),
     ("Set R1", 1),
@@ -80,6 +80,10 @@ const FAULTY: [(&str, u8); 68] = [
     ("lose ", 4),
     ("lose 0", 4),
     ("lose zz", 4),
+    ("flow 10", 0),
+    ("flow 600000", 0),
+    ("picture", 0),
+    ("time 18446744073709551615", 0),
 ];
 
 /// Lines with the line of their event. Names that no route has are all written alike.
@@ -108,92 +112,91 @@ const WRITTEN: [(&str, &str); 19] = [
     ),
 ];
 
-/// The number of a line's fault, 0 for none; where memory is lacking the line is read once more.
-fn fault_of(alloc: Global, table: &Checked, line: &str) -> Result<u8, AllocError> {
-    let said = match read_line(alloc, table.layout(), line) {
-        Err(Fault::Memory) => read_line(alloc, table.layout(), line),
-        said => said,
+/// The number of a line's fault, 0 for none.
+fn fault_of(alloc: Global, table: &Checked, line: &str) -> u8 {
+    match read_line(alloc, table.layout(), line) {
+        Ok(_) => 0,
+        Err(fault) => fault.number(),
+    }
+}
+
+/// The number of a line's fault; where memory is lacking the line is read once more.
+fn told_fault(rt: &impl Abort, alloc: Global, table: &Checked, line: &str) -> u8 {
+    let fault = fault_of(alloc, table, line);
+    if fault != Fault::Memory.number() {
+        return fault;
+    }
+    let fault = fault_of(alloc, table, line);
+    assert!(rt; fault != Fault::Memory.number(), "there is memory");
+    fault
+}
+
+/// Whether the event of a line is written as this line.
+fn is_written_as(alloc: Global, table: &Checked, line: &str, wanted: &str) -> Result<bool, Fault> {
+    let event = read_event(alloc, table.layout(), Words::of(line))?;
+    match write_event(alloc, table, &event)? {
+        Some(told) => Ok(told.as_str() == wanted),
+        None => Ok(false),
+    }
+}
+
+/// The same; where memory is lacking it is tried once more.
+fn is_written(rt: &impl Abort, alloc: Global, table: &Checked, line: &str, wanted: &str) -> bool {
+    match is_written_as(alloc, table, line, wanted) {
+        Ok(is_so) => is_so,
+        Err(_) => is_written_as(alloc, table, line, wanted).expect(rt, "no fault"),
+    }
+}
+
+/// Whether an event has no line; where memory is lacking it is written once more.
+fn has_no_line(rt: &impl Abort, alloc: Global, table: &Checked, event: &Event) -> bool {
+    let line = match write_event(alloc, table, event) {
+        Ok(line) => line,
+        Err(_) => write_event(alloc, table, event).expect(rt, "an answer"),
     };
-    match said {
-        Ok(_) => Ok(0),
-        Err(Fault::Memory) => Err(AllocError),
-        Err(fault) => Ok(fault.number()),
-    }
+    line.is_none()
 }
 
-/// The event of a line; where memory is lacking it is read once more.
-fn event_of(alloc: Global, table: &Checked, line: &str) -> Result<Event, Fault> {
-    match read_event(alloc, table.layout(), Words::of(line)) {
-        Err(Fault::Memory) => read_event(alloc, table.layout(), Words::of(line)),
-        event => event,
-    }
-}
+/// Events of nodes, sections and points that aren't there, and a restart with too late a clock.
+const NOWHERE: [Event; 4] = [
+    Event::Tick(NodeId(6)),
+    Event::Occupy {
+        section: SectionId(4),
+        occupancy: Occupancy::Clear,
+    },
+    Event::Reach {
+        point: PointId(1),
+        position: Position::Left,
+    },
+    Event::Restart {
+        node: NodeId(0),
+        clock: 9_000_000_000_001,
+        first_sequence_number: 0,
+    },
+];
 
-/// The line of an event; where memory is lacking it is written once more.
-fn line_of(alloc: Global, table: &Checked, event: &Event) -> Result<Option<String>, AllocError> {
-    match write_event(alloc, table, event) {
-        Ok(line) => Ok(line),
-        Err(_) => write_event(alloc, table, event),
+#[test]
+fn a_line_is_told_its_lowest_fault(rt: HostRuntime) {
+    let table = small(&rt, rt.alloc());
+    for (line, fault) in &LINES {
+        let told = told_fault(&rt, rt.alloc(), &table, *line);
+        expect(&rt, told == *fault, *line);
     }
 }
 
 #[test]
-fn a_line_is_told_its_lowest_fault(rt: HostRuntime) -> Result<(), Fail> {
-    let table = small(rt.alloc())?;
-    for (line, fault) in &FAULTY {
-        assert!(rt;
-            fault_of(rt.alloc(), &table, *line)? == *fault,
-            "at {line:?}"
-        );
-    }
-    Ok(())
-}
-
-#[test]
-fn lines_at_their_bounds_have_no_fault(rt: HostRuntime) -> Result<(), Fail> {
-    let table = small(rt.alloc())?;
-    for line in &[
-        "flow 10",
-        "flow 600000",
-        "picture",
-        "time 18446744073709551615",
-    ] {
-        assert!(rt; fault_of(rt.alloc(), &table, *line)? == 0, "at {line:?}");
-    }
-    Ok(())
-}
-
-#[test]
-fn what_a_line_says_is_written_in_one_way(rt: HostRuntime) -> Result<(), Fail> {
-    let table = small(rt.alloc())?;
+fn what_a_line_says_is_written_in_one_way(rt: HostRuntime) {
+    let table = small(&rt, rt.alloc());
     for (line, written) in &WRITTEN {
-        let event = event_of(rt.alloc(), &table, *line)?;
-        let told = line_of(rt.alloc(), &table, &event)?.ok_or("a line")?;
-        assert!(rt; told.as_str() == *written, "at {line:?}");
+        let is_so = is_written(&rt, rt.alloc(), &table, *line, *written);
+        expect(&rt, is_so, *line);
     }
-    Ok(())
 }
 
 #[test]
-fn what_is_not_there_has_no_line(rt: HostRuntime) -> Result<(), Fail> {
-    let table = small(rt.alloc())?;
-    for event in [
-        Event::Tick(NodeId(6)),
-        Event::Occupy {
-            section: SectionId(4),
-            occupancy: Occupancy::Clear,
-        },
-        Event::Reach {
-            point: PointId(1),
-            position: Position::Left,
-        },
-        Event::Restart {
-            node: NodeId(0),
-            clock: 9_000_000_000_001,
-            first_sequence_number: 0,
-        },
-    ] {
-        assert!(rt; line_of(rt.alloc(), &table, &event)?.is_none(), "{event:?}");
+fn what_is_not_there_has_no_line(rt: HostRuntime) {
+    let table = small(&rt, rt.alloc());
+    for event in &NOWHERE {
+        assert!(rt; has_no_line(&rt, rt.alloc(), &table, event));
     }
-    Ok(())
 }
