@@ -1,124 +1,139 @@
-//! One end with the identity 2, whose partner's PDUs are made by hand. What takes memory is done again where it is
-//! lacking, so the tests also hold with any one allocation refused.
+//! One end with the identity 2, whose partner's PDUs are made by hand, and scripts of what comes to it and what it does. What
+//! takes memory is done again where it is lacking, so the tests also hold with any one allocation refused.
 
 use rasta_core_link::{Inbox, Link, Millis, Outbox, Reason, SendFault, State, Verdict};
 use rasta_pdu::{Body, Item, Items, Key, Opening, Pdu, read, write};
 use std::alloc::Global;
 use std::process::Abort;
-use std::test::Fail;
 
 pub(crate) const KEY: Key = Key([1, 2, 3, 4]);
 
 /// The first sequence number of the end under test.
 pub(crate) const FIRST: u32 = 100;
 
+/// What a PDU carries. An item of a script is one byte.
+#[derive(Clone, Copy)]
+pub(crate) enum Content {
+    Request([u8; 4]),
+    Response,
+    Ask,
+    Answer,
+    Disconnection(u16),
+    Heartbeat,
+    Data(u8),
+    Again(u8),
+}
+
+/// A request of this version of the protocol.
+pub(crate) const REQUEST: Content = Content::Request(*b"0303");
+
+/// A PDU to the end: its receiver and its sender, its sequence number and the one that it confirms, and both stamps.
+#[derive(Clone, Copy)]
+pub(crate) struct Sent {
+    pub(crate) ends: (u32, u32),
+    pub(crate) numbers: (u32, u32),
+    pub(crate) stamps: (u32, u32),
+    pub(crate) content: Content,
+}
+
+/// The numbers of the last PDU that was looked at, and how many bytes it takes.
+#[derive(Clone, Copy)]
+struct Told {
+    number: u32,
+    confirms: u32,
+    stamp: u32,
+    returns: u32,
+    length: usize,
+}
+
+/// A number by which an end is judged.
+#[derive(Clone, Copy)]
+pub(crate) enum Figure {
+    Given,
+    Taken,
+    Confirmed,
+    AliveUntil,
+    QuietUntil,
+    /// How many datagrams weren't looked at yet.
+    Waiting,
+    /// Those of the last PDU that was looked at.
+    Number,
+    Confirms,
+    Stamp,
+    Returns,
+    Length,
+}
+
+/// What happens to an end at a clock reading, or what is so there.
+#[derive(Clone, Copy)]
+pub(crate) enum Step {
+    /// A PDU of the partner, told by its numbers and stamps, comes, and this becomes of it.
+    Hears((u32, u32), (u32, u32), Content, Verdict),
+    /// It opens, or doesn't.
+    Opens(bool),
+    Ticks,
+    /// It is given an item to send, which has this fault.
+    Sends(u8, Option<SendFault>),
+    Closes(Reason),
+    /// The oldest datagram that wasn't looked at yet is a PDU of this content.
+    Tells(Content),
+    TellsNoMore,
+    /// The last datagram brought this item alone.
+    Brought(u8),
+    IsIn(State),
+    IsUp(bool),
+    Has(Figure, u64),
+}
+
+/// A clock reading, and what happens there.
+pub(crate) type Row = (Millis, Step);
+
+/// How an end stands where a script begins.
+#[derive(Clone, Copy)]
+pub(crate) enum Start {
+    /// A server that was made at 0.
+    Server,
+    /// A client that was made at 0, with this first sequence number.
+    Client(u32),
+    /// A server that took a request at 10000 and sent its response.
+    Starting,
+    /// A server that is up since 10010, and expects the number 7.
+    Up,
+}
+
+/// What is shown, of which end, and how.
+pub(crate) type Script = (&'static str, Start, &'static [Row]);
+
+/// A server takes a request, and sends its response.
+const STARTING: &[Row] = &[
+    (
+        10000,
+        Step::Hears((5, 0), (500, 0), REQUEST, Verdict::Taken),
+    ),
+    (10000, Step::Tells(Content::Response)),
+];
+
+/// Then it takes a heartbeat.
+const UP: &[Row] = &[
+    (
+        10010,
+        Step::Hears((6, FIRST), (510, 10000), Content::Heartbeat, Verdict::Taken),
+    ),
+    (10010, Step::TellsNoMore),
+    (10010, Step::IsIn(State::Up)),
+];
+
 /// An end, what it hands out and what it took last.
 #[derive(Drop)]
 pub(crate) struct Bench {
     pub(crate) link: Link,
-    pub(crate) outbox: Outbox,
-    pub(crate) inbox: Inbox,
+    outbox: Outbox,
+    inbox: Inbox,
+    told: Told,
 }
 
-impl Bench {
-    pub(crate) fn of(alloc: Global, link: Link) -> Result<Bench, Fail> {
-        let outbox = match Outbox::for_links(alloc, 1) {
-            Ok(outbox) => outbox,
-            Err(_) => Outbox::for_links(alloc, 1)?,
-        };
-        let inbox = Inbox::new();
-        Ok(Bench {
-            link,
-            outbox,
-            inbox,
-        })
-    }
-
-    pub(crate) fn receive(&mut self, rt: &impl Abort, now: Millis, pdu: &Pdu) -> Verdict {
-        self.receive_bytes(rt, now, &write(&KEY, pdu))
-    }
-
-    pub(crate) fn receive_bytes(&mut self, rt: &impl Abort, now: Millis, bytes: &[u8]) -> Verdict {
-        assert!(rt; self.link.may_step(now));
-        assert!(rt; self.outbox.has_room());
-        self.link
-            .receive(now, bytes, &mut self.outbox, &mut self.inbox)
-    }
-
-    pub(crate) fn tick(&mut self, rt: &impl Abort, now: Millis) {
-        assert!(rt; self.link.may_step(now));
-        assert!(rt; self.outbox.has_room());
-        self.link.tick(now, &mut self.outbox);
-    }
-
-    pub(crate) fn open(&mut self, rt: &impl Abort, now: Millis) -> bool {
-        assert!(rt; self.link.may_step(now));
-        assert!(rt; self.outbox.has_room());
-        self.link.open(now, &mut self.outbox)
-    }
-
-    pub(crate) fn send(
-        &mut self,
-        rt: &impl Abort,
-        now: Millis,
-        item: &Item,
-    ) -> Result<(), SendFault> {
-        assert!(rt; self.link.may_step(now));
-        assert!(rt; self.outbox.has_room());
-        self.link.send(now, item, &mut self.outbox)
-    }
-
-    pub(crate) fn close(&mut self, rt: &impl Abort, now: Millis, why: Reason) {
-        assert!(rt; self.link.may_step(now));
-        assert!(rt; self.outbox.has_room());
-        self.link.close(now, why, &mut self.outbox);
-    }
-
-    /// A PDU of the partner comes, and this becomes of it.
-    pub(crate) fn hear(&mut self, rt: &impl Abort, now: Millis, pdu: &Pdu, verdict: Verdict) {
-        assert!(rt; self.receive(rt, now, pdu) == verdict);
-    }
-
-    /// The oldest datagram that it handed out and that wasn't looked at yet is a PDU of this body.
-    pub(crate) fn told(&mut self, rt: &impl Abort, body: &Body) -> Pdu {
-        let datagram = self
-            .outbox
-            .take_first()
-            .expect(rt, "it hands out a datagram");
-        let pdu = read(&KEY, &datagram).expect(rt, "it can be read");
-        assert!(rt; pdu.body == *body);
-        pdu
-    }
-
-    pub(crate) fn told_nothing(&self, rt: &impl Abort) {
-        assert!(rt; self.outbox.is_empty());
-    }
-
-    pub(crate) fn is_in(&self, rt: &impl Abort, now: Millis, state: State) {
-        assert!(rt; self.link.state(now) == state);
-    }
-
-    /// The last datagram brought this item alone.
-    pub(crate) fn brought(&self, rt: &impl Abort, item: &Item) {
-        assert!(rt; self.inbox.len() == 1);
-        assert!(rt; self.inbox[0].bytes() == item.bytes());
-    }
-}
-
-/// A PDU of the partner, with its sequence number and the one it confirms, and with both stamps.
-pub(crate) fn pdu(numbers: (u32, u32), stamps: (u32, u32), body: Body) -> Pdu {
-    Pdu {
-        receiver: 2,
-        sender: 1,
-        sequence_number: numbers.0,
-        confirmed_sequence_number: numbers.1,
-        time_stamp: stamps.0,
-        confirmed_time_stamp: stamps.1,
-        body,
-    }
-}
-
-pub(crate) fn opening(version: [u8; 4]) -> Opening {
+/// What a connection begins with.
+fn opening(version: [u8; 4]) -> Opening {
     Opening {
         version,
         window: 20,
@@ -126,59 +141,207 @@ pub(crate) fn opening(version: [u8; 4]) -> Opening {
     }
 }
 
-/// The partner's request with the number 5, at its clock 500.
-pub(crate) fn request() -> Pdu {
-    pdu((5, 0), (500, 0), Body::ConnectionRequest(opening(*b"0303")))
+fn items(rt: &impl Abort, byte: u8) -> Items {
+    Items::one(Item::of(&[byte]).expect(rt, "one byte is an item"))
 }
 
-/// A server that is down at 10000 and took nothing yet.
-pub(crate) fn server(alloc: Global) -> Result<Bench, Fail> {
+fn body(rt: &impl Abort, content: Content) -> Body {
+    match content {
+        Content::Request(version) => Body::ConnectionRequest(opening(version)),
+        Content::Response => Body::ConnectionResponse(opening(*b"0303")),
+        Content::Ask => Body::RetransmissionRequest,
+        Content::Answer => Body::RetransmissionResponse,
+        Content::Disconnection(reason) => Body::DisconnectionRequest { detail: 0, reason },
+        Content::Heartbeat => Body::Heartbeat,
+        Content::Data(byte) => Body::Data(items(rt, byte)),
+        Content::Again(byte) => Body::RetransmittedData(items(rt, byte)),
+    }
+}
+
+fn outbox(rt: &impl Abort, alloc: Global) -> Outbox {
+    match Outbox::for_links(alloc, 1) {
+        Ok(outbox) => outbox,
+        Err(_) => Outbox::for_links(alloc, 1).expect(rt, "there is memory"),
+    }
+}
+
+fn made(rt: &impl Abort, alloc: Global, link: Link) -> Bench {
+    Bench {
+        link,
+        outbox: outbox(rt, alloc),
+        inbox: Inbox::new(),
+        told: Told {
+            number: 0,
+            confirms: 0,
+            stamp: 0,
+            returns: 0,
+            length: 0,
+        },
+    }
+}
+
+fn server(rt: &impl Abort, alloc: Global) -> Bench {
     let server = match Link::server(alloc, 2, 1, KEY, FIRST, 0) {
         Ok(server) => server,
-        Err(_) => Link::server(alloc, 2, 1, KEY, FIRST, 0)?,
+        Err(_) => Link::server(alloc, 2, 1, KEY, FIRST, 0).expect(rt, "there is memory"),
     };
-    Bench::of(alloc, server)
+    made(rt, alloc, server)
 }
 
-/// A client that is down at 6000, with this first sequence number.
-pub(crate) fn client(alloc: Global, first: u32) -> Result<Bench, Fail> {
+fn client(rt: &impl Abort, alloc: Global, first: u32) -> Bench {
     let client = match Link::client(alloc, 2, 1, KEY, first, 0) {
         Ok(client) => client,
-        Err(_) => Link::client(alloc, 2, 1, KEY, first, 0)?,
+        Err(_) => Link::client(alloc, 2, 1, KEY, first, 0).expect(rt, "there is memory"),
     };
-    Bench::of(alloc, client)
+    made(rt, alloc, client)
 }
 
-/// A server that took the request at 10000 and sent its response.
-pub(crate) fn starting(rt: &impl Abort, alloc: Global) -> Result<Bench, Fail> {
-    let mut bench = server(alloc)?;
-    bench.hear(rt, 10000, &request(), Verdict::Taken);
-    bench.told(rt, &Body::ConnectionResponse(opening(*b"0303")));
-    Ok(bench)
+/// An end, led to where a script begins.
+pub(crate) fn begun(rt: &impl Abort, alloc: Global, start: Start) -> Bench {
+    let mut bench = match start {
+        Start::Client(first) => client(rt, alloc, first),
+        _ => server(rt, alloc),
+    };
+    if matches!(start, Start::Starting | Start::Up) {
+        bench.plays(rt, "a server starts", STARTING);
+    }
+    if matches!(start, Start::Up) {
+        bench.plays(rt, "it is up", UP);
+    }
+    bench
 }
 
-/// A server that took the request at 10000 and a heartbeat with the number 6 at 10010, and expects 7.
-pub(crate) fn up(rt: &impl Abort, alloc: Global) -> Result<Bench, Fail> {
-    let mut bench = starting(rt, alloc)?;
-    let heartbeat = pdu((6, FIRST), (510, 10000), Body::Heartbeat);
-    bench.hear(rt, 10010, &heartbeat, Verdict::Taken);
-    bench.told_nothing(rt);
-    bench.is_in(rt, 10010, State::Up);
-    Ok(bench)
+/// Each script comes out as it says.
+pub(crate) fn play(rt: &impl Abort, alloc: Global, scripts: &[Script]) {
+    for script in scripts {
+        let (name, start, rows) = *script;
+        begun(rt, alloc, start).plays(rt, name, rows);
+    }
 }
 
-pub(crate) fn item(rt: &impl Abort, byte: u8) -> Item {
-    Item::of(&[byte]).expect(rt, "one byte is an item")
-}
+impl Bench {
+    pub(crate) fn receives(&mut self, rt: &impl Abort, now: Millis, bytes: &[u8]) -> Verdict {
+        assert!(rt; self.link.may_step(now));
+        assert!(rt; self.outbox.has_room());
+        self.link
+            .receive(now, bytes, &mut self.outbox, &mut self.inbox)
+    }
 
-pub(crate) fn data(item: &Item) -> Body {
-    Body::Data(Items::one(item.copy()))
-}
+    pub(crate) fn hears(&mut self, rt: &impl Abort, now: Millis, sent: Sent) -> Verdict {
+        let (receiver, sender) = sent.ends;
+        let (sequence_number, confirmed_sequence_number) = sent.numbers;
+        let (time_stamp, confirmed_time_stamp) = sent.stamps;
+        let pdu = Pdu {
+            receiver,
+            sender,
+            sequence_number,
+            confirmed_sequence_number,
+            time_stamp,
+            confirmed_time_stamp,
+            body: body(rt, sent.content),
+        };
+        self.receives(rt, now, &write(&KEY, &pdu))
+    }
 
-pub(crate) fn again(item: &Item) -> Body {
-    Body::RetransmittedData(Items::one(item.copy()))
-}
+    fn opens(&mut self, rt: &impl Abort, now: Millis) -> bool {
+        assert!(rt; self.link.may_step(now));
+        assert!(rt; self.outbox.has_room());
+        self.link.open(now, &mut self.outbox)
+    }
 
-pub(crate) fn disconnection(reason: u16) -> Body {
-    Body::DisconnectionRequest { detail: 0, reason }
+    fn ticks(&mut self, rt: &impl Abort, now: Millis) -> bool {
+        assert!(rt; self.link.may_step(now));
+        assert!(rt; self.outbox.has_room());
+        self.link.tick(now, &mut self.outbox);
+        true
+    }
+
+    fn sends(&mut self, rt: &impl Abort, now: Millis, byte: u8) -> Option<SendFault> {
+        let item = Item::of(&[byte]).expect(rt, "one byte is an item");
+        assert!(rt; self.link.may_step(now));
+        assert!(rt; self.outbox.has_room());
+        self.link.send(now, &item, &mut self.outbox).err()
+    }
+
+    fn closes(&mut self, rt: &impl Abort, now: Millis, why: Reason) -> bool {
+        assert!(rt; self.link.may_step(now));
+        assert!(rt; self.outbox.has_room());
+        self.link.close(now, why, &mut self.outbox);
+        true
+    }
+
+    /// The oldest datagram that it handed out and that wasn't looked at yet.
+    fn first(&mut self, rt: &impl Abort) -> Pdu {
+        let datagram = self
+            .outbox
+            .take_first()
+            .expect(rt, "it hands out a datagram");
+        self.told.length = datagram.len();
+        read(&KEY, &datagram).expect(rt, "it can be read")
+    }
+
+    fn tells(&mut self, rt: &impl Abort, content: Content) -> bool {
+        let pdu = self.first(rt);
+        self.told.number = pdu.sequence_number;
+        self.told.confirms = pdu.confirmed_sequence_number;
+        self.told.stamp = pdu.time_stamp;
+        self.told.returns = pdu.confirmed_time_stamp;
+        pdu.body == body(rt, content)
+    }
+
+    fn brought(&self, byte: u8) -> bool {
+        match self.inbox.as_slice() {
+            [item] => item.bytes() == [byte].as_slice(),
+            _ => false,
+        }
+    }
+
+    fn figure(&self, figure: Figure) -> u64 {
+        match figure {
+            Figure::Given => self.link.given(),
+            Figure::Taken => self.link.taken(),
+            Figure::Confirmed => self.link.confirmed(),
+            Figure::AliveUntil => self.link.alive_until(),
+            Figure::QuietUntil => self.link.quiet_until(),
+            Figure::Waiting => self.outbox.len() as u64,
+            Figure::Number => u64::from(self.told.number),
+            Figure::Confirms => u64::from(self.told.confirms),
+            Figure::Stamp => u64::from(self.told.stamp),
+            Figure::Returns => u64::from(self.told.returns),
+            Figure::Length => self.told.length as u64,
+        }
+    }
+
+    /// Does what a step says, and answers whether it came out so.
+    fn is_so(&mut self, rt: &impl Abort, now: Millis, step: Step) -> bool {
+        match step {
+            Step::Hears(numbers, stamps, content, verdict) => {
+                let sent = Sent {
+                    ends: (2, 1),
+                    numbers,
+                    stamps,
+                    content,
+                };
+                self.hears(rt, now, sent) == verdict
+            }
+            Step::Opens(opens) => self.opens(rt, now) == opens,
+            Step::Ticks => self.ticks(rt, now),
+            Step::Sends(byte, fault) => self.sends(rt, now, byte) == fault,
+            Step::Closes(why) => self.closes(rt, now, why),
+            Step::Tells(content) => self.tells(rt, content),
+            Step::TellsNoMore => self.outbox.is_empty(),
+            Step::Brought(byte) => self.brought(byte),
+            Step::IsIn(state) => self.link.state(now) == state,
+            Step::IsUp(up) => self.link.is_up(now) == up,
+            Step::Has(figure, number) => self.figure(figure) == number,
+        }
+    }
+
+    /// Each row of a script is so.
+    pub(crate) fn plays(&mut self, rt: &impl Abort, name: &str, rows: &[Row]) {
+        for (place, row) in rows.iter().enumerate() {
+            let (now, step) = *row;
+            assert!(rt; self.is_so(rt, now, step), "{name}: row {place}, at {now}");
+        }
+    }
 }

@@ -2,6 +2,7 @@
 
 use arrayvec::ArrayVec;
 use chance::Chance;
+use std::process::Abort;
 
 /// The most bytes that are tried: more than a datagram has.
 pub(crate) const MOST: usize = 320;
@@ -73,11 +74,11 @@ impl Tally {
         }
     }
 
-    /// How often a number came.
-    pub(crate) fn of(&self, number: usize) -> u32 {
-        match self.counts.as_slice().get(number) {
-            Some(count) => *count,
-            None => 0,
+    /// Each of these numbers came more than so many times.
+    pub(crate) fn is_above(&self, rt: &impl Abort, least: u32, numbers: &[usize]) {
+        for number in numbers {
+            let count = self.counts.as_slice().get(*number).copied().unwrap_or(0);
+            assert!(rt; count > least, "{number}: {self:?}");
         }
     }
 }

@@ -27,3 +27,5 @@ mod telegram_rows;
 mod telegrams;
 #[cfg(test)]
 mod verdicts;
+#[cfg(test)]
+mod wire;

@@ -1,11 +1,11 @@
 //! PDUs that are changed and given their length and code anew.
 
 use crate::changes::{Bytes, Tally, change, copied};
-use crate::one_byte::{KEY, data, pdu, proceed};
+use crate::telegram_rows::PROCEED;
+use crate::wire::{items, pdu, read_pdu, written};
 use chance::Chance;
-use rasta_pdu::{Body, Datagram, Item, Opening, PduFault, read, write};
+use rasta_pdu::{Body, Opening, PduFault};
 use std::process::Abort;
-use std::test::Fail;
 
 /// How many changes are tried.
 const CHANGES: usize = 200_000;
@@ -17,33 +17,26 @@ const OPENING: Opening = Opening {
     reserved: [0; 8],
 };
 
-/// A PDU of each type, also with several items, as it is sent.
-fn samples() -> Result<[Datagram; 10], Fail> {
-    let telegram = sci_telegram::write(&proceed()?);
-    let short = Item::of(b"ab").ok_or("an item")?;
-    let one = data(&[telegram.copy()])?;
-    let two = data(&[short.copy(), telegram.copy()])?;
-    let three = data(&[short.copy(), short.copy(), short.copy()])?;
-    let again = pdu(match data(&[short])?.body {
-        Body::Data(items) => Body::RetransmittedData(items),
-        body => body,
-    });
-    let samples = [
-        pdu(Body::ConnectionRequest(OPENING)),
-        pdu(Body::ConnectionResponse(OPENING)),
-        pdu(Body::RetransmissionRequest),
-        pdu(Body::RetransmissionResponse),
-        pdu(Body::DisconnectionRequest {
+/// How many samples there are.
+const SAMPLES: u32 = 10;
+
+/// A body of each type, also with several items.
+fn sample(rt: &impl Abort, number: u32) -> Body {
+    match number {
+        0 => Body::ConnectionRequest(OPENING),
+        1 => Body::ConnectionResponse(OPENING),
+        2 => Body::RetransmissionRequest,
+        3 => Body::RetransmissionResponse,
+        4 => Body::DisconnectionRequest {
             detail: 0,
             reason: 3,
-        }),
-        pdu(Body::Heartbeat),
-        one,
-        two,
-        three,
-        again,
-    ];
-    Ok(samples.map(|sample| write(&KEY, &sample)))
+        },
+        5 => Body::Heartbeat,
+        6 => Body::Data(items(rt, &[&PROCEED])),
+        7 => Body::Data(items(rt, &[b"ab", &PROCEED])),
+        8 => Body::Data(items(rt, &[b"ab", b"ab", b"ab"])),
+        _ => Body::RetransmittedData(items(rt, &[b"ab"])),
+    }
 }
 
 /// Gives bytes a right length, mostly, and a right code.
@@ -60,40 +53,41 @@ fn sealed(chance: &mut Chance, mut bytes: Bytes) -> Bytes {
     bytes
 }
 
-/// What is read is written as the same bytes; otherwise there is a fault.
-fn try_bytes(rt: &impl Abort, bytes: &[u8]) -> Option<PduFault> {
-    match read(&KEY, bytes) {
+/// Some sample, with changes.
+fn changed(rt: &impl Abort, chance: &mut Chance) -> Bytes {
+    let sample = written(&pdu(sample(rt, chance.below(SAMPLES))));
+    let (text, _) = sample.split_at(sample.len().saturating_sub(8));
+    let mut bytes = copied(text);
+    change(chance, &mut bytes);
+    sealed(chance, bytes)
+}
+
+/// What is read is written as the same bytes, and counts as 0; otherwise there is a fault, with its number.
+fn outcome(rt: &impl Abort, bytes: &[u8]) -> usize {
+    match read_pdu(bytes) {
         Ok(pdu) => {
-            assert!(rt; write(&KEY, &pdu).as_slice() == bytes, "{bytes:?}");
-            None
+            assert!(rt; written(&pdu).as_slice() == bytes, "{bytes:?}");
+            0
         }
-        Err(fault) => Some(fault),
+        Err(fault) => fault as usize,
     }
 }
 
 #[test]
-fn what_is_read_of_changed_pdus_is_written_as_they_came(rt: HostRuntime) -> Result<(), Fail> {
-    let samples = samples()?;
+fn what_is_read_of_changed_pdus_is_written_as_they_came(rt: HostRuntime) {
     let mut chance = Chance::seeded(1);
     let mut tally = Tally::new();
     for _ in 0..CHANGES {
-        let sample = &samples[chance.place(10) % 10];
-        let (text, _) = sample.split_at(sample.len().saturating_sub(8));
-        let mut bytes = copied(text);
-        change(&mut chance, &mut bytes);
-        let bytes = sealed(&mut chance, bytes);
-        let fault = try_bytes(&rt, &bytes);
-        tally.count(fault.map_or(0, |fault| fault as usize));
+        let bytes = changed(&rt, &mut chance);
+        tally.count(outcome(&rt, &bytes));
     }
-    assert!(rt; tally.of(0) > 1000, "{tally:?}");
-    for fault in [
-        PduFault::TooShort,
-        PduFault::Length,
-        PduFault::BadType,
-        PduFault::Body,
-        PduFault::Items,
-    ] {
-        assert!(rt; tally.of(fault as usize) > 100, "{fault:?} {tally:?}");
-    }
-    Ok(())
+    tally.is_above(&rt, 1000, &[0]);
+    let faults = [
+        PduFault::TooShort as usize,
+        PduFault::Length as usize,
+        PduFault::BadType as usize,
+        PduFault::Body as usize,
+        PduFault::Items as usize,
+    ];
+    tally.is_above(&rt, 100, &faults);
 }

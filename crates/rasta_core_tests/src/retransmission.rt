@@ -1,126 +1,105 @@
 //! An end that misses a PDU, and one that repeats its items.
 
-use crate::bench::{FIRST, again, data, disconnection, item, pdu, up};
-use rasta_core_link::{SendFault, State, Verdict};
-use rasta_pdu::Body;
-use std::test::Fail;
+use crate::bench::Content::{Again, Answer, Ask, Data, Disconnection, Heartbeat};
+use crate::bench::Figure::{Confirmed, Confirms, Given, Number, Waiting};
+use crate::bench::Step::{Brought, Has, Hears, IsIn, Sends, Tells, TellsNoMore, Ticks};
+use crate::bench::{Figure, Row, Script, Start, begun, play};
+use rasta_core_link::Verdict::{Asked, BadConfirm, Discarded, Taken, WrongState};
+use rasta_core_link::{SendFault, State};
+
+const MISSED_AND_REPEATED: [Script; 5] = [
+    (
+        "a later PDU is asked for again, and nothing of it is used",
+        Start::Up,
+        &[
+            (10030, Hears((8, 100), (520, 10000), Data(2), Asked)),
+            (10030, Tells(Ask)),
+            (10030, Has(Confirms, 6)),
+            (10040, Hears((7, 100), (515, 10000), Data(1), Discarded)),
+            (10040, Has(Figure::Taken, 0)),
+        ],
+    ),
+    (
+        "missing items come once each, in their order",
+        Start::Up,
+        &[
+            (10030, Hears((8, 100), (520, 10000), Data(2), Asked)),
+            (10030, Tells(Ask)),
+            (10040, Hears((7, 100), (515, 10000), Data(1), Discarded)),
+            (10050, Hears((9, 101), (540, 10030), Answer, Taken)),
+            (10050, Hears((10, 101), (540, 10030), Again(1), Taken)),
+            (10050, Brought(1)),
+            (10050, Hears((11, 101), (540, 10030), Again(2), Taken)),
+            (10050, Brought(2)),
+            (10050, Hears((12, 101), (540, 10030), Heartbeat, Taken)),
+            (10050, IsIn(State::Up)),
+            (10050, Has(Figure::Taken, 2)),
+            (10330, Ticks),
+            (10330, Tells(Heartbeat)),
+            (10330, Has(Confirms, 12)),
+        ],
+    ),
+    (
+        "repeated items are confirmed by their new numbers",
+        Start::Up,
+        &[
+            (10020, Sends(1, None)),
+            (10020, Sends(2, None)),
+            (10030, Hears((7, 100), (530, 10000), Ask, Taken)),
+            (10030, Tells(Data(1))),
+            (10030, Tells(Data(2))),
+            (10030, Tells(Answer)),
+            (10030, Tells(Again(1))),
+            (10030, Has(Number, 104)),
+            (10030, Tells(Again(2))),
+            (10030, Tells(Heartbeat)),
+            (10030, TellsNoMore),
+            (10040, Hears((8, 103), (540, 10030), Heartbeat, Taken)),
+            (10040, Has(Confirmed, 0)),
+            (10040, Hears((9, 104), (540, 10030), Heartbeat, Taken)),
+            (10040, Has(Confirmed, 1)),
+            (10040, Hears((10, 106), (540, 10030), Heartbeat, Taken)),
+            (10040, Has(Confirmed, 2)),
+        ],
+    ),
+    (
+        "a number confirmed once is the least that can be confirmed",
+        Start::Up,
+        &[
+            (10020, Sends(1, None)),
+            (10030, Hears((7, 101), (530, 10020), Heartbeat, Taken)),
+            (10040, Hears((8, 100), (540, 10020), Heartbeat, BadConfirm)),
+            (10040, Hears((8, 101), (540, 10020), Heartbeat, Taken)),
+        ],
+    ),
+    (
+        "a repeated item that was not asked for closes",
+        Start::Up,
+        &[
+            (10020, Hears((7, 100), (520, 10000), Again(1), WrongState)),
+            (10020, Tells(Disconnection(1))),
+            (10020, Has(Figure::Taken, 0)),
+        ],
+    ),
+];
 
 #[test]
-fn a_later_pdu_is_asked_for_again_and_nothing_of_it_is_used(rt: HostRuntime) -> Result<(), Fail> {
-    let mut bench = up(&rt, rt.alloc())?;
-    let (x, y) = (item(&rt, 1), item(&rt, 2));
-    let later = pdu((8, FIRST), (520, 10000), data(&y));
-    bench.hear(&rt, 10030, &later, Verdict::Asked);
-    let asked = bench.told(&rt, &Body::RetransmissionRequest);
-    assert!(rt; asked.confirmed_sequence_number == 6);
-    let late = pdu((7, FIRST), (515, 10000), data(&x));
-    bench.hear(&rt, 10040, &late, Verdict::Discarded);
-    assert!(rt; bench.link.taken() == 0);
-    Ok(())
+fn what_is_missed_and_repeated(rt: HostRuntime) {
+    play(&rt, rt.alloc(), &MISSED_AND_REPEATED)
 }
 
-#[test]
-fn missing_items_come_once_each_in_their_order(rt: HostRuntime) -> Result<(), Fail> {
-    let mut bench = up(&rt, rt.alloc())?;
-    let (x, y) = (item(&rt, 1), item(&rt, 2));
-    let later = pdu((8, FIRST), (520, 10000), data(&y));
-    bench.hear(&rt, 10030, &later, Verdict::Asked);
-    bench.told(&rt, &Body::RetransmissionRequest);
-    let late = pdu((7, FIRST), (515, 10000), data(&x));
-    bench.hear(&rt, 10040, &late, Verdict::Discarded);
-    let (last, stamps) = (FIRST + 1, (540, 10030));
-    let response = pdu((9, last), stamps, Body::RetransmissionResponse);
-    bench.hear(&rt, 10050, &response, Verdict::Taken);
-    bench.hear(
-        &rt,
-        10050,
-        &pdu((10, last), stamps, again(&x)),
-        Verdict::Taken,
-    );
-    bench.brought(&rt, &x);
-    bench.hear(
-        &rt,
-        10050,
-        &pdu((11, last), stamps, again(&y)),
-        Verdict::Taken,
-    );
-    bench.brought(&rt, &y);
-    bench.hear(
-        &rt,
-        10050,
-        &pdu((12, last), stamps, Body::Heartbeat),
-        Verdict::Taken,
-    );
-    bench.is_in(&rt, 10050, State::Up);
-    assert!(rt; bench.link.taken() == 2);
-    bench.tick(&rt, 10330);
-    let next = bench.told(&rt, &Body::Heartbeat);
-    assert!(rt; next.confirmed_sequence_number == 12);
-    Ok(())
-}
+const FULL: [Row; 6] = [
+    (10020, Sends(1, Some(SendFault::WindowFull))),
+    (10020, Has(Waiting, 20)),
+    (10030, Hears((7, 101), (530, 10020), Heartbeat, Taken)),
+    (10030, Has(Confirmed, 1)),
+    (10030, Sends(1, None)),
+    (10030, Has(Given, 21)),
+];
 
 #[test]
-fn repeated_items_are_confirmed_by_their_new_numbers(rt: HostRuntime) -> Result<(), Fail> {
-    let mut bench = up(&rt, rt.alloc())?;
-    let (x, y) = (item(&rt, 1), item(&rt, 2));
-    assert!(rt; bench.send(&rt, 10020, &x) == Ok(()));
-    assert!(rt; bench.send(&rt, 10020, &y) == Ok(()));
-    let ask = pdu((7, FIRST), (530, 10000), Body::RetransmissionRequest);
-    bench.hear(&rt, 10030, &ask, Verdict::Taken);
-    bench.told(&rt, &data(&x));
-    bench.told(&rt, &data(&y));
-    bench.told(&rt, &Body::RetransmissionResponse);
-    let repeated = bench.told(&rt, &again(&x));
-    assert!(rt; repeated.sequence_number == FIRST + 4);
-    bench.told(&rt, &again(&y));
-    bench.told(&rt, &Body::Heartbeat);
-    bench.told_nothing(&rt);
-    for (number, last, confirmed) in [(8, FIRST + 3, 0), (9, FIRST + 4, 1), (10, FIRST + 6, 2)] {
-        let heartbeat = pdu((number, last), (540, 10030), Body::Heartbeat);
-        bench.hear(&rt, 10040, &heartbeat, Verdict::Taken);
-        assert!(rt; bench.link.confirmed() == confirmed);
-    }
-    Ok(())
-}
-
-#[test]
-fn the_window_is_full_at_20_items(rt: HostRuntime) -> Result<(), Fail> {
-    let mut bench = up(&rt, rt.alloc())?;
-    let x = item(&rt, 1);
-    for _ in 0..20 {
-        assert!(rt; bench.send(&rt, 10020, &x) == Ok(()));
-    }
-    assert!(rt; bench.send(&rt, 10020, &x) == Err(SendFault::WindowFull));
-    assert!(rt; bench.outbox.len() == 20);
-    let confirms_one = pdu((7, FIRST + 1), (530, 10020), Body::Heartbeat);
-    bench.hear(&rt, 10030, &confirms_one, Verdict::Taken);
-    assert!(rt; bench.link.confirmed() == 1);
-    assert!(rt; bench.send(&rt, 10030, &x) == Ok(()));
-    assert!(rt; bench.link.given() == 21);
-    Ok(())
-}
-
-#[test]
-fn a_number_confirmed_once_is_the_least_that_can_be_confirmed(rt: HostRuntime) -> Result<(), Fail> {
-    let mut bench = up(&rt, rt.alloc())?;
-    let x = item(&rt, 1);
-    assert!(rt; bench.send(&rt, 10020, &x) == Ok(()));
-    let confirms_it = pdu((7, FIRST + 1), (530, 10020), Body::Heartbeat);
-    bench.hear(&rt, 10030, &confirms_it, Verdict::Taken);
-    let older = pdu((8, FIRST), (540, 10020), Body::Heartbeat);
-    bench.hear(&rt, 10040, &older, Verdict::BadConfirm);
-    let same = pdu((8, FIRST + 1), (540, 10020), Body::Heartbeat);
-    bench.hear(&rt, 10040, &same, Verdict::Taken);
-    Ok(())
-}
-
-#[test]
-fn a_repeated_item_that_was_not_asked_for_closes(rt: HostRuntime) -> Result<(), Fail> {
-    let mut bench = up(&rt, rt.alloc())?;
-    let x = item(&rt, 1);
-    let repeated = pdu((7, FIRST), (520, 10000), again(&x));
-    bench.hear(&rt, 10020, &repeated, Verdict::WrongState);
-    bench.told(&rt, &disconnection(1));
-    assert!(rt; bench.link.taken() == 0);
-    Ok(())
+fn the_window_is_full_at_20_items(rt: HostRuntime) {
+    let mut bench = begun(&rt, rt.alloc(), Start::Up);
+    bench.plays(&rt, "until it is full", &[(10020, Sends(1, None)); 20]);
+    bench.plays(&rt, "then", &FULL);
 }

@@ -1,11 +1,12 @@
 //! The table of telegrams row by row, and bytes that are none.
 
+use arrayvec::ArrayVec;
+use rasta_pdu::Item;
 use sci_telegram::{
     Agreement, Aspect, DetectionMessage, Initialisation, Message, Name, Occupancy, PointMessage,
     Position, Protocol, SciFault, Side, SignalMessage, Telegram, read, write,
 };
 use std::process::Abort;
-use std::test::Fail;
 
 /// Proceed, from IXL1 to S1.
 pub(crate) const PROCEED: [u8; 61] = [
@@ -15,65 +16,257 @@ pub(crate) const PROCEED: [u8; 61] = [
     0xFF, 0xFF, 0xFF, 0xFF, 0xFF, 0xFF, 0xFF, 0xFF, 0xFF, 0xFF, 0xFF, 0xFF, 0xFF,
 ];
 
-fn telegram(sender: &str, receiver: &str, message: Message) -> Result<Telegram, Fail> {
-    Ok(Telegram {
-        sender: Name::of(sender.as_bytes()).ok_or("the sender is a name")?,
-        receiver: Name::of(receiver.as_bytes()).ok_or("the receiver is a name")?,
+/// A sender and a receiver, and how both stand in a telegram.
+#[derive(Clone, Copy)]
+struct Nodes {
+    sender: &'static str,
+    receiver: &'static str,
+    bytes: &'static [u8; 40],
+}
+
+const LONG: Nodes = Nodes {
+    sender: "Node-7",
+    receiver: "abcdefghij-KLMNOP-19",
+    bytes: b"Node-7______________abcdefghij-KLMNOP-19",
+};
+
+const TO_SIGNAL: Nodes = Nodes {
+    sender: "IXL1",
+    receiver: "S1",
+    bytes: b"IXL1________________S1__________________",
+};
+
+const OF_SIGNAL: Nodes = Nodes {
+    sender: "S1",
+    receiver: "IXL1",
+    bytes: b"S1__________________IXL1________________",
+};
+
+/// The payloads of aspects.
+const STOP: &[u8; 18] = b"\x01\xFF\xFF\xFF\xFF\xFF\xFF\xFF\xFF\xFF\xFF\xFF\xFF\xFF\xFF\xFF\xFF\xFF";
+
+const GO: &[u8; 18] = b"\x04\xFF\xFF\xFF\xFF\xFF\xFF\xFF\xFF\xFF\xFF\xFF\xFF\xFF\xFF\xFF\xFF\xFF";
+
+const SLOW: &[u8; 18] = b"\x06\xFF\xFF\xFF\xFF\xFF\xFF\xFF\xFF\xFF\xFF\xFF\xFF\xFF\xFF\xFF\xFF\xFF";
+
+const INDICATE_PROCEED: Message = Message::Signal(SignalMessage::IndicateAspect(Aspect::Proceed));
+
+fn name(rt: &impl Abort, text: &str) -> Name {
+    Name::of(text.as_bytes()).expect(rt, "a name")
+}
+
+fn telegram(rt: &impl Abort, nodes: Nodes, message: Message) -> Telegram {
+    Telegram {
+        sender: name(rt, nodes.sender),
+        receiver: name(rt, nodes.receiver),
         message,
-    })
-}
-
-/// The example with another byte at a place.
-fn changed(place: usize, byte: u8) -> Result<Telegram, SciFault> {
-    let mut bytes = PROCEED;
-    if place < 61 {
-        bytes[place] = byte;
     }
-    read(&bytes)
+}
+
+/// The telegram by which an interlocking has a signal show proceed.
+pub(crate) fn proceed(rt: &impl Abort) -> Telegram {
+    telegram(rt, TO_SIGNAL, INDICATE_PROCEED)
+}
+
+pub(crate) fn written(telegram: &Telegram) -> Item {
+    write(telegram)
+}
+
+pub(crate) fn read_telegram(bytes: &[u8]) -> Result<Telegram, SciFault> {
+    read(bytes)
+}
+
+fn fault_of(bytes: &[u8]) -> Option<SciFault> {
+    read_telegram(bytes).err()
+}
+
+/// Whether a telegram is written as these bytes, and read from them.
+fn is_spelled(telegram: &Telegram, bytes: &[u8]) -> bool {
+    written(telegram).bytes() == bytes && read_telegram(bytes) == Ok(*telegram)
+}
+
+/// One row of the table of telegrams: how it begins, and its payload.
+fn check_row(rt: &impl Abort, nodes: Nodes, message: Message, front: [u8; 3], payload: &[u8]) {
+    let names = nodes.bytes;
+    let mut bytes: ArrayVec<u8, 61> = ArrayVec::new();
+    let _ = bytes.try_extend_from_slice(&front);
+    let _ = bytes.try_extend_from_slice(names);
+    let _ = bytes.try_extend_from_slice(payload);
+    assert!(rt;
+        is_spelled(&telegram(rt, nodes, message), &bytes),
+        "{front:?} {payload:?}"
+    );
+}
+
+/// What is said in an initialisation, in each protocol.
+const INITIALISATIONS: [(Initialisation, u8, &[u8]); 5] = [
+    (Initialisation::InitialisationRequest, 0x21, &[]),
+    (Initialisation::StartInitialisation, 0x22, &[]),
+    (Initialisation::InitialisationCompleted, 0x23, &[]),
+    (Initialisation::VersionCheck { version: 255 }, 0x24, &[255]),
+    (
+        Initialisation::VersionAnswer {
+            agreement: Agreement::Match,
+            version: 1,
+        },
+        0x25,
+        &[2, 1],
+    ),
+];
+
+/// What stands in one protocol alone.
+const MESSAGES: [(Nodes, Message, [u8; 3], &[u8]); 15] = [
+    (
+        LONG,
+        Message::Point(PointMessage::MovePoint(Side::Right)),
+        [0x40, 0x01, 0],
+        &[1],
+    ),
+    (
+        LONG,
+        Message::Point(PointMessage::MovePoint(Side::Left)),
+        [0x40, 0x01, 0],
+        &[2],
+    ),
+    (
+        LONG,
+        Message::Point(PointMessage::PointPosition(Position::Right)),
+        [0x40, 0x0B, 0],
+        &[1],
+    ),
+    (
+        LONG,
+        Message::Point(PointMessage::PointPosition(Position::Left)),
+        [0x40, 0x0B, 0],
+        &[2],
+    ),
+    (
+        LONG,
+        Message::Point(PointMessage::PointPosition(Position::NoEndPosition)),
+        [0x40, 0x0B, 0],
+        &[3],
+    ),
+    (
+        LONG,
+        Message::Point(PointMessage::Timeout),
+        [0x40, 0x0C, 0],
+        &[],
+    ),
+    (
+        LONG,
+        Message::Signal(SignalMessage::IndicateAspect(Aspect::Stop)),
+        [0x30, 0x01, 0],
+        STOP,
+    ),
+    (LONG, INDICATE_PROCEED, [0x30, 0x01, 0], GO),
+    (
+        LONG,
+        Message::Signal(SignalMessage::IndicatedAspect(Aspect::Stop)),
+        [0x30, 0x03, 0],
+        STOP,
+    ),
+    (
+        LONG,
+        Message::Signal(SignalMessage::IndicatedAspect(Aspect::Proceed)),
+        [0x30, 0x03, 0],
+        GO,
+    ),
+    (
+        LONG,
+        Message::Detection(DetectionMessage::OccupancyStatus(Occupancy::Clear)),
+        [0x20, 0x07, 0],
+        &[1],
+    ),
+    (
+        LONG,
+        Message::Detection(DetectionMessage::OccupancyStatus(Occupancy::Occupied)),
+        [0x20, 0x07, 0],
+        &[2],
+    ),
+    // Slow differs from proceed by its first byte alone, and in both directions.
+    (
+        TO_SIGNAL,
+        Message::Signal(SignalMessage::IndicateAspect(Aspect::Slow)),
+        [0x30, 0x01, 0],
+        SLOW,
+    ),
+    (
+        TO_SIGNAL,
+        Message::Signal(SignalMessage::IndicatedAspect(Aspect::Slow)),
+        [0x30, 0x03, 0],
+        SLOW,
+    ),
+    (
+        OF_SIGNAL,
+        Message::Initialisation(
+            Protocol::LightSignal,
+            Initialisation::VersionAnswer {
+                agreement: Agreement::NoMatch,
+                version: 1,
+            },
+        ),
+        [0x30, 0x25, 0],
+        &[1, 1],
+    ),
+];
+
+#[test]
+fn the_example_is_read_and_written(rt: HostRuntime) {
+    assert!(rt; is_spelled(&proceed(&rt), &PROCEED));
 }
 
 #[test]
-fn example_both_ways(rt: HostRuntime) -> Result<(), Fail> {
-    let message = Message::Signal(SignalMessage::IndicateAspect(Aspect::Proceed));
-    let proceed = telegram("IXL1", "S1", message)?;
-    assert!(rt; write(&proceed).bytes() == PROCEED.as_slice());
-    assert!(rt; read(&PROCEED) == Ok(proceed));
-    Ok(())
+fn rows_of_every_protocol(rt: HostRuntime) {
+    for (protocol, first) in [
+        (Protocol::TrainDetection, 0x20),
+        (Protocol::LightSignal, 0x30),
+        (Protocol::Point, 0x40),
+    ] {
+        for (message, number, payload) in INITIALISATIONS {
+            let message = Message::Initialisation(protocol, message);
+            check_row(&rt, LONG, message, [first, number, 0], payload);
+        }
+    }
 }
 
-/// Slow differs from proceed by its first byte alone, and in both directions.
 #[test]
-fn slow_both_ways(rt: HostRuntime) -> Result<(), Fail> {
-    let mut bytes = PROCEED;
-    bytes[43] = 0x06;
-    let slow = SignalMessage::IndicateAspect(Aspect::Slow);
-    let command = telegram("IXL1", "S1", Message::Signal(slow))?;
-    assert!(rt; write(&command).bytes() == bytes.as_slice());
-    assert!(rt; read(&bytes) == Ok(command));
-    bytes[1] = 0x03;
-    let slow = SignalMessage::IndicatedAspect(Aspect::Slow);
-    let report = telegram("IXL1", "S1", Message::Signal(slow))?;
-    assert!(rt; write(&report).bytes() == bytes.as_slice());
-    assert!(rt; read(&bytes) == Ok(report));
-    Ok(())
+fn rows_of_one_protocol(rt: HostRuntime) {
+    for (nodes, message, front, payload) in MESSAGES {
+        check_row(&rt, nodes, message, front, payload);
+    }
 }
 
+/// The example with these bytes in place of its own from a place on.
+fn changed(place: usize, bytes: &[u8]) -> Option<SciFault> {
+    let mut whole = PROCEED;
+    for (byte, other) in whole.iter_mut().skip(place).zip(bytes) {
+        *byte = *other;
+    }
+    fault_of(&whole)
+}
+
+/// A name comes before a value.
 #[test]
 fn faults_of_changed_bytes(rt: HostRuntime) {
-    for (place, byte, fault) in [
-        (0, 0x31, SciFault::Protocol),
-        (0, 0x40, SciFault::Length),
-        (0, 0x20, SciFault::BadType),
-        (2, 0x01, SciFault::BadType),
-        (3, 0x5F, SciFault::Name),
-        (9, 0x41, SciFault::Name),
-        (22, 0x20, SciFault::Name),
-        (42, 0x00, SciFault::Name),
-        (43, 0x05, SciFault::Value),
-        (43, 0x07, SciFault::Value),
-        (60, 0xFE, SciFault::Value),
-    ] {
-        assert!(rt; changed(place, byte) == Err(fault), "{byte} at {place}");
+    let rows: [(usize, &[u8], SciFault); 12] = [
+        (0, &[0x31], SciFault::Protocol),
+        (0, &[0x40], SciFault::Length),
+        (0, &[0x20], SciFault::BadType),
+        (2, &[0x01], SciFault::BadType),
+        (3, &[0x5F], SciFault::Name),
+        (9, &[0x41], SciFault::Name),
+        (22, &[0x20], SciFault::Name),
+        (42, &[0x00], SciFault::Name),
+        (42, b"x\x05", SciFault::Name),
+        (43, &[0x05], SciFault::Value),
+        (43, &[0x07], SciFault::Value),
+        (60, &[0xFE], SciFault::Value),
+    ];
+    for (place, bytes, fault) in rows {
+        assert!(rt;
+            changed(place, bytes) == Some(fault),
+            "{bytes:?} at {place}"
+        );
     }
 }
 
@@ -85,165 +278,35 @@ fn faults_of_shorter_bytes(rt: HostRuntime) {
         (43, SciFault::Length),
         (60, SciFault::Length),
     ] {
-        assert!(rt; read(&PROCEED[..length]) == Err(fault), "{length} bytes");
+        let (beginning, _) = PROCEED.split_at(length);
+        assert!(rt; fault_of(beginning) == Some(fault), "{length} bytes");
     }
 }
 
-#[test]
-fn name_comes_before_value(rt: HostRuntime) {
-    let mut bytes = PROCEED;
-    bytes[42] = b'x';
-    bytes[43] = 0x05;
-    assert!(rt; read(&bytes) == Err(SciFault::Name));
-}
-
-#[test]
-fn another_version_is_answered(rt: HostRuntime) -> Result<(), Fail> {
-    let answer = Initialisation::VersionAnswer {
-        agreement: Agreement::NoMatch,
-        version: 1,
+/// Whether a text is a name; where it is one it stands in it as it is.
+fn is_name(rt: &impl Abort, text: &str) -> bool {
+    let Some(name) = Name::of(text.as_bytes()) else {
+        return false;
     };
-    let message = Message::Initialisation(Protocol::LightSignal, answer);
-    let mut expected = [b'_'; 45];
-    expected[..3].copy_from_slice(&[0x30, 0x25, 0x00]);
-    expected[3..5].copy_from_slice(b"S1");
-    expected[23..27].copy_from_slice(b"IXL1");
-    expected[43..].copy_from_slice(&[0x01, 0x01]);
-    assert!(rt; write(&telegram("S1", "IXL1", message)?).bytes() == expected.as_slice());
-    Ok(())
-}
-
-/// One row of the table of telegrams: how it begins, and its payload.
-fn check_row(
-    rt: &impl Abort,
-    message: Message,
-    front: [u8; 3],
-    payload: &[u8],
-) -> Result<(), Fail> {
-    let telegram = telegram("Node-7", "abcdefghij-KLMNOP-19", message)?;
-    let item = write(&telegram);
-    let bytes = item.bytes();
-    assert!(rt; bytes.len() >= 43);
-    assert!(rt; &bytes[..3] == front.as_slice());
-    assert!(rt; &bytes[3..23] == b"Node-7______________".as_slice());
-    assert!(rt; &bytes[23..43] == b"abcdefghij-KLMNOP-19".as_slice());
-    assert!(rt; &bytes[43..] == payload);
-    assert!(rt; read(bytes) == Ok(telegram));
-    Ok(())
+    assert!(rt; name.as_str() == text);
+    assert!(rt; name.bytes() == text.as_bytes());
+    true
 }
 
 #[test]
-fn rows_of_every_protocol(rt: HostRuntime) -> Result<(), Fail> {
-    let check = Initialisation::VersionCheck { version: 255 };
-    let answer = Initialisation::VersionAnswer {
-        agreement: Agreement::Match,
-        version: 1,
-    };
-    let rows: [(Initialisation, u8, &[u8]); 5] = [
-        (Initialisation::InitialisationRequest, 0x21, &[]),
-        (Initialisation::StartInitialisation, 0x22, &[]),
-        (Initialisation::InitialisationCompleted, 0x23, &[]),
-        (check, 0x24, &[255]),
-        (answer, 0x25, &[2, 1]),
-    ];
-    for (protocol, first) in [
-        (Protocol::TrainDetection, 0x20),
-        (Protocol::LightSignal, 0x30),
-        (Protocol::Point, 0x40),
+fn which_bytes_are_names(rt: HostRuntime) {
+    for (text, wanted) in [
+        ("", false),
+        ("a_b", false),
+        ("S 1", false),
+        ("\u{e4}", false),
+        ("abcdefghijklmnopqrstu", false),
+        ("S", true),
+        ("IXL1", true),
+        ("-", true),
+        ("abcdefghijklmnopqrst", true),
+        ("ABCXYZabcxyz0189-", true),
     ] {
-        for (message, number, payload) in rows {
-            let message = Message::Initialisation(protocol, message);
-            check_row(&rt, message, [first, number, 0], payload)?;
-        }
+        assert!(rt; is_name(&rt, text) == wanted, "{text}");
     }
-    Ok(())
-}
-
-#[test]
-fn rows_of_one_protocol(rt: HostRuntime) -> Result<(), Fail> {
-    let mut stop = [0xFF; 18];
-    stop[0] = 0x01;
-    let mut proceed = [0xFF; 18];
-    proceed[0] = 0x04;
-    let rows: [(Message, [u8; 3], &[u8]); 12] = [
-        (
-            Message::Point(PointMessage::MovePoint(Side::Right)),
-            [0x40, 0x01, 0],
-            &[1],
-        ),
-        (
-            Message::Point(PointMessage::MovePoint(Side::Left)),
-            [0x40, 0x01, 0],
-            &[2],
-        ),
-        (
-            Message::Point(PointMessage::PointPosition(Position::Right)),
-            [0x40, 0x0B, 0],
-            &[1],
-        ),
-        (
-            Message::Point(PointMessage::PointPosition(Position::Left)),
-            [0x40, 0x0B, 0],
-            &[2],
-        ),
-        (
-            Message::Point(PointMessage::PointPosition(Position::NoEndPosition)),
-            [0x40, 0x0B, 0],
-            &[3],
-        ),
-        (Message::Point(PointMessage::Timeout), [0x40, 0x0C, 0], &[]),
-        (
-            Message::Signal(SignalMessage::IndicateAspect(Aspect::Stop)),
-            [0x30, 0x01, 0],
-            &stop,
-        ),
-        (
-            Message::Signal(SignalMessage::IndicateAspect(Aspect::Proceed)),
-            [0x30, 0x01, 0],
-            &proceed,
-        ),
-        (
-            Message::Signal(SignalMessage::IndicatedAspect(Aspect::Stop)),
-            [0x30, 0x03, 0],
-            &stop,
-        ),
-        (
-            Message::Signal(SignalMessage::IndicatedAspect(Aspect::Proceed)),
-            [0x30, 0x03, 0],
-            &proceed,
-        ),
-        (
-            Message::Detection(DetectionMessage::OccupancyStatus(Occupancy::Clear)),
-            [0x20, 0x07, 0],
-            &[1],
-        ),
-        (
-            Message::Detection(DetectionMessage::OccupancyStatus(Occupancy::Occupied)),
-            [0x20, 0x07, 0],
-            &[2],
-        ),
-    ];
-    for (message, front, payload) in rows {
-        check_row(&rt, message, front, payload)?;
-    }
-    Ok(())
-}
-
-#[test]
-fn which_bytes_are_names(rt: HostRuntime) -> Result<(), Fail> {
-    for bytes in ["", "a_b", "S 1", "\u{e4}", "abcdefghijklmnopqrstu"] {
-        assert!(rt; Name::of(bytes.as_bytes()) == None, "{bytes}");
-    }
-    for text in [
-        "S",
-        "IXL1",
-        "-",
-        "abcdefghijklmnopqrst",
-        "ABCXYZabcxyz0189-",
-    ] {
-        let name = Name::of(text.as_bytes()).ok_or("it is a name")?;
-        assert!(rt; name.as_str() == text);
-        assert!(rt; name.bytes() == text.as_bytes());
-    }
-    Ok(())
 }

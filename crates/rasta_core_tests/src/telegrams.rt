@@ -1,74 +1,68 @@
 //! Telegrams that are changed.
 
 use crate::changes::{Tally, change, copied};
-use crate::one_byte::proceed;
+use crate::telegram_rows::{proceed, read_telegram, written};
 use chance::Chance;
-use rasta_pdu::Item;
 use sci_telegram::{
     Agreement, Aspect, DetectionMessage, Initialisation, Message, Occupancy, PointMessage,
-    Position, Protocol, SciFault, Side, SignalMessage, Telegram, read, write,
+    Position, Protocol, SciFault, Side, SignalMessage, Telegram,
 };
 use std::process::Abort;
-use std::test::Fail;
 
 /// How many changes are tried.
 const CHANGES: usize = 200_000;
 
-/// A telegram of each row of the table.
-fn samples() -> Result<[Item; 11], Fail> {
-    let first = proceed()?;
-    let opening = |message| Message::Initialisation(Protocol::Point, message);
-    let messages = [
-        opening(Initialisation::InitialisationRequest),
-        opening(Initialisation::StartInitialisation),
-        opening(Initialisation::InitialisationCompleted),
-        opening(Initialisation::VersionCheck { version: 1 }),
-        opening(Initialisation::VersionAnswer {
+/// A message of each row of the table.
+const SAMPLES: [Message; 11] = [
+    Message::Initialisation(Protocol::Point, Initialisation::InitialisationRequest),
+    Message::Initialisation(Protocol::Point, Initialisation::StartInitialisation),
+    Message::Initialisation(Protocol::Point, Initialisation::InitialisationCompleted),
+    Message::Initialisation(Protocol::Point, Initialisation::VersionCheck { version: 1 }),
+    Message::Initialisation(
+        Protocol::Point,
+        Initialisation::VersionAnswer {
             agreement: Agreement::Match,
             version: 1,
-        }),
-        Message::Point(PointMessage::MovePoint(Side::Right)),
-        Message::Point(PointMessage::PointPosition(Position::NoEndPosition)),
-        Message::Point(PointMessage::Timeout),
-        Message::Signal(SignalMessage::IndicateAspect(Aspect::Slow)),
-        Message::Signal(SignalMessage::IndicatedAspect(Aspect::Stop)),
-        Message::Detection(DetectionMessage::OccupancyStatus(Occupancy::Occupied)),
-    ];
-    Ok(messages.map(|message| write(&Telegram { message, ..first })))
-}
+        },
+    ),
+    Message::Point(PointMessage::MovePoint(Side::Right)),
+    Message::Point(PointMessage::PointPosition(Position::NoEndPosition)),
+    Message::Point(PointMessage::Timeout),
+    Message::Signal(SignalMessage::IndicateAspect(Aspect::Slow)),
+    Message::Signal(SignalMessage::IndicatedAspect(Aspect::Stop)),
+    Message::Detection(DetectionMessage::OccupancyStatus(Occupancy::Occupied)),
+];
 
-/// What is read is written as the same bytes; otherwise there is a fault.
-fn try_bytes(rt: &impl Abort, bytes: &[u8]) -> Option<SciFault> {
-    match read(bytes) {
+/// What is read is written as the same bytes, and counts as 0; otherwise there is a fault, with its number.
+fn outcome(rt: &impl Abort, bytes: &[u8]) -> usize {
+    match read_telegram(bytes) {
         Ok(telegram) => {
-            assert!(rt; write(&telegram).bytes() == bytes, "{bytes:?}");
-            None
+            assert!(rt; written(&telegram).bytes() == bytes, "{bytes:?}");
+            0
         }
-        Err(fault) => Some(fault),
+        Err(fault) => fault as usize,
     }
 }
 
 #[test]
-fn what_is_read_of_changed_telegrams_is_written_as_they_came(rt: HostRuntime) -> Result<(), Fail> {
-    let samples = samples()?;
+fn what_is_read_of_changed_telegrams_is_written_as_they_came(rt: HostRuntime) {
+    let first = proceed(&rt);
     let mut chance = Chance::seeded(2);
     let mut tally = Tally::new();
     for _ in 0..CHANGES {
-        let mut bytes = copied(samples[chance.place(11) % 11].bytes());
+        let message = SAMPLES[chance.place(11) % 11];
+        let mut bytes = copied(written(&Telegram { message, ..first }).bytes());
         change(&mut chance, &mut bytes);
-        let fault = try_bytes(&rt, &bytes);
-        tally.count(fault.map_or(0, |fault| fault as usize));
+        tally.count(outcome(&rt, &bytes));
     }
-    assert!(rt; tally.of(0) > 1000, "{tally:?}");
-    for fault in [
-        SciFault::Short,
-        SciFault::Protocol,
-        SciFault::BadType,
-        SciFault::Length,
-        SciFault::Name,
-        SciFault::Value,
-    ] {
-        assert!(rt; tally.of(fault as usize) > 100, "{fault:?} {tally:?}");
-    }
-    Ok(())
+    tally.is_above(&rt, 1000, &[0]);
+    let faults = [
+        SciFault::Short as usize,
+        SciFault::Protocol as usize,
+        SciFault::BadType as usize,
+        SciFault::Length as usize,
+        SciFault::Name as usize,
+        SciFault::Value as usize,
+    ];
+    tally.is_above(&rt, 100, &faults);
 }
