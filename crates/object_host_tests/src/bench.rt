@@ -1,8 +1,9 @@
-//! An interlocking's end of a link and an object controller at the other, at one clock.
+//! An interlocking's end of a link and an object controller at the other, at one clock, and scripts of what both say.
 
-use object_host::{Controller, Hosted, Input, Sense};
+use crate::output::{Observed, Output};
+use object_host::{Hosted, Input, Sense};
 use rasta_core::{Inbox, Link, Millis, Outbox};
-use rasta_pdu::{Body, Datagram, Item, Key, read};
+use rasta_pdu::{Body, Datagram, Item, Key, Pdu, read};
 use sci_telegram::{Agreement, Initialisation, Message, Name, Protocol, Telegram, write};
 use std::alloc::Global;
 use std::process::Abort;
@@ -15,159 +16,236 @@ const STATION: u32 = 1;
 const CONTROLLER: u32 = 2;
 
 /// When both ends are made: they can open 6000 ms later.
-pub(crate) const MADE_AT: Millis = 94000;
+const MADE_AT: Millis = 94000;
 
 pub(crate) const OPENED_AT: Millis = 100000;
 
 /// How many datagrams a step hands out at most in these tests.
 const MANY: usize = 64;
 
+/// The bytes of a PDU in front of its one item.
+const BEFORE_ITEM: usize = 30;
+
+/// How far a script's ends have come where it begins. A controller has a version of the telegrams.
+#[derive(Clone, Copy)]
+pub(crate) enum Start {
+    Made(u8),
+    /// The station opened a connection at 100000.
+    Connected(u8),
+    /// The initialisation was completed at 100000, and what the station heard of it was looked at.
+    Ready(u8),
+}
+
+/// What happens at a clock reading, or what is so there.
+#[derive(Clone, Copy)]
+pub(crate) enum Step {
+    Connects,
+    /// The station sends a telegram.
+    Says(Message),
+    /// It sends one in these names of a sender and a receiver.
+    SaysAs(&'static str, &'static str, Message),
+    /// What the station said reaches the controller.
+    ToController,
+    /// What the controller said reaches the station.
+    ToStation,
+    /// What either said reaches the other, and what that says in answer.
+    Exchanges,
+    /// The station's heartbeat, which confirms what it has heard, reaches the controller.
+    Confirms,
+    /// The controller's clock goes on, or a contact of its object changes.
+    Ticks,
+    Senses(Sense),
+    /// So many ticks of both, 300 ms apart, keep the link up.
+    KeepsUp(u64),
+    /// The oldest telegram that the station heard and that wasn't looked at yet is this one of this sender.
+    Hears(&'static str, Message),
+    /// It tells that both ends have this version.
+    HearsOfOneVersion(u8),
+    HearsNoMore,
+    /// What the station heard so far isn't looked at.
+    Forgets,
+    /// What the station said reaches the controller, which hands out one datagram: it closes the link with this reason.
+    Refuses(u16),
+    /// How many items the controller has given in its connection, how many of them it knows as taken, and how many datagrams
+    /// it handed out that the station hasn't received.
+    HasGiven(u64),
+    KnowsTaken(u64),
+    HandsOut(usize),
+    /// The first of these carries this item alone.
+    Answers(&'static [u8]),
+    Has(Output),
+}
+
+/// A clock reading, and what happens there.
+pub(crate) type Row = (Millis, Step);
+
+/// What is shown, from where on, and how.
+pub(crate) type Script = (&'static str, Start, &'static [Row]);
+
 /// Both ends, and what each has said.
 #[derive(Drop)]
-pub(crate) struct Bench<C: Controller> {
+pub(crate) struct Bench<C: Observed> {
     protocol: Protocol,
-    version: u8,
     station: Link,
     outbox: Outbox,
     inbox: Inbox,
-    pub(crate) hosted: Hosted<C>,
+    hosted: Hosted<C>,
     /// What the controller handed out and the station hasn't received yet.
     sent: Vec<Datagram>,
     /// What the station heard, oldest first.
     heard: Vec<Telegram>,
 }
 
-pub(crate) fn name(rt: &impl Abort, text: &str) -> Name {
+fn name(rt: &impl Abort, text: &str) -> Name {
     Name::of(text.as_bytes()).expect(rt, "a name")
 }
 
-impl<C: Controller> Bench<C> {
-    /// Both ends, with the first version of the telegrams.
-    pub(crate) fn new(rt: &impl Abort, alloc: Global, object: C) -> Bench<C> {
-        Bench::of_version(rt, alloc, object, 1)
-    }
+fn item(rt: &impl Abort, sender: &str, receiver: &str, message: Message) -> Item {
+    write(&Telegram {
+        sender: name(rt, sender),
+        receiver: name(rt, receiver),
+        message,
+    })
+}
 
-    pub(crate) fn of_version(rt: &impl Abort, alloc: Global, object: C, version: u8) -> Bench<C> {
-        let protocol = object.protocol();
-        let own = name(rt, "OC1");
-        let peer = name(rt, "IXL1");
+fn hosted<C: Observed>(rt: &impl Abort, alloc: Global, object: C, version: u8) -> Hosted<C> {
+    let own = name(rt, "OC1");
+    let peer = name(rt, "IXL1");
+    let made = Hosted::new(
+        alloc, CONTROLLER, STATION, own, peer, KEY, 0, MADE_AT, object, version,
+    );
+    made.expect(rt, "there is memory")
+}
+
+fn station(rt: &impl Abort, alloc: Global) -> Link {
+    let made = Link::client(alloc, STATION, CONTROLLER, KEY, 0, MADE_AT);
+    made.expect(rt, "there is memory")
+}
+
+fn read_pdu(rt: &impl Abort, datagram: &[u8]) -> Pdu {
+    read(&KEY, datagram).expect(rt, "a PDU")
+}
+
+fn read_telegram(rt: &impl Abort, item: &Item) -> Telegram {
+    sci_telegram::read(item.bytes()).expect(rt, "a telegram")
+}
+
+impl<C: Observed> Bench<C> {
+    fn made(rt: &impl Abort, alloc: Global, object: C, version: u8) -> Bench<C> {
         Bench {
-            protocol,
-            version,
-            station: Link::client(alloc, STATION, CONTROLLER, KEY, 0, MADE_AT).expect(rt, "memory"),
-            outbox: Outbox::for_links(alloc, 1).expect(rt, "memory"),
+            protocol: object.protocol(),
+            station: station(rt, alloc),
+            outbox: Outbox::for_links(alloc, 1).expect(rt, "there is memory"),
             inbox: Inbox::new(),
-            hosted: Hosted::new(
-                alloc, CONTROLLER, STATION, own, peer, KEY, 0, MADE_AT, object, version,
-            )
-            .expect(rt, "memory"),
+            hosted: hosted(rt, alloc, object, version),
             sent: Vec::new(alloc),
             heard: Vec::new(alloc),
         }
     }
 
-    /// A controller whose initialisation was completed at 100000, and of which the station heard all.
-    pub(crate) fn ready(rt: &impl Abort, alloc: Global, object: C) -> Bench<C> {
-        Bench::ready_in_version(rt, alloc, object, 1)
-    }
-
-    pub(crate) fn ready_in_version(
-        rt: &impl Abort,
-        alloc: Global,
-        object: C,
-        version: u8,
-    ) -> Bench<C> {
-        let mut bench = Bench::of_version(rt, alloc, object, version);
-        bench.connect(rt);
-        bench.say(
-            rt,
-            OPENED_AT,
-            bench.initialisation(Initialisation::VersionCheck { version }),
-        );
-        bench.exchange(rt, OPENED_AT);
-        bench.say(
-            rt,
-            OPENED_AT,
-            bench.initialisation(Initialisation::InitialisationRequest),
-        );
-        bench.exchange(rt, OPENED_AT);
-        bench.heard.clear();
+    /// Both ends, as a script begins with them.
+    pub(crate) fn begun(rt: &impl Abort, alloc: Global, object: C, start: Start) -> Bench<C> {
+        let (Start::Made(version) | Start::Connected(version) | Start::Ready(version)) = start;
+        let mut bench = Bench::made(rt, alloc, object, version);
+        if !matches!(start, Start::Made(_)) {
+            bench.connects(rt);
+        }
+        if matches!(start, Start::Ready(_)) {
+            bench.initialises(rt, version);
+        }
         bench
     }
 
-    /// How many items the controller has given in its connection.
-    pub(crate) fn given(&self) -> u64 {
-        self.hosted.link().given()
+    /// Each row of a script is so.
+    pub(crate) fn plays(&mut self, rt: &impl Abort, name: &str, rows: &[Row]) {
+        for (place, row) in rows.iter().enumerate() {
+            let (now, step) = *row;
+            self.happens(rt, now, step);
+            assert!(rt; self.is_so(rt, now, step), "{name}: row {place}, at {now}");
+        }
     }
 
-    /// How many of them it knows as taken.
-    pub(crate) fn confirmed(&self) -> u64 {
-        self.hosted.link().confirmed()
+    fn happens(&mut self, rt: &impl Abort, now: Millis, step: Step) {
+        match step {
+            Step::Connects => self.connects(rt),
+            Step::Says(message) => self.says(rt, now, &item(rt, "IXL1", "OC1", message)),
+            Step::SaysAs(sender, receiver, message) => {
+                self.says(rt, now, &item(rt, sender, receiver, message))
+            }
+            Step::ToController | Step::Refuses(_) => self.to_controller(rt, now),
+            Step::ToStation => self.to_station(rt, now),
+            Step::Exchanges => self.exchanges(rt, now),
+            Step::Confirms => self.confirms(rt, now),
+            Step::Ticks => self.steps(rt, now, Input::Tick),
+            Step::Senses(sense) => self.steps(rt, now, Input::Sense(sense)),
+            Step::KeepsUp(turns) => self.keeps_up(rt, now, turns),
+            Step::Forgets => self.heard.clear(),
+            _ => {}
+        }
     }
 
-    pub(crate) fn initialisation(&self, what: Initialisation) -> Message {
-        Message::Initialisation(self.protocol, what)
+    /// Whether what a step says of both ends is so; of what happens nothing is said.
+    fn is_so(&mut self, rt: &impl Abort, now: Millis, step: Step) -> bool {
+        match step {
+            Step::Hears(sender, message) => self.hears(rt, sender, message),
+            Step::HearsOfOneVersion(version) => self.hears_of_one_version(rt, version),
+            Step::HearsNoMore => self.heard.is_empty(),
+            Step::Refuses(reason) => self.closes(rt, now, reason),
+            Step::HasGiven(items) => self.hosted.link().given() == items,
+            Step::KnowsTaken(items) => self.hosted.link().confirmed() == items,
+            Step::HandsOut(datagrams) => self.sent.len() == datagrams,
+            Step::Answers(item) => self.answers(item),
+            Step::Has(output) => self.hosted.object().has(now, output),
+            _ => true,
+        }
     }
 
-    /// The station opens a connection at 100000.
-    pub(crate) fn connect(&mut self, rt: &impl Abort) {
+    fn connects(&mut self, rt: &impl Abort) {
         assert!(rt; self.station.may_step(OPENED_AT));
         assert!(rt; self.outbox.has_room());
         assert!(rt; self.station.open(OPENED_AT, &mut self.outbox));
-        self.exchange(rt, OPENED_AT);
+        self.exchanges(rt, OPENED_AT);
         assert!(rt; self.hosted.link().is_up(OPENED_AT));
     }
 
-    /// The station sends a telegram.
-    pub(crate) fn say(&mut self, rt: &impl Abort, now: Millis, message: Message) {
-        let telegram = Telegram {
-            sender: name(rt, "IXL1"),
-            receiver: name(rt, "OC1"),
-            message,
-        };
-        self.send(rt, now, &write(&telegram))
+    fn initialises(&mut self, rt: &impl Abort, version: u8) {
+        for what in [
+            Initialisation::VersionCheck { version },
+            Initialisation::InitialisationRequest,
+        ] {
+            let message = Message::Initialisation(self.protocol, what);
+            self.says(rt, OPENED_AT, &item(rt, "IXL1", "OC1", message));
+            self.exchanges(rt, OPENED_AT);
+        }
+        self.heard.clear();
     }
 
-    fn send(&mut self, rt: &impl Abort, now: Millis, item: &Item) {
+    pub(crate) fn says(&mut self, rt: &impl Abort, now: Millis, item: &Item) {
         assert!(rt; self.station.may_step(now));
         assert!(rt; self.outbox.has_room());
         assert!(rt; self.station.send(now, item, &mut self.outbox).is_ok());
     }
 
-    /// The station sends an item of these bytes.
-    pub(crate) fn say_bytes(&mut self, rt: &impl Abort, bytes: &[u8]) {
-        let item = Item::of(bytes).expect(rt, "an item");
-        self.send(rt, OPENED_AT, &item)
-    }
-
-    /// The station sends a telegram in these names.
-    pub(crate) fn say_as(
-        &mut self,
-        rt: &impl Abort,
-        sender: &str,
-        receiver: &str,
-        message: Message,
-    ) {
-        let telegram = Telegram {
-            sender: name(rt, sender),
-            receiver: name(rt, receiver),
-            message,
-        };
-        self.send(rt, OPENED_AT, &write(&telegram))
-    }
-
-    /// The station's heartbeat, which confirms what it has heard, reaches the controller.
-    pub(crate) fn confirm(&mut self, rt: &impl Abort, now: Millis) {
+    fn station_ticks(&mut self, rt: &impl Abort, now: Millis) {
         assert!(rt; self.station.may_step(now));
         assert!(rt; self.outbox.has_room());
-        self.station.tick(now, &mut self.outbox);
+        self.station.tick(now, &mut self.outbox)
+    }
+
+    fn confirms(&mut self, rt: &impl Abort, now: Millis) {
+        self.station_ticks(rt, now);
         self.to_controller(rt, now)
     }
 
     /// A step of the controller.
-    pub(crate) fn step(&mut self, rt: &impl Abort, now: Millis, input: Input) {
+    fn steps(&mut self, rt: &impl Abort, now: Millis, input: Input) {
         assert!(rt; self.hosted.may_step(now));
         self.hosted.step(now, input);
+        self.collects(rt)
+    }
+
+    /// What the last step of the controller handed out is on its way.
+    fn collects(&mut self, rt: &impl Abort) {
         for _ in 0..MANY {
             let Some(datagram) = self.hosted.take_first() else {
                 break;
@@ -176,117 +254,86 @@ impl<C: Controller> Bench<C> {
         }
     }
 
-    pub(crate) fn sense(&mut self, rt: &impl Abort, now: Millis, sense: Sense) {
-        self.step(rt, now, Input::Sense(sense))
-    }
-
-    /// What the station said reaches the controller.
-    pub(crate) fn to_controller(&mut self, rt: &impl Abort, now: Millis) {
+    fn to_controller(&mut self, rt: &impl Abort, now: Millis) {
         for _ in 0..MANY {
             let Some(datagram) = self.outbox.take_first() else {
                 break;
             };
-            self.step(rt, now, Input::Datagram(&datagram));
+            self.steps(rt, now, Input::Datagram(&datagram));
         }
     }
 
-    /// What the controller said reaches the station.
-    pub(crate) fn to_station(&mut self, rt: &impl Abort, now: Millis) {
+    fn to_station(&mut self, rt: &impl Abort, now: Millis) {
         for _ in 0..MANY {
             if self.sent.is_empty() {
                 break;
             }
             let datagram = self.sent.remove(0);
-            assert!(rt; self.station.may_step(now));
-            assert!(rt; self.outbox.has_room());
-            self.station
-                .receive(now, &datagram, &mut self.outbox, &mut self.inbox);
-            self.note(rt);
+            self.receives(rt, now, &datagram);
+            self.notes(rt);
         }
+    }
+
+    fn receives(&mut self, rt: &impl Abort, now: Millis, datagram: &[u8]) {
+        assert!(rt; self.station.may_step(now));
+        assert!(rt; self.outbox.has_room());
+        self.station
+            .receive(now, datagram, &mut self.outbox, &mut self.inbox);
     }
 
     /// The items that the last datagram brought are heard.
-    fn note(&mut self, rt: &impl Abort) {
+    fn notes(&mut self, rt: &impl Abort) {
         for item in self.inbox.as_slice() {
-            let telegram = sci_telegram::read(item.bytes()).expect(rt, "a telegram");
-            assert!(rt; self.heard.push(telegram).is_ok());
+            assert!(rt; self.heard.push(read_telegram(rt, item)).is_ok());
         }
     }
 
-    /// What either said reaches the other, and what that says in answer.
-    pub(crate) fn exchange(&mut self, rt: &impl Abort, now: Millis) {
+    fn exchanges(&mut self, rt: &impl Abort, now: Millis) {
         self.to_controller(rt, now);
         self.to_station(rt, now);
         self.to_controller(rt, now)
     }
 
-    /// Both tick, and what they say arrives.
-    pub(crate) fn tick(&mut self, rt: &impl Abort, now: Millis) {
-        assert!(rt; self.station.may_step(now));
-        assert!(rt; self.outbox.has_room());
-        self.station.tick(now, &mut self.outbox);
-        self.to_controller(rt, now);
-        self.step(rt, now, Input::Tick);
-        self.to_station(rt, now)
-    }
-
-    /// So many ticks, 300 ms apart, keep the link up; the last clock reading is answered.
-    pub(crate) fn keep_up(&mut self, rt: &impl Abort, from: Millis, turns: u64) -> Millis {
+    fn keeps_up(&mut self, rt: &impl Abort, from: Millis, turns: u64) {
         let mut now = from;
         for _ in 0..turns {
             now = now.saturating_add(300);
-            self.tick(rt, now);
+            self.confirms(rt, now);
+            self.steps(rt, now, Input::Tick);
+            self.to_station(rt, now)
         }
-        now
     }
 
-    /// The oldest telegram that the station heard and that wasn't looked at yet is this one of this sender.
-    pub(crate) fn hears(&mut self, rt: &impl Abort, sender: &str, message: Message) {
+    fn hears(&mut self, rt: &impl Abort, sender: &str, message: Message) -> bool {
         assert!(rt; !self.heard.is_empty(), "it heard a telegram");
         let telegram = self.heard.remove(0);
-        let expected = Telegram {
-            sender: name(rt, sender),
-            receiver: name(rt, "IXL1"),
-            message,
-        };
-        assert!(rt; telegram == expected);
+        let (sender, receiver) = (name(rt, sender), name(rt, "IXL1"));
+        telegram.sender == sender && telegram.receiver == receiver && telegram.message == message
     }
 
-    /// What the station heard so far isn't looked at.
-    pub(crate) fn forget(&mut self) {
-        self.heard.clear();
-    }
-
-    pub(crate) fn hears_no_more(&self, rt: &impl Abort) {
-        assert!(rt; self.heard.is_empty());
-    }
-
-    /// The station hears that both ends have one version.
-    pub(crate) fn hears_of_one_version(&mut self, rt: &impl Abort) {
+    fn hears_of_one_version(&mut self, rt: &impl Abort, version: u8) -> bool {
         let answer = Initialisation::VersionAnswer {
             agreement: Agreement::Match,
-            version: self.version,
+            version,
         };
-        self.hears(rt, "OC1", self.initialisation(answer));
+        self.hears(rt, "OC1", Message::Initialisation(self.protocol, answer))
     }
 
     /// The last step handed out one datagram, and it closes the link with this reason.
-    pub(crate) fn closes(&mut self, rt: &impl Abort, now: Millis, reason: u16) {
+    fn closes(&mut self, rt: &impl Abort, now: Millis, reason: u16) -> bool {
         assert!(rt; self.sent.len() == 1);
-        let datagram = self.sent.remove(0);
-        let pdu = read(&KEY, &datagram).expect(rt, "a PDU");
-        assert!(rt; pdu.body == Body::DisconnectionRequest { detail: 0, reason });
-        assert!(rt; !self.hosted.link().is_up(now));
+        let pdu = read_pdu(rt, &self.sent.remove(0));
+        let is_down = !self.hosted.link().is_up(now);
+        is_down && pdu.body == Body::DisconnectionRequest { detail: 0, reason }
     }
 
-    /// The only datagram of the last step.
-    pub(crate) fn answer(&self, rt: &impl Abort) -> &[u8] {
-        let datagram = self.sent.first().expect(rt, "it answered");
-        datagram.as_slice()
-    }
-
-    /// How many datagrams the controller handed out that the station hasn't received.
-    pub(crate) fn handed_out(&self) -> usize {
-        self.sent.len()
+    /// The first datagram that the station hasn't received carries this item alone.
+    fn answers(&self, item: &[u8]) -> bool {
+        let Some(datagram) = self.sent.first() else {
+            return false;
+        };
+        let (_, rest) = datagram.split_at(BEFORE_ITEM.min(datagram.len()));
+        let (carried, code) = rest.split_at(item.len().min(rest.len()));
+        carried == item && code.len() == 8
     }
 }

@@ -1,140 +1,163 @@
-//! A detector through the link that commands it.
+//! A detector of sixteen sections, which are clear, through the link that commands it.
 
-use crate::bench::{Bench, OPENED_AT, name};
+use crate::alone::name;
+use crate::bench::Step::{
+    Confirms, Connects, Forgets, HandsOut, HasGiven, Hears, HearsNoMore, HearsOfOneVersion,
+    KeepsUp, KnowsTaken, Refuses, Says, Senses, ToController, ToStation,
+};
+use crate::bench::{Bench, OPENED_AT, Script, Start};
 use object_host::Sense;
-use sci_telegram::{DetectionMessage, Initialisation, Message, Occupancy};
+use sci_telegram::{DetectionMessage, Initialisation, Message, Occupancy, Protocol};
 use std::process::Abort;
 use tds_ctl::Detection;
 
-/// The names of sixteen sections.
-fn names() -> [&'static str; 16] {
-    [
-        "GA", "GB", "GC", "GD", "GE", "GF", "GG", "GH", "GI", "GJ", "GK", "GL", "GM", "GN", "GO",
-        "GP",
-    ]
-}
+const NAMES: [&str; 16] = [
+    "GA", "GB", "GC", "GD", "GE", "GF", "GG", "GH", "GI", "GJ", "GK", "GL", "GM", "GN", "GO", "GP",
+];
 
-/// Sixteen sections that are clear.
 fn sixteen(rt: &impl Abort) -> Detection {
     let mut sections = [(name(rt, "GA"), Occupancy::Clear); 16];
-    for (section, text) in sections.iter_mut().zip(names()) {
+    for (section, text) in sections.iter_mut().zip(NAMES) {
         section.0 = name(rt, text);
     }
     Detection::new(&sections)
 }
 
-fn status(occupancy: Occupancy) -> Message {
-    Message::Detection(DetectionMessage::OccupancyStatus(occupancy))
-}
+const CHECK: Message = Message::Initialisation(
+    Protocol::TrainDetection,
+    Initialisation::VersionCheck { version: 1 },
+);
 
-/// The station asks for everything at once, so nothing that is told is confirmed meanwhile.
-fn asked_at_once(rt: &impl Abort, bench: &mut Bench<Detection>) {
-    bench.connect(rt);
-    bench.say(
-        rt,
-        OPENED_AT,
-        bench.initialisation(Initialisation::VersionCheck { version: 1 }),
-    );
-    bench.say(
-        rt,
-        OPENED_AT,
-        bench.initialisation(Initialisation::InitialisationRequest),
-    );
-    bench.to_controller(rt, OPENED_AT)
-}
+const REQUEST: Message = Message::Initialisation(
+    Protocol::TrainDetection,
+    Initialisation::InitialisationRequest,
+);
+
+const STARTED: Message = Message::Initialisation(
+    Protocol::TrainDetection,
+    Initialisation::StartInitialisation,
+);
+
+const COMPLETED: Message = Message::Initialisation(
+    Protocol::TrainDetection,
+    Initialisation::InitialisationCompleted,
+);
+
+const CLEAR: Message = Message::Detection(DetectionMessage::OccupancyStatus(Occupancy::Clear));
+
+const OCCUPIED: Message = Message::Detection(DetectionMessage::OccupancyStatus(
+    Occupancy::Occupied,
+));
+
+/// In all but the last the station asks for everything at once, so nothing that is told is confirmed meanwhile.
+const SCRIPTS: &[Script] = &[
+    (
+        "sixteen sections are initialised in nineteen items, with none confirmed",
+        Start::Connected(1),
+        &[
+            (OPENED_AT, Says(CHECK)),
+            (OPENED_AT, Says(REQUEST)),
+            (OPENED_AT, ToController),
+            (OPENED_AT, HasGiven(19)),
+            (OPENED_AT, KnowsTaken(0)),
+            (OPENED_AT, ToStation),
+            (OPENED_AT, HearsOfOneVersion(1)),
+            (OPENED_AT, Hears("OC1", STARTED)),
+            (OPENED_AT, Hears("GA", CLEAR)),
+            (OPENED_AT, Hears("GB", CLEAR)),
+            (OPENED_AT, Hears("GC", CLEAR)),
+            (OPENED_AT, Hears("GD", CLEAR)),
+            (OPENED_AT, Hears("GE", CLEAR)),
+            (OPENED_AT, Hears("GF", CLEAR)),
+            (OPENED_AT, Hears("GG", CLEAR)),
+            (OPENED_AT, Hears("GH", CLEAR)),
+            (OPENED_AT, Hears("GI", CLEAR)),
+            (OPENED_AT, Hears("GJ", CLEAR)),
+            (OPENED_AT, Hears("GK", CLEAR)),
+            (OPENED_AT, Hears("GL", CLEAR)),
+            (OPENED_AT, Hears("GM", CLEAR)),
+            (OPENED_AT, Hears("GN", CLEAR)),
+            (OPENED_AT, Hears("GO", CLEAR)),
+            (OPENED_AT, Hears("GP", CLEAR)),
+            (OPENED_AT, Hears("OC1", COMPLETED)),
+            (OPENED_AT, HearsNoMore),
+        ],
+    ),
+    // One more change fills the window of 20.
+    (
+        "a section that changes twice while the window is full sends one status, the later",
+        Start::Connected(1),
+        &[
+            (OPENED_AT, Says(CHECK)),
+            (OPENED_AT, Says(REQUEST)),
+            (OPENED_AT, ToController),
+            (OPENED_AT, Senses(Sense::Section(5, Occupancy::Occupied))),
+            (OPENED_AT, HasGiven(20)),
+            (100001, Senses(Sense::Section(3, Occupancy::Occupied))),
+            (100002, Senses(Sense::Section(3, Occupancy::Clear))),
+            (100002, HasGiven(20)),
+            (100002, ToStation),
+            (100002, Forgets),
+            (100002, KeepsUp(3)),
+            (100902, Hears("GD", CLEAR)),
+            (100902, HearsNoMore),
+        ],
+    ),
+    // Three reports wait for the window. Once the station has confirmed, one step sends all of them, in the order of the list.
+    (
+        "a step sends every report that it owes",
+        Start::Connected(1),
+        &[
+            (OPENED_AT, Says(CHECK)),
+            (OPENED_AT, Says(REQUEST)),
+            (OPENED_AT, ToController),
+            (OPENED_AT, Senses(Sense::Section(5, Occupancy::Occupied))),
+            (100001, Senses(Sense::Section(15, Occupancy::Occupied))),
+            (100001, Senses(Sense::Section(0, Occupancy::Occupied))),
+            (100001, Senses(Sense::Section(7, Occupancy::Occupied))),
+            (100001, HasGiven(20)),
+            (100001, ToStation),
+            (100001, Forgets),
+            (100400, Confirms),
+            (100400, HandsOut(3)),
+            (100400, ToStation),
+            (100400, Hears("GA", OCCUPIED)),
+            (100400, Hears("GH", OCCUPIED)),
+            (100400, Hears("GP", OCCUPIED)),
+            (100400, HearsNoMore),
+        ],
+    ),
+    (
+        "a change before the initialisation is told by the initial status alone",
+        Start::Made(1),
+        &[
+            (95000, Senses(Sense::Section(1, Occupancy::Occupied))),
+            (OPENED_AT, Connects),
+            (OPENED_AT, Says(CHECK)),
+            (OPENED_AT, Says(REQUEST)),
+            (OPENED_AT, ToController),
+            (OPENED_AT, ToStation),
+            (OPENED_AT, HearsOfOneVersion(1)),
+            (OPENED_AT, Hears("OC1", STARTED)),
+            (OPENED_AT, Hears("GA", CLEAR)),
+            (OPENED_AT, Hears("GB", OCCUPIED)),
+            (OPENED_AT, Forgets),
+            (OPENED_AT, KeepsUp(3)),
+            (100900, HearsNoMore),
+        ],
+    ),
+    (
+        "a telegram that a detector does not take closes the link",
+        Start::Ready(1),
+        &[(OPENED_AT, Says(CLEAR)), (OPENED_AT, Refuses(1))],
+    ),
+];
 
 #[test]
-fn sixteen_sections_are_initialised_in_nineteen_items_with_none_confirmed(rt: HostRuntime) {
-    let rt = &rt;
-    let mut bench = Bench::new(rt, rt.alloc(), sixteen(rt));
-    asked_at_once(rt, &mut bench);
-    assert!(rt; bench.given() == 19);
-    assert!(rt; bench.confirmed() == 0);
-    bench.to_station(rt, OPENED_AT);
-    bench.hears_of_one_version(rt);
-    bench.hears(
-        rt,
-        "OC1",
-        bench.initialisation(Initialisation::StartInitialisation),
-    );
-    for text in names() {
-        bench.hears(rt, text, status(Occupancy::Clear));
+fn what_a_commanded_detector_does(rt: HostRuntime) {
+    for script in SCRIPTS {
+        let (name, start, rows) = *script;
+        let mut bench = Bench::begun(&rt, rt.alloc(), sixteen(&rt), start);
+        bench.plays(&rt, name, rows);
     }
-    bench.hears(
-        rt,
-        "OC1",
-        bench.initialisation(Initialisation::InitialisationCompleted),
-    );
-    bench.hears_no_more(rt);
-}
-
-/// One more change fills the window of 20.
-#[test]
-fn a_section_that_changes_twice_while_the_window_is_full_sends_one_status_the_later(
-    rt: HostRuntime,
-) {
-    let rt = &rt;
-    let mut bench = Bench::new(rt, rt.alloc(), sixteen(rt));
-    asked_at_once(rt, &mut bench);
-    bench.sense(rt, OPENED_AT, Sense::Section(5, Occupancy::Occupied));
-    assert!(rt; bench.given() == 20);
-    bench.sense(rt, 100001, Sense::Section(3, Occupancy::Occupied));
-    bench.sense(rt, 100002, Sense::Section(3, Occupancy::Clear));
-    assert!(rt; bench.given() == 20);
-    bench.to_station(rt, 100002);
-    bench.forget();
-    bench.keep_up(rt, 100002, 3);
-    bench.hears(rt, "GD", status(Occupancy::Clear));
-    bench.hears_no_more(rt);
-}
-
-/// Three reports wait for the window. Once the station has confirmed, one step sends all of them, in the order of the list.
-#[test]
-fn a_step_sends_every_report_that_it_owes(rt: HostRuntime) {
-    let rt = &rt;
-    let mut bench = Bench::new(rt, rt.alloc(), sixteen(rt));
-    asked_at_once(rt, &mut bench);
-    bench.sense(rt, OPENED_AT, Sense::Section(5, Occupancy::Occupied));
-    for place in [15, 0, 7] {
-        bench.sense(rt, 100001, Sense::Section(place, Occupancy::Occupied));
-    }
-    assert!(rt; bench.given() == 20);
-    bench.to_station(rt, 100001);
-    bench.forget();
-    bench.confirm(rt, 100400);
-    assert!(rt; bench.handed_out() == 3);
-    bench.to_station(rt, 100400);
-    for text in ["GA", "GH", "GP"] {
-        bench.hears(rt, text, status(Occupancy::Occupied));
-    }
-    bench.hears_no_more(rt);
-}
-
-#[test]
-fn a_change_before_the_initialisation_is_told_by_the_initial_status_alone(rt: HostRuntime) {
-    let rt = &rt;
-    let mut bench = Bench::new(rt, rt.alloc(), sixteen(rt));
-    bench.sense(rt, 95000, Sense::Section(1, Occupancy::Occupied));
-    asked_at_once(rt, &mut bench);
-    bench.to_station(rt, OPENED_AT);
-    bench.hears_of_one_version(rt);
-    bench.hears(
-        rt,
-        "OC1",
-        bench.initialisation(Initialisation::StartInitialisation),
-    );
-    bench.hears(rt, "GA", status(Occupancy::Clear));
-    bench.hears(rt, "GB", status(Occupancy::Occupied));
-    bench.forget();
-    bench.keep_up(rt, OPENED_AT, 3);
-    bench.hears_no_more(rt);
-}
-
-#[test]
-fn a_telegram_that_a_detector_does_not_take_closes_the_link(rt: HostRuntime) {
-    let rt = &rt;
-    let mut bench = Bench::ready(rt, rt.alloc(), sixteen(rt));
-    bench.say(rt, OPENED_AT, status(Occupancy::Clear));
-    bench.to_controller(rt, OPENED_AT);
-    bench.closes(rt, OPENED_AT, 1);
 }

@@ -1,103 +1,112 @@
 //! A detector by itself.
 
-use object_host::{Controller, Report, Sense};
-use sci_telegram::{
-    DetectionMessage, Message, Name, Occupancy, PointMessage, Position, Side, Telegram,
+use crate::alone::Step::{
+    HasNoStatus, HasStatus, IsRestrictive, Keeps, Loses, Owes, OwesNothing, Pays, Refuses, Senses,
+    Ticks,
 };
+use crate::alone::{Script, Told, name, play};
+use object_host::Sense;
+use sci_telegram::{DetectionMessage, Message, Occupancy, PointMessage, Position, Side};
 use std::process::Abort;
 use tds_ctl::Detection;
 
-/// The names of sixteen sections, in the order of a detector's list.
-const NAMES: [&[u8]; 16] = [
-    b"GA", b"GB", b"GC", b"GD", b"GE", b"GF", b"GG", b"GH", b"GI", b"GJ", b"GK", b"GL", b"GM",
-    b"GN", b"GO", b"GP",
+const CLEAR: Message = Message::Detection(DetectionMessage::OccupancyStatus(Occupancy::Clear));
+
+const OCCUPIED: Message = Message::Detection(DetectionMessage::OccupancyStatus(
+    Occupancy::Occupied,
+));
+
+const A_CLEAR: Told = (Some("GA"), CLEAR);
+
+const A_OCCUPIED: Told = (Some("GA"), OCCUPIED);
+
+const B_OCCUPIED: Told = (Some("GB"), OCCUPIED);
+
+const C_CLEAR: Told = (Some("GC"), CLEAR);
+
+const C_OCCUPIED: Told = (Some("GC"), OCCUPIED);
+
+/// Each detector has three sections, of which the second is occupied.
+const SCRIPTS: &[Script] = &[
+    (
+        "it tells every section in order",
+        &[
+            (0, OwesNothing),
+            (0, HasStatus(0, A_CLEAR)),
+            (0, HasStatus(1, B_OCCUPIED)),
+            (0, HasStatus(2, C_CLEAR)),
+            (0, HasNoStatus(3)),
+        ],
+    ),
+    (
+        "it owes changes in the order of the sections",
+        &[
+            (1000, Senses(Sense::Section(2, Occupancy::Occupied))),
+            (1001, Senses(Sense::Section(0, Occupancy::Occupied))),
+            (1001, Owes(A_OCCUPIED)),
+            (1001, Pays),
+            (1001, Owes(C_OCCUPIED)),
+            (1001, Pays),
+            (1001, OwesNothing),
+            (1001, Pays),
+            (1001, HasStatus(0, A_OCCUPIED)),
+        ],
+    ),
+    (
+        "it owes one status for a change and back",
+        &[
+            (1000, Senses(Sense::Section(1, Occupancy::Clear))),
+            (1001, Senses(Sense::Section(1, Occupancy::Occupied))),
+            (1001, Owes(B_OCCUPIED)),
+            (1001, Pays),
+            (1001, OwesNothing),
+        ],
+    ),
+    (
+        "it owes nothing where nothing changed",
+        &[
+            (1000, Senses(Sense::Section(1, Occupancy::Occupied))),
+            (1000, Senses(Sense::Section(3, Occupancy::Occupied))),
+            (1000, Senses(Sense::Position(Position::Right))),
+            (1000, Ticks),
+            (1000, OwesNothing),
+            (1000, HasNoStatus(3)),
+        ],
+    ),
+    (
+        "it drops what it owes with its link, and keeps the states",
+        &[
+            (1000, Senses(Sense::Section(0, Occupancy::Occupied))),
+            (1000, Senses(Sense::Section(2, Occupancy::Occupied))),
+            (1000, Loses),
+            (1000, OwesNothing),
+            (1000, HasStatus(2, C_OCCUPIED)),
+        ],
+    ),
+    (
+        "it takes no telegram, and has no output",
+        &[
+            (
+                1000,
+                Refuses(Message::Point(PointMessage::MovePoint(Side::Right))),
+            ),
+            (1000, Keeps(9000)),
+            (1000, IsRestrictive),
+        ],
+    ),
 ];
 
-fn name(rt: &impl Abort, place: usize) -> Name {
-    let bytes = NAMES.get(place).copied().expect(rt, "a section");
-    Name::of(bytes).expect(rt, "a name")
-}
-
-/// A detector of three sections, of which the second is occupied.
 fn three(rt: &impl Abort) -> Detection {
     Detection::new(&[
-        (name(rt, 0), Occupancy::Clear),
-        (name(rt, 1), Occupancy::Occupied),
-        (name(rt, 2), Occupancy::Clear),
+        (name(rt, "GA"), Occupancy::Clear),
+        (name(rt, "GB"), Occupancy::Occupied),
+        (name(rt, "GC"), Occupancy::Clear),
     ])
 }
 
-fn status(rt: &impl Abort, place: usize, occupancy: Occupancy) -> Option<Report> {
-    Some(Report {
-        section: Some(name(rt, place)),
-        message: Message::Detection(DetectionMessage::OccupancyStatus(occupancy)),
-    })
-}
-
 #[test]
-fn tells_every_section_in_order(rt: HostRuntime) {
-    let detection = three(&rt);
-    assert!(rt; detection.owed() == None);
-    assert!(rt; detection.status(0) == status(&rt, 0, Occupancy::Clear));
-    assert!(rt; detection.status(1) == status(&rt, 1, Occupancy::Occupied));
-    assert!(rt; detection.status(2) == status(&rt, 2, Occupancy::Clear));
-    assert!(rt; detection.status(3) == None);
-}
-
-#[test]
-fn owes_changes_in_the_order_of_the_sections(rt: HostRuntime) {
-    let mut detection = three(&rt);
-    detection.sense(1000, Sense::Section(2, Occupancy::Occupied));
-    detection.sense(1001, Sense::Section(0, Occupancy::Occupied));
-    assert!(rt; detection.owed() == status(&rt, 0, Occupancy::Occupied));
-    detection.paid();
-    assert!(rt; detection.owed() == status(&rt, 2, Occupancy::Occupied));
-    detection.paid();
-    assert!(rt; detection.owed() == None);
-    detection.paid();
-    assert!(rt; detection.status(0) == status(&rt, 0, Occupancy::Occupied));
-}
-
-#[test]
-fn owes_one_status_for_a_change_and_back(rt: HostRuntime) {
-    let mut detection = three(&rt);
-    detection.sense(1000, Sense::Section(1, Occupancy::Clear));
-    detection.sense(1001, Sense::Section(1, Occupancy::Occupied));
-    assert!(rt; detection.owed() == status(&rt, 1, Occupancy::Occupied));
-    detection.paid();
-    assert!(rt; detection.owed() == None);
-}
-
-#[test]
-fn owes_nothing_where_nothing_changed(rt: HostRuntime) {
-    let mut detection = three(&rt);
-    detection.sense(1000, Sense::Section(1, Occupancy::Occupied));
-    detection.sense(1000, Sense::Section(3, Occupancy::Occupied));
-    detection.sense(1000, Sense::Position(Position::Right));
-    detection.tick(1000);
-    assert!(rt; detection.owed() == None);
-    assert!(rt; detection.status(3) == None);
-}
-
-#[test]
-fn drops_what_it_owes_with_its_link_and_keeps_the_states(rt: HostRuntime) {
-    let mut detection = three(&rt);
-    detection.sense(1000, Sense::Section(0, Occupancy::Occupied));
-    detection.sense(1000, Sense::Section(2, Occupancy::Occupied));
-    detection.lost();
-    assert!(rt; detection.owed() == None);
-    assert!(rt; detection.status(2) == status(&rt, 2, Occupancy::Occupied));
-}
-
-#[test]
-fn takes_no_telegram_and_has_no_output(rt: HostRuntime) {
-    let mut detection = three(&rt);
-    let telegram = Telegram {
-        sender: name(&rt, 0),
-        receiver: name(&rt, 1),
-        message: Message::Point(PointMessage::MovePoint(Side::Right)),
-    };
-    assert!(rt; !detection.take(1000, &telegram));
-    detection.keep(9000);
-    assert!(rt; detection.restrictive(1000));
+fn what_a_detector_does_by_itself(rt: HostRuntime) {
+    for script in SCRIPTS {
+        play(&rt, three(&rt), *script);
+    }
 }

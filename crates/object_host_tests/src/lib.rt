@@ -2,15 +2,17 @@
 #![tactic(auto)]
 
 #[cfg(test)]
+mod alone;
+#[cfg(test)]
 mod bench;
 #[cfg(test)]
 mod detection;
 #[cfg(test)]
 mod detection_alone;
 #[cfg(test)]
-mod faults;
-#[cfg(test)]
 mod lamp;
+#[cfg(test)]
+mod output;
 #[cfg(test)]
 mod point;
 #[cfg(test)]

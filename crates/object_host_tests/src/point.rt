@@ -1,132 +1,144 @@
-//! A point through the link that commands it. It lies left.
+//! A point through the link that commands it. Each lies left.
 
-use crate::bench::{Bench, OPENED_AT};
-use object_host::{Input, Sense};
+use crate::bench::Step::{
+    Exchanges, HandsOut, Has, Hears, HearsNoMore, HearsOfOneVersion, KeepsUp, Refuses, Says,
+    Senses, Ticks, ToController, ToStation,
+};
+use crate::bench::{Bench, OPENED_AT, Script, Start};
+use crate::output::Output::Driven;
+use object_host::Sense;
 use point_ctl::Point;
-use sci_telegram::{Initialisation, Message, PointMessage, Position, Side};
-use std::alloc::Global;
-use std::process::Abort;
+use sci_telegram::{Initialisation, Message, PointMessage, Position, Protocol, Side};
 
-fn left(rt: &impl Abort, alloc: Global) -> Bench<Point> {
-    Bench::ready(rt, alloc, Point::new(Position::Left))
-}
+const CHECK: Message = Message::Initialisation(
+    Protocol::Point,
+    Initialisation::VersionCheck { version: 1 },
+);
 
-fn to(side: Side) -> Message {
-    Message::Point(PointMessage::MovePoint(side))
-}
+const REQUEST: Message = Message::Initialisation(
+    Protocol::Point,
+    Initialisation::InitialisationRequest,
+);
 
-fn at(position: Position) -> Message {
-    Message::Point(PointMessage::PointPosition(position))
-}
+const STARTED: Message = Message::Initialisation(
+    Protocol::Point,
+    Initialisation::StartInitialisation,
+);
+
+const COMPLETED: Message = Message::Initialisation(
+    Protocol::Point,
+    Initialisation::InitialisationCompleted,
+);
+
+const LEFT: Message = Message::Point(PointMessage::MovePoint(Side::Left));
+
+const RIGHT: Message = Message::Point(PointMessage::MovePoint(Side::Right));
+
+const LIES_LEFT: Message = Message::Point(PointMessage::PointPosition(Position::Left));
+
+const LIES_RIGHT: Message = Message::Point(PointMessage::PointPosition(Position::Right));
+
+const TIMEOUT: Message = Message::Point(PointMessage::Timeout);
+
+const SCRIPTS: &[Script] = &[
+    (
+        "its initial status is the sensed position",
+        Start::Connected(1),
+        &[
+            (OPENED_AT, Says(CHECK)),
+            (OPENED_AT, Exchanges),
+            (OPENED_AT, HearsOfOneVersion(1)),
+            (OPENED_AT, Says(REQUEST)),
+            (OPENED_AT, Exchanges),
+            (OPENED_AT, Hears("OC1", STARTED)),
+            (OPENED_AT, Hears("OC1", LIES_LEFT)),
+            (OPENED_AT, Hears("OC1", COMPLETED)),
+            (OPENED_AT, HearsNoMore),
+        ],
+    ),
+    // The last step before the limit is at 109900, and the first after it at 110100.
+    (
+        "a drive ends at its limit with no step between, and the next step sends one timeout",
+        Start::Ready(1),
+        &[
+            (OPENED_AT, Says(RIGHT)),
+            (OPENED_AT, Exchanges),
+            (OPENED_AT, KeepsUp(33)),
+            (109999, Has(Driven(Some(Side::Right)))),
+            (110000, Has(Driven(None))),
+            (110000, HearsNoMore),
+            (110100, Ticks),
+            (110100, HandsOut(1)),
+            (110100, ToStation),
+            (110100, Hears("OC1", TIMEOUT)),
+            (110100, KeepsUp(3)),
+            (111000, HearsNoMore),
+        ],
+    ),
+    (
+        "a move to the sensed side is answered in its step",
+        Start::Ready(1),
+        &[
+            (OPENED_AT, Says(LEFT)),
+            (OPENED_AT, ToController),
+            (OPENED_AT, Has(Driven(None))),
+            (OPENED_AT, HandsOut(1)),
+            (OPENED_AT, Exchanges),
+            (OPENED_AT, Hears("OC1", LIES_LEFT)),
+            (OPENED_AT, HearsNoMore),
+        ],
+    ),
+    (
+        "a second move before an answer closes the link, and nothing is reported",
+        Start::Ready(1),
+        &[
+            (OPENED_AT, Says(RIGHT)),
+            (OPENED_AT, ToController),
+            (OPENED_AT, Has(Driven(Some(Side::Right)))),
+            (OPENED_AT, Says(LEFT)),
+            (OPENED_AT, Refuses(1)),
+            (OPENED_AT, Has(Driven(None))),
+        ],
+    ),
+    (
+        "a drive ends where it was commanded, and the position is reported once",
+        Start::Ready(1),
+        &[
+            (OPENED_AT, Says(RIGHT)),
+            (OPENED_AT, Exchanges),
+            (100100, Senses(Sense::Position(Position::NoEndPosition))),
+            (100100, HandsOut(0)),
+            (100100, Has(Driven(Some(Side::Right)))),
+            (100200, Senses(Sense::Position(Position::Right))),
+            (100200, Has(Driven(None))),
+            (100200, Exchanges),
+            (100200, Hears("OC1", LIES_RIGHT)),
+            (100300, Senses(Sense::Position(Position::Right))),
+            (100300, KeepsUp(3)),
+            (101200, HearsNoMore),
+        ],
+    ),
+    // The last stamp that came back is 100000, so the link dies at 101800.
+    (
+        "a drive ends with its link with no step between, and nothing is reported",
+        Start::Ready(1),
+        &[
+            (OPENED_AT, Says(RIGHT)),
+            (OPENED_AT, Exchanges),
+            (101799, Has(Driven(Some(Side::Right)))),
+            (101800, Has(Driven(None))),
+            (102000, Senses(Sense::Position(Position::Right))),
+            (102000, HandsOut(0)),
+            (102000, Has(Driven(None))),
+        ],
+    ),
+];
 
 #[test]
-fn its_initial_status_is_the_sensed_position(rt: HostRuntime) {
-    let rt = &rt;
-    let mut bench = Bench::new(rt, rt.alloc(), Point::new(Position::Left));
-    bench.connect(rt);
-    bench.say(
-        rt,
-        OPENED_AT,
-        bench.initialisation(Initialisation::VersionCheck { version: 1 }),
-    );
-    bench.exchange(rt, OPENED_AT);
-    bench.hears_of_one_version(rt);
-    bench.say(
-        rt,
-        OPENED_AT,
-        bench.initialisation(Initialisation::InitialisationRequest),
-    );
-    bench.exchange(rt, OPENED_AT);
-    bench.hears(
-        rt,
-        "OC1",
-        bench.initialisation(Initialisation::StartInitialisation),
-    );
-    bench.hears(rt, "OC1", at(Position::Left));
-    bench.hears(
-        rt,
-        "OC1",
-        bench.initialisation(Initialisation::InitialisationCompleted),
-    );
-    bench.hears_no_more(rt);
-}
-
-/// The last step before the limit is at 109900, and the first after it at 110100.
-#[test]
-fn a_drive_ends_at_its_limit_with_no_step_between_and_the_next_step_sends_one_timeout(
-    rt: HostRuntime,
-) {
-    let rt = &rt;
-    let mut bench = left(rt, rt.alloc());
-    bench.say(rt, OPENED_AT, to(Side::Right));
-    bench.exchange(rt, OPENED_AT);
-    let last = bench.keep_up(rt, OPENED_AT, 33);
-    assert!(rt; last == 109900);
-    assert!(rt; bench.hosted.object().drives(109999) == Some(Side::Right));
-    assert!(rt; bench.hosted.object().drives(110000) == None);
-    bench.hears_no_more(rt);
-    bench.step(rt, 110100, Input::Tick);
-    assert!(rt; bench.handed_out() == 1);
-    bench.to_station(rt, 110100);
-    bench.hears(rt, "OC1", Message::Point(PointMessage::Timeout));
-    bench.keep_up(rt, 110100, 3);
-    bench.hears_no_more(rt);
-}
-
-#[test]
-fn a_move_to_the_sensed_side_is_answered_in_its_step(rt: HostRuntime) {
-    let rt = &rt;
-    let mut bench = left(rt, rt.alloc());
-    bench.say(rt, OPENED_AT, to(Side::Left));
-    bench.to_controller(rt, OPENED_AT);
-    assert!(rt; bench.hosted.object().drives(OPENED_AT) == None);
-    assert!(rt; bench.handed_out() == 1);
-    bench.exchange(rt, OPENED_AT);
-    bench.hears(rt, "OC1", at(Position::Left));
-    bench.hears_no_more(rt);
-}
-
-#[test]
-fn a_second_move_before_an_answer_closes_the_link_and_nothing_is_reported(rt: HostRuntime) {
-    let rt = &rt;
-    let mut bench = left(rt, rt.alloc());
-    bench.say(rt, OPENED_AT, to(Side::Right));
-    bench.to_controller(rt, OPENED_AT);
-    assert!(rt; bench.hosted.object().drives(OPENED_AT) == Some(Side::Right));
-    bench.say(rt, OPENED_AT, to(Side::Left));
-    bench.to_controller(rt, OPENED_AT);
-    bench.closes(rt, OPENED_AT, 1);
-    assert!(rt; bench.hosted.object().drives(OPENED_AT) == None);
-}
-
-#[test]
-fn a_drive_ends_where_it_was_commanded_and_the_position_is_reported_once(rt: HostRuntime) {
-    let rt = &rt;
-    let mut bench = left(rt, rt.alloc());
-    bench.say(rt, OPENED_AT, to(Side::Right));
-    bench.exchange(rt, OPENED_AT);
-    bench.sense(rt, 100100, Sense::Position(Position::NoEndPosition));
-    assert!(rt; bench.handed_out() == 0);
-    assert!(rt; bench.hosted.object().drives(100100) == Some(Side::Right));
-    bench.sense(rt, 100200, Sense::Position(Position::Right));
-    assert!(rt; bench.hosted.object().drives(100200) == None);
-    bench.exchange(rt, 100200);
-    bench.hears(rt, "OC1", at(Position::Right));
-    bench.sense(rt, 100300, Sense::Position(Position::Right));
-    bench.keep_up(rt, 100300, 3);
-    bench.hears_no_more(rt);
-}
-
-/// The last stamp that came back is 100000, so the link dies at 101800.
-#[test]
-fn a_drive_ends_with_its_link_with_no_step_between_and_nothing_is_reported(rt: HostRuntime) {
-    let rt = &rt;
-    let mut bench = left(rt, rt.alloc());
-    bench.say(rt, OPENED_AT, to(Side::Right));
-    bench.exchange(rt, OPENED_AT);
-    assert!(rt; bench.hosted.object().drives(101799) == Some(Side::Right));
-    assert!(rt; bench.hosted.object().drives(101800) == None);
-    bench.sense(rt, 102000, Sense::Position(Position::Right));
-    assert!(rt; bench.handed_out() == 0);
-    assert!(rt; bench.hosted.object().drives(102000) == None);
+fn what_a_commanded_point_does(rt: HostRuntime) {
+    for script in SCRIPTS {
+        let (name, start, rows) = *script;
+        let mut bench = Bench::begun(&rt, rt.alloc(), Point::new(Position::Left), start);
+        bench.plays(&rt, name, rows);
+    }
 }

@@ -1,134 +1,143 @@
 //! A point's drive by itself.
 
-use object_host::{Controller, Report, Sense};
-use point_ctl::Point;
-use sci_telegram::{
-    Aspect, Message, Name, Occupancy, PointMessage, Position, Side, SignalMessage, Telegram,
+use crate::alone::Step::{
+    Has, HasNoStatus, HasStatus, IsRestrictive, Keeps, Loses, Owes, OwesNothing, Pays, Refuses,
+    Senses, Takes, Ticks,
 };
-use std::process::Abort;
+use crate::alone::{Script, Told, play};
+use crate::output::Output::Driven;
+use object_host::Sense;
+use point_ctl::Point;
+use sci_telegram::{Aspect, Message, Occupancy, PointMessage, Position, Side, SignalMessage};
 
-/// The clock at which the moves of these tests are taken.
-const TAKEN_AT: u64 = 100000;
-
-/// A clock reading that no test reaches.
+/// A clock reading that no script reaches: the link stays up.
 const NEVER: u64 = 900000;
 
-fn telegram(rt: &impl Abort, message: Message) -> Telegram {
-    Telegram {
-        sender: Name::of(b"IXL1").expect(rt, "a name"),
-        receiver: Name::of(b"P1").expect(rt, "a name"),
-        message,
+const LEFT: Message = Message::Point(PointMessage::MovePoint(Side::Left));
+
+const RIGHT: Message = Message::Point(PointMessage::MovePoint(Side::Right));
+
+const AT_RIGHT: Message = Message::Point(PointMessage::PointPosition(Position::Right));
+
+const STOP: Message = Message::Signal(SignalMessage::IndicateAspect(Aspect::Stop));
+
+const LIES_LEFT: Told = (
+    None,
+    Message::Point(PointMessage::PointPosition(Position::Left)),
+);
+
+const LIES_RIGHT: Told = (None, AT_RIGHT);
+
+const LIES_BETWEEN: Told = (
+    None,
+    Message::Point(PointMessage::PointPosition(Position::NoEndPosition)),
+);
+
+const TIMEOUT: Told = (None, Message::Point(PointMessage::Timeout));
+
+const TO_RIGHT: Sense = Sense::Position(Position::Right);
+
+const BETWEEN: Sense = Sense::Position(Position::NoEndPosition);
+
+/// Each point lies left.
+const SCRIPTS: &[Script] = &[
+    (
+        "it drives until its limit, with no step between",
+        &[
+            (0, Keeps(NEVER)),
+            (100000, Takes(RIGHT)),
+            (100000, Has(Driven(Some(Side::Right)))),
+            (109999, Has(Driven(Some(Side::Right)))),
+            (110000, Has(Driven(None))),
+            (110000, IsRestrictive),
+            (110000, OwesNothing),
+            (115000, Ticks),
+            (115000, Owes(TIMEOUT)),
+            (115000, Pays),
+            (115000, OwesNothing),
+            (115000, HasStatus(0, LIES_LEFT)),
+            (115000, HasNoStatus(1)),
+        ],
+    ),
+    (
+        "it answers a move to the sensed side at once",
+        &[
+            (0, Keeps(NEVER)),
+            (100000, Takes(LEFT)),
+            (100000, Has(Driven(None))),
+            (100000, Owes(LIES_LEFT)),
+        ],
+    ),
+    (
+        "it takes no move before the last one was answered",
+        &[
+            (0, Keeps(NEVER)),
+            (100000, Takes(RIGHT)),
+            (100000, Refuses(LEFT)),
+            (100000, Has(Driven(Some(Side::Right)))),
+            (104000, Senses(TO_RIGHT)),
+            (104000, Refuses(LEFT)),
+            (104000, Pays),
+            (104000, Takes(LEFT)),
+            (104000, Has(Driven(Some(Side::Left)))),
+        ],
+    ),
+    (
+        "it reports the commanded position, and nothing on the way",
+        &[
+            (0, Keeps(NEVER)),
+            (100000, Takes(RIGHT)),
+            (100200, Senses(BETWEEN)),
+            (100300, Senses(Sense::Section(0, Occupancy::Occupied))),
+            (100300, OwesNothing),
+            (100300, HasStatus(0, LIES_BETWEEN)),
+            (100300, Has(Driven(Some(Side::Right)))),
+            (104000, Senses(TO_RIGHT)),
+            (104000, Has(Driven(None))),
+            (104000, Owes(LIES_RIGHT)),
+            (104000, Pays),
+            (105000, Senses(TO_RIGHT)),
+            (105000, OwesNothing),
+        ],
+    ),
+    (
+        "it tells a position at the limit as a timeout",
+        &[
+            (0, Keeps(NEVER)),
+            (100000, Takes(RIGHT)),
+            (110000, Senses(TO_RIGHT)),
+            (110000, Owes(TIMEOUT)),
+        ],
+    ),
+    (
+        "it stands still and owes nothing without its link",
+        &[
+            (0, Keeps(NEVER)),
+            (100000, Takes(RIGHT)),
+            (100000, Keeps(101800)),
+            (101799, Has(Driven(Some(Side::Right)))),
+            (101800, Has(Driven(None))),
+            (101800, Loses),
+            (101800, Keeps(NEVER)),
+            (101800, Has(Driven(None))),
+            (102000, Senses(TO_RIGHT)),
+            (102000, OwesNothing),
+        ],
+    ),
+    (
+        "it takes nothing but moves",
+        &[
+            (0, Keeps(NEVER)),
+            (100000, Refuses(AT_RIGHT)),
+            (100000, Refuses(STOP)),
+            (100000, OwesNothing),
+        ],
+    ),
+];
+
+#[test]
+fn what_a_point_does_by_itself(rt: HostRuntime) {
+    for script in SCRIPTS {
+        play(&rt, Point::new(Position::Left), *script);
     }
-}
-
-fn to(rt: &impl Abort, side: Side) -> Telegram {
-    telegram(rt, Message::Point(PointMessage::MovePoint(side)))
-}
-
-fn report(message: PointMessage) -> Option<Report> {
-    Some(Report {
-        section: None,
-        message: Message::Point(message),
-    })
-}
-
-/// A point that lies left, with a link that stays up.
-fn left() -> Point {
-    let mut point = Point::new(Position::Left);
-    point.keep(NEVER);
-    point
-}
-
-#[test]
-fn drives_until_its_limit_with_no_step_between(rt: HostRuntime) {
-    let mut point = left();
-    assert!(rt; point.take(TAKEN_AT, &to(&rt, Side::Right)));
-    assert!(rt; point.drives(TAKEN_AT) == Some(Side::Right));
-    assert!(rt; point.drives(109999) == Some(Side::Right));
-    assert!(rt; point.drives(110000) == None);
-    assert!(rt; point.restrictive(110000));
-    assert!(rt; point.owed() == None);
-    point.tick(115000);
-    assert!(rt; point.owed() == report(PointMessage::Timeout));
-    point.paid();
-    assert!(rt; point.owed() == None);
-    assert!(rt; point.status(0) == report(PointMessage::PointPosition(Position::Left)));
-    assert!(rt; point.status(1) == None);
-}
-
-#[test]
-fn answers_a_move_to_the_sensed_side_at_once(rt: HostRuntime) {
-    let mut point = left();
-    assert!(rt; point.take(TAKEN_AT, &to(&rt, Side::Left)));
-    assert!(rt; point.drives(TAKEN_AT) == None);
-    assert!(rt; point.owed() == report(PointMessage::PointPosition(Position::Left)));
-}
-
-#[test]
-fn takes_no_move_before_the_last_one_was_answered(rt: HostRuntime) {
-    let mut point = left();
-    assert!(rt; point.take(TAKEN_AT, &to(&rt, Side::Right)));
-    assert!(rt; !point.take(TAKEN_AT, &to(&rt, Side::Left)));
-    assert!(rt; point.drives(TAKEN_AT) == Some(Side::Right));
-    point.sense(104000, Sense::Position(Position::Right));
-    assert!(rt; !point.take(104000, &to(&rt, Side::Left)));
-    point.paid();
-    assert!(rt; point.take(104000, &to(&rt, Side::Left)));
-    assert!(rt; point.drives(104000) == Some(Side::Left));
-}
-
-#[test]
-fn reports_the_commanded_position_and_nothing_on_the_way(rt: HostRuntime) {
-    let mut point = left();
-    assert!(rt; point.take(TAKEN_AT, &to(&rt, Side::Right)));
-    point.sense(100200, Sense::Position(Position::NoEndPosition));
-    point.sense(100300, Sense::Section(0, Occupancy::Occupied));
-    assert!(rt; point.owed() == None);
-    assert!(rt; point.status(0) == report(PointMessage::PointPosition(Position::NoEndPosition)));
-    assert!(rt; point.drives(100300) == Some(Side::Right));
-    point.sense(104000, Sense::Position(Position::Right));
-    assert!(rt; point.drives(104000) == None);
-    assert!(rt; point.owed() == report(PointMessage::PointPosition(Position::Right)));
-    point.paid();
-    point.sense(105000, Sense::Position(Position::Right));
-    assert!(rt; point.owed() == None);
-}
-
-#[test]
-fn tells_a_position_at_the_limit_as_a_timeout(rt: HostRuntime) {
-    let mut point = left();
-    assert!(rt; point.take(TAKEN_AT, &to(&rt, Side::Right)));
-    point.sense(110000, Sense::Position(Position::Right));
-    assert!(rt; point.owed() == report(PointMessage::Timeout));
-}
-
-#[test]
-fn stands_still_and_owes_nothing_without_its_link(rt: HostRuntime) {
-    let mut point = left();
-    assert!(rt; point.take(TAKEN_AT, &to(&rt, Side::Right)));
-    point.keep(101800);
-    assert!(rt; point.drives(101799) == Some(Side::Right));
-    assert!(rt; point.drives(101800) == None);
-    point.lost();
-    point.keep(NEVER);
-    assert!(rt; point.drives(101800) == None);
-    point.sense(102000, Sense::Position(Position::Right));
-    assert!(rt; point.owed() == None);
-}
-
-#[test]
-fn takes_nothing_but_moves(rt: HostRuntime) {
-    let mut point = left();
-    let position = PointMessage::PointPosition(Position::Right);
-    assert!(rt; !point.take(TAKEN_AT, &telegram(&rt, Message::Point(position))));
-    assert!(rt;
-        !point.take(
-            TAKEN_AT,
-            &telegram(
-                &rt,
-                Message::Signal(SignalMessage::IndicateAspect(Aspect::Stop))
-            )
-        )
-    );
-    assert!(rt; point.owed() == None);
 }

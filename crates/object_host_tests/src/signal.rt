@@ -1,14 +1,18 @@
 //! A signal through the link that commands it.
 
-use crate::bench::{Bench, OPENED_AT};
-use object_host::{Controller, Sense};
-use rasta_core::{Millis, Reason};
+use crate::bench::Step::{
+    Answers, Confirms, Exchanges, Forgets, HandsOut, Has, Hears, HearsNoMore, HearsOfOneVersion,
+    Refuses, Says, SaysAs, Senses, ToController, ToStation,
+};
+use crate::bench::{Bench, OPENED_AT, Row, Script, Start};
+use crate::output::Output::Shown;
+use object_host::Sense;
+use rasta_pdu::Item;
 use sci_telegram::{
     Agreement, Aspect, Initialisation, Message, Occupancy, PointMessage, Protocol, Side,
     SignalMessage,
 };
 use signal_ctl::Signal;
-use std::process::Abort;
 
 /// Proceed, from IXL1 to OC1, as it stands in an item.
 const EXAMPLE: [u8; 61] = [
@@ -18,244 +22,309 @@ const EXAMPLE: [u8; 61] = [
     0xFF, 0xFF, 0xFF, 0xFF, 0xFF, 0xFF, 0xFF, 0xFF, 0xFF, 0xFF, 0xFF, 0xFF, 0xFF,
 ];
 
-fn indicate(aspect: Aspect) -> Message {
-    Message::Signal(SignalMessage::IndicateAspect(aspect))
-}
+/// No match, and version 1, from OC1 to IXL1.
+const NO_MATCH: &[u8] = b"\x30\x25\x00OC1_________________IXL1________________\x01\x01";
 
-fn indicated(aspect: Aspect) -> Message {
-    Message::Signal(SignalMessage::IndicatedAspect(aspect))
-}
+const INDICATE_STOP: Message = Message::Signal(SignalMessage::IndicateAspect(Aspect::Stop));
 
-/// What the signal shows; restrictive is stop.
-fn shows_at(rt: &impl Abort, bench: &Bench<Signal>, now: Millis, aspect: Aspect) {
-    let signal = bench.hosted.object();
-    assert!(rt; signal.shown(now) == aspect);
-    assert!(rt; signal.restrictive(now) == (aspect == Aspect::Stop));
-}
+const INDICATE_SLOW: Message = Message::Signal(SignalMessage::IndicateAspect(Aspect::Slow));
 
-fn shows(rt: &impl Abort, bench: &Bench<Signal>, aspect: Aspect) {
-    shows_at(rt, bench, OPENED_AT, aspect);
-}
+const INDICATE_PROCEED: Message = Message::Signal(SignalMessage::IndicateAspect(Aspect::Proceed));
 
-/// The station checks version 1.
-#[test]
-fn version_two_answers_a_check_for_version_one_with_its_own(rt: HostRuntime) {
-    let rt = &rt;
-    let mut bench = Bench::of_version(rt, rt.alloc(), Signal::new(), 2);
-    bench.connect(rt);
-    let check = bench.initialisation(Initialisation::VersionCheck { version: 1 });
-    bench.say(rt, OPENED_AT, check);
-    bench.exchange(rt, OPENED_AT);
-    let answer = bench.initialisation(Initialisation::VersionAnswer {
+const STOP: Message = Message::Signal(SignalMessage::IndicatedAspect(Aspect::Stop));
+
+const SLOW: Message = Message::Signal(SignalMessage::IndicatedAspect(Aspect::Slow));
+
+const PROCEED: Message = Message::Signal(SignalMessage::IndicatedAspect(Aspect::Proceed));
+
+const FIRST_VERSION: Initialisation = Initialisation::VersionCheck { version: 1 };
+
+const CHECK: Message = Message::Initialisation(Protocol::LightSignal, FIRST_VERSION);
+
+const CHECK_OF_TWO: Message = Message::Initialisation(
+    Protocol::LightSignal,
+    Initialisation::VersionCheck { version: 2 },
+);
+
+const REQUEST: Message = Message::Initialisation(
+    Protocol::LightSignal,
+    Initialisation::InitialisationRequest,
+);
+
+const HAS_TWO: Message = Message::Initialisation(
+    Protocol::LightSignal,
+    Initialisation::VersionAnswer {
         agreement: Agreement::NoMatch,
         version: 2,
-    });
-    bench.hears(rt, "OC1", answer);
-    bench.hears_no_more(rt);
-    // Nothing more is taken: the right check comes out of the order.
-    let check = bench.initialisation(Initialisation::VersionCheck { version: 2 });
-    bench.say(rt, OPENED_AT, check);
-    bench.to_controller(rt, OPENED_AT);
-    bench.closes(rt, OPENED_AT, Reason::State.number());
-}
+    },
+);
+
+const SCRIPTS: &[Script] = &[
+    // The station checks version 1. Then nothing more is taken: the right check comes out of the order.
+    (
+        "version two answers a check for version one with its own",
+        Start::Connected(2),
+        &[
+            (OPENED_AT, Says(CHECK)),
+            (OPENED_AT, Exchanges),
+            (OPENED_AT, Hears("OC1", HAS_TWO)),
+            (OPENED_AT, HearsNoMore),
+            (OPENED_AT, Says(CHECK_OF_TWO)),
+            (OPENED_AT, Refuses(1)),
+        ],
+    ),
+    (
+        "version one takes no slow",
+        Start::Ready(1),
+        &[
+            (OPENED_AT, Says(INDICATE_PROCEED)),
+            (OPENED_AT, Exchanges),
+            (OPENED_AT, Has(Shown(Aspect::Proceed))),
+            (OPENED_AT, Says(INDICATE_SLOW)),
+            (OPENED_AT, Refuses(1)),
+            (OPENED_AT, Has(Shown(Aspect::Stop))),
+        ],
+    ),
+    (
+        "version two shows the aspect taken last",
+        Start::Ready(2),
+        &[
+            (OPENED_AT, Says(INDICATE_SLOW)),
+            (OPENED_AT, Exchanges),
+            (OPENED_AT, Has(Shown(Aspect::Slow))),
+            (OPENED_AT, Hears("OC1", SLOW)),
+            (OPENED_AT, Says(INDICATE_PROCEED)),
+            (OPENED_AT, Exchanges),
+            (OPENED_AT, Has(Shown(Aspect::Proceed))),
+            (OPENED_AT, Hears("OC1", PROCEED)),
+            (OPENED_AT, Says(INDICATE_SLOW)),
+            (OPENED_AT, Exchanges),
+            (OPENED_AT, Has(Shown(Aspect::Slow))),
+            (OPENED_AT, Hears("OC1", SLOW)),
+            (OPENED_AT, Says(INDICATE_STOP)),
+            (OPENED_AT, Exchanges),
+            (OPENED_AT, Has(Shown(Aspect::Stop))),
+            (OPENED_AT, Hears("OC1", STOP)),
+            (OPENED_AT, HearsNoMore),
+        ],
+    ),
+    // 45 bytes in a PDU of 83.
+    (
+        "another version is answered byte for byte",
+        Start::Connected(1),
+        &[
+            (OPENED_AT, Says(CHECK_OF_TWO)),
+            (OPENED_AT, ToController),
+            (OPENED_AT, Answers(NO_MATCH)),
+        ],
+    ),
+    // What the controller isn't to act on closes the link, and the lamp is at stop.
+    (
+        "an aspect in the name IXL2 closes",
+        Start::Ready(1),
+        &[
+            (OPENED_AT, SaysAs("IXL2", "OC1", INDICATE_PROCEED)),
+            (OPENED_AT, Refuses(1)),
+            (OPENED_AT, Has(Shown(Aspect::Stop))),
+        ],
+    ),
+    (
+        "an aspect in the name IXL closes",
+        Start::Ready(1),
+        &[
+            (OPENED_AT, SaysAs("IXL", "OC1", INDICATE_PROCEED)),
+            (OPENED_AT, Refuses(1)),
+            (OPENED_AT, Has(Shown(Aspect::Stop))),
+        ],
+    ),
+    (
+        "an aspect in the name IXL10 closes",
+        Start::Ready(1),
+        &[
+            (OPENED_AT, SaysAs("IXL10", "OC1", INDICATE_PROCEED)),
+            (OPENED_AT, Refuses(1)),
+            (OPENED_AT, Has(Shown(Aspect::Stop))),
+        ],
+    ),
+    (
+        "an aspect in the name OC1 closes",
+        Start::Ready(1),
+        &[
+            (OPENED_AT, SaysAs("OC1", "OC1", INDICATE_PROCEED)),
+            (OPENED_AT, Refuses(1)),
+            (OPENED_AT, Has(Shown(Aspect::Stop))),
+        ],
+    ),
+    (
+        "an aspect for another receiver closes",
+        Start::Ready(1),
+        &[
+            (OPENED_AT, SaysAs("IXL1", "OC2", INDICATE_PROCEED)),
+            (OPENED_AT, Refuses(1)),
+            (OPENED_AT, Has(Shown(Aspect::Stop))),
+        ],
+    ),
+    (
+        "a version check in another name closes",
+        Start::Connected(1),
+        &[
+            (OPENED_AT, SaysAs("IXL2", "OC1", CHECK)),
+            (OPENED_AT, Refuses(1)),
+            (OPENED_AT, Has(Shown(Aspect::Stop))),
+        ],
+    ),
+    // The telegrams of the initialisation are in each protocol; a signal takes those of its own alone.
+    (
+        "a version check in the protocol of points closes",
+        Start::Connected(1),
+        &[
+            (
+                OPENED_AT,
+                Says(Message::Initialisation(Protocol::Point, FIRST_VERSION)),
+            ),
+            (OPENED_AT, Refuses(1)),
+            (OPENED_AT, Has(Shown(Aspect::Stop))),
+        ],
+    ),
+    (
+        "a version check in the protocol of detectors closes",
+        Start::Connected(1),
+        &[
+            (
+                OPENED_AT,
+                Says(Message::Initialisation(Protocol::TrainDetection, FIRST_VERSION)),
+            ),
+            (OPENED_AT, Refuses(1)),
+            (OPENED_AT, Has(Shown(Aspect::Stop))),
+        ],
+    ),
+    (
+        "a telegram of another protocol closes",
+        Start::Ready(1),
+        &[
+            (
+                OPENED_AT,
+                Says(Message::Point(PointMessage::MovePoint(Side::Right))),
+            ),
+            (OPENED_AT, Refuses(1)),
+            (OPENED_AT, Has(Shown(Aspect::Stop))),
+        ],
+    ),
+    // The second check comes where the request is awaited: it is answered no more.
+    (
+        "a second version check closes",
+        Start::Connected(1),
+        &[
+            (OPENED_AT, Says(CHECK)),
+            (OPENED_AT, Exchanges),
+            (OPENED_AT, HearsOfOneVersion(1)),
+            (OPENED_AT, Says(CHECK)),
+            (OPENED_AT, Refuses(1)),
+            (OPENED_AT, Has(Shown(Aspect::Stop))),
+        ],
+    ),
+    (
+        "an aspect before the initialisation closes",
+        Start::Connected(1),
+        &[
+            (OPENED_AT, Says(CHECK)),
+            (OPENED_AT, Exchanges),
+            (OPENED_AT, Says(INDICATE_PROCEED)),
+            (OPENED_AT, Refuses(1)),
+            (OPENED_AT, Has(Shown(Aspect::Stop))),
+        ],
+    ),
+    // The last own stamp that came back is 100100, so proceed is shown until 101900, with no step between. The loss is told before
+    // anything else: nothing is left of proceed.
+    (
+        "proceed is reported once, and falls by the clock",
+        Start::Ready(1),
+        &[
+            (100100, Senses(Sense::Section(0, Occupancy::Clear))),
+            (100100, Says(INDICATE_STOP)),
+            (100100, Exchanges),
+            (100100, Says(INDICATE_PROCEED)),
+            (100100, Exchanges),
+            (100100, Hears("OC1", STOP)),
+            (100100, Hears("OC1", PROCEED)),
+            (100100, HearsNoMore),
+            (101899, Has(Shown(Aspect::Proceed))),
+            (101900, Has(Shown(Aspect::Stop))),
+            (101900, Senses(Sense::Section(0, Occupancy::Clear))),
+            (0, Has(Shown(Aspect::Stop))),
+        ],
+    ),
+];
 
 #[test]
-fn version_one_takes_no_slow(rt: HostRuntime) {
-    let rt = &rt;
-    let mut bench = Bench::ready(rt, rt.alloc(), Signal::new());
-    bench.say(rt, OPENED_AT, indicate(Aspect::Proceed));
-    bench.exchange(rt, OPENED_AT);
-    shows(rt, &bench, Aspect::Proceed);
-    bench.say(rt, OPENED_AT, indicate(Aspect::Slow));
-    bench.to_controller(rt, OPENED_AT);
-    bench.closes(rt, OPENED_AT, Reason::State.number());
-    shows(rt, &bench, Aspect::Stop);
-}
-
-#[test]
-fn version_two_shows_the_aspect_taken_last(rt: HostRuntime) {
-    let rt = &rt;
-    let mut bench = Bench::ready_in_version(rt, rt.alloc(), Signal::new(), 2);
-    for aspect in [Aspect::Slow, Aspect::Proceed, Aspect::Slow, Aspect::Stop] {
-        bench.say(rt, OPENED_AT, indicate(aspect));
-        bench.exchange(rt, OPENED_AT);
-        shows(rt, &bench, aspect);
-        bench.hears(rt, "OC1", indicated(aspect));
+fn what_a_commanded_signal_does(rt: HostRuntime) {
+    for script in SCRIPTS {
+        let (name, start, rows) = *script;
+        let mut bench = Bench::begun(&rt, rt.alloc(), Signal::new(), start);
+        bench.plays(&rt, name, rows);
     }
-    bench.hears_no_more(rt);
 }
 
-/// What the controller isn't to act on closes the link, and the lamp is at stop.
-fn refuses(rt: &impl Abort, bench: &mut Bench<Signal>) {
-    bench.to_controller(rt, OPENED_AT);
-    bench.closes(rt, OPENED_AT, 1);
-    shows(rt, bench, Aspect::Stop);
-}
+/// The example is taken.
+const TAKEN: &[Row] = &[
+    (OPENED_AT, Exchanges),
+    (OPENED_AT, Has(Shown(Aspect::Proceed))),
+];
 
-#[test]
-fn an_aspect_in_another_name_than_the_stations_closes(rt: HostRuntime) {
-    let rt = &rt;
-    for sender in ["IXL2", "IXL", "IXL10", "OC1"] {
-        let mut bench = Bench::ready(rt, rt.alloc(), Signal::new());
-        bench.say_as(rt, sender, "OC1", indicate(Aspect::Proceed));
-        refuses(rt, &mut bench);
-    }
-}
-
-#[test]
-fn a_version_check_in_another_name_closes(rt: HostRuntime) {
-    let rt = &rt;
-    let mut bench = Bench::new(rt, rt.alloc(), Signal::new());
-    bench.connect(rt);
-    let check = bench.initialisation(Initialisation::VersionCheck { version: 1 });
-    bench.say_as(rt, "IXL2", "OC1", check);
-    refuses(rt, &mut bench)
-}
-
-/// The telegrams of the initialisation are in each protocol; a signal takes those of its own alone.
-#[test]
-fn an_initialisation_in_another_protocol_closes(rt: HostRuntime) {
-    let rt = &rt;
-    for protocol in [Protocol::Point, Protocol::TrainDetection] {
-        let mut bench = Bench::new(rt, rt.alloc(), Signal::new());
-        bench.connect(rt);
-        let check = Initialisation::VersionCheck { version: 1 };
-        bench.say(rt, OPENED_AT, Message::Initialisation(protocol, check));
-        refuses(rt, &mut bench);
-    }
-}
-
-#[test]
-fn a_telegram_of_another_protocol_closes(rt: HostRuntime) {
-    let rt = &rt;
-    let mut bench = Bench::ready(rt, rt.alloc(), Signal::new());
-    let right = Message::Point(PointMessage::MovePoint(Side::Right));
-    bench.say(rt, OPENED_AT, right);
-    refuses(rt, &mut bench)
-}
-
-/// The second check comes where the request is awaited: it is answered no more.
-#[test]
-fn a_second_version_check_closes(rt: HostRuntime) {
-    let rt = &rt;
-    let mut bench = Bench::new(rt, rt.alloc(), Signal::new());
-    bench.connect(rt);
-    let check = bench.initialisation(Initialisation::VersionCheck { version: 1 });
-    bench.say(rt, OPENED_AT, check);
-    bench.exchange(rt, OPENED_AT);
-    bench.hears_of_one_version(rt);
-    bench.say(rt, OPENED_AT, check);
-    refuses(rt, &mut bench)
-}
-
-/// 45 bytes in a PDU of 83.
-#[test]
-fn another_version_is_answered_byte_for_byte(rt: HostRuntime) {
-    let rt = &rt;
-    let mut bench = Bench::new(rt, rt.alloc(), Signal::new());
-    bench.connect(rt);
-    let check = bench.initialisation(Initialisation::VersionCheck { version: 2 });
-    bench.say(rt, OPENED_AT, check);
-    bench.to_controller(rt, OPENED_AT);
-    let mut expected = [b'_'; 45];
-    expected[..3].copy_from_slice(&[0x30, 0x25, 0x00]);
-    expected[3..6].copy_from_slice(b"OC1");
-    expected[23..27].copy_from_slice(b"IXL1");
-    expected[43..].copy_from_slice(&[0x01, 0x01]);
-    let datagram = bench.answer(rt);
-    assert!(rt; datagram.len() == 83);
-    assert!(rt; &datagram[30..75] == expected.as_slice());
-}
-
-#[test]
-fn an_aspect_before_the_initialisation_closes(rt: HostRuntime) {
-    let rt = &rt;
-    let mut bench = Bench::new(rt, rt.alloc(), Signal::new());
-    bench.connect(rt);
-    let check = bench.initialisation(Initialisation::VersionCheck { version: 1 });
-    bench.say(rt, OPENED_AT, check);
-    bench.exchange(rt, OPENED_AT);
-    bench.say(rt, OPENED_AT, indicate(Aspect::Proceed));
-    refuses(rt, &mut bench)
-}
-
-#[test]
-fn an_aspect_for_another_receiver_closes(rt: HostRuntime) {
-    let rt = &rt;
-    let mut bench = Bench::ready(rt, rt.alloc(), Signal::new());
-    bench.say_as(rt, "IXL1", "OC2", indicate(Aspect::Proceed));
-    refuses(rt, &mut bench)
-}
-
-/// The last own stamp that came back is 100100, so proceed is shown until 101900, with no step between.
-#[test]
-fn proceed_is_reported_once_and_falls_by_the_clock(rt: HostRuntime) {
-    let rt = &rt;
-    let mut bench = Bench::ready(rt, rt.alloc(), Signal::new());
-    bench.sense(rt, 100100, Sense::Section(0, Occupancy::Clear));
-    bench.say(rt, 100100, indicate(Aspect::Stop));
-    bench.exchange(rt, 100100);
-    bench.say(rt, 100100, indicate(Aspect::Proceed));
-    bench.exchange(rt, 100100);
-    bench.hears(rt, "OC1", indicated(Aspect::Stop));
-    bench.hears(rt, "OC1", indicated(Aspect::Proceed));
-    bench.hears_no_more(rt);
-    shows_at(rt, &bench, 101899, Aspect::Proceed);
-    shows_at(rt, &bench, 101900, Aspect::Stop);
-    // The loss is told before anything else: nothing is left of proceed.
-    bench.sense(rt, 101900, Sense::Section(0, Occupancy::Clear));
-    shows_at(rt, &bench, 0, Aspect::Stop);
-}
+const REFUSED: &[Row] = &[
+    (OPENED_AT, Refuses(1)),
+    (OPENED_AT, Has(Shown(Aspect::Stop))),
+];
 
 #[test]
 fn the_example_shows_proceed_and_each_damaged_form_of_it_closes(rt: HostRuntime) {
     let rt = &rt;
-    let mut last = EXAMPLE;
-    last[60] = 0xFE;
-    let mut first = EXAMPLE;
-    first[0] = 0x31;
-    let damaged = [
-        last.as_slice(),
-        first.as_slice(),
-        &EXAMPLE[..60],
-        &EXAMPLE[..1],
-    ];
-    for bytes in damaged {
-        let mut bench = Bench::ready(rt, rt.alloc(), Signal::new());
-        bench.say_bytes(rt, &EXAMPLE);
-        bench.exchange(rt, OPENED_AT);
-        shows(rt, &bench, Aspect::Proceed);
-        bench.say_bytes(rt, bytes);
-        refuses(rt, &mut bench);
+    let example = Item::of(&EXAMPLE).expect(rt, "an item");
+    // How many of its bytes are left, and another byte at a place.
+    for (length, place, byte) in [(61, 60, 0xFE), (61, 0, 0x31), (60, 0, 0x30), (1, 0, 0x30)] {
+        let mut bytes = EXAMPLE;
+        bytes[place] = byte;
+        let (damaged, _) = bytes.split_at(length);
+        let damaged = Item::of(damaged).expect(rt, "an item");
+        let mut bench = Bench::begun(rt, rt.alloc(), Signal::new(), Start::Ready(1));
+        bench.says(rt, OPENED_AT, &example);
+        bench.plays(rt, "the example", TAKEN);
+        bench.says(rt, OPENED_AT, &damaged);
+        bench.plays(rt, "a damaged form", REFUSED);
     }
 }
 
 /// Four items of the initialisation and sixteen reports fill the window. The next report stays owed, a later one takes
 /// its place, and it is sent once the station has confirmed.
+const FULL: &[Row] = &[
+    (OPENED_AT, ToController),
+    (OPENED_AT, HandsOut(20)),
+    (OPENED_AT, Says(INDICATE_STOP)),
+    (OPENED_AT, Says(INDICATE_PROCEED)),
+    (OPENED_AT, ToController),
+    (OPENED_AT, HandsOut(20)),
+    (OPENED_AT, Has(Shown(Aspect::Proceed))),
+    (OPENED_AT, ToStation),
+    (OPENED_AT, Forgets),
+    (100400, Confirms),
+    (100400, HandsOut(1)),
+    (100400, ToStation),
+];
+
 #[test]
 fn a_report_waits_for_the_window(rt: HostRuntime) {
     let rt = &rt;
-    let mut bench = Bench::new(rt, rt.alloc(), Signal::new());
-    bench.connect(rt);
-    let check = bench.initialisation(Initialisation::VersionCheck { version: 1 });
-    bench.say(rt, OPENED_AT, check);
-    let request = bench.initialisation(Initialisation::InitialisationRequest);
-    bench.say(rt, OPENED_AT, request);
-    for _ in 0..16 {
-        bench.say(rt, OPENED_AT, indicate(Aspect::Stop));
-    }
-    bench.to_controller(rt, OPENED_AT);
-    assert!(rt; bench.handed_out() == 20);
-    bench.say(rt, OPENED_AT, indicate(Aspect::Stop));
-    bench.say(rt, OPENED_AT, indicate(Aspect::Proceed));
-    bench.to_controller(rt, OPENED_AT);
-    assert!(rt; bench.handed_out() == 20);
-    shows(rt, &bench, Aspect::Proceed);
-    bench.to_station(rt, OPENED_AT);
-    bench.forget();
-    bench.confirm(rt, 100400);
-    assert!(rt; bench.handed_out() == 1);
-    bench.to_station(rt, 100400);
-    bench.hears(rt, "OC1", indicated(Aspect::Proceed));
-    bench.hears_no_more(rt);
+    let mut bench = Bench::begun(rt, rt.alloc(), Signal::new(), Start::Connected(1));
+    bench.plays(
+        rt,
+        "asked",
+        &[(OPENED_AT, Says(CHECK)), (OPENED_AT, Says(REQUEST))],
+    );
+    bench.plays(rt, "sixteen", &[(OPENED_AT, Says(INDICATE_STOP)); 16]);
+    bench.plays(rt, "full", FULL);
+    bench.plays(
+        rt,
+        "confirmed",
+        &[(100400, Hears("OC1", PROCEED)), (100400, HearsNoMore)],
+    );
 }
