@@ -1,30 +1,49 @@
-//! Runs stored event files and recorded sessions, each on a new station, and prints what they answer. The file `runs` names
-//! in each line what is done, the layout and the file:
+//! Carries out stored files, each on a new station or a new pair, and prints what they answer. The file `runs` names in
+//! each line what is done, and the files with which it is done. Of stations:
 //!
 //! - `sim LAYOUT EVENTS`: the lines of a file are carried out, and answered one by one;
 //! - `replay LAYOUT SESSION`: a recorded session is applied again;
 //! - `each-sim LAYOUT EVENTS` and `each-replay LAYOUT SESSION`: so with each line of a file, as if it stood alone;
 //! - `script LAYOUT SCRIPT`: a script is judged.
 //!
+//! Of layouts, most of them a small station with a change:
+//!
+//! - `report CASES`: what `station check` writes, and its status;
+//! - `commented CASES`: the same of the text behind many lines of comment;
+//! - `contents CASES`: what the layout reads from the text, and what the control table says of each route.
+//!
+//! An empty line parts two cases. The first line of a case names a layout of the folder `layouts`, and says behind a colon
+//! what is so in it. Each line `-OLD` behind it, with a line `+NEW`, puts NEW in place of the first OLD in its text.
+//!
+//! Of pairs:
+//!
+//! - `pair TEXT`: the lines of a text are carried out, and answered one by one;
+//! - `each-pair FRAME LINES`: so with the text of a frame, once for each line of a file, which comes in place of its word
+//!   `LINE`.
+//!
 //! Behind the line comes what was written, and last the status.
 #![tactic(auto)]
 
+mod cases;
+mod contents;
+mod failure;
+mod files;
+mod pairs;
+mod report;
 mod runs;
+mod stations;
+mod status;
 
-use crate::runs::carry_out;
-use std::fs;
-use std::io::{BufWriter, Write};
+use crate::runs::carry_out_all;
+use std::process::ExitCode;
 
-/// The file that names what is run.
-const RUNS: &str = "runs";
-
-fn main(rt: HostRuntime) -> anyhow::Result<()> {
-    let runs = fs::read_to_string(&rt, RUNS)?;
-    let mut out = BufWriter::new(rt.alloc(), rt.stdout())?;
-    for line in runs.as_str().lines() {
-        out.writeln(line)?;
-        carry_out(&rt, line, &mut out)?;
+fn main(rt: HostRuntime) -> ExitCode {
+    match carry_out_all(&rt) {
+        Ok(()) => ExitCode::SUCCESS,
+        Err(failure) => {
+            // Where this can't be written, the status has to do.
+            let _ = eprintln!(rt; "{}", failure.text());
+            ExitCode::FAILURE
+        }
     }
-    out.flush()?;
-    Ok(())
 }

@@ -2,9 +2,9 @@
 
 ghost use Rattle.std.specs.Prelude.{◌<◌, length};
 
-use anyhow::Context;
-use control_table::layout::{Layout, Route, RouteId};
-use control_table::{Checked, check};
+use crate::failure::Failure;
+use station_sim::control_table::{Checked, check};
+use station_sim::layout::{Layout, Route, RouteId};
 use std::alloc::Global;
 use std::io;
 use std::io::Write;
@@ -14,14 +14,28 @@ pub(crate) fn show_contents<W: Write>(
     alloc: Global,
     text: &str,
     out: &mut W,
-) -> anyhow::Result<()> {
-    let layout = Layout::read(alloc, text).ok().context("no layout")?;
-    let layout = layout.copy(alloc)?;
+) -> Result<(), Failure> {
+    let layout = read_copy(alloc, text)?;
     show_layout(&layout, out)?;
-    let table = check(alloc, layout).ok().context("no sound table")?;
-    let table = table.copy(alloc)?;
+    let table = check_copy(alloc, layout)?;
     show_table(&table, out)?;
     Ok(())
+}
+
+/// A copy of the layout that a text has.
+fn read_copy(alloc: Global, text: &str) -> Result<Layout, Failure> {
+    let Ok(layout) = Layout::read(alloc, text) else {
+        return Err(Failure::Layout);
+    };
+    Ok(layout.copy(alloc)?)
+}
+
+/// A copy of the table of a layout.
+fn check_copy(alloc: Global, layout: Layout) -> Result<Checked, Failure> {
+    let Ok(table) = check(alloc, layout) else {
+        return Err(Failure::Layout);
+    };
+    Ok(table.copy(alloc)?)
 }
 
 /// Writes the station, how many entries there are of each kind, the identities of the points, and the routes.
