@@ -20,7 +20,7 @@ crates, room, words = os.path.realpath(sys.argv[1]), sys.argv[2], sys.argv[3:]
 STATION = os.environ.get("STATION", f"{crates}/station/out/station")
 STEP, JOBS = int(os.environ.get("STEP", 1)), int(os.environ.get("JOBS", os.cpu_count() or 1))
 WANT = re.compile(rb"(out of memory|session fault 7 at line \d+|layout fault 8 OutOfMemory|table fault 10 OutOfMemory)\n")
-SMALL = f"{crates}/station_files/data/small.toml"
+SMALL = f"{crates}/stored_runs/data/small.toml"
 EVENTS = "flow 7000\nresume\nset R1\nflow 200\nreach P1 right\nflow 300\noccupy GA\nrestart S1 7000 5\npicture\n"
 SCRIPT = "at 300 occupy GA\nat 500 resume\nat 700 clear GA\n"
 
@@ -34,7 +34,7 @@ def stored(name, text):
 def short_ones():
     """A command of each kind."""
     events, script = stored("events", EVENTS), stored("script", SCRIPT)
-    session = f"{crates}/station_files/data/proceed.session"
+    session = f"{crates}/stored_runs/data/proceed.session"
     return [["--help"], ["check", SMALL], ["sim", SMALL, events], ["replay", SMALL, session],
             ["run", SMALL, "--script", script, "--record", "record", "--for", "1000"]]
 

@@ -1,7 +1,7 @@
 #!/usr/bin/env python3
 """Makes each node of a station anew after every event of recorded runs, and looks at a picture after every event.
 
-The runs are the sessions `proceed`, `lost_stop` and `passage` of crates/station_files/data: a route at proceed, its cancel with
+The runs are the sessions `proceed`, `lost_stop` and `passage` of crates/stored_runs/data: a route at proceed, its cancel with
 the stop lost, a train. A session is played by the built program `station` up to an event, from the first request of a route on;
 then the node is made anew; then the rest follows, and 80 times 100 ms of flow, in which the route is cancelled and another one
 asked for. A node is made anew with clock and number 0, with its clock and number 0, and with its clock and the number behind
@@ -15,7 +15,7 @@ import os, subprocess, sys, tempfile
 from concurrent.futures import ThreadPoolExecutor
 
 HERE = os.path.dirname(os.path.dirname(os.path.abspath(__file__)))
-DATA = f"{HERE}/crates/station_files/data"
+DATA = f"{HERE}/crates/stored_runs/data"
 SMALL = ["IXL1", "S1", "S3", "S4", "P1", "D1"]
 IDS = {"IXL1": 1, "S1": 2, "S3": 3, "S4": 4, "P1": 10, "D1": 20}
 JUNCTION = ["JUNCTION", "S1", "S2", "S3", "S4", "S5", "S6", "S7", "P1", "P2", "P3", "P4", "P5", "D1", "D2"]

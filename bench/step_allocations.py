@@ -8,7 +8,7 @@ usage: python3 bench/step_allocations.py [STATION], otherwise crates/station/out
 import os, subprocess, sys, tempfile
 
 BENCH = os.path.dirname(os.path.abspath(__file__))
-DATA = f"{BENCH}/../crates/station_files/data"
+DATA = f"{BENCH}/../crates/stored_runs/data"
 STATION = sys.argv[1] if len(sys.argv) > 1 else f"{BENCH}/../crates/station/out/station"
 SESSIONS = ("proceed", "lost_report", "lost_stop", "dead_link", "passage", "approach")
 GROWTHS = 4
