@@ -1,7 +1,8 @@
 //! Changes of a text, drawn from a seed.
 
 use chance::Chance;
-use std::alloc::{AllocError, Global};
+use std::alloc::Global;
+use std::process::Abort;
 
 /// Words that layouts have, or nearly.
 const WORDS: [&str; 32] = [
@@ -53,13 +54,9 @@ struct Part<'a> {
     back: &'a [u8],
 }
 
-/// Parts one after another.
-fn joined(alloc: Global, parts: &[&[u8]]) -> Result<Vec<u8>, AllocError> {
-    let mut whole = Vec::new(alloc);
-    for part in parts {
-        whole.extend_from_slice(part)?;
-    }
-    Ok(whole)
+/// Appends bytes.
+fn append(rt: &impl Abort, text: &mut Vec<u8>, bytes: &[u8]) {
+    assert!(rt; text.extend_from_slice(bytes).is_ok(), "there is memory");
 }
 
 impl Changes {
@@ -71,34 +68,46 @@ impl Changes {
 
     /// A text with up to two changes. Some bytes are left out, and a word, or bytes from elsewhere, stand in their place; or a
     /// list or an entry is emptied, or stands twice.
-    pub(crate) fn changed(&mut self, alloc: Global, text: &str) -> Result<Vec<u8>, AllocError> {
-        let mut bytes = Vec::from_slice(alloc, text.as_bytes())?;
+    pub(crate) fn changed(&mut self, rt: &impl Abort, alloc: Global, text: &str) -> Vec<u8> {
+        let mut bytes = Vec::new(alloc);
+        append(rt, &mut bytes, text.as_bytes());
         let changes = 1 + self.chance.below(2);
         for _ in 0..changes {
-            bytes = match self.chance.below(8) {
-                0 => self.with_part_emptied(alloc, &bytes)?,
-                1 => self.with_part_twice(alloc, &bytes)?,
-                _ => self.with_change(alloc, &bytes)?,
-            };
+            let mut changed = Vec::new(alloc);
+            self.change(rt, &bytes, &mut changed);
+            bytes = changed;
         }
-        Ok(bytes)
+        bytes
+    }
+
+    /// Appends a text with one change.
+    fn change(&mut self, rt: &impl Abort, bytes: &[u8], changed: &mut Vec<u8>) {
+        match self.chance.below(8) {
+            0 => self.empty_part(rt, bytes, changed),
+            1 => self.double_part(rt, bytes, changed),
+            _ => self.change_bytes(rt, bytes, changed),
+        }
     }
 
     /// A text without what stands between two brackets: so a detector has no sections, or an entry no fields.
-    fn with_part_emptied(&mut self, alloc: Global, bytes: &[u8]) -> Result<Vec<u8>, AllocError> {
+    fn empty_part(&mut self, rt: &impl Abort, bytes: &[u8], changed: &mut Vec<u8>) {
         let part = self.part(bytes);
         let (bracket, _) = part.inner.split_at(part.inner.len().min(1));
-        joined(alloc, &[part.front, bracket, part.back])
+        append(rt, changed, part.front);
+        append(rt, changed, bracket);
+        append(rt, changed, part.back);
     }
 
     /// A text in which what stands between two brackets stands twice: so a port is joined twice, or a name given twice.
-    fn with_part_twice(&mut self, alloc: Global, bytes: &[u8]) -> Result<Vec<u8>, AllocError> {
+    fn double_part(&mut self, rt: &impl Abort, bytes: &[u8], changed: &mut Vec<u8>) {
         let part = self.part(bytes);
         let (bracket, _) = part.back.split_at(part.back.len().min(1));
-        joined(
-            alloc,
-            &[part.front, part.inner, bracket, b",", part.inner, part.back],
-        )
+        append(rt, changed, part.front);
+        append(rt, changed, part.inner);
+        append(rt, changed, bracket);
+        append(rt, changed, b",");
+        append(rt, changed, part.inner);
+        append(rt, changed, part.back);
     }
 
     /// Some list or entry of a text that has no further one in it, as a rule.
@@ -116,19 +125,19 @@ impl Changes {
         Part { front, inner, back }
     }
 
-    fn with_change(&mut self, alloc: Global, bytes: &[u8]) -> Result<Vec<u8>, AllocError> {
+    /// A text in which something stands in the place of up to 11 bytes.
+    fn change_bytes(&mut self, rt: &impl Abort, bytes: &[u8], changed: &mut Vec<u8>) {
         let (front, rest) = self.parted(bytes);
         let left_out = self.chance.place(12).min(rest.len());
         let (_, back) = rest.split_at(left_out);
-        let mut changed = Vec::from_slice(alloc, front)?;
+        append(rt, changed, front);
         match self.chance.below(8) {
-            0 => changed.extend_from_slice(self.piece(bytes))?,
-            1 => changed.push(self.chance.byte())?,
+            0 => append(rt, changed, self.piece(bytes)),
+            1 => append(rt, changed, &[self.chance.byte()]),
             2 | 3 => {}
-            _ => changed.extend_from_slice(WORDS[self.chance.place(32) % 32].as_bytes())?,
+            _ => append(rt, changed, WORDS[self.chance.place(32) % 32].as_bytes()),
         }
-        changed.extend_from_slice(back)?;
-        Ok(changed)
+        append(rt, changed, back);
     }
 
     /// Bytes in two parts.

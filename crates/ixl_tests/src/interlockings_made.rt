@@ -1,29 +1,15 @@
 //! How an interlocking is made, and made anew. What takes memory is done again where it is lacking, so the tests also
 //! hold with any one allocation refused.
 
+use crate::layouts::SMALL;
 use ixl::{Input, Interlocking};
 use ixl_state::State;
 use ixl_state::control_table::{Checked, TableFault, check};
 use ixl_state::ixl_table::Table;
 use ixl_state::layout::{Layout, LayoutFault};
 use ixl_state::rasta_core::Millis;
-use std::alloc::{AllocError, Global};
+use std::alloc::Global;
 use std::process::Abort;
-use std::test::Fail;
-
-/// One point, with a route over each of its legs from the same signal.
-const SMALL: &str = "section = [\"GA\", \"GP\", \"G1\", \"G2\"]
-border = [\"W\", \"E1\", \"E2\"]
-joint = [[\"W.end\",\"A1.a\"], [\"A1.b\",\"P1.tip\"], [\"P1.left\",\"T1.a\"], [\"P1.right\",\"T2.a\"], [\"T1.b\",\"E1.end\"], [\"T2.b\",\"E2.end\"]]
-track = [{name=\"A1\",section=\"GA\"}, {name=\"T1\",section=\"G1\"}, {name=\"T2\",section=\"G2\"}]
-point = [{name=\"P1\",id=10,section=\"GP\"}]
-signal = [{name=\"S1\",id=2,at=\"A1.b\"}, {name=\"S3\",id=3,at=\"T1.a\"}, {name=\"S4\",id=4,at=\"T2.a\"}]
-detector = [{name=\"D1\",id=20,sections=[\"GA\",\"GP\",\"G1\",\"G2\"]}]
-route = [{name=\"R1\",entry=\"S1\",exit=\"E2\",path=[\"P1.right\",\"T2.b\"],points={P1=\"right\"},approach=[\"GA\"]}, {name=\"R2\",entry=\"S1\",exit=\"E1\",path=[\"P1.left\",\"T1.b\"],points={P1=\"left\"},approach=[\"GA\"]}]
-[station]
-name = \"IXL1\"
-id = 1
-";
 
 /// When all nodes are made: links can be opened 6000 ms later.
 pub(crate) const MADE_AT: Millis = 94000;
@@ -67,66 +53,68 @@ pub(crate) fn interlocking(rt: &impl Abort, alloc: Global) -> Interlocking {
     }
 }
 
-/// The later of two tries, where the first one lacked memory.
-fn made<T: Drop>(rt: &impl Abort, first: Result<T, AllocError>, again: Result<T, AllocError>) -> T {
-    match first {
+fn made_table(rt: &impl Abort, alloc: Global) -> Table {
+    match Table::new(alloc, table(rt, alloc)) {
         Ok(made) => made,
-        Err(_) => again.expect(rt, "there is memory"),
+        Err(_) => Table::new(alloc, table(rt, alloc)).expect(rt, "there is memory"),
     }
 }
 
-#[test]
-fn a_table_has_a_row_for_each_route(rt: HostRuntime) -> Result<(), Fail> {
-    let (rt, alloc) = (&rt, rt.alloc());
-    let first = Table::new(alloc, table(rt, alloc));
-    let again = Table::new(alloc, table(rt, alloc));
-    let table = made(rt, first, again);
-    assert!(rt; table.rows().len() == 2);
-    Ok(())
+fn made_state(rt: &impl Abort, alloc: Global) -> State {
+    match State::new(alloc, table(rt, alloc), 0, MADE_AT) {
+        Ok(made) => made,
+        Err(_) => {
+            let again = State::new(alloc, table(rt, alloc), 0, MADE_AT);
+            again.expect(rt, "there is memory")
+        }
+    }
+}
+
+/// How many signals, points and detectors a state has controllers of.
+fn controllers(state: &State) -> (usize, usize, usize) {
+    let field = state.field();
+    (field.signals(), field.points(), field.detectors())
 }
 
 #[test]
-fn a_state_has_a_controller_for_each_object(rt: HostRuntime) -> Result<(), Fail> {
-    let (rt, alloc) = (&rt, rt.alloc());
-    let first = State::new(alloc, table(rt, alloc), 0, MADE_AT);
-    let again = State::new(alloc, table(rt, alloc), 0, MADE_AT);
-    let state = made(rt, first, again);
-    assert!(rt; state.field().signals() == 3);
-    assert!(rt; state.field().points() == 1);
-    assert!(rt; state.field().detectors() == 1);
-    Ok(())
+fn a_table_has_a_row_for_each_route(rt: HostRuntime) {
+    assert!(rt; made_table(&rt, rt.alloc()).rows().len() == 2);
 }
 
 #[test]
-fn an_interlocking_holds_at_first(rt: HostRuntime) -> Result<(), Fail> {
-    let (rt, alloc) = (&rt, rt.alloc());
-    let ixl = interlocking(rt, alloc);
-    assert!(rt; ixl.holding(OPENED_AT - 1));
-    assert!(rt; !ixl.holding(OPENED_AT));
-    assert!(rt; ixl.outbox().is_empty());
-    Ok(())
+fn a_state_has_a_controller_for_each_object(rt: HostRuntime) {
+    assert!(rt; controllers(&made_state(&rt, rt.alloc())) == (3, 1, 1));
 }
 
 /// Makes it anew. Where memory is lacking nothing has changed, and it is asked once more.
 fn restart(rt: &impl Abort, ixl: &mut Interlocking, alloc: Global, now: Millis) {
     let before = ixl.outbox().len();
     if ixl.restart(alloc, 0, now).is_err() {
-        assert!(rt; ixl.outbox().len() == before);
-        assert!(rt; !ixl.holding(now));
+        assert!(rt; is_holding(ixl, now, before) == (false, true));
         ixl.restart(alloc, 0, now).expect(rt, "there is memory");
     }
 }
 
+/// Whether it holds, and whether it hands out so many datagrams.
+fn is_holding(ixl: &Interlocking, now: Millis, datagrams: usize) -> (bool, bool) {
+    (ixl.holding(now), ixl.outbox().len() == datagrams)
+}
+
+/// A tick of it.
+pub(crate) fn tick(rt: &impl Abort, ixl: &mut Interlocking, now: Millis) {
+    assert!(rt; ixl.may_step(now));
+    ixl.step(now, Input::Tick);
+}
+
 #[test]
-fn an_interlocking_made_anew_holds(rt: HostRuntime) -> Result<(), Fail> {
+fn an_interlocking_holds_at_first_and_made_anew(rt: HostRuntime) {
     let (rt, alloc) = (&rt, rt.alloc());
     let mut ixl = interlocking(rt, alloc);
-    assert!(rt; ixl.may_step(OPENED_AT));
-    ixl.step(OPENED_AT, Input::Tick);
-    assert!(rt; ixl.outbox().len() == 5);
+    assert!(rt; is_holding(&ixl, OPENED_AT - 1, 0) == (true, true));
+    assert!(rt; is_holding(&ixl, OPENED_AT, 0) == (false, true));
+    tick(rt, &mut ixl, OPENED_AT);
+    assert!(rt; is_holding(&ixl, OPENED_AT, 5) == (false, true));
     restart(rt, &mut ixl, alloc, OPENED_AT);
-    assert!(rt; ixl.outbox().is_empty());
-    assert!(rt; ixl.holding(OPENED_AT + 5999));
-    assert!(rt; !ixl.holding(OPENED_AT + 6000));
-    Ok(())
+    assert!(rt; is_holding(&ixl, OPENED_AT + 5999, 0) == (true, true));
+    assert!(rt; is_holding(&ixl, OPENED_AT + 6000, 0) == (false, true));
 }

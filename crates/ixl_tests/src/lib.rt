@@ -14,6 +14,8 @@ mod initialisation;
 #[cfg(test)]
 mod interlockings_made;
 #[cfg(test)]
+mod layouts;
+#[cfg(test)]
 mod locks;
 #[cfg(test)]
 mod releases;

@@ -1,28 +1,25 @@
 //! Two routes that need one point at different sides, and a third that holds it too.
 
-use ixl_state::control_table::check;
-use ixl_state::layout::{Layout, PointId, RouteId};
+use crate::layouts::{BETWEEN, checked};
+use crate::locks::Step::{Frees, IsHeld, Refuses, Sets};
+use ixl_state::layout::{PointId, RouteId};
 use ixl_state::sci_telegram::Side;
 use route_lock::{LockFault, Locks};
-use std::test::Fail;
+use std::alloc::Global;
+use std::process::Abort;
 
-/// Q lies between the unused legs of P1 and P2. Route a needs it right, b left, and d leads over it to the right.
-const BETWEEN: &str = "section = [\"GA\", \"G1\", \"GB\", \"G2\", \"GQ\", \"GN\"]
-border = [\"W1\", \"E1\", \"W2\", \"E2\", \"N\"]
-joint = [[\"W1.end\",\"A1.a\"], [\"A1.b\",\"P1.tip\"], [\"P1.right\",\"E1.end\"], [\"W2.end\",\"A2.a\"], [\"A2.b\",\"P2.tip\"], [\"P2.right\",\"E2.end\"], [\"Q.left\",\"P1.left\"], [\"Q.right\",\"P2.left\"], [\"N.end\",\"A3.a\"], [\"A3.b\",\"Q.tip\"]]
-track = [{name=\"A1\",section=\"GA\"}, {name=\"A2\",section=\"GB\"}, {name=\"A3\",section=\"GN\"}]
-point = [{name=\"P1\",id=10,section=\"G1\"}, {name=\"P2\",id=11,section=\"G2\"}, {name=\"Q\",id=12,section=\"GQ\"}]
-signal = [{name=\"S1\",id=2,at=\"A1.b\"}, {name=\"S2\",id=3,at=\"A2.b\"}, {name=\"S3\",id=4,at=\"A3.b\"}, {name=\"S4\",id=5,at=\"Q.right\"}]
-detector = [{name=\"D1\",id=20,sections=[\"GA\",\"G1\",\"GB\",\"G2\",\"GQ\",\"GN\"]}]
-route = [{name=\"a\",entry=\"S1\",exit=\"E1\",path=[\"P1.right\"],points={P1=\"right\"},flank={Q=\"right\"}}, {name=\"b\",entry=\"S2\",exit=\"E2\",path=[\"P2.right\"],points={P2=\"right\"},flank={Q=\"left\"}}, {name=\"d\",entry=\"S3\",exit=\"S4\",path=[\"Q.right\"],points={Q=\"right\"},flank={P1=\"right\"}}]
-[station]
-name = \"IXL1\"
-id = 1
-";
+/// What happens to the locks, or what is so of them.
+#[derive(Clone, Copy)]
+enum Step {
+    Sets(usize),
+    Refuses(usize, LockFault),
+    Frees(usize),
+    /// A point is held at a side, or at none.
+    IsHeld(PointId, Option<Side>),
+}
 
 /// Sets a route, if it is there and not set.
-fn set(locks: &mut Locks, route: usize) -> Option<Result<(), LockFault>> {
-    let route = RouteId(route);
+fn set(locks: &mut Locks, route: RouteId) -> Option<Result<(), LockFault>> {
     if route.0 >= locks.table().layout().routes().len() || locks.held(route) {
         return None;
     }
@@ -30,27 +27,48 @@ fn set(locks: &mut Locks, route: usize) -> Option<Result<(), LockFault>> {
 }
 
 /// Frees a route, if it is there.
-fn free(locks: &mut Locks, route: usize) {
-    let route = RouteId(route);
-    if route.0 < locks.table().layout().routes().len() {
+fn free(locks: &mut Locks, route: RouteId) -> bool {
+    let is_there = route.0 < locks.table().layout().routes().len();
+    if is_there {
         locks.free(route);
+    }
+    is_there
+}
+
+fn is_so(locks: &mut Locks, step: Step) -> bool {
+    match step {
+        Sets(route) => set(locks, RouteId(route)) == Some(Ok(())),
+        Refuses(route, fault) => set(locks, RouteId(route)) == Some(Err(fault)),
+        Frees(route) => free(locks, RouteId(route)),
+        IsHeld(point, side) => locks.point(point) == side,
     }
 }
 
+fn locks(rt: &impl Abort, alloc: Global) -> Locks {
+    Locks::new(alloc, &checked(rt, alloc, BETWEEN)).expect(rt, "there is memory")
+}
+
+const Q: PointId = PointId(2);
+
+/// Route 0 holds the point.
+const HELD: LockFault = LockFault::PointHeld(RouteId(0), Q);
+
+const STEPS: [Step; 9] = [
+    Sets(0),
+    Sets(2),
+    Refuses(1, HELD),
+    Frees(2),
+    IsHeld(Q, Some(Side::Right)),
+    Refuses(1, HELD),
+    Frees(0),
+    IsHeld(Q, None),
+    Sets(1),
+];
+
 #[test]
-fn a_point_stays_held_while_another_route_holds_it(rt: HostRuntime) -> Result<(), Fail> {
-    let alloc = rt.alloc();
-    let table = check(alloc, Layout::read(alloc, BETWEEN)?)?;
-    let mut locks = Locks::new(alloc, &table)?;
-    assert!(rt; set(&mut locks, 0) == Some(Ok(())));
-    assert!(rt; set(&mut locks, 2) == Some(Ok(())));
-    let held = Some(Err(LockFault::PointHeld(RouteId(0), PointId(2))));
-    assert!(rt; set(&mut locks, 1) == held);
-    free(&mut locks, 2);
-    assert!(rt; locks.point(PointId(2)) == Some(Side::Right));
-    assert!(rt; set(&mut locks, 1) == held);
-    free(&mut locks, 0);
-    assert!(rt; locks.point(PointId(2)) == None);
-    assert!(rt; set(&mut locks, 1) == Some(Ok(())));
-    Ok(())
+fn a_point_stays_held_while_another_route_holds_it(rt: HostRuntime) {
+    let mut locks = locks(&rt, rt.alloc());
+    for (place, step) in STEPS.iter().enumerate() {
+        assert!(rt; is_so(&mut locks, *step), "step {place}");
+    }
 }

@@ -1,6 +1,7 @@
 //! Texts that were changed are read.
 
 use crate::changes::Changes;
+use crate::layouts::SMALL;
 use ixl_state::control_table::{TableFault, check};
 use ixl_state::layout::{Layout, LayoutFault};
 use std::alloc::Global;
@@ -8,24 +9,6 @@ use std::process::Abort;
 
 /// How many changes are tried.
 const CHANGES: usize = 3000;
-
-/// One point, with a route over each of its legs from the same signal.
-const SMALL: &str = r#"
-section = ["GA", "GP", "G1", "G2"]
-border = ["W", "E1", "E2"]
-joint = [["W.end","A1.a"], ["A1.b","P1.tip"], ["P1.left","T1.a"],
-  ["P1.right","T2.a"], ["T1.b","E1.end"], ["T2.b","E2.end"]]
-track = [{name="A1",section="GA"}, {name="T1",section="G1"}, {name="T2",section="G2"}]
-point = [{name="P1",id=10,section="GP"}]
-signal = [{name="S1",id=2,at="A1.b"}, {name="S3",id=3,at="T1.a"}, {name="S4",id=4,at="T2.a"}]
-detector = [{name="D1",id=20,sections=["GA","GP","G1","G2"]}]
-route = [
-  {name="R1",entry="S1",exit="E2",path=["P1.right","T2.b"],points={P1="right"},approach=["GA"]},
-  {name="R2",entry="S1",exit="E1",path=["P1.left","T1.b"],points={P1="left"},approach=["GA"]}]
-[station]
-name = "IXL1"
-id = 1
-"#;
 
 /// What becomes of a text, beside the numbers 1 to 7 of a layout's faults. A text is a table, or isn't UTF-8, or its table has a
 /// fault.
@@ -74,7 +57,7 @@ fn changed_texts_are_layouts_or_have_a_fault(rt: HostRuntime) {
     let mut changes = Changes::seeded(3);
     let mut counts = [0u32; 10];
     for _ in 0..CHANGES {
-        let text = changes.changed(alloc, SMALL).expect(&rt, "there is memory");
+        let text = changes.changed(&rt, alloc, SMALL);
         let place = outcome(&rt, alloc, &text);
         if let Some(count) = counts.as_mut_slice().get_mut(place) {
             *count = count.saturating_add(1);
