@@ -1,13 +1,23 @@
-//! The numbers and texts of what an event and a command are refused for.
+//! The numbers and texts of what an event is refused for. Those of commands are in the answers of stored event files.
 
-use simulator::ixl_rules::Refusal;
-use simulator::layout::{PointId, RouteId, SectionId};
 use simulator::simulator_event::Refused;
-use std::test::Fail;
+use std::alloc::Global;
+use std::process::Abort;
+
+/// The text of a refusal. Where memory is lacking it is written once more.
+fn text(rt: &impl Abort, alloc: Global, why: Refused) -> String {
+    match format!(in alloc; "{why}") {
+        Ok(text) => text,
+        Err(_) => {
+            let again = format!(in alloc; "{why}");
+            again.expect(rt, "there is memory")
+        }
+    }
+}
 
 #[test]
-fn refusals_of_events_have_their_numbers_and_texts(rt: HostRuntime) -> Result<(), Fail> {
-    for (why, number, text) in [
+fn refusals_of_events_have_their_numbers_and_texts(rt: HostRuntime) {
+    for (why, number, told) in [
         (Refused::NoSuchNode, 1, "no such node"),
         (Refused::NeverSent, 2, "no such datagram was sent"),
         (Refused::Drift, 3, "a clock drifts too far"),
@@ -17,31 +27,8 @@ fn refusals_of_events_have_their_numbers_and_texts(rt: HostRuntime) -> Result<()
     ] {
         assert!(rt; why.number() == number);
         assert!(rt; Refused::numbered(u64::from(number)) == Some(why));
-        let told = match format!(in rt.alloc(); "{why}") {
-            Ok(told) => told,
-            Err(_) => format!(in rt.alloc(); "{why}")?,
-        };
-        assert!(rt; told.as_str() == text);
+        assert!(rt; text(&rt, rt.alloc(), why).as_str() == told);
     }
-    assert!(rt; Refused::numbered(0) == None);
-    assert!(rt; Refused::numbered(7) == None);
-    Ok(())
-}
-
-#[test]
-fn refusals_of_commands_have_their_numbers(rt: HostRuntime) {
-    for (why, number) in [
-        (Refusal::UnknownRoute, 1),
-        (Refusal::Holding, 2),
-        (Refusal::NotResumed, 3),
-        (Refusal::AlreadySet, 4),
-        (Refusal::Conflict(RouteId(9)), 5),
-        (Refusal::NotClear(SectionId(9)), 6),
-        (Refusal::PointUnavailable(PointId(9)), 7),
-        (Refusal::SignalUnavailable, 8),
-        (Refusal::NotSet, 9),
-        (Refusal::DetectionDown, 10),
-    ] {
-        assert!(rt; why.number() == number);
-    }
+    assert!(rt; Refused::numbered(0).is_none());
+    assert!(rt; Refused::numbered(7).is_none());
 }

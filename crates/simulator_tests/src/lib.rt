@@ -1,15 +1,16 @@
-//! Tests of a whole station: what its events answer and leave, and what is seen of it. There is nothing here but tests.
+//! Tests of a whole station: what only a program sees of it. What can be said by lines of events is stored in `station_files`.
+//! There is nothing here but tests.
 #![tactic(auto)]
 
 #[cfg(test)]
-mod bench;
+mod events;
 #[cfg(test)]
 mod faults;
-#[cfg(test)]
-mod refusals;
 #[cfg(test)]
 mod restarts;
 #[cfg(test)]
 mod room;
 #[cfg(test)]
 mod seen;
+#[cfg(test)]
+mod station;
