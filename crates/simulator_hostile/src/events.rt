@@ -2,6 +2,7 @@
 
 ghost use Rattle.std.specs.Prelude.{◌<◌};
 
+use crate::tally::{Count, Tally};
 use crate::trains::Train;
 use chance::Chance;
 use simulator::World;
@@ -33,15 +34,6 @@ const LONGEST_STEP: u32 = 30_000;
 /// How many trains run at once at most.
 const TRAINS: usize = 4;
 
-/// How often what was drawn of the network's mischief.
-#[derive(Clone, Copy)]
-pub(crate) struct Drawn {
-    pub(crate) repeated: usize,
-    pub(crate) passed_over: usize,
-    pub(crate) damaged: usize,
-    pub(crate) misdirected: usize,
-}
-
 /// A run of events: which datagrams it has delivered in their turn, which node it ticked last, how the clocks of the
 /// nodes drift, and where the trains are.
 #[derive(Drop)]
@@ -51,7 +43,6 @@ pub(crate) struct Hostile {
     ticked: usize,
     drifts: u64,
     trains: [Option<Train>; TRAINS],
-    pub(crate) drawn: Drawn,
 }
 
 /// How many nodes a station has.
@@ -93,12 +84,6 @@ impl Hostile {
             ticked: 0,
             drifts: low | high << 32,
             trains: [None; TRAINS],
-            drawn: Drawn {
-                repeated: 0,
-                passed_over: 0,
-                damaged: 0,
-                misdirected: 0,
-            },
         }
     }
 
@@ -114,13 +99,14 @@ impl Hostile {
         alloc: Global,
         world: &World,
         seen: &Snapshot,
+        tally: &mut Tally,
     ) -> Result<Event, AllocError> {
         let table = world.table();
         match self.chance.below(10_000) {
-            0..=4299 => self.deliver_in_turn(alloc, world),
+            0..=4299 => self.deliver_in_turn(alloc, world, tally),
             4300..=7099 => Ok(self.tick(table)),
             7100..=8599 => self.time(alloc, table),
-            8600..=8899 => self.deliver_again(alloc, world),
+            8600..=8899 => self.deliver_again(alloc, world, tally),
             8900..=8919 => self.lose(alloc, world),
             8920..=9219 => Ok(self.command(table)),
             9220..=9749 => Ok(self.train(table, seen)),
@@ -185,7 +171,12 @@ impl Hostile {
 
     /// The next datagram that had no turn yet and can be delivered; a few are passed over. Where there is none, time
     /// goes on.
-    fn deliver_in_turn(&mut self, alloc: Global, world: &World) -> Result<Event, AllocError> {
+    fn deliver_in_turn(
+        &mut self,
+        alloc: Global,
+        world: &World,
+        tally: &mut Tally,
+    ) -> Result<Event, AllocError> {
         let network = world.network();
         let mut next = self.delivered;
         for place in self.delivered..network.len() {
@@ -197,18 +188,23 @@ impl Hostile {
                 continue;
             }
             if self.chance.once_in(400) {
-                self.drawn.passed_over = self.drawn.passed_over.saturating_add(1);
+                tally.once_more(Count::PassedOver);
                 continue;
             }
             self.delivered = next;
-            return self.delivery(alloc, world, &sent);
+            return self.delivery(alloc, world, &sent, tally);
         }
         self.delivered = next;
         self.time(alloc, world.table())
     }
 
     /// One of the last datagrams, once more or out of turn; or bytes that never were one.
-    fn deliver_again(&mut self, alloc: Global, world: &World) -> Result<Event, AllocError> {
+    fn deliver_again(
+        &mut self,
+        alloc: Global,
+        world: &World,
+        tally: &mut Tally,
+    ) -> Result<Event, AllocError> {
         let place = self.recent(world);
         let is_noise = self.chance.once_in(40);
         match world.network().get(place) {
@@ -216,8 +212,8 @@ impl Hostile {
                 if is_noise {
                     return self.deliver_noise(alloc, world);
                 }
-                self.drawn.repeated = self.drawn.repeated.saturating_add(1);
-                self.delivery(alloc, world, &sent)
+                tally.once_more(Count::Repeated);
+                self.delivery(alloc, world, &sent, tally)
             }
             None => self.deliver_noise(alloc, world),
         }
@@ -236,15 +232,16 @@ impl Hostile {
         alloc: Global,
         world: &World,
         sent: &SentOn<'_>,
+        tally: &mut Tally,
     ) -> Result<Event, AllocError> {
         let mut node = receiver(sent);
         if self.chance.once_in(300) {
-            self.drawn.misdirected = self.drawn.misdirected.saturating_add(1);
+            tally.once_more(Count::Misdirected);
             node = NodeId(self.place(node_count(world.table().layout())));
         }
         let mut bytes = Vec::from_slice(alloc, sent.bytes)?;
         if self.chance.once_in(300) {
-            self.drawn.damaged = self.drawn.damaged.saturating_add(1);
+            tally.once_more(Count::Damaged);
             self.damage(&mut bytes);
         }
         Ok(Event::Deliver {

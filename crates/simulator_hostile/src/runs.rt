@@ -2,7 +2,7 @@
 
 use crate::events::{Hostile, node_count};
 use crate::layouts::{JUNCTION, LOOP, SMALL};
-use crate::tally::{Tally, once_more};
+use crate::tally::{Count, Tally};
 use crate::watch::Watch;
 use simulator::World;
 use simulator::control_table::check;
@@ -52,15 +52,14 @@ fn hostile_run(rt: &impl Abort, alloc: Global, text: &str, seed: u64, tally: &mu
     }
     for _ in 0..EVENTS {
         let event = hostile
-            .next(alloc, &world, &watch.seen)
+            .next(alloc, &world, &watch.seen, tally)
             .expect(rt, "there is memory");
         let answer = world.apply(&event);
         watch.look(rt, &world, &event, answer, tally);
     }
     if seed % 2 == 0 && world.time() > PAST_THE_TURN {
-        once_more(&mut tally.turned);
+        tally.once_more(Count::Turned);
     }
-    tally.add(&hostile.drawn);
 }
 
 /// Runs of a station, and how often what happened in them.
@@ -73,91 +72,76 @@ fn hostile_runs(rt: &impl Abort, alloc: Global, text: &str) -> Tally {
 }
 
 /// Much happened: each count is at least so great.
-fn expect(rt: &impl Abort, tally: &Tally, counts: &[(usize, usize)]) {
+fn expect(rt: &impl Abort, tally: &Tally, counts: &[(Count, usize)]) {
     for (count, least) in counts {
-        assert!(rt; *count >= *least, "less than {least}: {tally:?}");
+        assert!(rt; tally.of(*count) >= *least, "less than {least}");
     }
 }
 
-/// The network and the clocks were hostile: so it is in the runs of every station.
-fn expect_mischief(rt: &impl Abort, tally: &Tally) {
-    let [_, no_node, never_sent, drift, not_driven, _, _] = tally.impossible;
-    expect(
-        rt,
-        tally,
-        &[
-            (tally.events, 300_000),
-            (tally.lost, 200),
-            (tally.repeated, 3000),
-            (tally.passed_over, 50),
-            (tally.damaged, 80),
-            (tally.misdirected, 80),
-            (tally.delivered, 20_000),
-            (no_node, 100),
-            (never_sent, 200),
-            (drift, 50),
-            (not_driven, 500),
-        ],
-    );
+/// The network and the clocks are hostile in the runs of every station.
+const MISCHIEF: [(Count, usize); 11] = [
+    (Count::Events, 300_000),
+    (Count::Lost, 200),
+    (Count::Repeated, 3000),
+    (Count::PassedOver, 50),
+    (Count::Damaged, 80),
+    (Count::Misdirected, 80),
+    (Count::Delivered, 20_000),
+    (Count::NoNode, 100),
+    (Count::NeverSent, 200),
+    (Count::Drifted, 50),
+    (Count::NotDriven, 500),
+];
+
+/// A station is safe in its runs, in which so much happened.
+fn is_safe(rt: &impl Abort, alloc: Global, text: &str, counts: &[(Count, usize)]) {
+    let tally = hostile_runs(rt, alloc, text);
+    expect(rt, &tally, &MISCHIEF);
+    expect(rt, &tally, counts);
 }
 
 #[test]
 fn the_small_station_is_safe_in_hostile_runs(rt: HostRuntime) {
-    let tally = hostile_runs(&rt, rt.alloc(), SMALL);
-    expect_mischief(&rt, &tally);
-    expect(
-        &rt,
-        &tally,
-        &[
-            (tally.turned, 10),
-            (tally.routes_set, 120),
-            (tally.proceeds_shown, 100),
-            (tally.fell_to_stop, 100),
-            (tally.sections_freed, 120),
-            (tally.set_behind, 30),
-            (tally.stations_anew_at_proceed, 5),
-            (tally.controllers_anew_at_proceed, 8),
-        ],
-    );
+    let counts = [
+        (Count::Turned, 10),
+        (Count::RoutesSet, 120),
+        (Count::ProceedsShown, 100),
+        (Count::FellToStop, 100),
+        (Count::SectionsFreed, 120),
+        (Count::SetBehind, 30),
+        (Count::StationsAnewAtProceed, 5),
+        (Count::ControllersAnewAtProceed, 8),
+    ];
+    is_safe(&rt, rt.alloc(), SMALL, &counts);
 }
 
 #[test]
 fn the_junction_is_safe_in_hostile_runs(rt: HostRuntime) {
-    let tally = hostile_runs(&rt, rt.alloc(), JUNCTION);
-    expect_mischief(&rt, &tally);
-    expect(
-        &rt,
-        &tally,
-        &[
-            (tally.routes_set, 120),
-            (tally.proceeds_shown, 100),
-            (tally.two_open, 500),
-            (tally.fell_to_stop, 100),
-            (tally.sections_freed, 150),
-            (tally.set_behind, 15),
-            (tally.stations_anew_at_proceed, 8),
-            (tally.controllers_anew_at_proceed, 15),
-        ],
-    );
+    let counts = [
+        (Count::RoutesSet, 120),
+        (Count::ProceedsShown, 100),
+        (Count::TwoOpen, 500),
+        (Count::FellToStop, 100),
+        (Count::SectionsFreed, 150),
+        (Count::SetBehind, 15),
+        (Count::StationsAnewAtProceed, 8),
+        (Count::ControllersAnewAtProceed, 15),
+    ];
+    is_safe(&rt, rt.alloc(), JUNCTION, &counts);
 }
 
 #[test]
 fn slow_routes_are_safe_in_hostile_runs(rt: HostRuntime) {
-    let tally = hostile_runs(&rt, rt.alloc(), LOOP);
-    expect_mischief(&rt, &tally);
-    expect(
-        &rt,
-        &tally,
-        &[
-            (tally.routes_set, 120),
-            (tally.proceeds_shown, 20),
-            (tally.slows_shown, 60),
-            (tally.two_open, 500),
-            (tally.fell_to_stop, 80),
-            (tally.sections_freed, 150),
-            (tally.set_behind, 5),
-            (tally.stations_anew_at_proceed, 8),
-            (tally.controllers_anew_at_proceed, 15),
-        ],
-    );
+    let counts = [
+        (Count::RoutesSet, 120),
+        (Count::ProceedsShown, 20),
+        (Count::SlowsShown, 60),
+        (Count::TwoOpen, 500),
+        (Count::FellToStop, 80),
+        (Count::SectionsFreed, 150),
+        (Count::SetBehind, 5),
+        (Count::StationsAnewAtProceed, 8),
+        (Count::ControllersAnewAtProceed, 15),
+    ];
+    is_safe(&rt, rt.alloc(), LOOP, &counts);
 }

@@ -2,17 +2,14 @@
 
 use crate::events::is_open;
 use crate::promise::{are_alike, are_lately_heard, aspect_of, is_kept};
-use crate::tally::{Tally, once_more, once_more_at};
+use crate::tally::{Count, Tally};
 use simulator::World;
 use simulator::ixl_rules::Command;
 use simulator::layout::RouteId;
-use simulator::sci_telegram::{Aspect, Position};
+use simulator::sci_telegram::Aspect;
 use simulator::simulator_event::{Answer, Event, NodeId, Refused, Reply};
 use simulator::simulator_snapshot::Snapshot;
 use std::process::Abort;
-
-/// How long an interlocking holds after it was made, in microseconds of its clock; here a little less.
-const HOLD: u64 = 5_900_000;
 
 /// What was seen of a station.
 #[derive(Drop)]
@@ -24,8 +21,6 @@ pub(crate) struct Watch {
     set: u64,
     /// The set routes that were cancelled.
     cancelled: u64,
-    /// When the interlocking was last made anew.
-    made: Option<u64>,
 }
 
 /// The bit of a route.
@@ -68,6 +63,33 @@ fn section_count(world: &World, route: usize) -> usize {
     }
 }
 
+/// How many sections these routes have.
+fn sections_of(world: &World, routes: u64) -> usize {
+    let mut count: usize = 0;
+    for route in 0..64 {
+        if routes & bit(route) != 0 {
+            count = count.saturating_add(section_count(world, route));
+        }
+    }
+    count
+}
+
+/// Whether what is seen of a station is safe, and keeps the promise.
+fn is_promise_kept(world: &World, seen: &Snapshot) -> bool {
+    world.safe() && is_kept(world.table(), seen) && are_lately_heard(world, seen)
+}
+
+/// Counts an event that couldn't happen.
+fn count_refused(why: Refused, tally: &mut Tally) {
+    match why {
+        Refused::NoSuchNode => tally.once_more(Count::NoNode),
+        Refused::NeverSent => tally.once_more(Count::NeverSent),
+        Refused::Drift => tally.once_more(Count::Drifted),
+        Refused::NotDriven => tally.once_more(Count::NotDriven),
+        _ => {}
+    }
+}
+
 impl Watch {
     pub(crate) fn new(world: &World) -> Watch {
         Watch {
@@ -76,7 +98,6 @@ impl Watch {
             time: world.time(),
             set: set_routes(world),
             cancelled: 0,
-            made: None,
         }
     }
 
@@ -90,34 +111,30 @@ impl Watch {
         tally: &mut Tally,
     ) {
         let seen = world.snapshot();
-        assert!(rt; world.safe(), "safe after event {}", tally.events);
-        assert!(rt;
-            is_kept(world.table(), &seen),
-            "the promise after event {}",
-            tally.events
-        );
-        assert!(rt;
-            are_lately_heard(world, &seen),
-            "heard lately after event {}",
-            tally.events
-        );
-        once_more(&mut tally.events);
+        assert!(rt; is_promise_kept(world, &seen));
+        tally.once_more(Count::Events);
         match answer {
             Ok(reply) => {
                 assert!(rt; Some(world.network().len()) == self.sent.checked_add(reply.added));
                 self.count(world, &seen, event, reply.answer, tally);
             }
             Err(why) => {
+                assert!(rt; self.is_unchanged(world, &seen));
                 assert!(rt; why != Refused::OutOfMemory);
-                assert!(rt; are_alike(&self.seen, &seen), "changed by a refused event");
-                assert!(rt; (self.sent, self.time) == (world.network().len(), world.time()));
-                assert!(rt; self.set == set_routes(world));
-                once_more_at(&mut tally.impossible, usize::from(why.number()));
+                count_refused(why, tally);
             }
         }
         self.seen = seen;
         self.sent = world.network().len();
         self.time = world.time();
+    }
+
+    /// Whether all is as it was seen before.
+    fn is_unchanged(&self, world: &World, seen: &Snapshot) -> bool {
+        are_alike(&self.seen, seen)
+            && self.sent == world.network().len()
+            && self.time == world.time()
+            && self.set == set_routes(world)
     }
 
     fn count(
@@ -132,19 +149,14 @@ impl Watch {
         match event {
             Event::Request(command) => self.count_command(world, *command, answer, tally),
             Event::Restart { node, .. } => self.count_restart(*node, tally),
-            Event::Deliver { .. } => once_more(&mut tally.delivered),
-            Event::Lose(_) => once_more(&mut tally.lost),
-            Event::Reach { position, .. } => {
-                if *position != Position::NoEndPosition {
-                    once_more(&mut tally.points_reached);
-                }
-            }
+            Event::Deliver { .. } => tally.once_more(Count::Delivered),
+            Event::Lose(_) => tally.once_more(Count::Lost),
             _ => {}
         }
         self.count_freed(world, event, tally);
     }
 
-    /// Counts what was answered to a command.
+    /// Counts the routes that were set, and notes those that were cancelled.
     fn count_command(
         &mut self,
         world: &World,
@@ -152,15 +164,14 @@ impl Watch {
         answer: Answer,
         tally: &mut Tally,
     ) {
-        if let Answer::Refused(why) = answer {
-            once_more_at(&mut tally.refused, usize::from(why.number()));
+        if answer != Answer::Accepted {
             return;
         }
         match command {
             Command::Request(route) => {
-                once_more(&mut tally.routes_set);
+                tally.once_more(Count::RoutesSet);
                 if conflicts(world, route, self.set) {
-                    once_more(&mut tally.set_behind);
+                    tally.once_more(Count::SetBehind);
                 }
             }
             Command::Cancel(route) => self.cancelled |= bit(route.0),
@@ -173,57 +184,40 @@ impl Watch {
         let mut open: usize = 0;
         for (signal, shown) in seen.shows.as_slice().iter().enumerate() {
             if shown.0 != Aspect::Stop {
-                once_more(&mut open);
+                open = open.saturating_add(1);
             }
             match (aspect_of(&self.seen, signal), shown.0) {
-                (Aspect::Stop, Aspect::Proceed) => once_more(&mut tally.proceeds_shown),
-                (Aspect::Stop, Aspect::Slow) => once_more(&mut tally.slows_shown),
+                (Aspect::Stop, Aspect::Proceed) => tally.once_more(Count::ProceedsShown),
+                (Aspect::Stop, Aspect::Slow) => tally.once_more(Count::SlowsShown),
                 (Aspect::Proceed | Aspect::Slow, Aspect::Stop) => {
-                    once_more(&mut tally.fell_to_stop);
+                    tally.once_more(Count::FellToStop);
                 }
                 _ => {}
             }
         }
         if open >= 2 {
-            once_more(&mut tally.two_open);
+            tally.once_more(Count::TwoOpen);
         }
     }
 
-    fn count_restart(&mut self, node: NodeId, tally: &mut Tally) {
-        if node.0 != 0 {
-            if is_open(&self.seen) {
-                once_more(&mut tally.controllers_anew_at_proceed);
-            }
-            return;
-        }
+    /// Counts the nodes that are made anew while a signal shows more than stop.
+    fn count_restart(&self, node: NodeId, tally: &mut Tally) {
         if is_open(&self.seen) {
-            once_more(&mut tally.stations_anew_at_proceed);
+            tally.once_more(if node.0 == 0 {
+                Count::StationsAnewAtProceed
+            } else {
+                Count::ControllersAnewAtProceed
+            });
         }
-        if let Some(made) = self.made {
-            if self.time.saturating_sub(made) < HOLD {
-                once_more(&mut tally.anew_in_hold);
-            }
-        }
-        self.made = Some(self.time);
     }
 
-    /// Counts the routes that are no longer set, but for those that the interlocking lost as it was made anew.
+    /// Counts the sections of the routes that are no longer set: not of those that were cancelled, nor of those that the
+    /// interlocking lost as it was made anew.
     fn count_freed(&mut self, world: &World, event: &Event, tally: &mut Tally) {
         let now = set_routes(world);
-        let freed = self.set & !now;
-        let is_lost = matches!(event, Event::Restart { .. });
-        if freed != 0 && !is_lost {
-            for route in 0..64 {
-                if freed & bit(route) == 0 {
-                    continue;
-                }
-                if self.cancelled & bit(route) != 0 {
-                    once_more(&mut tally.routes_let_go);
-                } else {
-                    let count = section_count(world, route);
-                    tally.sections_freed = tally.sections_freed.saturating_add(count);
-                }
-            }
+        if !matches!(event, Event::Restart { .. }) {
+            let freed = self.set & !now & !self.cancelled;
+            tally.add(Count::SectionsFreed, sections_of(world, freed));
         }
         self.cancelled &= now;
         self.set = now;
