@@ -15,7 +15,7 @@ use crate::end::End;
 use crate::indication::Indications;
 use crate::peer::Peer;
 use crate::stage::Stage;
-use rasta_core::{Link, Millis, Outbox, Verdict};
+use rasta_core::{Inbox, Link, Millis, Outbox, Verdict};
 use rasta_pdu::Key;
 use std::alloc::{AllocError, Global};
 use std::marker::Model;
@@ -114,7 +114,13 @@ impl Client {
         ensures goes { Goes now 30 (hearing now datagram.now) (record { client = self.old; outbox = outbox.old; heard = [] }) (record { client = self.new; outbox = outbox.new; heard = heard.new.items }) }
         ensures verdict { result ≡ (receiving now datagram.now self.old.link).verdict }
     {
-        self.end.hear(now, datagram, outbox, heard)
+        heard.clear();
+        let mut inbox = Inbox::new();
+        let verdict = self.end.receive(now, datagram, outbox, &mut inbox);
+        self.end.rise(now, outbox);
+        self.end.act_all(now, inbox.as_slice(), outbox, heard);
+        self.end.fall();
+        verdict
     }
 
     /// A command goes to the controller. Where the window refuses it, the link closes with reason 5.
@@ -123,7 +129,10 @@ impl Client {
         requires room { HasRoomFor 26 outbox.old }
         ensures { (heard : List Indication) → Goes now 2 (commanding now command) (record { client = self.old; outbox = outbox.old; heard = heard }) (record { client = self.new; outbox = outbox.new; heard = heard }) }
     {
-        self.end.command(now, command, outbox);
+        let next = self.end.stage_after_command(command);
+        self.end.post(now, command.message(), outbox);
+        self.end.come_to(next);
+        self.end.fall();
     }
 
     /// A tick: the heartbeat that is due, and a link that is down is opened.
@@ -132,6 +141,8 @@ impl Client {
         requires room { HasRoomFor 26 outbox.old }
         ensures { (heard : List Indication) → Goes now 2 (ticking now) (record { client = self.old; outbox = outbox.old; heard = heard }) (record { client = self.new; outbox = outbox.new; heard = heard }) }
     {
-        self.end.tick(now, outbox);
+        self.end.beat(now, outbox);
+        self.end.open(now, outbox);
+        self.end.fall();
     }
 }

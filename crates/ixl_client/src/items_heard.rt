@@ -7,7 +7,7 @@ ghost use Rattle.sci_telegram.specs.Reading.{reading};
 ghost use Rattle.rasta_core.specs.State.{is_up};
 ghost use Rattle.ixl_client.specs.Client.{is_outside};
 ghost use Rattle.ixl_client.specs.ClientSoFar.{Receives, calling};
-ghost use Rattle.ixl_client.specs.Step.{acting, acting_all, meaning_of_item, following, hearing, rising, stage_after_report};
+ghost use Rattle.ixl_client.specs.Step.{acting, acting_all, meaning_of_item, following, rising, stage_after_report};
 ghost use Rattle.ixl_client.specs.Way.{Goes};
 ghost use Rattle.ixl_client.specs.declared.indication.Indication.{Indication};
 
@@ -52,7 +52,7 @@ impl End {
     }
 
     /// A connection that came up begins with the version check.
-    fn rise(&mut self, now: Millis, outbox: &mut Outbox)
+    pub(crate) fn rise(&mut self, now: Millis, outbox: &mut Outbox)
         requires clock { self.old.link.clock ≡ now }
         requires room { HasRoomFor 26 outbox.old }
         ensures { (heard : List Indication) → Goes now 2 (rising now) (record { client = self.old; outbox = outbox.old; heard = heard }) (record { client = self.new; outbox = outbox.new; heard = heard }) }
@@ -65,7 +65,7 @@ impl End {
     }
 
     /// A datagram is received.
-    fn receive(
+    pub(crate) fn receive(
         &mut self,
         now: Millis,
         datagram: &[u8],
@@ -138,7 +138,13 @@ impl End {
     }
 
     /// The items of a datagram. Those behind one that closed the link are dropped.
-    fn act_all(&mut self, now: Millis, items: &[Item], outbox: &mut Outbox, heard: &mut Indications)
+    pub(crate) fn act_all(
+        &mut self,
+        now: Millis,
+        items: &[Item],
+        outbox: &mut Outbox,
+        heard: &mut Indications,
+    )
         requires clock { self.old.link.clock ≡ now }
         requires room { HasRoomFor 32 outbox.old }
         requires items { length items.now ≤ 3 }
@@ -151,27 +157,5 @@ impl End {
             }
             self.act(now, item, outbox, heard);
         }
-    }
-
-    /// A datagram has come: what it tells of the controller's objects is heard.
-    pub(crate) fn hear(
-        &mut self,
-        now: Millis,
-        datagram: &[u8],
-        outbox: &mut Outbox,
-        heard: &mut Indications,
-    ) -> Verdict
-        requires clock { self.old.link.clock ≡ now }
-        requires room { HasRoomFor 56 outbox.old }
-        ensures goes { Goes now 30 (hearing now datagram.now) (record { client = self.old; outbox = outbox.old; heard = [] }) (record { client = self.new; outbox = outbox.new; heard = heard.new.items }) }
-        ensures verdict { result ≡ (receiving now datagram.now self.old.link).verdict }
-    {
-        heard.clear();
-        let mut inbox = Inbox::new();
-        let verdict = self.receive(now, datagram, outbox, &mut inbox);
-        self.rise(now, outbox);
-        self.act_all(now, inbox.as_slice(), outbox, heard);
-        self.fall();
-        verdict
     }
 }
