@@ -1,14 +1,19 @@
 //! What each event does.
 
 ghost use Rattle.std.specs.Prelude.{◌≡◌, ◌≤◌, IfOk, IsTrue, None, OnErr, OnOk};
-ghost use Rattle.simulator_ixl.specs.simulator_run.Happens.{answered, happens, is_restart, passed};
+ghost use Rattle.simulator_ixl.specs.rasta_core.Links.{without_oldest_of_all};
+ghost use Rattle.simulator_ixl.specs.simulator_event.declared.event.Event.TheVariants as events;
+ghost use Rattle.simulator_ixl.specs.simulator_run.Happens.{answered, delivered_to, happens, is_restart, passed};
+ghost use Rattle.simulator_ixl.specs.simulator_run.Network.{connection_of, copy_of};
+ghost use Rattle.simulator_ixl.specs.simulator_run.Nodes.{node_at};
 ghost use Rattle.simulator_ixl.specs.simulator_run.Refusals.{refusal, refusal_of_time};
+ghost use Rattle.simulator_ixl.specs.simulator_run.State.{WorldState};
 ghost use Rattle.simulator.specs.inside.Finding.{Finds};
 ghost use Rattle.simulator.specs.inside.Parts.{Goes, IsWhole, site_of, room_of, seen, table_of};
 
 use crate::found::Found;
 use crate::parts::Parts;
-use simulator_ixl::simulator_event::{Answer, Event};
+use simulator_ixl::simulator_event::{Answer, Event, NodeId};
 use std::alloc::AllocError;
 
 impl Parts {
@@ -23,6 +28,32 @@ impl Parts {
         self.controllers.pass(elapsed, of_controllers);
     }
 
+    /// Bytes come to a node, of which their connection was found.
+    fn deliver(&mut self, node: NodeId, bytes: &[u8], found: Found)
+        requires whole { IsWhole self.old }
+        requires room { 5120 ≤ room_of self.old }
+        requires found { Finds found (events.Deliver node bytes.now) (seen self.old) }
+        ensures { Goes (λ world. delivered_to (site_of self.old) (table_of self.old) bytes.now (connection_of (copy_of bytes.now world)) (node_at (site_of self.old) node.0) world) self.old self.new }
+    {
+        // Nothing else is found of a delivery.
+        if let Found::Connection(connection) = found {
+            self.deliver_in(node, bytes, connection);
+        }
+    }
+
+    /// The network loses a datagram with these bytes, of which its place was found.
+    #[tactic(auto, unfolding(crate::proofs::Below::world_of))]
+    fn lose(&mut self, bytes: &[u8], found: Found)
+        requires whole { IsWhole self.old }
+        requires found { Finds found (events.Lose bytes.now) (seen self.old) }
+        ensures { Goes (λ (world : WorldState). record world { sent = without_oldest_of_all bytes.now world.sent }) self.old self.new }
+    {
+        // Nothing else is found of a loss.
+        if let Found::Place(place) = found {
+            self.controllers.network.lose(place);
+        }
+    }
+
     /// An event that can happen does, with what its test found. Only a restart may lack memory.
     #[tactic(auto, unfolding(crate::proofs::Below::happens, crate::proofs::Below::answered, crate::proofs::Below::refusal, crate::proofs::Below::world_of))]
     pub(crate) fn happen(&mut self, event: &Event, found: Found) -> Result<Answer, AllocError>
@@ -35,26 +66,19 @@ impl Parts {
         ensures same { OnErr result (self.new ≡ self.old) }
         ensures only_restarts { OnErr result (IsTrue (is_restart event.now)) }
     {
-        match (event, found) {
-            (Event::Request(command), _) => return Ok(self.request(*command)),
-            (Event::Occupy { section, occupancy }, _) => self.occupy(*section, *occupancy),
-            (Event::Tick(node), _) => self.tick(*node),
-            (Event::Time { elapsed, clocks }, _) => self.pass(*elapsed, clocks.as_slice()),
-            (Event::Deliver { node, bytes }, Found::Connection(connection)) => {
-                self.deliver(*node, bytes.as_slice(), connection);
-            }
-            (Event::Lose(_), Found::Place(place)) => self.controllers.network.lose(place),
-            // The tests of deliveries and losses find nothing else.
-            (Event::Deliver { .. } | Event::Lose(_), _) => {}
-            (Event::Reach { point, position }, _) => self.reach(*point, *position),
-            (
-                Event::Restart {
-                    node,
-                    clock,
-                    first_sequence_number,
-                },
-                _,
-            ) => self.restart(*node, *clock, *first_sequence_number)?,
+        match event {
+            Event::Request(command) => return Ok(self.request(*command)),
+            Event::Occupy { section, occupancy } => self.occupy(*section, *occupancy),
+            Event::Tick(node) => self.tick(*node),
+            Event::Time { elapsed, clocks } => self.pass(*elapsed, clocks.as_slice()),
+            Event::Deliver { node, bytes } => self.deliver(*node, bytes.as_slice(), found),
+            Event::Lose(bytes) => self.lose(bytes.as_slice(), found),
+            Event::Reach { point, position } => self.reach(*point, *position),
+            Event::Restart {
+                node,
+                clock,
+                first_sequence_number,
+            } => self.restart(*node, *clock, *first_sequence_number)?,
         }
         Ok(Answer::Done)
     }

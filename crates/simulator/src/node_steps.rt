@@ -102,7 +102,7 @@ impl Parts {
     }
 
     /// Bytes come to a node, which were sent in this connection.
-    pub(crate) fn deliver(&mut self, node: NodeId, bytes: &[u8], connection: usize)
+    pub(crate) fn deliver_in(&mut self, node: NodeId, bytes: &[u8], connection: usize)
         requires whole { IsWhole self.old }
         requires room { 5120 ≤ room_of self.old }
         ensures { Goes (delivered_to (site_of self.old) (table_of self.old) bytes.now connection (node_at (site_of self.old) node.0)) self.old self.new }
