@@ -51,7 +51,7 @@ module _ {Picture : Type 0} (sight : Sight Picture) where
   -- Where what was written before is known, what lines write with a new station of this site stands behind it.
   pub record IsTold (site : Site) (lines : List SimLine) (before now : Option (List ℕ)) : Type 0 where
     pub first : Flowing Picture
-    pub begins : IsBeginning sight site first
+    pub begins : IsBeginning site first
     pub written : List ℕ
     pub transcript : Transcript first lines written
     pub appended : Appends before now written
