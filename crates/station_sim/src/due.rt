@@ -61,7 +61,11 @@ fn add_delivery<S: Playable>(
 }
 
 /// Adds a tick of each of so many nodes.
-pub(crate) fn add_ticks(nodes: usize, passed: usize, due: &mut Vec<RoundEvent>) -> Result<(), AllocError>
+pub(crate) fn add_ticks(
+    nodes: usize,
+    passed: usize,
+    due: &mut Vec<RoundEvent>,
+) -> Result<(), AllocError>
     ensures { OnOk result (due.new.items ≡ due.old.items ++ ticks passed 0 nodes) }
 {
     for node in 0..nodes {
