@@ -9,7 +9,7 @@ use Rattle.replay.specs.declared.line.SimLine.{SimLine}
 use Rattle.replay.specs.declared.line.SimLine.TheVariants as said
 use Rattle.simulator.specs.simulator_run.Flow.{Flowing}
 use Rattle.station_sim.specs.Sight.{Sight}
-use Rattle.station_sim.specs.Transcript.{IsTold, Transcript, Writes, feed, line, nothing, picture}
+use Rattle.station_sim.specs.Transcript.{IsBeginning, IsTold, Transcript, Writes, feed, line, nothing, picture}
 
 module _ {Picture : Type 0} (sight : Sight Picture) where
   -- What was written so far goes on to a transcript of all lines, whatever those from a place on write.
