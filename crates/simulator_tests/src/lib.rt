@@ -1,4 +1,4 @@
-//! Tests of a whole station: what only a program sees of it. What can be said by lines of events is stored in `station_files`.
+//! Tests of a whole station: what only a program sees of it. What can be said by lines of events is stored in `stored_runs`.
 //! There is nothing here but tests.
 #![tactic(auto)]
 
