@@ -5,15 +5,17 @@
 #[cfg(test)]
 mod bell;
 #[cfg(test)]
-mod command_bench;
+mod check_faults;
 #[cfg(test)]
-mod faults;
+mod command_bench;
 #[cfg(test)]
 mod memory;
 #[cfg(test)]
 mod pair;
 #[cfg(test)]
 mod run_bench;
+#[cfg(test)]
+mod run_faults;
 #[cfg(test)]
 mod runs;
 #[cfg(test)]
