@@ -4,7 +4,7 @@ use crate::bench::{expect, small};
 use control_table::Checked;
 use control_table::layout::{PointId, SectionId};
 use control_table::sci_telegram::{Occupancy, Position};
-use replay::{read_event, read_line, write_event};
+use replay_lines::{read_event, read_line, write_event};
 use replay_words::{Fault, Words};
 use simulator_event::{Event, NodeId};
 use std::alloc::Global;

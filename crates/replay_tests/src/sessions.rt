@@ -2,7 +2,7 @@
 
 use crate::bench::{expect, small};
 use control_table::Checked;
-use replay::{Apply, LineFault, Replayed, read_script, read_session, replay};
+use replay_lines::{Apply, LineFault, Replayed, read_script, read_session, replay};
 use replay_words::Fault;
 use simulator_event::{Answer, Event, Refused, Reply};
 use std::alloc::Global;

@@ -7,7 +7,7 @@ use Rattle.layout_text.specs.Reading.{Fails}
 use Rattle.control_table.specs.layout.Resolving.{layout_in}
 use Rattle.control_table.specs.Faults.{IsFirstFault}
 use Rattle.control_table.specs.Messages.{fault_text as table_fault_text}
-use Rattle.replay.specs.Text.{fault_text as line_fault_text}
+use Rattle.replay_lines.specs.Text.{fault_text as line_fault_text}
 use Rattle.station_check.specs.declared.failure.Failure.{Failure}
 use Rattle.station_check.specs.declared.failure.Failure.TheVariants.{Layout, Table, Line, OutOfMemory, NotWritten}
 

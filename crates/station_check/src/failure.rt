@@ -6,7 +6,7 @@ ghost use Rattle.station_check.specs.Failures.{Tells, told_line};
 use arrayvec::ArrayString;
 use control_table::TableFault;
 use control_table::layout::LayoutFault;
-use replay::LineFault;
+use replay_lines::LineFault;
 use replay_words::write_as_taken;
 use std::alloc::AllocError;
 use std::io::Write;

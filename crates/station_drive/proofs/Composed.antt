@@ -12,8 +12,8 @@ use Rattle.simulator_event.specs.declared.refused.Refused.{Refused}
 use Rattle.simulator_event.specs.declared.refused.Refused.TheVariants.{NoSuchNode, NeverSent, Drift, NotDriven, ClockLimit, OutOfMemory}
 use Rattle.simulator_event.specs.declared.reply.Reply.{Reply}
 use Rattle.simulator_event.specs.declared.reply.Answer.{Answer}
-use Rattle.replay.specs.Answers.{answer_text, recorded}
-use Rattle.replay.specs.Written.{event_line}
+use Rattle.replay_lines.specs.Answers.{answer_text, recorded}
+use Rattle.replay_lines.specs.Written.{event_line}
 use Rattle.station_drive.specs.Told.{Asks, Call, Grows, Heard, Sends}
 use Rattle.station_drive.specs.Doings.{added, recorded_line, Applies, Applying, Asking, Behaviour, Doing, Performs, Stops, after_doing, picture_after, calls_of, calls_of_doing, text_of, line_of_doing}
 

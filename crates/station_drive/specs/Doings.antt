@@ -9,8 +9,8 @@ use Rattle.simulator_event.specs.declared.refused.Refused.{Refused}
 use Rattle.simulator_event.specs.declared.refused.Refused.TheVariants.{OutOfMemory}
 use Rattle.simulator_event.specs.declared.reply.Answer.{Answer}
 use Rattle.simulator_event.specs.declared.reply.Reply.{Reply}
-use Rattle.replay.specs.Written.{event_line}
-use Rattle.replay.specs.Answers.{answer_text, recorded}
+use Rattle.replay_lines.specs.Written.{event_line}
+use Rattle.replay_lines.specs.Answers.{answer_text, recorded}
 use Rattle.station_drive.specs.Told.{Call, Sends, Asks, Heard, Grows}
 
 -- how a station behaves to which events happen

@@ -2,7 +2,7 @@
 use Rattle.std.specs.Prelude.{◌≡◌, ◌<◌, ◌≤◌, ◌-◌, ◌/◌, ℕ, List, [], ◌∷◌, ◌++◌, length, map, replicate, Option, None}
 use Rattle.std.specs.List.{AllByRecursion}
 use Rattle.control_table.specs.layout.Entries.{Site}
-use Rattle.replay.specs.Names.{node_names}
+use Rattle.replay_lines.specs.Names.{node_names}
 use Rattle.simulator_event.specs.declared.event.Event.{Event}
 use Rattle.station_drive.specs.Told.{Call, Grows}
 use Rattle.station_drive.specs.Doings.{Behaviour, Performs}

@@ -1,7 +1,7 @@
 -- The rounds by which a station is driven: what they do, by what the clock and the network tell.
 use Rattle.std.specs.Prelude.{ℕ, zero, suc, ◌-◌, ◌/◌, nat_le, Bool, true, false, if◌then◌else◌, List, [], ◌∷◌, ◌++◌, length, map, replicate, Option, Some, None}
 use Rattle.control_table.specs.layout.Entries.{Site}
-use Rattle.replay.specs.Names.{node_names}
+use Rattle.replay_lines.specs.Names.{node_names}
 use Rattle.control_table.specs.sci_telegram.declared.message.Position.{Position}
 use Rattle.control_table.specs.sci_telegram.declared.message.Position.TheVariants as positions
 use Rattle.control_table.specs.sci_telegram.declared.message.Side.{Side}

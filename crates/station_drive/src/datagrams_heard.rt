@@ -2,7 +2,7 @@
 
 ghost use Rattle.std.specs.Prelude.{◌≡◌, [], ◌∷◌, length, IfNone, IfSome, OnErr, OnOk, List};
 ghost use Rattle.simulator_event.specs.declared.event.Event.TheVariants.{Deliver};
-ghost use Rattle.replay.specs.Names.{node_names};
+ghost use Rattle.replay_lines.specs.Names.{node_names};
 ghost use Rattle.station_drive.specs.Doings.{Applying, Performs, Stops};
 ghost use Rattle.station_drive.specs.Told.{Asks, Datagram, Grows, Heard};
 ghost use Rattle.station_drive.specs.Rounds.{Hearing, IsSilence, hearing_of, hearings};
@@ -11,7 +11,7 @@ use crate::datagrams::{Datagrams, Received};
 use crate::events_performed::perform;
 use crate::fault::DriveFault;
 use crate::station::Station;
-use replay::node_count;
+use replay_lines::node_count;
 use simulator_event::{Event, NodeId, RawDatagram};
 use std::alloc::Global;
 use std::io::Write;

@@ -2,7 +2,7 @@
 
 ghost use Rattle.std.specs.Prelude.{◌≡◌, [], ◌∷◌, length, map, replicate, IfOk, OnErr, OnOk, ℕ};
 ghost use Rattle.simulator_event.specs.declared.event.Event.TheVariants.{Time};
-ghost use Rattle.replay.specs.Names.{node_names};
+ghost use Rattle.replay_lines.specs.Names.{node_names};
 ghost use Rattle.station_drive.specs.Doings.{Applying, Performs, Stops};
 ghost use Rattle.station_drive.specs.Rounds.{due, end_position, not_due, reach, reaches, ticks};
 
@@ -13,7 +13,7 @@ use crate::fault::DriveFault;
 use crate::station::Station;
 use control_table::layout::PointId;
 use control_table::sci_telegram::{Position, Side};
-use replay::node_count;
+use replay_lines::node_count;
 use simulator_event::{ClockSteps, Event, NodeId};
 use std::alloc::Global;
 use std::io::Write;

@@ -3,7 +3,7 @@
 ghost use Rattle.std.specs.Prelude.{◌≡◌, ◌↔◌, IsTrue, Err, [], ◌∷◌, IfOk, OnOk, OnErr, map, drop, take, string_bytes, ℕ};
 ghost use Rattle.std.specs.Io.KnownBytes.{Appends, Keeps};
 ghost use Rattle.std.specs.Option.{option_map};
-ghost use Rattle.replay.specs.Answers.{answer_text};
+ghost use Rattle.replay_lines.specs.Answers.{answer_text};
 ghost use Rattle.simulator_event.specs.declared.refused.Refused.TheVariants as refused;
 ghost use Rattle.station_drive.specs.Told.{Grows, Sends};
 ghost use Rattle.station_drive.specs.Doings.{Applying, Performs, Stops, recorded_line};
@@ -12,7 +12,7 @@ use crate::datagrams::Datagrams;
 use crate::fault::DriveFault;
 use crate::station::Station;
 use control_table::Checked;
-use replay::{AnswerText, recorded, write_event};
+use replay_lines::{AnswerText, recorded, write_event};
 use replay_words::write_as_taken;
 use simulator_event::{Answer, Event, Refused};
 use std::alloc::{AllocError, Global};

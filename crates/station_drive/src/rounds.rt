@@ -1,7 +1,7 @@
 //! The rounds by which a station is driven.
 
 ghost use Rattle.std.specs.Prelude.{◌≡◌, ◌-◌, ◌/◌, IfOk, List, OnErr, OnOk, length};
-ghost use Rattle.replay.specs.Names.{node_names};
+ghost use Rattle.replay_lines.specs.Names.{node_names};
 ghost use Rattle.station_drive.specs.Doings.{Performs, Stops};
 ghost use Rattle.station_drive.specs.Drives.{Driven, beginning};
 ghost use Rattle.station_drive.specs.Rounds.{Hearing, drive_after, drives_after, is_same, round, standing_after};

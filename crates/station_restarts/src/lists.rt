@@ -9,7 +9,7 @@ use anyhow::Context;
 use replay_words::{Words, decimal};
 use station_sim::control_table::Checked;
 use station_sim::ixl_rules::Command;
-use station_sim::replay::{SimLine, node_named, read_lines};
+use station_sim::replay_lines::{SimLine, node_named, read_lines};
 use station_sim::simulator_event::{Event, NodeId};
 use station_sim::station_check::table_of;
 use std::alloc::Global;

@@ -4,7 +4,7 @@ use crate::run::ROUND;
 use crate::tally::Tally;
 use crate::watched::Watched;
 use station_sim::control_table::Checked;
-use station_sim::replay::SimLine;
+use station_sim::replay_lines::SimLine;
 use station_sim::simulator_event::Event;
 use std::alloc::{AllocError, Global};
 

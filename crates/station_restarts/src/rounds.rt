@@ -2,7 +2,7 @@
 
 use station_sim::layout::PointId;
 use station_sim::receiver;
-use station_sim::replay::node_count;
+use station_sim::replay_lines::node_count;
 use station_sim::sci_telegram::{Position, Side};
 use station_sim::simulator::World;
 use station_sim::simulator_event::{ClockSteps, Event, NodeId, RawDatagram};

@@ -4,7 +4,7 @@ use crate::known::Known;
 use crate::tally::{Tally, count};
 use crate::watched::Watched;
 use anyhow::Context;
-use station_sim::replay::SimLine;
+use station_sim::replay_lines::SimLine;
 use station_sim::simulator_event::Event;
 use std::alloc::Global;
 

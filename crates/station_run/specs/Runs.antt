@@ -2,8 +2,8 @@
 use Rattle.std.specs.Prelude.{◌≡◌, ℕ, List, ◌++◌, codes, Option, Ok, IsOk}
 use Rattle.std.specs.Io.KnownBytes.{Appends}
 use Rattle.station_sim.specs.layout.Entries.{Site}
-use Rattle.station_sim.specs.replay.Text.{FailsAt}
-use Rattle.station_sim.specs.replay.Script.{script}
+use Rattle.station_sim.specs.replay_lines.Text.{FailsAt}
+use Rattle.station_sim.specs.replay_lines.Script.{script}
 use Rattle.station_sim.specs.simulator_event.declared.event.Event.{Event}
 use Rattle.station_sim.specs.simulator.World.{IsPicture}
 use Rattle.station_sim.specs.station_check.Report.{IsSound}

@@ -6,7 +6,7 @@ use Rattle.simulator.specs.simulator_event.declared.refused.Refused.{Refused}
 use Rattle.simulator.specs.simulator_event.declared.refused.Refused.TheVariants.{OutOfMemory}
 use Rattle.simulator.specs.simulator_event.declared.reply.Answer.{Answer}
 use Rattle.simulator.specs.simulator_event.declared.reply.Reply.{Reply}
-use Rattle.replay.specs.Answers.{recorded}
+use Rattle.replay_lines.specs.Answers.{recorded}
 use Rattle.simulator.specs.simulator_run.declared.round.FoundDriven.{FoundDriven}
 use Rattle.simulator.specs.simulator_run.Flow.{Flowing}
 use Rattle.station_sim.specs.Sight.{Applies, Sight}

@@ -5,7 +5,7 @@ pub mod inside
 pub mod World
 pub mod Simulated
 -- what crates above need of the crates below
-pub use Rattle.replay.specs as replay
+pub use Rattle.replay_lines.specs as replay_lines
 pub use Rattle.simulator.specs as simulator
 pub use Rattle.station_check.specs as station_check
 pub use Rattle.simulator.specs.control_table as control_table

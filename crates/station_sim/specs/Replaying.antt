@@ -3,12 +3,12 @@ use Rattle.std.specs.Prelude.{◌≡◌, ℕ, codes, List, ◌++◌, Option, Ok,
 use Rattle.std.specs.Fmt.{decimal}
 use Rattle.std.specs.Io.KnownBytes.{Appends}
 use Rattle.simulator.specs.layout.Entries.{Site}
-use Rattle.replay.specs.Text.{FailsAt}
-use Rattle.replay.specs.Replay.{Judges}
-use Rattle.replay.specs.Session.{session}
-use Rattle.replay.specs.declared.agreement.Replayed.{Replayed}
-use Rattle.replay.specs.declared.agreement.Replayed.TheVariants.{Same, Differs}
-use Rattle.replay.specs.declared.session.Entry.{Entry}
+use Rattle.replay_lines.specs.Text.{FailsAt}
+use Rattle.replay_lines.specs.Replay.{Judges}
+use Rattle.replay_lines.specs.Session.{session}
+use Rattle.replay_lines.specs.declared.agreement.Replayed.{Replayed}
+use Rattle.replay_lines.specs.declared.agreement.Replayed.TheVariants.{Same, Differs}
+use Rattle.replay_lines.specs.declared.session.Entry.{Entry}
 use Rattle.station_check.specs.Report.{IsSound}
 use Rattle.station_check.specs.Failures.{ExplainsTable, Leaves, Tells}
 use Rattle.station_check.specs.declared.failure.Failure.{Failure}

@@ -6,7 +6,7 @@ use Rattle.simulator.specs.simulator_event.declared.refused.Refused.{Refused}
 use Rattle.simulator.specs.simulator_event.declared.reply.Answer.{Answer}
 use Rattle.simulator.specs.simulator_event.declared.reply.Reply.{Reply}
 use Rattle.simulator.specs.simulator_run.Flow.{Flowable}
-use Rattle.replay.specs.Replay as replaying
+use Rattle.replay_lines.specs.Replay as replaying
 
 pub record Sight (Picture : Type 0) : Type 1 where
   -- a picture is that of a new station of this table

@@ -6,10 +6,10 @@ use Rattle.simulator.specs.simulator_event.declared.event.Event.{Event}
 use Rattle.simulator.specs.simulator_event.declared.refused.Refused.{Refused}
 use Rattle.simulator.specs.simulator_event.declared.refused.Refused.TheVariants.{OutOfMemory}
 use Rattle.simulator.specs.simulator_event.declared.reply.Answer.{Answer}
-use Rattle.replay.specs.Answers.{answer_text}
-use Rattle.replay.specs.Text.{FailsAt, lines_said}
-use Rattle.replay.specs.declared.line.SimLine.{SimLine}
-use Rattle.replay.specs.declared.line.SimLine.TheVariants as said
+use Rattle.replay_lines.specs.Answers.{answer_text}
+use Rattle.replay_lines.specs.Text.{FailsAt, lines_said}
+use Rattle.replay_lines.specs.declared.line.SimLine.{SimLine}
+use Rattle.replay_lines.specs.declared.line.SimLine.TheVariants as said
 use Rattle.station_check.specs.Report.{IsSound}
 use Rattle.station_check.specs.Failures.{ExplainsTable, Leaves, Tells}
 use Rattle.station_check.specs.declared.failure.Failure.{Failure}

@@ -8,7 +8,7 @@ ghost use Rattle.station_sim.specs.inside.Lines.{IsLate};
 use crate::line::carry_out;
 use crate::playable::Playable;
 use crate::run::Run;
-use replay::{SimLine, read_lines};
+use replay_lines::{SimLine, read_lines};
 use simulator::control_table::Checked;
 use station_check::{Failure, table_of, tell};
 use std::alloc::Global;

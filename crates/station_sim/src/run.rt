@@ -6,7 +6,7 @@ ghost use Rattle.station_sim.specs.inside.Runs.{flowing_of};
 use crate::drive::note_drives;
 use crate::due::{add_deliveries, add_reaches, add_ticks, round_of_time};
 use crate::playable::Playable;
-use replay::{ROUND, recorded};
+use replay_lines::{ROUND, recorded};
 use simulator::control_table::Checked;
 use simulator::simulator_event::{Answer, Event, Refused};
 use simulator::simulator_run::{FoundDriven, RoundEvent, nodes};

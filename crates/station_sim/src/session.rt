@@ -2,12 +2,12 @@
 
 ghost use Rattle.std.specs.Prelude.{◌≡◌, ◌⊎◌, ℕ, IsErr, IfErr, IfOk, OnOk, Some};
 ghost use Rattle.std.specs.Io.KnownBytes.{Appends};
-ghost use Rattle.replay.specs.declared.agreement.Replayed.TheVariants.{Same, Differs as DiffersAt};
+ghost use Rattle.replay_lines.specs.declared.agreement.Replayed.TheVariants.{Same, Differs as DiffersAt};
 ghost use Rattle.station_check.specs.Failures.{Leaves};
 ghost use Rattle.station_sim.specs.Replaying.{CanReplay, Explained, Explains, IsReplayed, verdict_line, verdict_text};
 
 use crate::playable::Playable;
-use replay::{Apply, Replayed, read_session, replay};
+use replay_lines::{Apply, Replayed, read_session, replay};
 use simulator::simulator_event::{Event, Refused, Reply};
 use station_check::{Failure, table_of, tell};
 use std::alloc::Global;

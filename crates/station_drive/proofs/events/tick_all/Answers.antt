@@ -1,5 +1,5 @@
 use Rattle.std.proofs.Common.{◌≡◌, ◌∙◌, length, map, ap, arith}
-use Rattle.replay.specs.Names.{node_names}
+use Rattle.replay_lines.specs.Names.{node_names}
 use Rattle.station_drive.specs.Doings.{Applying}
 use Rattle.station_drive.specs.Rounds.{ticks}
 use Rattle.station_drive.proofs.Composed.{performs_next, performs_same, stopped, stops_next}

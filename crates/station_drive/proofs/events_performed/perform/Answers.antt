@@ -1,7 +1,7 @@
 use Rattle.std.proofs.Common.{[], ◌∷◌, sym, ap, ◌∙◌, subst, take}
 use Rattle.std.proofs.lemmas.Result.{on_err_weaker}
 use Rattle.std.specs.Io.KnownBytes.{Appends}
-use Rattle.replay.specs.Written.{event_line}
+use Rattle.replay_lines.specs.Written.{event_line}
 use Rattle.station_drive.specs.Doings.{Applying, Stops}
 use Rattle.station_drive.proofs.Composed.{stops_none, stopped, unchanged, happened, event_called, event_text}
 use Rattle.station_drive.proofs.Rows.{failed}

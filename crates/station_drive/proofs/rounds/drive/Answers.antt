@@ -1,6 +1,6 @@
 use Rattle.std.proofs.Common.{◌<◌, ◌≤◌, ◌∙◌, [], ◌∷◌, ◌++◌, length, ap, subst, refl}
 use Rattle.std.proofs.lemmas.List.{length-replicate}
-use Rattle.replay.specs.Names.{node_names}
+use Rattle.replay_lines.specs.Names.{node_names}
 use Rattle.station_drive.specs.Drives.{beginning}
 use Rattle.station_drive.specs.Rounds.{Turn}
 use Rattle.station_drive.proofs.Composed.{performs_none, stopped, stops_next, stops_none, stops_now}

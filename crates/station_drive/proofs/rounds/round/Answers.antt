@@ -1,5 +1,5 @@
 use Rattle.std.proofs.Common.{◌≡◌, ◌-◌, [], ◌∷◌, ◌∙◌, length, map, replicate, ap}
-use Rattle.replay.specs.Names.{node_names}
+use Rattle.replay_lines.specs.Names.{node_names}
 use Rattle.simulator_event.specs.declared.event.Event.TheVariants.{Time}
 use Rattle.station_drive.specs.Doings.{Applying}
 use Rattle.station_drive.specs.Rounds.{due, passed, reaches, ticks}

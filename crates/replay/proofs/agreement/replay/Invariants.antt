@@ -1,8 +1,0 @@
-use Rattle.replay.proofs.Standing.{Stands}
-use Rattle.replay.proofs.agreement.replay.Given as goal
-
--- the events so far answered as it was recorded, so what is told of those that are left is told of all
-abbrev pub invariant-loop-place : goal.invariant-loop-place
-invariant-loop-place g l =
-    let station = g.S.Apply in
-    Stands station.answer station.after l.entries (station.picture l.fn.station) l.place (station.picture l.station)

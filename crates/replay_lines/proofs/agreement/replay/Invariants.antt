@@ -1,0 +1,8 @@
+use Rattle.replay_lines.proofs.Standing.{Stands}
+use Rattle.replay_lines.proofs.agreement.replay.Given as goal
+
+-- the events so far answered as it was recorded, so what is told of those that are left is told of all
+abbrev pub invariant-loop-place : goal.invariant-loop-place
+invariant-loop-place g l =
+    let station = g.S.Apply in
+    Stands station.answer station.after l.entries (station.picture l.fn.station) l.place (station.picture l.station)

@@ -1,0 +1,44 @@
+-- What is told of the answer to an event.
+--
+--     ok                    the event happened, and is no command
+--     accepted              the interlocking took the command
+--     refused N             it refused the command, by number; 5 with the route, 6 with the section, 7 with the point
+--     no N                  the event couldn't happen, by number
+use Rattle.std.specs.Prelude.{ℕ, List, ◌∷◌, ◌++◌, codes, Option, Some, None, Result, Ok, Err}
+use Rattle.std.specs.Fmt.{decimal}
+use Rattle.ixl_rules.specs.layout.Entries.{Site}
+use Rattle.ixl_rules.specs.Commands.{refusal_number}
+use Rattle.ixl_rules.specs.declared.command.Refusal.{Refusal}
+use Rattle.ixl_rules.specs.declared.command.Refusal.TheVariants.{Conflict, NotClear, PointUnavailable}
+use Rattle.simulator_event.specs.Refused.{number_of}
+use Rattle.simulator_event.specs.declared.refused.Refused.{Refused as Why}
+use Rattle.simulator_event.specs.declared.reply.Answer.{Answer}
+use Rattle.simulator_event.specs.declared.reply.Answer.TheVariants.{Done, Accepted, Refused}
+use Rattle.simulator_event.specs.declared.reply.Reply.{Reply}
+use Rattle.replay_lines.specs.Names.{point_word, route_word, section_word}
+
+-- what a line tells: all but how many datagrams were sent
+abbrev pub recorded : Result Reply Why → Result Answer Why
+recorded (Ok reply) = Ok reply.answer
+recorded (Err why) = Err why
+
+-- the name of what a command was refused for, if it is told
+abbrev pub refusal_name : Site → Refusal → Option (List ℕ)
+refusal_name site (Conflict route) = Some (route_word site route)
+refusal_name site (NotClear section) = Some (section_word site section)
+refusal_name site (PointUnavailable point) = Some (point_word site point)
+refusal_name site _ = None
+
+-- the number of a refusal, and the name behind it
+abbrev pub numbered : ℕ → Option (List ℕ) → List ℕ
+numbered number (Some name) = codes "refused " ++ (decimal number ++ 32 ∷ name)
+numbered number None = codes "refused " ++ decimal number
+
+abbrev pub refusal_text : Site → Refusal → List ℕ
+refusal_text site refusal = numbered (refusal_number refusal) (refusal_name site refusal)
+
+abbrev pub answer_text : Site → Result Answer Why → List ℕ
+answer_text site (Ok Done) = codes "ok"
+answer_text site (Ok Accepted) = codes "accepted"
+answer_text site (Ok (Refused refusal)) = refusal_text site refusal
+answer_text site (Err why) = codes "no " ++ decimal (number_of why)

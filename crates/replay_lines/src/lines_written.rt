@@ -1,0 +1,202 @@
+//! The line of an event.
+
+ghost use Rattle.std.specs.Prelude.{◌≡◌, ◌++◌, IfOk, OnOk, slice_get, string_bytes};
+ghost use Rattle.std.specs.Option.{option_map};
+ghost use Rattle.std.specs.List.{join_with_byte};
+ghost use Rattle.simulator_event.specs.declared.event.Event.TheVariants.{Deliver, Occupy, Reach, Restart, Tick, Time};
+ghost use Rattle.replay_lines.specs.Names.{node_names};
+ghost use Rattle.replay_lines.specs.Written.{command_words, event_line, lose_words};
+ghost use Rattle.replay_lines.specs.inside.Clocks.{clock_text};
+
+use crate::{node_count, node_name, route_word};
+use ixl_rules::Command;
+use ixl_rules::control_table::Checked;
+use ixl_rules::layout::{Layout, PointId, SectionId};
+use ixl_rules::sci_telegram::{Occupancy, Position};
+use replay_words::{LONGEST, hex_word};
+use simulator_event::{Event, NodeId};
+use std::alloc::{AllocError, Global};
+
+// The latest clock with which a node is made anew, in milliseconds.
+const LATEST_CLOCK: u64 = 9_000_000_000_000;
+
+/// The line of an event, without a line feed. There is none where a node, a section or a point isn't
+/// there, or a number or a length lies outside the bounds of a line.
+pub fn write_event(
+    alloc: Global,
+    table: &Checked,
+    event: &Event,
+) -> Result<Option<String>, AllocError>
+    ensures { IfOk result (λ line. option_map string_bytes line ≡ event_line table.now event.now) }
+{
+    let layout = table.layout();
+    match event {
+        Event::Request(command) => Ok(Some(command_line(alloc, layout, *command)?)),
+        Event::Occupy { section, occupancy } => occupy_line(alloc, layout, *section, *occupancy),
+        Event::Tick(node) => tick_line(alloc, layout, *node),
+        Event::Time { elapsed, clocks } => time_line(alloc, layout, *elapsed, clocks.as_slice()),
+        Event::Deliver { node, bytes } => deliver_line(alloc, layout, *node, bytes.as_slice()),
+        Event::Lose(bytes) => lose_line(alloc, bytes.as_slice()),
+        Event::Reach { point, position } => reach_line(alloc, layout, *point, *position),
+        Event::Restart {
+            node,
+            clock,
+            first_sequence_number,
+        } => restart_line(alloc, layout, *node, *clock, *first_sequence_number),
+    }
+}
+
+fn command_line(alloc: Global, layout: &Layout, command: Command) -> Result<String, AllocError>
+    ensures { IfOk result (λ line. string_bytes line ≡ join_with_byte 32 (command_words layout.now command)) }
+{
+    match command {
+        Command::Request(route) => {
+            let route = route_word(layout, route);
+            format!(in alloc; "set {route}")
+        }
+        Command::Cancel(route) => {
+            let route = route_word(layout, route);
+            format!(in alloc; "cancel {route}")
+        }
+        Command::Resume => String::from_str(alloc, "resume"),
+    }
+}
+
+fn occupy_line(
+    alloc: Global,
+    layout: &Layout,
+    section: SectionId,
+    occupancy: Occupancy,
+) -> Result<Option<String>, AllocError>
+    ensures { IfOk result (λ line. option_map string_bytes line ≡ event_line layout.now (Occupy section occupancy)) }
+{
+    let Some(name) = layout.sections().get(section.0) else {
+        return Ok(None);
+    };
+    let word = match occupancy {
+        Occupancy::Occupied => "occupy",
+        Occupancy::Clear => "clear",
+    };
+    let name = name.as_str();
+    Ok(Some(format!(in alloc; "{word} {name}")?))
+}
+
+fn tick_line(alloc: Global, layout: &Layout, node: NodeId) -> Result<Option<String>, AllocError>
+    ensures { IfOk result (λ line. option_map string_bytes line ≡ event_line layout.now (Tick node)) }
+{
+    let Some(name) = node_name(layout, node) else {
+        return Ok(None);
+    };
+    let name = name.as_str();
+    Ok(Some(format!(in alloc; "tick {name}")?))
+}
+
+fn time_line(
+    alloc: Global,
+    layout: &Layout,
+    elapsed: u64,
+    steps: &[u64],
+) -> Result<Option<String>, AllocError>
+    ensures { IfOk result (λ line. option_map string_bytes line ≡ event_line layout.now (Time elapsed steps.now)) }
+{
+    if steps.len() != node_count(layout) {
+        return Ok(None);
+    }
+    let mut line = format!(in alloc; "time {elapsed}")?;
+    for (place, step) in steps.iter().enumerate() {
+        push_clock(&mut line, layout, NodeId(place), elapsed, *step)?;
+    }
+    Ok(Some(line))
+}
+
+// Adds the word of a clock that goes on otherwise than true time.
+fn push_clock(
+    line: &mut String,
+    layout: &Layout,
+    node: NodeId,
+    elapsed: u64,
+    step: u64,
+) -> Result<(), AllocError>
+    ensures { OnOk result (string_bytes line.new ≡ string_bytes line.old ++ clock_text (slice_get (node_names layout.now) node.0) elapsed step) }
+{
+    if step == elapsed {
+        return Ok(());
+    }
+    match node_name(layout, node) {
+        Some(name) => {
+            let name = name.as_str();
+            write!(line, " {name}={step}")
+        }
+        None => Ok(()),
+    }
+}
+
+fn deliver_line(
+    alloc: Global,
+    layout: &Layout,
+    node: NodeId,
+    bytes: &[u8],
+) -> Result<Option<String>, AllocError>
+    ensures { IfOk result (λ line. option_map string_bytes line ≡ event_line layout.now (Deliver node bytes.now)) }
+{
+    if bytes.len() > LONGEST {
+        return Ok(None);
+    }
+    let Some(name) = node_name(layout, node) else {
+        return Ok(None);
+    };
+    let name = name.as_str();
+    let word = hex_word(alloc, bytes)?;
+    let word = word.as_str();
+    Ok(Some(format!(in alloc; "deliver {name} {word}")?))
+}
+
+fn lose_line(alloc: Global, bytes: &[u8]) -> Result<Option<String>, AllocError>
+    ensures { IfOk result (λ line. option_map string_bytes line ≡ option_map (join_with_byte 32) (lose_words bytes.now)) }
+{
+    if bytes.is_empty() || bytes.len() > LONGEST {
+        return Ok(None);
+    }
+    let word = hex_word(alloc, bytes)?;
+    let word = word.as_str();
+    Ok(Some(format!(in alloc; "lose {word}")?))
+}
+
+fn reach_line(
+    alloc: Global,
+    layout: &Layout,
+    point: PointId,
+    position: Position,
+) -> Result<Option<String>, AllocError>
+    ensures { IfOk result (λ line. option_map string_bytes line ≡ event_line layout.now (Reach point position)) }
+{
+    let Some(point) = layout.points().get(point.0) else {
+        return Ok(None);
+    };
+    let word = match position {
+        Position::Left => "left",
+        Position::Right => "right",
+        Position::NoEndPosition => "none",
+    };
+    let name = point.name.as_str();
+    Ok(Some(format!(in alloc; "reach {name} {word}")?))
+}
+
+fn restart_line(
+    alloc: Global,
+    layout: &Layout,
+    node: NodeId,
+    clock: u64,
+    number: u32,
+) -> Result<Option<String>, AllocError>
+    ensures { IfOk result (λ line. option_map string_bytes line ≡ event_line layout.now (Restart node clock number)) }
+{
+    if clock > LATEST_CLOCK {
+        return Ok(None);
+    }
+    let Some(name) = node_name(layout, node) else {
+        return Ok(None);
+    };
+    let name = name.as_str();
+    Ok(Some(format!(in alloc; "restart {name} {clock} {number}")?))
+}

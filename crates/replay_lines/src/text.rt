@@ -1,0 +1,73 @@
+//! The lines of a whole text.
+
+ghost use Rattle.std.specs.Prelude.{◌≡◌, [], ◌∷◌, ◌++◌, OnOk, IfErr, Ok};
+ghost use Rattle.replay_lines.specs.Given.{Fails};
+ghost use Rattle.replay_lines.specs.Line.{line};
+ghost use Rattle.replay_lines.specs.Text.{Tells, lines_said};
+
+use crate::line::{SimLine, read_line};
+use ixl_rules::control_table::Checked;
+use replay_words::{Fault, Lines, is_passed_over};
+use std::alloc::Global;
+use std::error::Error;
+use std::fmt;
+
+/// Where a text is faulty, and how.
+#[derive(Clone, Copy, Debug, PartialEq, Eq)]
+pub struct LineFault {
+    /// The number of the first faulty line, from 1.
+    pub line: u64,
+    /// The lowest fault of that line.
+    pub fault: Fault,
+}
+
+impl fmt::Display for LineFault {
+    ghost use Rattle.std.specs.Prelude.{Some};
+    ghost use Rattle.replay_lines.specs.Text.{fault_text};
+
+    ghost output = { λ fault. Some (fault_text fault) };
+
+    fn fmt<W: fmt::Write>(&self, f: &mut fmt::Formatter<W>) -> fmt::Result {
+        let number = self.fault.number();
+        let line = self.line;
+        write!(f, "session fault {number} at line {line}")
+    }
+}
+
+impl Error for LineFault {}
+
+/// What the lines of a text say that aren't passed over, or where the first faulty one is. Fault 7 comes
+/// only where memory was refused, at the line that was being read.
+pub fn read_lines(alloc: Global, table: &Checked, text: &str) -> Result<Vec<SimLine>, LineFault>
+    ensures { Tells (λ lines. lines.items) (lines_said table.now text.now) result }
+{
+    let mut said = Vec::new(alloc);
+    for (number, line) in Lines::of(text) {
+        if is_passed_over(line) {
+            continue;
+        }
+        let kept = keep_line(alloc, table, line, &mut said);
+        if let Err(fault) = kept {
+            return Err(LineFault {
+                line: number,
+                fault,
+            });
+        }
+    }
+    Ok(said)
+}
+
+// Keeps what one line says behind those before it.
+fn keep_line(
+    alloc: Global,
+    table: &Checked,
+    text: &str,
+    said: &mut Vec<SimLine>,
+) -> Result<(), Fault>
+    ensures ok { OnOk result ((this : SimLine) × (line table.now text.now ≡ Ok this) × (said.new.items ≡ said.old.items ++ this ∷ [])) }
+    ensures err { IfErr result (λ fault. Fails fault (line table.now text.now)) }
+{
+    let this = read_line(alloc, table.layout(), text)?;
+    said.push(this)?;
+    Ok(())
+}
