@@ -354,7 +354,7 @@ request_free now table route ixl before is none = by_row (slice_get table.rows r
 
 -- ---- a step of an interlocking
 
-accepted_is : (command : Command) (now : ℕ) (table : Table) (key : Key) (ixl : IxlState) (answer : Reply) → answer ≡ reply now table key (Commands command) ixl →
+pub accepted_is : (command : Command) (now : ℕ) (table : Table) (key : Key) (ixl : IxlState) (answer : Reply) → answer ≡ reply now table key (Commands command) ixl →
     refusal now table command (all_clocked now ixl) ≡ None → answer ≡ Accepted
 unfolding reply
 accepted_is command now table key ixl answer answered none = answered ∙ ap answer_by none
@@ -446,3 +446,30 @@ routes_were_there now input old new answer number after step is =
     in let clocked : StepSoFar = begun_with (all_clocked now old.state.ixl) empty_outbox
     in let mid = behind_goes now table input (given now table (key_of old.state.sited.site) input clocked) number after (ap (λ (i : IxlState). slice_get i.routes number) (sym step.ixl) ∙ is)
     in given_kept now table (key_of old.state.sited.site) input clocked number mid.0 mid.1
+
+-- ---- behind the input alone
+
+-- the input is a request for this route, and it is accepted
+abbrev pub IsOwnRequest : ℕ → Table → IxlState → Input → ℕ → Type 0
+IsOwnRequest now table ixl input number =
+    (input ≡ Commands (commands.Request (record { 0 = number }))) × (refusal now table (commands.Request (record { 0 = number })) ixl ≡ None)
+
+-- each route is onward, unless the input is its own request
+abbrev pub GoesBehindInput : ℕ → Table → Key → Input → StepSoFar → ℕ → RouteState → Type 0
+GoesBehindInput now table key input part number after = (before : RouteState) × (slice_get part.ixl.routes number ≡ Some before) × (IsOnward before.phase after.phase ⊎ IsOwnRequest now table part.ixl input number)
+
+pub given_goes : (now : ℕ) (table : Table) (key : Key) (input : Input) (part : StepSoFar) (number : ℕ) (after : RouteState) → slice_get (given now table key input part).ixl.routes number ≡ Some after →
+    GoesBehindInput now table key input part number after
+unfolding given PartGoes OnwardAll Becomes
+given_goes now table key Tick part number after is = (after, is, inl (onward_same after.phase))
+given_goes now table key (Datagram bytes) part number after is = let before = datagram_goes now table key bytes part number after is in (before.0, before.1, inl before.2)
+given_goes now table key (Commands command) part number after is = by_cause (refusal now table command part.ixl) refl is where
+  by_becoming : (before : RouteState) → refusal now table command part.ixl ≡ None → Becomes command number before after → IsOnward before.phase after.phase ⊎ IsOwnRequest now table part.ixl (Commands command) number
+  by_becoming before told (inl onward) = inl onward
+  by_becoming before told (inr there) = inr (ap Commands there.0, ap (λ (c : Command). refusal now table c part.ixl) (sym there.0) ∙ told)
+
+  by_cause : (cause : Option Refusal) → refusal now table command part.ixl ≡ cause → slice_get (commanded_by cause command part.ixl).routes number ≡ Some after → GoesBehindInput now table key (Commands command) part number after
+  by_cause (Some refused) told same = (after, same, inl (onward_same after.phase))
+  by_cause None told changed_to =
+      let before = command_kept None command part.ixl number after changed_to
+      in (before.0, before.1, by_becoming before.0 told (command_becomes command part.ixl number before.0 after before.1 changed_to))

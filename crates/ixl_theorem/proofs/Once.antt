@@ -39,7 +39,7 @@ has_all_below zero k below = absurd (omega (arith, below))
 has_all_below (suc n) k below = put (all_below n) n k ∙ with_last n k below (has_all_below n k) (k == n) refl
 
 -- inside a connection what counts as moved is kept
-moved_is : (side : Option Side) (moved : Places) (client : ClientState) → is_outside client.stage ≡ false → (known_point_after side moved client).moved ≡ moved
+pub moved_is : (side : Option Side) (moved : Places) (client : ClientState) → is_outside client.stage ≡ false → (known_point_after side moved client).moved ≡ moved
 unfolding known_point_after
 moved_is side moved client inside = rw inside refl
 
@@ -59,7 +59,7 @@ moves_count now point side part number route after kept is inside = by_known_poi
       ∙ ap (λ (row : Places). contains row number) (moved_is known_point.side (all_below (length part.ixl.routes)) done.client stays)
       ∙ has_all_below (length part.ixl.routes) number (get_inside part.ixl.routes number route kept)
 
-inside_of : (s : Stage) → is_available s ≡ true → is_outside s ≡ false
+pub inside_of : (s : Stage) → is_available s ≡ true → is_outside s ≡ false
 inside_of stage.Outside is = absurd (false≢true is)
 inside_of stage.AwaitsAnswer is = refl
 inside_of stage.AwaitsStart is = refl

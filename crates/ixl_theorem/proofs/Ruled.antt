@@ -45,7 +45,7 @@ module _ (Holds : StepSoFar → Type 0) where
   repeated_holds does each zero part is = is
   repeated_holds does each (suc n) part is = repeated_holds does each n (does part) (each part is)
 
-  at_route_holds : (table : Table) (number : ℕ) (does : Row → RouteState → StepSoFar → StepSoFar) (part : StepSoFar) → ((row : Row) (route : RouteState) → Holds (does row route part)) → Holds part → Holds (at_route table number does part)
+  pub at_route_holds : (table : Table) (number : ℕ) (does : Row → RouteState → StepSoFar → StepSoFar) (part : StepSoFar) → ((row : Row) (route : RouteState) → Holds (does row route part)) → Holds part → Holds (at_route table number does part)
   unfolding at_route
   at_route_holds table number does part each is =
       with_one_holds (slice_get table.rows number) _ part (λ row there. with_one_holds (slice_get part.ixl.routes number) (does row) part (λ route also. each row route) is) is

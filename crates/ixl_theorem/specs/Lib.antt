@@ -2,7 +2,9 @@ pub mod Answered
 pub mod Apart
 pub mod Called
 pub mod Cancels
+pub mod GivenOnce
 pub mod Links
 pub mod Nodes
 pub mod Onward
 pub mod Refused
+pub mod WholeStep
