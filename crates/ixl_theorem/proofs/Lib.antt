@@ -12,10 +12,12 @@ pub mod CalledSteps
 pub mod Cancelling
 pub mod Clients
 pub mod Courses
+pub mod Falling
 pub mod GivenOnce
 pub mod Going
 pub mod Hears
 pub mod Holding
+pub mod Learning
 pub mod LinkRefusing
 pub mod Nodes
 pub mod Once

@@ -53,7 +53,7 @@ in_phase part place route other p q is also at less =
 pub stopped_keeps : (now : ℕ) (row : Row) (part : StepSoFar) → (stopped now row part).ixl.routes ≡ part.ixl.routes
 stopped_keeps now row part = either (λ (p : StepSoFar). p.ixl.routes ≡ part.ixl.routes) (is_signal_ready part.ixl row.entry) _ _ (aspect_keeps now row.entry _ part) refl
 
-beaten_keeps : (now : ℕ) (node : Node) (part : StepSoFar) → (beaten now node part).ixl.routes ≡ part.ixl.routes
+pub beaten_keeps : (now : ℕ) (node : Node) (part : StepSoFar) → (beaten now node part).ixl.routes ≡ part.ixl.routes
 unfolding known_signal_ticking known_point_ticking detector_ticking
 beaten_keeps now (Signal place) part = with_one_keeps (slice_get part.ixl.known_signals place) _ part (λ known_signal. refl)
 beaten_keeps now (Point place) part = with_one_keeps (slice_get part.ixl.known_points place) _ part (λ known_point. refl)

@@ -7,4 +7,5 @@ pub mod Links
 pub mod Nodes
 pub mod Onward
 pub mod Refused
+pub mod Standing
 pub mod WholeStep

@@ -11,6 +11,6 @@ pub use laws::{
     ticks_leave_no_link_down,
 };
 pub use whole_step::{
-    a_step_gives_each_once, aspects_and_moves_are_telegrams, proceed_is_given_once_in_a_setting,
-    two_routes_take_their_turns, whole_steps_do_what_is_due,
+    a_step_gives_each_once, an_unsound_aspect_falls, aspects_and_moves_are_telegrams,
+    proceed_is_given_once_in_a_setting, two_routes_take_their_turns, whole_steps_do_what_is_due,
 };

@@ -3,16 +3,18 @@
 ghost use Rattle.std.specs.Prelude.{◌≡◌, ℕ, List, [], ◌∷◌, Some, slice_get};
 ghost use Rattle.ixl_state.specs.First.{Beginning, new_ixl};
 ghost use Rattle.ixl_state.specs.ixl_client.declared.command.Command.TheVariants as telegrams;
-ghost use Rattle.ixl_state.specs.ixl_rules.State.{KnownPointState, KnownSignalState};
+ghost use Rattle.ixl_state.specs.ixl_rules.State.{KnownPointState, KnownSignalState, RouteState};
 ghost use Rattle.ixl_state.specs.ixl_rules.Step.{Input, Reply};
 ghost use Rattle.ixl_state.specs.ixl_rules.StepSoFar.{Point, Signal, StepSoFar, giving_aspect, giving_move};
 ghost use Rattle.ixl_state.specs.ixl_rules.Table.{Need, Row, Table};
+ghost use Rattle.ixl_state.specs.ixl_rules.declared.phase.Phase.TheVariants as phase;
 ghost use Rattle.ixl_state.specs.layout.Entries.{Site};
 ghost use Rattle.ixl_state.specs.sci_telegram.declared.message.Aspect.{Aspect};
 ghost use Rattle.ixl_state.specs.sci_telegram.declared.message.Side.{Side};
 ghost use Rattle.ixl.specs.Interlocking.{HasStepped, InterlockingState};
 ghost use Rattle.ixl_theorem.specs.GivenOnce.{GivesMove, GivesProceed, GivesStop, GivesTelegram, InNone, NoneBehind, OneAfterAnother, ProceedGiven, SetsAnew, StepTaken, telegram_for};
-ghost use Rattle.ixl_theorem.specs.WholeStep.{EndAuthority, Fits, FreeCancelled, FreeSection, MovePoint, Passed, Proceed, Watch, WholeStep, Withdraw, turns_of_rules};
+ghost use Rattle.ixl_theorem.specs.Standing.{IsUnsound};
+ghost use Rattle.ixl_theorem.specs.WholeStep.{EndAuthority, Fits, FreeCancelled, FreeSection, MovePoint, Passed, Proceed, Watch, WholeStep, Withdraw, heard, turns_of_rules};
 
 use ixl_state::ixl_client::initialisations_go_out_in_order;
 use ixl_state::ixl_rules::{
@@ -59,6 +61,14 @@ pub fn a_step_gives_each_once()
         → NoneBehind (GivesProceed now old.state.sited.table number) (GivesProceed now old.state.sited.table number) step.turns }
     ensures moves { (now point : ℕ) (input : Input) (old new : InterlockingState) (step : WholeStep now input old new)
         → NoneBehind (GivesMove old.state.sited.table point) (GivesMove old.state.sited.table point) step.turns }
+{}
+
+/// No aspect outlives a step behind whose input it is unsound. Where a point that the route requires isn't known at its side
+/// then, a section isn't clear, or the signal's link isn't ready, the route's aspect doesn't stand behind the step.
+pub fn an_unsound_aspect_falls()
+    ensures { (now number : ℕ) (input : Input) (old new : InterlockingState) (row : Row) (route : RouteState) → WholeStep now input old new
+        → slice_get old.state.sited.table.rows number ≡ Some row → slice_get new.state.ixl.routes number ≡ Some route
+        → IsUnsound old.state.sited.table (heard now input old).ixl row → route.phase ≡ phase.Proceeding → ⊥ }
 {}
 
 /// Behind a step in which a route's aspect was given no step gives it again, until a request for the route is accepted.
