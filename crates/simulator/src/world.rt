@@ -5,7 +5,7 @@ ghost use Rattle.std.specs.Option.{option_map};
 ghost use Rattle.simulator_ixl.specs.ixl_rules.View.{is_set};
 ghost use Rattle.simulator_ixl.specs.ixl_table.Table.{IsTableOf};
 ghost use Rattle.simulator_ixl.specs.simulator_event.declared.refused.Refused.TheVariants.{OutOfMemory};
-ghost use Rattle.simulator_headline.specs.Reached.{HasSafeLinks};
+ghost use Rattle.simulator_headline.specs.Reached.{HasSafeLinks, IsReachedSafely};
 ghost use Rattle.simulator_ixl.specs.simulator_field.Bag.{in_bag, not_lost};
 ghost use Rattle.simulator_ixl.specs.simulator_run.First.{first_world};
 ghost use Rattle.simulator_ixl.specs.simulator_run.Happens.{happens, is_restart, reply_to};
@@ -60,6 +60,7 @@ impl World {
         ensures table { IfOk result (λ world. IsTableOf world.sited.site world.sited.table) }
         ensures safe { IfOk result IsSafeWorld }
         ensures links { IfOk result (λ world. HasSafeLinks world.sited.site world.run) }
+        ensures reached { IfOk result (λ world. IsReachedSafely world.sited.site world.sited.table world.run) }
     {
         reached_worlds_are_safe();
         let parts = Parts::new(alloc, checked)?;
@@ -82,6 +83,7 @@ impl World {
         ensures kept { OnErr result (self.old.room ≤ self.new.room) }
         ensures safe { IsSafeWorld self.new }
         ensures links { HasSafeLinks self.new.sited.site self.new.run }
+        ensures reached { IsReachedSafely self.new.sited.site self.new.sited.table self.new.run }
     {
         reached_worlds_are_safe();
         self.parts.facts();
@@ -94,6 +96,7 @@ impl World {
         ensures sited { self.new.sited ≡ self.old.sited }
         ensures safe { IsSafeWorld self.new }
         ensures links { HasSafeLinks self.new.sited.site self.new.run }
+        ensures reached { IsReachedSafely self.new.sited.site self.new.sited.table self.new.run }
     {
         let mut accepted = 0;
         for event in events {
@@ -216,11 +219,12 @@ impl World {
         self.parts.snapshot()
     }
 
-    /// What is true of every world: whatever is seen of it is safe, and so is each of its links.
+    /// What is true of every world: whatever is seen of it is safe, and so is each of its links, and what is in flight.
     fn facts(&self)
         ensures table { IsTableOf self.now.sited.site self.now.sited.table }
         ensures safe { IsSafeWorld self.now }
         ensures links { HasSafeLinks self.now.sited.site self.now.run }
+        ensures reached { IsReachedSafely self.now.sited.site self.now.sited.table self.now.run }
     {
         reached_worlds_are_safe();
         self.parts.facts();

@@ -9,6 +9,10 @@ mod Safe
 mod Held
 mod There
 mod Represented
+mod FlightEnds
+mod Flight
+mod FlightTaken
+mod ReadOff
 mod FirstWorld
 mod StationLists
 mod StationCalls

@@ -46,7 +46,7 @@ left_is_not_right : seen_point.Left ≡ seen_point.Right → ⊥
 left_is_not_right e = true≢false (ap is_left e)
 
 -- an end position that is seen at a side is that side's
-position_is_told : (position : Position) (side : Side) → position_seen position ≡ Some (side_seen side) → position ≡ position_at side
+pub position_is_told : (position : Position) (side : Side) → position_seen position ≡ Some (side_seen side) → position ≡ position_at side
 position_is_told positions.Right sides.Right same = refl
 position_is_told positions.Right sides.Left same = absurd (left_is_not_right (sym (some_injective seen_point.Right seen_point.Left same)))
 position_is_told positions.Left sides.Right same = absurd (left_is_not_right (some_injective seen_point.Left seen_point.Right same))

@@ -4,4 +4,5 @@ pub mod Seen
 pub mod Represents
 pub mod Change
 pub mod Events
+pub mod InFlight
 pub mod Reached

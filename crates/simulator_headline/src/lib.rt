@@ -9,6 +9,7 @@ mod ends;
 mod events;
 mod far_ends;
 mod first;
+mod flight;
 mod headline;
 mod networks;
 mod points;
@@ -27,6 +28,10 @@ pub use ends::{
 pub use events::controllers_events_are_represented;
 pub use far_ends::{clients_are_alone_after_quiet, far_ends_are_known, reports_made_are_heard};
 pub use first::{first_worlds_are_represented, new_interlockings_are_just_made};
+pub use flight::{
+    aspects_in_flight_are_of_held_routes, items_are_read_off_the_datagrams,
+    points_of_held_routes_are_at_rest, what_is_taken_was_in_flight,
+};
 pub use headline::{
     every_event_is_represented, every_world_is_reached_by_moves, every_world_is_safe,
     lists_of_events_go_on,

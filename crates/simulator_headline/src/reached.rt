@@ -14,13 +14,18 @@ ghost use Rattle.simulator_run.specs.Seen.{IsSnapshotOf};
 ghost use Rattle.simulator_run.specs.State.{WorldState};
 ghost use Rattle.simulator_run.specs.simulator_snapshot.Safe.{Safe};
 ghost use Rattle.simulator_run.specs.simulator_snapshot.declared.snapshot.Snapshot.{Snapshot};
-ghost use Rattle.simulator_headline.specs.Reached.{HasSafeLinks, IsReached};
+ghost use Rattle.simulator_headline.specs.Reached.{HasSafeLinks, IsReached, IsReachedSafely};
 
+use crate::flight::{
+    aspects_in_flight_are_of_held_routes, items_are_read_off_the_datagrams,
+    points_of_held_routes_are_at_rest, what_is_taken_was_in_flight,
+};
 use crate::headline::{every_world_is_safe, lists_of_events_go_on};
 use simulator_run_links::{each_link_of_a_station_is_safe, stations_have_links};
 
 /// The first world is reached by no event, and an event that can happen to a world that is reached leads to one (*on*). Each
-/// of them is safe, and so is each of its links (*links*).
+/// of them is safe, and so is each of its links (*links*). What is in flight in it is of held routes, and what was given is read
+/// off its datagrams (*reached*).
 pub fn reached_worlds_are_safe()
     ensures first { (site : Site) (table : Table) → IsReached site table (first_world site table) }
     ensures on { (site : Site) (table : Table) (event : Event) (world : WorldState) → IsReached site table world → refusal site event world ≡ None
@@ -28,9 +33,15 @@ pub fn reached_worlds_are_safe()
     ensures safe { (site : Site) (table : Table) (world : WorldState) (seen : Snapshot) → Once site → IsStation site → IsTableOf site table
         → IsReached site table world → IsSnapshotOf table world seen → Safe site seen }
     ensures links { (site : Site) (table : Table) (world : WorldState) → Once site → IsStation site → IsReached site table world → HasSafeLinks site world }
+    ensures reached { (site : Site) (table : Table) (world : WorldState) → Once site → IsStation site → IsTableOf site table → IsReached site table world
+        → IsReachedSafely site table world }
 {
+    aspects_in_flight_are_of_held_routes();
     each_link_of_a_station_is_safe();
     every_world_is_safe();
+    items_are_read_off_the_datagrams();
     lists_of_events_go_on();
+    points_of_held_routes_are_at_rest();
     stations_have_links();
+    what_is_taken_was_in_flight();
 }

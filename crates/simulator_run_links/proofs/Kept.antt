@@ -27,7 +27,7 @@ module _ (site : Site) (world : WorldState) (network : Links) (whole : IsWhole s
   of_server link server below there =
       let partner = partner_at site link below
       in let is : IsKept (end_of_server server) (network.ends link).server = kept_at world link (network.ends link).server (end_of_server server) (are.servers link partner.0 partner.1) there
-      in record { link_is = is.link_is; clock_is = is.clock_is }
+      in record { link_is = is.link_is; clock_is = is.clock_is; connection_is = is.connection_is }
 
   signal_below : (place : ℕ) → place < length world.signals → place < links site
   signal_below place within = sums (length site.signals) (length site.points) (length site.detectors) (subst (λ n. place < n) whole.signals within) where
@@ -66,6 +66,10 @@ module _ (site : Site) (world : WorldState) (network : Links) (whole : IsWhole s
       in let is : IsClientAt world link (network.ends link).client = are.clients link partner.0 partner.1
       in let same : is.kept ≡ client.link = same_Some is.kept client.link (sym is.there ∙ link_there world.station.ixl link client there)
       in record { link_is = is.link_is ∙ ap (settled (reading_of world.station.clock)) same; clock_is = is.clock_is; peer = whole.clients.peers link client there }
+
+  -- a client's last connection is the one that the interlocking began there last
+  pub connection_end : (link : ℕ) → link < links site → slice_get world.station.connections link ≡ Some (network.ends link).client.connection
+  connection_end link below = let partner = partner_at site link below in (are.clients link partner.0 partner.1).connection_is
 
   known_signals_long : length known_signals ≡ length site.signals
   known_signals_long = length_map (λ (known_signal : KnownSignalState). known_signal.client) world.station.ixl.known_signals ∙ whole.clients.known_signals

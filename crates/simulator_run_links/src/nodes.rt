@@ -38,7 +38,8 @@ use simulator_run::rasta_core::{
 use simulator_run::rasta_pdu::intact_is_tested;
 use simulator_run::sci_telegram::written_is_read;
 
-/// The ends of the link of a signal and of a point are those that its controller and the interlocking keep.
+/// The ends of the link of a signal and of a point are those that its controller and the interlocking keep. The client's last
+/// connection on each link is the one that the interlocking began there last (*begun*).
 pub fn ends_are_those_of_the_nodes()
     ensures signal { (site : Site) (world : WorldState) (network : Links) → IsWhole site world → AreLinksOf site world network → (place : ℕ) (server : ServerState SignalState)
         → slice_get world.signals place ≡ Some server → (place < links site) × IsEndOfServer server (network.ends place).server }
@@ -49,6 +50,8 @@ pub fn ends_are_those_of_the_nodes()
     ensures known_point { (site : Site) (world : WorldState) (network : Links) → IsWhole site world → AreLinksOf site world network → (place : ℕ) (known_point : KnownPointState)
         → slice_get world.station.ixl.known_points place ≡ Some known_point
         → (point_link site place < links site) × IsEndOfClient world.station known_point.client (network.ends (point_link site place)).client }
+    ensures begun { (site : Site) (world : WorldState) (network : Links) → IsWhole site world → AreLinksOf site world network → (link : ℕ) → link < links site
+        → slice_get world.station.connections link ≡ Some (network.ends link).client.connection }
 {}
 
 /// The link of a signal and of a point has the names of the interlocking and of its controller.

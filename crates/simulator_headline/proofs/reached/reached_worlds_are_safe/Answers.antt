@@ -3,6 +3,8 @@ use Rattle.simulator_run.specs.layout.Entries.{Site}
 use Rattle.simulator_run.specs.layout.Once.{Once}
 use Rattle.simulator_run.specs.layout.Station.{IsStation}
 use Rattle.simulator_run.specs.ixl_rules.Table.{Table}
+use Rattle.ixl_table.specs.Table.{IsTableOf}
+use Rattle.simulator_machine.specs.Machine.{Machine}
 use Rattle.simulator_run.specs.simulator_event.declared.event.Event.{Event}
 use Rattle.simulator_run.specs.First.{first_world}
 use Rattle.simulator_run.specs.Happens.{happens}
@@ -10,7 +12,8 @@ use Rattle.simulator_run.specs.Refusals.{refusal}
 use Rattle.simulator_run.specs.Seen.{IsSnapshotOf}
 use Rattle.simulator_run.specs.State.{WorldState}
 use Rattle.simulator_run_links.specs.HasLinks.{IsStanding}
-use Rattle.simulator_headline.specs.Reached.{HasSafeLinks, IsReached}
+use Rattle.simulator_headline.specs.Reached.{HasSafeLinks, IsReached, IsReachedSafely}
+use Rattle.simulator_headline.specs.Represents.{Represents}
 use Rattle.simulator_headline.proofs.reached.reached_worlds_are_safe.Goals as goal
 
 pub returns : goal.returns
@@ -28,10 +31,24 @@ returns c =
       has = stands.linked;
       each = λ link below. c.each_link_of_a_station_is_safe.ensures site world station once stands.linked link below;
     }
+    in let seen : (site : Site) (table : Table) (world : WorldState) → Once site → IsStation site → IsTableOf site table → IsReached site table world → (machine : Machine) × Represents site table world machine
+    = λ site table world once station is reached. subst (λ w. (machine : Machine) × Represents site table w machine) (sym reached.after) (c.every_world_is_safe.ensures.seen site table reached.events once station is reached.can)
+    in let all : (site : Site) (table : Table) (world : WorldState) → Once site → IsStation site → IsTableOf site table → IsReached site table world → IsReachedSafely site table world
+    = λ site table world once station is reached.
+    let sees = seen site table world once station is reached
+    in let safe = linked site table world once station reached
+    in record {
+      aspects = c.aspects_in_flight_are_of_held_routes.ensures site table world sees.0 station is sees.1;
+      moves = c.points_of_held_routes_are_at_rest.ensures site table world sees.0 station is sees.1;
+      takes = λ node bytes. c.what_is_taken_was_in_flight.ensures site table node bytes world sees.0 station once sees.1;
+      safe = safe;
+      given = c.items_are_read_off_the_datagrams.ensures site world once station safe.has;
+    }
     in record {
       first = λ site table. record { events = []; can = tt; after = refl };
       on = on;
       safe = λ site table world snapshot once station is reached of.
           c.every_world_is_safe.ensures.safe site table reached.events snapshot once station is reached.can (subst (λ w. IsSnapshotOf table w snapshot) reached.after of);
       links = linked;
+      reached = all;
     }

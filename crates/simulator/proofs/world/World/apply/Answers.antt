@@ -25,3 +25,11 @@ returns-clause-links c =
     in let once = subst (λ (p : SitedTable). Once p.site) (sym c.apply.ensures.sited) c.facts.ensures.once
     in let station = subst (λ (p : SitedTable). IsStation p.site) (sym c.apply.ensures.sited) c.facts.ensures.station
     in c.reached_worlds_are_safe.ensures.links _ _ _ once station come
+
+pub returns-clause-reached : goal.returns-clause-reached
+returns-clause-reached c =
+    let come = goes_on c.reached_worlds_are_safe.ensures.on c.self.inside.parts c.apply.new.self c.args.event.now c.apply.result c.self.invariant.1 c.apply.ensures.sited c.apply.ensures.step c.apply.ensures.allowed c.apply.ensures.same
+    in let once = subst (λ (p : SitedTable). Once p.site) (sym c.apply.ensures.sited) c.facts.ensures.once
+    in let station = subst (λ (p : SitedTable). IsStation p.site) (sym c.apply.ensures.sited) c.facts.ensures.station
+    in let table = subst (λ (p : SitedTable). IsTableOf p.site p.table) (sym c.apply.ensures.sited) c.facts.ensures.table
+    in c.reached_worlds_are_safe.ensures.reached _ _ _ once station table come
