@@ -99,7 +99,7 @@ module _ {Object : Type 0} (laws : FlightLaws) (site : Site) (world : WorldState
       let entered = same_connection flies.connection ends.server.connection (ap (λ (c : Option ℕ). is_same_connection c ends.server.connection) (sym client_connection) ∙ was)
       in flies.stays (sym end.connection_is ∙ entered, ap (λ (l : LinkState). is_open l.phase) (sym end.link_is) ∙ closed)
 
-  by_phase : (open : Bool) → is_open ends.server.link.phase ≡ open → open ≡ true
+  by_phase : (inside : Bool) → is_open ends.server.link.phase ≡ inside → inside ≡ true
   by_phase true is = refl
   by_phase false is = absurd (by_server is (server_of ends) refl)
 

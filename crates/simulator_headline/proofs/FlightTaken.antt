@@ -118,7 +118,7 @@ module _ {Object : Type 0} (laws : TakingLaws) (site : Site) (world : WorldState
       in (
         is.rest,
         ap (λ (e : EndState). e.given) (sym (client_stays (Receives bytes connection) ends)) ∙ is.beginning
-        ∙ ap (λ (taken : List (List ℕ)). taken ++ is.rest) (ap (λ (e : EndState). e.taken) (server_after (Receives bytes connection) ends) ∙ taken_after made ends.moment ends.server),
+            ∙ ap (λ (taken : List (List ℕ)). taken ++ is.rest) (ap (λ (e : EndState). e.taken) (server_after (Receives bytes connection) ends) ∙ taken_after made ends.moment ends.server),
       )
 
   -- a server that enters a connection takes nothing with it
@@ -158,8 +158,8 @@ module _ {Object : Type 0} (laws : TakingLaws) (site : Site) (world : WorldState
           behind = λ entered. omega (arith, counted, keeps);
         }
 
-  by_entering : (enters : Option ℕ) → made.enters ≡ enters → (open : Bool) → is_open ends.server.link.phase ≡ open → IsInFlight site world link controller item
-  by_entering (Some entered) enters open is = absurd (entering_takes_none entered enters)
+  by_entering : (enters : Option ℕ) → made.enters ≡ enters → (inside : Bool) → is_open ends.server.link.phase ≡ inside → IsInFlight site world link controller item
+  by_entering (Some entered) enters inside is = absurd (entering_takes_none entered enters)
   by_entering None enters true is = in_flight is enters
   by_entering None enters false is = absurd (none_taken (laws.nothing (Receives bytes connection) ends.moment ends.server is enters).taken)
 

@@ -10,7 +10,7 @@ mod Held
 mod There
 mod Represented
 mod FlightEnds
-mod Flight
+mod HeldInFlight
 mod FlightTaken
 mod ReadOff
 mod FirstWorld

@@ -1,4 +1,4 @@
-use Rattle.simulator_headline.proofs.Flight.{SayingLaws, held_aspects}
+use Rattle.simulator_headline.proofs.HeldInFlight.{SayingLaws, held_aspects}
 use Rattle.simulator_headline.proofs.FlightEnds.{FlightLaws}
 use Rattle.simulator_headline.proofs.flight.aspects_in_flight_are_of_held_routes.Goals as goal
 

@@ -1,4 +1,4 @@
-use Rattle.simulator_headline.proofs.Flight.{SayingLaws, at_rest}
+use Rattle.simulator_headline.proofs.HeldInFlight.{SayingLaws, at_rest}
 use Rattle.simulator_headline.proofs.FlightEnds.{FlightLaws}
 use Rattle.simulator_headline.proofs.flight.points_of_held_routes_are_at_rest.Goals as goal
 

@@ -1,4 +1,7 @@
-use Rattle.simulator_run.specs.rasta_core.Links.{AreLinks}
+use Rattle.std.proofs.Common.{ℕ, ◌<◌}
+use Rattle.simulator_run.specs.rasta_core.Ends.{Receives}
+use Rattle.simulator_run.specs.rasta_core.Events.{MayCall}
+use Rattle.simulator_run.specs.rasta_core.Links.{AreLinks, seen}
 use Rattle.simulator_run.specs.rasta_core.identity.Role.TheVariants as role
 use Rattle.simulator_run.specs.Links.{names_at}
 use Rattle.simulator_run.specs.Network.{connection_of, copy_of}
@@ -32,7 +35,7 @@ returns c = λ site table node bytes world machine station once represented none
     in let linked = represented.linked
     in let are : AreLinks (links site) (names_at site) = c.layouts_name_their_links.ensures site station once
     in let connection = connection_of (copy_of bytes world)
-    in let may = λ link below. c.deliveries_may_come.ensures.ends site role.Server bytes connection network are linked.lawful.timely link below
+    in let may : (link : ℕ) → link < links site → MayCall (names_at site link) role.Server (Receives bytes connection) (seen link network) = λ link below. c.deliveries_may_come.ensures.ends site role.Server bytes connection network are linked.lawful.timely link below
     (c.deliveries_may_come.ensures.links site node bytes world network linked.are none link)
     in record {
       signals = λ place controller at item takes.
