@@ -1,12 +1,11 @@
 -- What a controller takes was in flight to it.
-use Rattle.std.proofs.Common.{◌≡◌, ◌∙◌, ◌+◌, ◌<◌, ◌≤◌, Bool, true, false, ℕ, zero, suc, List, [], ◌∷◌, ◌++◌, length, Option, Some, None, append_assoc, refl, sym, ap, subst, arith}
+use Rattle.std.proofs.Common.{◌≡◌, ◌∙◌, ◌+◌, ◌<◌, Bool, true, false, ℕ, zero, suc, List, [], ◌∷◌, ◌++◌, length, Option, Some, None, append_assoc, refl, sym, ap, subst, arith}
 use Rattle.std.specs.Prelude.{slice_get}
 use Rattle.std.specs.List.{Contains}
 use Rattle.std.proofs.lemmas.Bool.{true≢false}
 use Rattle.simulator_run.specs.layout.Entries.{Site}
 use Rattle.simulator_run.specs.rasta_core.Calls.{receiving}
-use Rattle.simulator_run.specs.rasta_core.Clock.{settled}
-use Rattle.simulator_run.specs.rasta_core.Ends.{Call, EndState, Outcome, Receives, Sent, end_after, kept, newer, outcome, reading_of}
+use Rattle.simulator_run.specs.rasta_core.Ends.{Call, EndState, Outcome, Receives, end_after, kept, newer, outcome, reading_of}
 use Rattle.simulator_run.specs.rasta_core.Events as link_events
 use Rattle.simulator_run.specs.rasta_core.Events.{MayCall}
 use Rattle.simulator_run.specs.rasta_core.Given.{items_given}
@@ -17,18 +16,16 @@ use Rattle.simulator_run.specs.rasta_core.Run.{Ends, called}
 use Rattle.simulator_run.specs.rasta_core.Safe.{AreSafe, DoesNothing}
 use Rattle.simulator_run.specs.rasta_core.State.{LinkState, is_open}
 use Rattle.simulator_run.specs.rasta_core.identity.Role.TheVariants as role
-use Rattle.simulator_machine.specs.Link.{Before}
-use Rattle.simulator_machine_links.specs.EndsSeen.{server_of}
 use Rattle.simulator_machine_links.specs.Flows.{EntersRightly}
 use Rattle.simulator_machine_links.specs.Lawful.{IsLawful}
 use Rattle.simulator_run_links.specs.Nodes.{IsEndOfServer}
 use Rattle.simulator_run.specs.Links.{names_at}
 use Rattle.simulator_run.specs.Nodes.{links}
 use Rattle.simulator_run.specs.State.{ServerState, WorldState}
-use Rattle.simulator_headline.specs.InFlight.{HasLeft, IsInFlight, given_on, items_taken}
+use Rattle.simulator_headline.specs.InFlight.{IsInFlight, given_on, items_taken}
 use Rattle.simulator_headline.specs.Represents.{IsNetworkOf}
 use Rattle.simulator_headline.proofs.FlightEnds.{FlightLaws, settled_taken}
-use Rattle.simulator_headline.proofs.WorldLists.{contains_none, some_injective}
+use Rattle.simulator_headline.proofs.WorldLists.{contains_none}
 
 pub record TakingLaws : Type 0 where
   pub flight : FlightLaws

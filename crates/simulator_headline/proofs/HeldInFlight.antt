@@ -1,6 +1,6 @@
 -- What is in flight in a world that the machine sees.
-use Rattle.std.proofs.Common.{◌≡◌, ◌∙◌, ◌+◌, ◌<◌, ◌≤◌, Bool, true, false, ℕ, suc, List, [], ◌∷◌, ◌++◌, length, Option, Some, None, refl, sym, ap, subst, arith, inl, inr, ⊎_elim}
-use Rattle.std.specs.Prelude.{◌≢◌, ◌⊎◌, ◌&&◌, Ok, is_some, slice_get}
+use Rattle.std.proofs.Common.{◌≡◌, ◌∙◌, ◌+◌, ◌<◌, ◌≤◌, true, ℕ, List, [], ◌∷◌, ◌++◌, length, Option, Some, refl, sym, ap, subst, arith, inl, inr, ⊎_elim}
+use Rattle.std.specs.Prelude.{◌≢◌, ◌⊎◌, Ok, is_some, slice_get}
 use Rattle.std.specs.List.{Contains}
 use Rattle.std.proofs.lemmas.Bool.{true≢false}
 use Rattle.std.proofs.lemmas.List.{append_cancel_left}
@@ -29,12 +29,10 @@ use Rattle.simulator_machine.specs.Machine.{Machine}
 use Rattle.simulator_machine.specs.Point as machine_point
 use Rattle.simulator_machine.specs.Signal as machine_signal
 use Rattle.simulator_machine.specs.Signal.{IsLive, Stop, shown, shown_by as shown_in}
-use Rattle.simulator_machine_links.specs.EndsSeen.{represented, server_of}
 use Rattle.simulator_machine_links.specs.Items.{all_said, aspect_seen, aspects_in, aspects_of, moves_in, moves_of, said_by}
 use Rattle.simulator_machine_links.specs.Items as items
 use Rattle.simulator_machine_interlocking.specs.Telegrams.{side_seen}
-use Rattle.simulator_run_links.specs.Nodes.{IsEndOfServer}
-use Rattle.simulator_run.specs.Nodes.{links, point_link}
+use Rattle.simulator_run.specs.Nodes.{point_link}
 use Rattle.simulator_run.specs.Seen.{shown_by}
 use Rattle.simulator_run.specs.State.{ServerState, WorldState}
 use Rattle.simulator_run.specs.Station.{held_of}

@@ -4,7 +4,6 @@ use Rattle.simulator_run.specs.layout.Entries.{Site}
 use Rattle.simulator_run.specs.rasta_core.Given.{items_given}
 use Rattle.simulator_run.specs.rasta_core.Links.{OnLink, of_link, seen}
 use Rattle.simulator_run.specs.rasta_core.Names.{partner_of}
-use Rattle.simulator_run.specs.rasta_core.Run.{Ends}
 use Rattle.simulator_run.specs.rasta_core.Safe.{AreCounted, AreSafe}
 use Rattle.simulator_run.specs.rasta_core.identity.Role.{Role}
 use Rattle.simulator_run.specs.rasta_core.identity.Role.TheVariants as role
