@@ -2,10 +2,11 @@
 //! ends and the network between them, and prints an answer for each. Its status is 0 or 1.
 #![tactic(auto)]
 
+use limited_text::{Content, STREAM, TextFault, file_text, text_up_to};
 use simulator_pair_text::{Asked, Error, is_memory, pair_text, read_words, status};
 use std::io::BufWriter;
 use std::process::ExitCode;
-use std::{env, fs, io};
+use std::{env, io};
 use thiserror::Error as Told;
 
 /// Why there is no text to run.
@@ -69,19 +70,27 @@ fn fail(rt: &HostRuntime, failure: &Failure) -> u8 {
     1
 }
 
-/// The text that is asked for.
+/// The text that is asked for, if it isn't too long.
 fn text(rt: &HostRuntime, asked: Asked<'_>) -> Result<String, Failure> {
     match asked {
-        Asked::Input => io::read_to_string(rt.alloc(), rt.reader()).map_err(
-            |error| Failure::Input.unless_memory(&error),
-        ),
-        Asked::File(file) => match fs::read_to_string(rt, file) {
+        Asked::Input => input(rt),
+        Asked::File(file) => match file_text(rt, file, Content::Lines) {
             Ok(text) => Ok(text),
-            Err(error) => match String::from_str(rt.alloc(), file) {
-                Ok(name) => Err(Failure::File(name).unless_memory(&error)),
+            Err(TextFault::OutOfMemory) => Err(Failure::OutOfMemory),
+            Err(_) => match String::from_str(rt.alloc(), file) {
+                Ok(name) => Err(Failure::File(name)),
                 Err(_) => Err(Failure::OutOfMemory),
             },
         },
+    }
+}
+
+/// The text of standard input, which may never end.
+fn input(rt: &HostRuntime) -> Result<String, Failure> {
+    match text_up_to(rt.alloc(), &mut rt.reader(), STREAM) {
+        Ok(text) => Ok(text),
+        Err(TextFault::OutOfMemory) => Err(Failure::OutOfMemory),
+        Err(_) => Err(Failure::Input),
     }
 }
 

@@ -1,20 +1,30 @@
 //! The files that a command names.
 
 use crate::Failure;
-use std::{fs, io};
+use limited_text::{Content, TextFault, file_text};
 
-/// The texts of two files, of which the first is read first.
-pub fn texts_of(rt: &HostRuntime, first: &str, second: &str) -> Result<(String, String), Failure> {
-    let first = text_of(rt, first)?;
-    let second = text_of(rt, second)?;
-    Ok((first, second))
+/// The texts of the file of a layout, which is read first, and of a file of lines.
+pub fn texts_of(rt: &HostRuntime, layout: &str, lines: &str) -> Result<(String, String), Failure> {
+    let layout = text_of(rt, layout)?;
+    let lines = lines_of(rt, lines)?;
+    Ok((layout, lines))
 }
 
-/// The text of a file.
+/// The text of the file of a layout.
 pub fn text_of(rt: &HostRuntime, file: &str) -> Result<String, Failure> {
-    match fs::read_to_string(rt, file) {
+    read(rt, file, Content::Layout)
+}
+
+/// The text of a file of lines: events, a session or a script.
+fn lines_of(rt: &HostRuntime, file: &str) -> Result<String, Failure> {
+    read(rt, file, Content::Lines)
+}
+
+/// The text of a file, if it isn't too long.
+fn read(rt: &HostRuntime, file: &str, content: Content) -> Result<String, Failure> {
+    match file_text(rt, file, content) {
         Ok(text) => Ok(text),
-        Err(error) if error.kind() == io::ErrorKind::OutOfMemory => Err(Failure::OutOfMemory),
+        Err(TextFault::OutOfMemory) => Err(Failure::OutOfMemory),
         Err(_) => match String::from_str(rt.alloc(), file) {
             Ok(name) => Err(Failure::File(name)),
             Err(_) => Err(Failure::OutOfMemory),
