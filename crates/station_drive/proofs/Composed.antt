@@ -1,11 +1,11 @@
 -- Doings one after another.
-use Rattle.std.proofs.Common.{◌≡◌, ℕ, ◌+◌, List, [], ◌∷◌, ◌++◌, length, map, drop, take, Option, Some, None, Result, Ok, Err, refl, sym, ap, ◌∙◌, subst, append_assoc, append-nil}
+use Rattle.std.proofs.Common.{◌≡◌, ◌≤◌, ℕ, zero, suc, ◌+◌, ◌-◌, List, [], ◌∷◌, ◌++◌, length, map, drop, take, Option, Some, None, Result, Ok, Err, refl, sym, ap, ◌∙◌, subst, append_assoc, append-nil, length-append, arith}
 use Rattle.std.proofs.Math.Seq.{take-append-add, take-length}
 use Rattle.std.proofs.KnownBytes.{Appends-nil, Appends-trans, Appends-kept}
 use Rattle.std.specs.Io.KnownBytes.{Appends, Keeps}
 use Rattle.control_table.specs.layout.Entries.{Site}
 use Rattle.std.specs.Result.{OnErr}
-use Rattle.std.proofs.lemmas.List.{map-append}
+use Rattle.std.proofs.lemmas.List.{map-append, take-append-le}
 use Rattle.simulator_event.specs.declared.event.Event.{Event}
 use Rattle.simulator_event.specs.declared.event.NodeId.{NodeId}
 use Rattle.simulator_event.specs.declared.refused.Refused.{Refused}
@@ -55,6 +55,36 @@ module _ {Picture : Type 0} (does : Behaviour Picture) where
   text_joined : (site : Site) (a b : Picture) (xs ys : List Doing) → b ≡ picture_after does a xs → text_of does site a xs ++ text_of does site b ys ≡ text_of does site a (xs ++ ys)
   text_joined site a b xs ys h = ap (λ p. text_of does site a xs ++ text_of does site p ys) h ∙ sym (text_of-append site a xs ys)
 
+  -- a part of the doings has no longer text
+  text_of-take : (site : Site) (p : Picture) (n : ℕ) (xs : List Doing) → length (text_of does site p (take n xs)) ≤ length (text_of does site p xs)
+  text_of-take site p zero xs = omega arith
+  text_of-take site p (suc n) [] = omega arith
+  text_of-take site p (suc n) (x ∷ xs) =
+      let line : List ℕ = line_of_doing does site p x in
+      let rest = text_of-take site (after_doing does p x) n xs in
+      let part = length-append line (text_of does site (after_doing does p x) (take n xs)) in
+      let whole = length-append line (text_of does site (after_doing does p x) xs) in
+      omega (arith, rest, part, whole)
+
+  -- all but the last line of doings behind others
+  lines_behind : (site : Site) (xs ys : List Doing) (a b : Picture) (count taken : ℕ) → b ≡ picture_after does a xs
+      → length (text_of does site b (take (count - 1) ys)) ≤ taken
+      → length (text_of does site a (take (length xs + count - 1) (xs ++ ys))) ≤ length (text_of does site a xs) + taken
+  lines_behind site xs ys a b zero taken is h =
+      let front : take (length xs + 0 - 1) (xs ++ ys) ≡ take (length xs + 0 - 1) xs = take-append-le (length xs + 0 - 1) xs ys (omega arith) in
+      let few = text_of-take site a (length xs + 0 - 1) xs in
+      subst (λ (l : List Doing). length (text_of does site a l) ≤ length (text_of does site a xs) + taken) (sym front) (omega (arith, few))
+  lines_behind site xs ys a b (suc count) taken is h =
+      let counted : length xs + suc count - 1 ≡ length xs + count = omega arith in
+      let some : List Doing = take count ys in
+      let some_is : take (suc count - 1) ys ≡ some = ap (λ (n : ℕ). take n ys) (let e : suc count - 1 ≡ count = omega arith in e) in
+      let few = subst (λ (l : List Doing). length (text_of does site b l) ≤ taken) some_is h in
+      let both = length-append (text_of does site a xs) (text_of does site b some) in
+      let joined = ap (λ (l : List ℕ). length l) (text_joined site a b xs some is) in
+      subst (λ (l : List Doing). length (text_of does site a l) ≤ length (text_of does site a xs) + taken)
+      (sym (ap (λ (n : ℕ). take n (xs ++ ys)) counted ∙ take-append-add xs ys count))
+      (omega (arith, few, both, joined))
+
 -- ---- what was done, one behind another
 
 module _ {Picture : Type 0} {does : Behaviour Picture} {site : Site} where
@@ -69,33 +99,90 @@ module _ {Picture : Type 0} {does : Behaviour Picture} {site : Site} where
     written = subst (Appends ta tc) (text_joined does site a b xs ys first.picture_is) (Appends-trans ta tb tc _ _ first.written second.written);
   }
 
-  pub stops_then : {xs : List Doing} {a b c : Picture} {ca cb cc : Option (List Call)} {ta tb tc : Option (List ℕ)}
-      → Performs does site xs a b ca cb ta tb → Stops does site b c cb cc tb tc → Stops does site a c ca cc ta tc
-  stops_then {xs} {a} {b} {c} {ca} {cb} {cc} {ta} {tb} {tc} first second =
-      let before : List ℕ = text_of does site a xs in
-      let behind : List ℕ = text_of does site b second.doings in
-      record {
-        doings = xs ++ second.doings;
-        picture_is = second.picture_is ∙ (ap (λ p. picture_after does p second.doings) first.picture_is ∙ sym (picture_after-append does a xs second.doings));
-        called = subst (Grows ca cc) (calls_joined does a b xs second.doings first.picture_is) (Grows-trans ca cb cc _ _ first.called second.called);
-        taken = length before + second.taken;
-        written = subst (Appends ta tc)
-            (sym (take-append-add before behind second.taken) ∙ ap (take (length before + second.taken)) (text_joined does site a b xs second.doings first.picture_is))
-            (Appends-trans ta tb tc _ _ first.written second.written);
-      }
-
-  pub stops_now : {xs : List Doing} {a b : Picture} {ca cb : Option (List Call)} {ta tb : Option (List ℕ)} → Performs does site xs a b ca cb ta tb → Stops does site a b ca cb ta tb
-  stops_now {xs} {a} {b} {ca} {cb} {ta} {tb} done = record {
-    doings = xs;
-    picture_is = done.picture_is;
-    called = done.called;
-    taken = length (text_of does site a xs);
-    written = subst (Appends ta tb) (sym (take-length (text_of does site a xs))) done.written;
+  -- nothing was done
+  pub stops_none : (doings : List Doing) (a : Picture) (ca : Option (List Call)) (ta : Option (List ℕ)) → Stops does site doings a a ca ca ta ta
+  stops_none doings a ca ta = record {
+    count = 0;
+    within = omega arith;
+    picture_is = refl;
+    called = Grows-nil ca;
+    taken = 0;
+    written = Appends-nil ta;
+    lines = omega arith;
   }
 
-  -- nothing was done
-  pub stops_none : (a : Picture) (ca : Option (List Call)) (ta : Option (List ℕ)) → Stops does site a a ca ca ta ta
-  stops_none a ca ta = stops_now (performs_none a ca ta)
+  -- all was done, and then it was given up
+  pub stops_all : {xs : List Doing} {a b : Picture} {ca cb : Option (List Call)} {ta tb : Option (List ℕ)}
+      → Performs does site xs a b ca cb ta tb → (s : Stops does site xs a b ca cb ta tb) × (length xs ≤ s.count)
+  stops_all {xs} {a} {b} {ca} {cb} {ta} {tb} done =
+      let all : take (length xs) xs ≡ xs = take-length xs in
+      let text : List ℕ = text_of does site a xs in (
+        record {
+          count = length xs;
+          within = omega arith;
+          picture_is = done.picture_is ∙ ap (picture_after does a) (sym all);
+          called = subst (Grows ca cb) (ap (calls_of does a) (sym all)) done.called;
+          taken = length text;
+          written = subst (Appends ta tb) (sym (take-length text) ∙ ap (λ (l : List Doing). take (length text) (text_of does site a l)) (sym all)) done.written;
+          lines = text_of-take does site a (length xs - 1) xs;
+        },
+        omega arith,
+      )
+
+  -- doings that were never come to
+  pub stops_before : {xs : List Doing} {a b : Picture} {ca cb : Option (List Call)} {ta tb : Option (List ℕ)} (ys : List Doing)
+      → Stops does site xs a b ca cb ta tb → Stops does site (xs ++ ys) a b ca cb ta tb
+  stops_before {xs} {a} {b} {ca} {cb} {ta} {tb} ys s =
+      let within = s.within in
+      let longer = length-append xs ys in
+      let fewer : s.count - 1 ≤ length xs = omega (arith, within) in
+      let same : take s.count (xs ++ ys) ≡ take s.count xs = take-append-le s.count xs ys within in
+      record {
+        count = s.count;
+        within = omega (arith, within, longer);
+        picture_is = s.picture_is ∙ ap (picture_after does a) (sym same);
+        called = subst (Grows ca cb) (ap (calls_of does a) (sym same)) s.called;
+        taken = s.taken;
+        written = subst (Appends ta tb) (ap (λ (l : List Doing). take s.taken (text_of does site a l)) (sym same)) s.written;
+        lines = subst (λ (l : List Doing). length (text_of does site a l) ≤ s.taken) (sym (take-append-le (s.count - 1) xs ys fewer)) s.lines;
+      }
+
+  -- what was done whole, and then a beginning of more
+  pub stops_behind : {xs ys : List Doing} {a b c : Picture} {ca cb cc : Option (List Call)} {ta tb tc : Option (List ℕ)}
+      → Performs does site xs a b ca cb ta tb → Stops does site ys b c cb cc tb tc → (s : Stops does site (xs ++ ys) a c ca cc ta tc) × (length xs ≤ s.count)
+  stops_behind {xs} {ys} {a} {b} {c} {ca} {cb} {cc} {ta} {tb} {tc} first second =
+      let done : List Doing = take second.count ys in
+      let all : xs ++ done ≡ take (length xs + second.count) (xs ++ ys) = sym (take-append-add xs ys second.count) in
+      let before : List ℕ = text_of does site a xs in
+      let behind : List ℕ = text_of does site b done in
+      let within = second.within in
+      let longer = length-append xs ys in (
+        record {
+          count = length xs + second.count;
+          within = omega (arith, within, longer);
+          picture_is = second.picture_is ∙ (ap (λ p. picture_after does p done) first.picture_is ∙ (sym (picture_after-append does a xs done) ∙ ap (picture_after does a) all));
+          called = subst (Grows ca cc) (calls_joined does a b xs done first.picture_is ∙ ap (calls_of does a) all) (Grows-trans ca cb cc _ _ first.called second.called);
+          taken = length before + second.taken;
+          written = subst (Appends ta tc)
+              (sym (take-append-add before behind second.taken)
+              ∙ ap (take (length before + second.taken)) (text_joined does site a b xs done first.picture_is ∙ ap (text_of does site a) all))
+              (Appends-trans ta tb tc _ _ first.written second.written);
+          lines = lines_behind does site xs ys a b second.count second.taken first.picture_is second.lines;
+        },
+        omega arith,
+      )
+
+  pub stops_then : {xs ys : List Doing} {a b c : Picture} {ca cb cc : Option (List Call)} {ta tb tc : Option (List ℕ)}
+      → Performs does site xs a b ca cb ta tb → Stops does site ys b c cb cc tb tc → Stops does site (xs ++ ys) a c ca cc ta tc
+  stops_then {xs} {ys} {a} {b} {c} {ca} {cb} {cc} {ta} {tb} {tc} first second = (stops_behind first second).0
+
+  -- given up before what is behind
+  pub stops_now : {xs : List Doing} {a b : Picture} {ca cb : Option (List Call)} {ta tb : Option (List ℕ)} (ys : List Doing)
+      → Performs does site xs a b ca cb ta tb → Stops does site (xs ++ ys) a b ca cb ta tb
+  stops_now {xs} {a} {b} {ca} {cb} {ta} {tb} ys done = stops_before ys (stops_all done).0
+
+  pub stops_same : {xs ys : List Doing} {a b : Picture} {ca cb : Option (List Call)} {ta tb : Option (List ℕ)} → xs ≡ ys → Stops does site xs a b ca cb ta tb → Stops does site ys a b ca cb ta tb
+  stops_same {xs} {ys} {a} {b} {ca} {cb} {ta} {tb} e s = subst (λ (l : List Doing). Stops does site l a b ca cb ta tb) e s
 
   -- what was written was handed on
   pub performs_kept : {xs : List Doing} {a b : Picture} {ca cb : Option (List Call)} {ta tb tc : Option (List ℕ)} → Performs does site xs a b ca cb ta tb → Keeps tb tc → Performs does site xs a b ca cb ta tc
@@ -111,10 +198,10 @@ module _ {Picture : Type 0} {does : Behaviour Picture} {site : Site} where
   performs_next {other} {xs} {ys} {a} {b} {c} {ca} {cb} {cc} {ta} {tb} {tc} e first second =
       performs_then first (subst (λ (p : Site). Performs does p ys b c cb cc tb tc) e second)
 
-  pub stops_next : {other : Site} {xs : List Doing} {a b c : Picture} {ca cb cc : Option (List Call)} {ta tb tc : Option (List ℕ)}
-      → other ≡ site → Performs does site xs a b ca cb ta tb → Stops does other b c cb cc tb tc → Stops does site a c ca cc ta tc
-  stops_next {other} {xs} {a} {b} {c} {ca} {cb} {cc} {ta} {tb} {tc} e first second =
-      stops_then first (subst (λ (p : Site). Stops does p b c cb cc tb tc) e second)
+  pub stops_next : {other : Site} {xs ys : List Doing} {a b c : Picture} {ca cb cc : Option (List Call)} {ta tb tc : Option (List ℕ)}
+      → other ≡ site → Performs does site xs a b ca cb ta tb → Stops does other ys b c cb cc tb tc → Stops does site (xs ++ ys) a c ca cc ta tc
+  stops_next {other} {xs} {ys} {a} {b} {c} {ca} {cb} {cc} {ta} {tb} {tc} e first second =
+      stops_then first (subst (λ (p : Site). Stops does p ys b c cb cc tb tc) e second)
 
   -- one more event was applied
   pub performs_push : {other : Site} {event : Event} {a b c : Picture} {ca cb cc : Option (List Call)} {ta tb tc : Option (List ℕ)}
@@ -130,10 +217,10 @@ module _ {Picture : Type 0} {does : Behaviour Picture} {site : Site} where
   pub performs_asking : {node : NodeId} {heard : Heard} (a : Picture) {ca cb : Option (List Call)} (ta : Option (List ℕ)) → Grows ca cb (Asks node heard ∷ []) → Performs does site (Asking node heard ∷ []) a a ca cb ta ta
   performs_asking a ta told = record { picture_is = refl; called = told; written = Appends-nil ta }
 
-  -- what was given up stays so, whatever fault is told
-  pub stopped : {T E : Type 0} {a b : Picture} {ca cb : Option (List Call)} {ta tb : Option (List ℕ)} (result : Result T E) → Stops does site a b ca cb ta tb → OnErr result (Stops does site a b ca cb ta tb)
-  stopped (Ok value) h = tt
-  stopped (Err fault) h = h
+-- what was given up stays so, whatever fault is told
+pub stopped : {T E P : Type 0} (result : Result T E) → P → OnErr result P
+stopped (Ok value) h = tt
+stopped (Err fault) h = h
 
 -- ---- an event
 

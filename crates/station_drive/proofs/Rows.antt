@@ -1,8 +1,7 @@
 -- Lists of doings that grow at their end.
-use Rattle.std.proofs.Common.{◌≡◌, ℕ, zero, suc, ◌+◌, List, [], ◌∷◌, ◌++◌, length, map, drop, Option, Some, None, slice_get, ◌<◌, ◌≤◌, nat_le, true, refl, sym, ap, ◌∙◌, append_assoc, append-nil, arith}
+use Rattle.std.proofs.Common.{◌≡◌, ℕ, zero, suc, ◌+◌, ◌-◌, List, [], ◌∷◌, ◌++◌, length, map, drop, Option, Some, None, slice_get, ◌<◌, ◌≤◌, replicate, refl, sym, ap, ◌∙◌, append_assoc, append-nil, length-append, arith}
 use Rattle.std.proofs.Math.Numerals.{add-one}
-use Rattle.std.proofs.lemmas.List.{map-append}
-use Rattle.std.proofs.lemmas.Bool.Decides.{nat_tests}
+use Rattle.std.proofs.lemmas.List.{length-replicate, map-append}
 use Rattle.std.specs.Prelude.{IfNone, IfSome, Ok, IsTrue, ◌↔◌, Bool, false}
 use Rattle.std.specs.List.{AllByRecursion}
 use Rattle.control_table.specs.sci_telegram.declared.message.Side.{Side}
@@ -11,8 +10,8 @@ use Rattle.simulator_event.specs.declared.event.Event.TheVariants.{Deliver, Tick
 use Rattle.simulator_event.specs.declared.event.NodeId.{NodeId}
 use Rattle.station_drive.specs.declared.course.Drive.{Drive}
 use Rattle.station_drive.specs.Told.{Asks, Call, Datagram, Grows, Heard, Nothing, heard_of}
-use Rattle.station_drive.specs.Doings.{Asking, Applying}
-use Rattle.station_drive.specs.Rounds.{IsSilence, drives_after, Hearing, comings, hearing_of, due, not_due, hearings, ticks}
+use Rattle.station_drive.specs.Doings.{Doing, Asking, Applying}
+use Rattle.station_drive.specs.Rounds.{IsSilence, drives_after, Hearing, comings, hearing_of, hearings, ticks}
 
 none-some : {A : Type 0} {x : A} → None ≡ Some x → ⊥
 none-some e = cc
@@ -45,19 +44,45 @@ hearings-push node (one ∷ more) hearing last h =
     ap (λ l. hearing_of (record { 0 = node }) one ++ l) (hearings-push (suc node) more hearing last (let e : last ≡ suc node + length more = omega arith in e))
     ∙ sym (append_assoc (hearing_of (record { 0 = node }) one) (hearings (suc node) more) _)
 
+pub hearings-append : (node : ℕ) (xs ys : List Hearing) → hearings node (xs ++ ys) ≡ hearings node xs ++ hearings (node + length xs) ys
+hearings-append node [] ys = ap (λ (n : ℕ). hearings n ys) (let e : node ≡ node + 0 = omega arith in e)
+hearings-append node (one ∷ more) ys =
+    ap (λ l. hearing_of (record { 0 = node }) one ++ l)
+    (hearings-append (suc node) more ys ∙ ap (λ (n : ℕ). hearings (suc node) more ++ hearings n ys) (let e : suc node + length more ≡ node + length (one ∷ more) = omega arith in e))
+    ∙ sym (append_assoc (hearing_of (record { 0 = node }) one) (hearings (suc node) more) _)
+
+-- nothing is heard
+abbrev pub silence : Hearing
+silence = record { datagrams = []; last = Nothing; silent = tt }
+
+-- so many nodes heard, of which these were the first
+pub record HeardOn (first : List Hearing) (nodes : ℕ) : Type 0 where
+  pub heard : List Hearing
+  pub counted : length heard ≡ nodes
+  pub rest : List Doing
+  pub is : hearings 0 heard ≡ hearings 0 first ++ rest
+
+-- the others heard nothing
+pub silent_rest : (first : List Hearing) (nodes : ℕ) → length first ≤ nodes → HeardOn first nodes
+silent_rest first nodes h =
+    let left : ℕ = nodes - length first in
+    let quiet : List Hearing = replicate left silence in
+    let counted = length-replicate left silence in
+    let both = length-append first quiet in
+    record { heard = first ++ quiet; counted = omega (arith, h, counted, both); rest = hearings (0 + length first) quiet; is = hearings-append 0 first quiet }
+
+-- the ticks of more nodes begin with those of fewer
+pub ticks_behind : (node more : ℕ) → (rest : List Event) × (ticks (more + node) ≡ ticks node ++ rest)
+ticks_behind node zero = ([], ap (λ (n : ℕ). ticks n) (let e : 0 + node ≡ node = omega arith in e) ∙ sym (append-nil (ticks node)))
+ticks_behind node (suc more) =
+    let before = ticks_behind node more in
+    let last : List Event = Tick (record { 0 = more + node }) ∷ [] in (
+      before.0 ++ last,
+      ap (λ (n : ℕ). ticks n) (let e : suc more + node ≡ suc (more + node) = omega arith in e) ∙ (ap (λ l. l ++ last) before.1 ∙ append_assoc (ticks node) before.0 last),
+    )
+
 pub ticks-more : (node : ℕ) → map Applying (ticks (node + 1)) ≡ map Applying (ticks node) ++ Applying (Tick (record { 0 = node })) ∷ []
 ticks-more node = rw (add-one node) (map-append Applying (ticks node) (Tick (record { 0 = node }) ∷ []))
-
--- a line whose time has passed
-pub due_more : (passed : ℕ) (line : ℕ × Event) (more : List (ℕ × Event)) → line.0 ≤ passed → due passed (line ∷ more) ≡ line.1 ∷ due passed more
-due_more passed line more h =
-    let is : nat_le line.0 passed ≡ true = grind (arith, nat_tests) in
-    rw is refl
-
-pub not_due_more : (passed : ℕ) (line : ℕ × Event) (more : List (ℕ × Event)) → line.0 ≤ passed → not_due passed (line ∷ more) ≡ not_due passed more
-not_due_more passed line more h =
-    let is : nat_le line.0 passed ≡ true = grind (arith, nat_tests) in
-    rw is refl
 
 -- a place inside a list isn't empty
 pub not_past : {A : Type 0} (xs : List A) (n : ℕ) → n < length xs → slice_get xs n ≡ None → ⊥

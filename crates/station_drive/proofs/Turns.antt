@@ -1,11 +1,11 @@
 -- Rounds behind others.
-use Rattle.std.proofs.Common.{◌≡◌, ℕ, List, [], ◌∷◌, ◌++◌, map, Option, sym, ap, ◌∙◌, subst, append_assoc, append-nil}
+use Rattle.std.proofs.Common.{◌≡◌, ◌≤◌, length, ℕ, List, [], ◌∷◌, ◌++◌, map, Option, sym, ap, ◌∙◌, subst, append_assoc, append-nil}
 use Rattle.std.proofs.lemmas.List.{map-append}
 use Rattle.control_table.specs.layout.Entries.{Site}
-use Rattle.station_drive.specs.Doings.{Behaviour, Doing, Performs, picture_after}
+use Rattle.station_drive.specs.Doings.{Behaviour, Doing, Performs, Stops, picture_after}
 use Rattle.station_drive.specs.Rounds.{Standing, Turn, round, rounds, after_round, standing_after}
 use Rattle.station_drive.specs.Told.{Call, Grows}
-use Rattle.station_drive.proofs.Composed.{Grows-trans, performs_next, performs_same, picture_after-append}
+use Rattle.station_drive.proofs.Composed.{Grows-trans, performs_next, performs_same, picture_after-append, stops_behind, stops_same}
 
 module _ {Picture : Type 0} (does : Behaviour Picture) (site : Site) where
   -- how far a run has come after rounds
@@ -50,6 +50,18 @@ module _ {Picture : Type 0} {does : Behaviour Picture} {site : Site} where
   next_round {other} {a} {b} {c} {ca} {cb} {cc} {ta} {tb} {tc} start standing turns turn e same before now =
       performs_same (sym (rounds-push does site a start turns turn))
       (performs_next e before (performs_same (ap (λ (p : Site). round p standing turn) e ∙ ap (λ (s : Standing). round site s turn) same) now))
+
+  -- a round that was broken off
+  pub broken_round : {other : Site} {a b c : Picture} {ca cb cc : Option (List Call)} {ta tb tc : Option (List ℕ)} (start standing : Standing) (turns : List Turn) (turn : Turn)
+      → other ≡ site → standing ≡ standing_end does site a start turns
+      → Performs does site (rounds does site a start turns) a b ca cb ta tb → Stops does other (round other standing turn) b c cb cc tb tc
+      → (s : Stops does site (rounds does site a start (turns ++ turn ∷ [])) a c ca cc ta tc) × (length (rounds does site a start turns) ≤ s.count)
+  broken_round {other} {a} {b} {c} {ca} {cb} {cc} {ta} {tb} {tc} start standing turns turn e same before now =
+      let here : Stops does site (round other standing turn) b c cb cc tb tc = subst (λ (p : Site). Stops does p (round other standing turn) b c cb cc tb tc) e now in
+      let cut : Stops does site (round site (standing_end does site a start turns) turn) b c cb cc tb tc =
+      stops_same (ap (λ (p : Site). round p standing turn) e ∙ ap (λ (s : Standing). round site s turn) same) here in
+      let whole : List Doing = rounds does site a start turns in
+      subst (λ (l : List Doing). (s : Stops does site l a c ca cc ta tc) × (length whole ≤ s.count)) (sym (rounds-push does site a start turns turn)) (stops_behind before cut)
 
   pub next_standing : {a c : Picture} {ca cc : Option (List Call)} {ta tc : Option (List ℕ)} (start standing after : Standing) (turns : List Turn) (turn : Turn)
       → Performs does site (rounds does site a start (turns ++ turn ∷ [])) a c ca cc ta tc

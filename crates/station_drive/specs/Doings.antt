@@ -1,5 +1,5 @@
 -- What a driven station does one after another, and what comes of it.
-use Rattle.std.specs.Prelude.{◌≡◌, ℕ, List, [], ◌∷◌, ◌++◌, length, map, drop, take, codes, Option, Some, None, Result, Err}
+use Rattle.std.specs.Prelude.{◌≡◌, ◌≤◌, ◌-◌, ℕ, List, [], ◌∷◌, ◌++◌, length, map, drop, take, codes, Option, Some, None, Result, Err}
 use Rattle.std.specs.Io.KnownBytes.{Appends}
 use Rattle.control_table.specs.layout.Entries.{Site}
 use Rattle.control_table.specs.sci_telegram.declared.message.Side.{Side}
@@ -80,11 +80,14 @@ module _ {Picture : Type 0} (does : Behaviour Picture) where
     pub called : Grows calls_old calls_new (calls_of old doings)
     pub written : Appends text_old text_new (text_of site old doings)
 
-  -- Something was done before it was given up: the station is as it comes of that, and so are the calls; a beginning of
-  -- the record was written.
-  pub record Stops (site : Site) (old new : Picture) (calls_old calls_new : Option (List Call)) (text_old text_new : Option (List ℕ)) : Type 0 where
-    pub doings : List Doing
-    pub picture_is : new ≡ picture_after old doings
-    pub called : Grows calls_old calls_new (calls_of old doings)
+  -- A beginning of these was done, and then it was given up: the first `count` were done, and nothing behind them. The station,
+  -- and what the network tells, are as they come of it. The record has the lines of all that was done, of the last perhaps only a
+  -- beginning.
+  pub record Stops (site : Site) (doings : List Doing) (old new : Picture) (calls_old calls_new : Option (List Call)) (text_old text_new : Option (List ℕ)) : Type 0 where
+    pub count : ℕ
+    pub within : count ≤ length doings
+    pub picture_is : new ≡ picture_after old (take count doings)
+    pub called : Grows calls_old calls_new (calls_of old (take count doings))
     pub taken : ℕ
-    pub written : Appends text_old text_new (take taken (text_of site old doings))
+    pub written : Appends text_old text_new (take taken (text_of site old (take count doings)))
+    pub lines : length (text_of site old (take (count - 1) doings)) ≤ taken

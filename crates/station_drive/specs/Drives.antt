@@ -1,11 +1,11 @@
 -- A station that was driven for some time.
-use Rattle.std.specs.Prelude.{◌≡◌, ◌<◌, ◌≤◌, ◌-◌, ◌/◌, ℕ, List, [], ◌∷◌, ◌++◌, length, map, replicate, Option, None}
+use Rattle.std.specs.Prelude.{◌≡◌, ◌<◌, ◌≤◌, ◌-◌, ◌/◌, ℕ, List, [], ◌∷◌, ◌++◌, length, map, replicate, Option, Some, None}
 use Rattle.std.specs.List.{AllByRecursion}
 use Rattle.control_table.specs.layout.Entries.{Site}
 use Rattle.replay_lines.specs.Names.{node_names}
 use Rattle.simulator_event.specs.declared.event.Event.{Event}
 use Rattle.station_drive.specs.Told.{Call, Grows}
-use Rattle.station_drive.specs.Doings.{Behaviour, Performs}
+use Rattle.station_drive.specs.Doings.{Behaviour, Performs, Stops}
 use Rattle.station_drive.specs.Rounds.{Standing, Turn, rounds}
 
 -- no line of the script was applied, and no point was seen driven
@@ -27,3 +27,22 @@ pub record Driven {Picture : Type 0} (does : Behaviour Picture) (site : Site) (s
   pub goes_on : AllByRecursion (λ turn. (turn.reading - first) / 1000 < for_ms) earlier
   pub over : for_ms ≤ (last.reading - first) / 1000
   pub performs : Performs does site (rounds does site old (beginning site script first) (earlier ++ last ∷ [])) old new calls_old calls_new text_old text_new
+
+-- the rounds that were made, and the one that was broken off, if one had begun
+abbrev pub begun : List Turn → Option Turn → List Turn
+begun made None = made
+begun made (Some broken) = made ++ broken ∷ []
+
+-- The same drive, cut off by a fault. After a first reading each further one began a round. All rounds before the last were made
+-- whole, and none of them was `for_ms` behind the first. What was done is a beginning of what these rounds do: what a node would hear
+-- behind the cut doesn't count.
+pub record CutOff {Picture : Type 0} (does : Behaviour Picture) (site : Site) (script : List (ℕ × Event)) (for_ms : ℕ)
+    (old new : Picture) (readings_old readings_new : Option (List ℕ)) (calls_old calls_new : Option (List Call)) (text_old text_new : Option (List ℕ)) : Type 0 where
+  pub first : ℕ
+  pub made : List Turn
+  pub broken : Option Turn
+  pub read : Grows readings_old readings_new (first ∷ map (λ turn. turn.reading) (begun made broken))
+  pub whole : AllByRecursion (IsWhole site) (begun made broken)
+  pub goes_on : AllByRecursion (λ turn. (turn.reading - first) / 1000 < for_ms) made
+  pub stops : Stops does site (rounds does site old (beginning site script first) (begun made broken)) old new calls_old calls_new text_old text_new
+  pub all_made : length (rounds does site old (beginning site script first) made) ≤ stops.count

@@ -2,4 +2,4 @@ pub mod Told
 pub mod Doings
 pub mod Rounds
 pub mod Drives
-pub mod Order
+pub mod Inside

@@ -61,14 +61,15 @@ hearings node (hearing ∷ more) = hearing_of (record { 0 = node }) hearing ++ h
 
 -- ---- the script
 
--- the lines in front whose milliseconds have passed, and those behind them
+-- the events of the lines whose milliseconds have passed, in their order, and the lines that are left; a line that isn't due holds
+-- up none behind it
 abbrev pub due : ℕ → List (ℕ × Event) → List Event
 due passed [] = []
-due passed (line ∷ more) = if nat_le line.0 passed then line.1 ∷ due passed more else []
+due passed (line ∷ more) = if nat_le line.0 passed then line.1 ∷ due passed more else due passed more
 
 abbrev pub not_due : ℕ → List (ℕ × Event) → List (ℕ × Event)
 not_due passed [] = []
-not_due passed (line ∷ more) = if nat_le line.0 passed then not_due passed more else line ∷ more
+not_due passed (line ∷ more) = if nat_le line.0 passed then not_due passed more else line ∷ not_due passed more
 
 -- ---- points
 

@@ -2,8 +2,8 @@
 
 ghost use Rattle.std.specs.Prelude.{◌≡◌};
 
+use crate::waiting_lines::WaitingLines;
 use control_table::sci_telegram::Side;
-use simulator_event::Event;
 use std::marker::Model;
 
 /// A point was driven to one side at the ends of rounds, one behind another up to the last.
@@ -22,15 +22,16 @@ pub(crate) struct Course<'a> {
     /// The clock at the last round.
     pub(crate) reading: u64,
     /// The lines of the script that weren't applied.
-    pub(crate) left: &'a [(u64, Event)],
+    pub(crate) left: WaitingLines<'a>,
     /// Of each point, how it was driven at the end of the last round.
     pub(crate) drives: Vec<Option<Drive>>,
 }
 
 impl<'a> Model for Course<'a> {
+    ghost use Rattle.station_drive.specs.Inside.{waiting};
     ghost use Rattle.station_drive.specs.Rounds.{Standing};
 
     ghost Value = { Standing };
 
-    ghost view = { λ c. record { first = c.first; reading = c.reading; left = c.left.now; drives = c.drives.items } };
+    ghost view = { λ c. record { first = c.first; reading = c.reading; left = waiting c.left.applied c.left.lines.now; drives = c.drives.items } };
 }

@@ -1,16 +1,18 @@
 //! The other events of a round: time, the script, points that reach their end positions, and ticks.
 
-ghost use Rattle.std.specs.Prelude.{◌≡◌, [], ◌∷◌, length, map, replicate, IfOk, OnErr, OnOk, ℕ};
+ghost use Rattle.std.specs.Prelude.{◌≡◌, [], ◌∷◌, length, map, replicate, OnErr, OnOk, ℕ};
 ghost use Rattle.simulator_event.specs.declared.event.Event.TheVariants.{Time};
 ghost use Rattle.replay_lines.specs.Names.{node_names};
 ghost use Rattle.station_drive.specs.Doings.{Applying, Performs, Stops};
-ghost use Rattle.station_drive.specs.Rounds.{due, end_position, not_due, reach, reaches, ticks};
+ghost use Rattle.station_drive.specs.Inside.{waiting};
+ghost use Rattle.station_drive.specs.Rounds.{due, end_position, reach, reaches, ticks};
 
 use crate::course::Drive;
 use crate::datagrams::Datagrams;
 use crate::events_performed::perform;
 use crate::fault::DriveFault;
 use crate::station::Station;
+use crate::waiting_lines::{WaitingLines, waits};
 use control_table::layout::PointId;
 use control_table::sci_telegram::{Position, Side};
 use replay_lines::node_count;
@@ -30,7 +32,7 @@ pub(crate) fn pass<S: Station, N: Datagrams, W: Write>(
     elapsed: u64,
 ) -> Result<(), DriveFault>
     ensures done { OnOk result (Performs S.does (S.site station.old) (Applying (Time elapsed (replicate (length (node_names (S.site station.old))) elapsed)) ∷ []) (S.picture station.old) (S.picture station.new) (N.calls net.old) (N.calls net.new) (W.contents recorder.old) (W.contents recorder.new)) }
-    ensures stopped { OnErr result (Stops S.does (S.site station.old) (S.picture station.old) (S.picture station.new) (N.calls net.old) (N.calls net.new) (W.contents recorder.old) (W.contents recorder.new)) }
+    ensures stopped { OnErr result (Stops S.does (S.site station.old) (Applying (Time elapsed (replicate (length (node_names (S.site station.old))) elapsed)) ∷ []) (S.picture station.old) (S.picture station.new) (N.calls net.old) (N.calls net.new) (W.contents recorder.old) (W.contents recorder.new)) }
     ensures site { S.site station.new ≡ S.site station.old }
 {
     let nodes = node_count(station.table().layout());
@@ -44,28 +46,30 @@ pub(crate) fn pass<S: Station, N: Datagrams, W: Write>(
     )
 }
 
-/// Applies the lines of a script whose milliseconds have passed, and answers those that are left.
-pub(crate) fn apply_due<'a, S: Station, N: Datagrams, W: Write>(
+/// Applies the lines of a script that are due: those that wait and whose milliseconds have passed, in their order.
+pub(crate) fn apply_due<S: Station, N: Datagrams, W: Write>(
     alloc: Global,
     station: &mut S,
     net: &mut N,
     recorder: &mut W,
-    script: &'a [(u64, Event)],
+    script: &WaitingLines<'_>,
     passed: u64,
-) -> Result<&'a [(u64, Event)], DriveFault>
-    ensures done { OnOk result (Performs S.does (S.site station.old) (map Applying (due passed script.now)) (S.picture station.old) (S.picture station.new) (N.calls net.old) (N.calls net.new) (W.contents recorder.old) (W.contents recorder.new)) }
-    ensures left { IfOk result (λ left. left.now ≡ not_due passed script.now) }
-    ensures stopped { OnErr result (Stops S.does (S.site station.old) (S.picture station.old) (S.picture station.new) (N.calls net.old) (N.calls net.new) (W.contents recorder.old) (W.contents recorder.new)) }
+) -> Result<(), DriveFault>
+    ensures done { OnOk result (Performs S.does (S.site station.old) (map Applying (due passed (waiting script.now.applied script.now.lines.now))) (S.picture station.old) (S.picture station.new) (N.calls net.old) (N.calls net.new) (W.contents recorder.old) (W.contents recorder.new)) }
+    ensures stopped { OnErr result (Stops S.does (S.site station.old) (map Applying (due passed (waiting script.now.applied script.now.lines.now))) (S.picture station.old) (S.picture station.new) (N.calls net.old) (N.calls net.new) (W.contents recorder.old) (W.contents recorder.new)) }
     ensures site { S.site station.new ≡ S.site station.old }
 {
-    for place in 0..script.len() {
-        let (time, event) = &script[place];
+    for place in 0..script.lines.len() {
+        let (time, event) = &script.lines[place];
         if passed < *time {
-            return Ok(&script[place..]);
+            if script.in_order {
+                return Ok(());
+            }
+        } else if waits(script.applied, *time) {
+            perform(alloc, station, net, recorder, event)?;
         }
-        perform(alloc, station, net, recorder, event)?;
     }
-    Ok(&[])
+    Ok(())
 }
 
 /// The points that were driven for their whole way reach their end positions.
@@ -78,7 +82,7 @@ pub(crate) fn reach_all<S: Station, N: Datagrams, W: Write>(
     reading: u64,
 ) -> Result<(), DriveFault>
     ensures done { OnOk result (Performs S.does (S.site station.old) (map Applying (reaches reading 0 drives.now)) (S.picture station.old) (S.picture station.new) (N.calls net.old) (N.calls net.new) (W.contents recorder.old) (W.contents recorder.new)) }
-    ensures stopped { OnErr result (Stops S.does (S.site station.old) (S.picture station.old) (S.picture station.new) (N.calls net.old) (N.calls net.new) (W.contents recorder.old) (W.contents recorder.new)) }
+    ensures stopped { OnErr result (Stops S.does (S.site station.old) (map Applying (reaches reading 0 drives.now)) (S.picture station.old) (S.picture station.new) (N.calls net.old) (N.calls net.new) (W.contents recorder.old) (W.contents recorder.new)) }
     ensures site { S.site station.new ≡ S.site station.old }
 {
     for (place, drive) in drives.iter().enumerate() {
@@ -106,7 +110,7 @@ fn reach<S: Station, N: Datagrams, W: Write>(
     reading: u64,
 ) -> Result<(), DriveFault>
     ensures done { OnOk result (Performs S.does (S.site station.old) (map Applying (reach reading point.0 drive)) (S.picture station.old) (S.picture station.new) (N.calls net.old) (N.calls net.new) (W.contents recorder.old) (W.contents recorder.new)) }
-    ensures stopped { OnErr result (Stops S.does (S.site station.old) (S.picture station.old) (S.picture station.new) (N.calls net.old) (N.calls net.new) (W.contents recorder.old) (W.contents recorder.new)) }
+    ensures stopped { OnErr result (Stops S.does (S.site station.old) (map Applying (reach reading point.0 drive)) (S.picture station.old) (S.picture station.new) (N.calls net.old) (N.calls net.new) (W.contents recorder.old) (W.contents recorder.new)) }
     ensures site { S.site station.new ≡ S.site station.old }
 {
     match drive {
@@ -142,7 +146,7 @@ pub(crate) fn tick_all<S: Station, N: Datagrams, W: Write>(
     recorder: &mut W,
 ) -> Result<(), DriveFault>
     ensures done { OnOk result (Performs S.does (S.site station.old) (map Applying (ticks (length (node_names (S.site station.old))))) (S.picture station.old) (S.picture station.new) (N.calls net.old) (N.calls net.new) (W.contents recorder.old) (W.contents recorder.new)) }
-    ensures stopped { OnErr result (Stops S.does (S.site station.old) (S.picture station.old) (S.picture station.new) (N.calls net.old) (N.calls net.new) (W.contents recorder.old) (W.contents recorder.new)) }
+    ensures stopped { OnErr result (Stops S.does (S.site station.old) (map Applying (ticks (length (node_names (S.site station.old))))) (S.picture station.old) (S.picture station.new) (N.calls net.old) (N.calls net.new) (W.contents recorder.old) (W.contents recorder.new)) }
     ensures site { S.site station.new ≡ S.site station.old }
 {
     for node in 0..node_count(station.table().layout()) {

@@ -27,7 +27,7 @@ pub(crate) fn perform<S: Station, N: Datagrams, W: Write>(
     event: &Event,
 ) -> Result<(), DriveFault>
     ensures done { OnOk result (Performs S.does (S.site station.old) (Applying event.now ∷ []) (S.picture station.old) (S.picture station.new) (N.calls net.old) (N.calls net.new) (W.contents recorder.old) (W.contents recorder.new)) }
-    ensures stopped { OnErr result (Stops S.does (S.site station.old) (S.picture station.old) (S.picture station.new) (N.calls net.old) (N.calls net.new) (W.contents recorder.old) (W.contents recorder.new)) }
+    ensures stopped { OnErr result (Stops S.does (S.site station.old) (Applying event.now ∷ []) (S.picture station.old) (S.picture station.new) (N.calls net.old) (N.calls net.new) (W.contents recorder.old) (W.contents recorder.new)) }
     ensures site { S.site station.new ≡ S.site station.old }
 {
     let line = write_event(alloc, station.table(), event)?;

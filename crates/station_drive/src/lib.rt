@@ -13,6 +13,7 @@ mod fault;
 mod laws;
 mod rounds;
 mod station;
+mod waiting_lines;
 
 pub use clock::Clock;
 pub use datagrams::{Datagrams, NetFault, Received};

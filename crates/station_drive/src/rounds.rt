@@ -3,7 +3,7 @@
 ghost use Rattle.std.specs.Prelude.{◌≡◌, ◌-◌, ◌/◌, IfOk, List, OnErr, OnOk, length};
 ghost use Rattle.replay_lines.specs.Names.{node_names};
 ghost use Rattle.station_drive.specs.Doings.{Performs, Stops};
-ghost use Rattle.station_drive.specs.Drives.{Driven, beginning};
+ghost use Rattle.station_drive.specs.Drives.{CutOff, Driven, beginning};
 ghost use Rattle.station_drive.specs.Rounds.{Hearing, drive_after, drives_after, is_same, round, standing_after};
 
 use crate::clock::Clock;
@@ -14,6 +14,7 @@ use crate::events::{apply_due, pass, reach_all, tick_all};
 use crate::events_performed::flush;
 use crate::fault::DriveFault;
 use crate::station::Station;
+use crate::waiting_lines::WaitingLines;
 use control_table::layout::PointId;
 use control_table::sci_telegram::Side;
 use simulator_event::Event;
@@ -24,8 +25,8 @@ use std::io::Write;
 const MICROS: u64 = 1000;
 
 /// Drives a station for so many milliseconds by its clock. After a first reading of the clock each further one makes a round,
-/// up to and with the first that is so much later. The script's times are milliseconds since the first reading, and don't
-/// fall.
+/// up to and with the first that is so much later. The script's times are milliseconds since the first reading. A line that
+/// isn't due holds up none behind it.
 pub fn drive<S: Station, N: Datagrams, C: Clock, W: Write>(
     alloc: Global,
     station: &mut S,
@@ -36,8 +37,8 @@ pub fn drive<S: Station, N: Datagrams, C: Clock, W: Write>(
     recorder: &mut W,
 ) -> Result<(), DriveFault>
     ensures done { OnOk result (Driven S.does (S.site station.old) script.now for_ms (S.picture station.old) (S.picture station.new) (C.readings clock.old) (C.readings clock.new) (N.calls net.old) (N.calls net.new) (W.contents recorder.old) (W.contents recorder.new)) }
-    // The station is as the events applied so far left it, and a beginning of their lines was written.
-    ensures stopped { OnErr result (Stops S.does (S.site station.old) (S.picture station.old) (S.picture station.new) (N.calls net.old) (N.calls net.new) (W.contents recorder.old) (W.contents recorder.new)) }
+    // It ends with a fault exactly as it would have ended without, but cut off.
+    ensures stopped { OnErr result (CutOff S.does (S.site station.old) script.now for_ms (S.picture station.old) (S.picture station.new) (C.readings clock.old) (C.readings clock.new) (N.calls net.old) (N.calls net.new) (W.contents recorder.old) (W.contents recorder.new)) }
 {
     let first = clock.read();
     let mut course = begin(alloc, station, script, first)?;
@@ -79,7 +80,7 @@ fn begin<'a, S: Station>(
     Ok(Course {
         first,
         reading: first,
-        left: script,
+        left: WaitingLines::of(script),
         drives: vec![in alloc; None; points]?,
     })
 }
@@ -96,17 +97,18 @@ fn round<S: Station, N: Datagrams, W: Write>(
     requires { length course.old.drives ≡ length (S.site station.old).points }
     ensures done { OnOk result ((heard : List Hearing) × (length heard ≡ length (node_names (S.site station.old))) × Performs S.does (S.site station.old) (round (S.site station.old) course.old (record { reading = reading; heard = heard })) (S.picture station.old) (S.picture station.new) (N.calls net.old) (N.calls net.new) (W.contents recorder.old) (W.contents recorder.new)) }
     ensures course { OnOk result (course.new ≡ standing_after S.does (S.picture station.new) course.old reading) }
-    ensures stopped { OnErr result (Stops S.does (S.site station.old) (S.picture station.old) (S.picture station.new) (N.calls net.old) (N.calls net.new) (W.contents recorder.old) (W.contents recorder.new)) }
+    ensures stopped { OnErr result ((heard : List Hearing) × (length heard ≡ length (node_names (S.site station.old))) × Stops S.does (S.site station.old) (round (S.site station.old) course.old (record { reading = reading; heard = heard })) (S.picture station.old) (S.picture station.new) (N.calls net.old) (N.calls net.new) (W.contents recorder.old) (W.contents recorder.new)) }
     ensures site { S.site station.new ≡ S.site station.old }
 {
     let passed = millis_since(course.first, reading);
     let elapsed = micros_since(course.reading, reading);
     pass(alloc, station, net, recorder, elapsed)?;
     hear_all(alloc, station, net, recorder)?;
-    course.left = apply_due(alloc, station, net, recorder, course.left, passed)?;
+    apply_due(alloc, station, net, recorder, &course.left, passed)?;
     reach_all(alloc, station, net, recorder, &course.drives, reading)?;
     tick_all(alloc, station, net, recorder)?;
     flush(recorder)?;
+    course.left = course.left.after(passed);
     course.reading = reading;
     see_drives(station, &mut course.drives, reading);
     Ok(())

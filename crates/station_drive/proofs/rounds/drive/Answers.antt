@@ -1,15 +1,26 @@
-use Rattle.std.proofs.Common.{◌<◌, ◌≤◌, ◌∙◌, [], ◌∷◌, ◌++◌, length, ap, subst, refl}
+use Rattle.std.proofs.Common.{◌<◌, ◌≤◌, ◌∙◌, [], ◌∷◌, ◌++◌, length, Some, None, ap, subst, refl, arith}
 use Rattle.std.proofs.lemmas.List.{length-replicate}
 use Rattle.replay_lines.specs.Names.{node_names}
 use Rattle.station_drive.specs.Drives.{beginning}
 use Rattle.station_drive.specs.Rounds.{Turn}
-use Rattle.station_drive.proofs.Composed.{performs_none, stopped, stops_next, stops_none, stops_now}
+use Rattle.station_drive.proofs.Composed.{performs_none, stopped, stops_all, stops_none}
 use Rattle.station_drive.proofs.Rows.{all-push, length-drives_after}
-use Rattle.station_drive.proofs.Turns.{next_read, next_round, next_standing}
+use Rattle.station_drive.proofs.Turns.{broken_round, next_read, next_round, next_standing}
 use Rattle.station_drive.proofs.rounds.drive.Goals as goal
 
+-- no round was begun
 pub returns-in_err-course-clause-stopped : goal.returns-in_err-course-clause-stopped
-returns-in_err-course-clause-stopped g c = stopped c.from_residual.result (stops_none _ _ _)
+returns-in_err-course-clause-stopped g c =
+    stopped c.from_residual.result (record {
+      first = c.read-first.result;
+      made = [];
+      broken = None;
+      read = c.read-first.ensures.told;
+      whole = tt;
+      goes_on = tt;
+      stops = stops_none _ _ _ _;
+      all_made = omega arith;
+    })
 
 pub loop-init : goal.loop-init
 loop-init g c =
@@ -25,10 +36,23 @@ loop-init g c =
       refl,
     )
 
+-- a round was broken off
 pub returns-in_err-round-clause-stopped : goal.returns-in_err-round-clause-stopped
 returns-in_err-round-clause-stopped g c =
     let before = c.loop.invariant in
-    stopped c.from_residual-in_err-round.result (stops_next before.8 before.4 c.in_err-round.ensures.stopped)
+    let last = c.in_err-round.ensures.stopped in
+    let turn : Turn = record { reading = c.read-reading.result; heard = last.0 } in
+    let cut = broken_round _ c.loop.course before.0 turn before.8 before.5 before.4 last.2 in
+    stopped c.from_residual-in_err-round.result (record {
+      first = c.read-first.result;
+      made = before.0;
+      broken = Some turn;
+      read = next_read _ _ _ _ before.0 turn before.1 c.read-reading.ensures.told;
+      whole = all-push _ before.0 turn before.2 (last.1 ∙ ap (λ p. length (node_names p)) before.8);
+      goes_on = before.3;
+      stops = cut.0;
+      all_made = cut.1;
+    })
 
 pub returns-then-millis_since-for_ms-clause-done : goal.returns-then-millis_since-for_ms-clause-done
 returns-then-millis_since-for_ms-clause-done g c =
@@ -69,5 +93,9 @@ loop-preserved g c =
       c.in_ok-round.ensures.site ∙ before.8,
     )
 
+-- no round was broken off
 pub returns-clause-stopped : goal.returns-clause-stopped
-returns-clause-stopped g c = stops_now c.loop.invariant.4
+returns-clause-stopped g c =
+    let before = c.loop.invariant in
+    let all = stops_all before.4 in
+    record { first = c.read-first.result; made = before.0; broken = None; read = before.1; whole = before.2; goes_on = before.3; stops = all.0; all_made = all.1 }
