@@ -2,8 +2,7 @@
 use Rattle.std.proofs.Common.{◌≡◌, refl, sym, subst, ℕ, List, Option, Result, Ok, Err}
 use Rattle.std.specs.Prelude.{IfErr, IsErrAnd, IsOk}
 use Rattle.station_sim.specs.simulator_event.declared.event.Event.{Event}
-use Rattle.station_drive.specs.Doings.{Stops}
-use Rattle.station_drive.specs.Drives.{Driven}
+use Rattle.station_drive.specs.Drives.{CutOff, Driven}
 use Rattle.station_drive.specs.Told.{Call}
 use Rattle.station_drive.specs.declared.fault.DriveFault.{DriveFault}
 use Rattle.station_drive.specs.declared.fault.DriveFault.TheVariants as drive
@@ -28,10 +27,11 @@ leaves_all (Failed why.NotWritten) old new same = tt
 
 module _ {first : Played} {lines : List (ℕ × Event)} {for_ms : ℕ} {readings_old readings_new : Option (List ℕ)} {calls_old calls_new : Option (List Call)} {text_old text_new : Option (List ℕ)} where
   -- a drive ended before its time
-  pub drive_ends : {last : Played} (fault : DriveFault) → Stops driven_worlds first.sited.site first last calls_old calls_new text_old text_new
+  pub drive_ends : {last : Played} (fault : DriveFault)
+      → CutOff driven_worlds first.sited.site lines for_ms first last readings_old readings_new calls_old calls_new text_old text_new
       → EndsEarly first lines for_ms readings_old readings_new calls_old calls_new text_old text_new (of_drive fault)
-  drive_ends drive.OutOfMemory stops = lacks_memory stops
-  drive_ends drive.WriteFailed stops = cannot_run stops
+  drive_ends drive.OutOfMemory cut = lacks_memory cut
+  drive_ends drive.WriteFailed cut = cannot_run cut
 
   -- the picture wasn't told
   pub picture_ends : {W : Type 0} {last : Played} (old new : W) (failure : Failure) → IsLate old new failure
@@ -52,8 +52,8 @@ module _ {first : Played} {lines : List (ℕ × Event)} {for_ms : ℕ} {readings
       subst (λ why. EndsEarly first lines for_ms readings_old readings_new calls_old calls_new text_old text_new why × Leaves why old new) (sym told) (ends, leaves)
 
   pub early_is_of_run : {failure : RunFailure} → EndsEarly first lines for_ms readings_old readings_new calls_old calls_new text_old text_new failure → IsOfRun failure
-  early_is_of_run (cannot_run stops) = tt
-  early_is_of_run (lacks_memory stops) = tt
+  early_is_of_run (cannot_run cut) = tt
+  early_is_of_run (lacks_memory cut) = tt
   early_is_of_run (lacks_memory_at_its_end driven) = tt
   early_is_of_run (not_told driven) = tt
 

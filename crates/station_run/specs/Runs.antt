@@ -7,8 +7,7 @@ use Rattle.station_sim.specs.replay_lines.Script.{script}
 use Rattle.station_sim.specs.simulator_event.declared.event.Event.{Event}
 use Rattle.station_sim.specs.simulator.World.{IsPicture}
 use Rattle.station_sim.specs.station_check.Report.{IsSound}
-use Rattle.station_drive.specs.Doings.{Stops}
-use Rattle.station_drive.specs.Drives.{Driven}
+use Rattle.station_drive.specs.Drives.{CutOff, Driven}
 use Rattle.station_drive.specs.Told.{Call}
 use Rattle.station_sim.specs.station_check.Failures.{ExplainsTable}
 use Rattle.station_sim.specs.station_check.declared.failure.Failure.{Failure}
@@ -59,10 +58,10 @@ pub record IsRun (first : Played) (lines : List (ℕ × Event)) (for_ms : ℕ) (
 -- The station didn't run to its end.
 pub data EndsEarly (first : Played) (lines : List (ℕ × Event)) (for_ms : ℕ) (readings_old readings_new : Option (List ℕ))
     (calls_old calls_new : Option (List Call)) (text_old text_new : Option (List ℕ)) : RunFailure → Type 0 where
-  -- It was driven for a part of its time, and a beginning of the record was written.
-  cannot_run : {last : Played} → Stops driven_worlds first.sited.site first last calls_old calls_new text_old text_new
+  -- It was driven as for its time, but cut off, with a beginning of the record.
+  cannot_run : {last : Played} → CutOff driven_worlds first.sited.site lines for_ms first last readings_old readings_new calls_old calls_new text_old text_new
       → EndsEarly first lines for_ms readings_old readings_new calls_old calls_new text_old text_new CannotRun
-  lacks_memory : {last : Played} → Stops driven_worlds first.sited.site first last calls_old calls_new text_old text_new
+  lacks_memory : {last : Played} → CutOff driven_worlds first.sited.site lines for_ms first last readings_old readings_new calls_old calls_new text_old text_new
       → EndsEarly first lines for_ms readings_old readings_new calls_old calls_new text_old text_new (Failed why.OutOfMemory)
   -- It was driven for its time, but has no picture.
   lacks_memory_at_its_end : {last : Played} → Driven driven_worlds first.sited.site lines for_ms first last readings_old readings_new calls_old calls_new text_old text_new

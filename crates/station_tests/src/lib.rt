@@ -9,6 +9,8 @@ mod check_faults;
 #[cfg(test)]
 mod command_bench;
 #[cfg(test)]
+mod endless_files;
+#[cfg(test)]
 mod memory;
 #[cfg(test)]
 mod pair;
@@ -18,6 +20,8 @@ mod run_bench;
 mod run_faults;
 #[cfg(test)]
 mod runs;
+#[cfg(test)]
+mod script_order;
 #[cfg(test)]
 mod sockets;
 #[cfg(test)]
