@@ -13,6 +13,7 @@ fn read<R: Read>(alloc: Global, reader: &mut R, limit: u64) -> Result<String, Te
 }
 
 /// A reader that never ends, and counts what was taken from it.
+#[derive(Drop)]
 struct Endless {
     taken: usize,
 }
@@ -25,6 +26,7 @@ impl Read for Endless {
 }
 
 /// A reader that gives a byte at each second call: each other one is interrupted. After so many it fails, or ends.
+#[derive(Drop)]
 struct Halting {
     left: u32,
     fails: bool,
