@@ -22,15 +22,15 @@ use Rattle.ixl_theorem.proofs.Picking.{either}
 
 -- ---- the clock
 
-clocked_link : (now : ℕ) (client : ClientState) → (clocked now client).link ≡ settled now client.link
+pub clocked_link : (now : ℕ) (client : ClientState) → (clocked now client).link ≡ settled now client.link
 unfolding clocked fallen
 clocked_link now client = either (λ (c : ClientState). c.link ≡ settled now client.link) (is_up (settled now client.link).phase) _ _ refl refl
 
-clocked_peer : (now : ℕ) (client : ClientState) → (clocked now client).peer ≡ client.peer
+pub clocked_peer : (now : ℕ) (client : ClientState) → (clocked now client).peer ≡ client.peer
 unfolding clocked
 clocked_peer now client = fallen_peer (record client { link = settled now client.link })
 
-clocked_clients : (now : ℕ) (node : Node) (ixl : IxlState) → client_at node (all_clocked now ixl) ≡ option_map (clocked now) (client_at node ixl)
+pub clocked_clients : (now : ℕ) (node : Node) (ixl : IxlState) → client_at node (all_clocked now ixl) ≡ option_map (clocked now) (client_at node ixl)
 unfolding all_clocked
 clocked_clients now (Signal place) ixl =
     signal_at place (all_clocked now ixl) ∙ ap known_signal_kept (mapped_option (clocked_known_signal now) place ixl.known_signals) ∙ kept (slice_get ixl.known_signals place) ∙ ap (option_map (clocked now)) (sym (signal_at place ixl))

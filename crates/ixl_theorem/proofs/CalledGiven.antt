@@ -96,7 +96,7 @@ obeyed_clients commands.Resume ixl (Signal place) = refl
 obeyed_clients commands.Resume ixl (Point place) = refl
 obeyed_clients commands.Resume ixl (Detector place) = refl
 
-commanded_clients : (cause : Option Refusal) (command : Command) (ixl : IxlState) (node : Node) → client_at node (commanded_by cause command ixl) ≡ client_at node ixl
+pub commanded_clients : (cause : Option Refusal) (command : Command) (ixl : IxlState) (node : Node) → client_at node (commanded_by cause command ixl) ≡ client_at node ixl
 commanded_clients None command ixl node = obeyed_clients command ixl node
 commanded_clients (Some refused) command ixl node = refl
 

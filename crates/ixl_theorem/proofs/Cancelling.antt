@@ -1,4 +1,4 @@
--- When a cancel is accepted, and why it is refused.
+-- When a cancel and a resume are accepted, and why they are refused.
 use Rattle.std.proofs.Common.{◌≡◌, ℕ, Bool, true, false, not, refl, ap, sym, ◌∙◌, subst}
 use Rattle.std.specs.Prelude.{◌↔◌, Option, Some, None, slice_get}
 use Rattle.std.proofs.lemmas.Bool.{false≢true, true≢false}
@@ -11,7 +11,7 @@ use Rattle.ixl_state.specs.ixl_rules.declared.command.Command.TheVariants as com
 use Rattle.ixl_state.specs.ixl_rules.declared.command.Refusal.{Refusal}
 use Rattle.ixl_state.specs.ixl_rules.declared.command.Refusal.TheVariants as refusals
 use Rattle.ixl.specs.Interlocking.{HasStepped, InterlockingState}
-use Rattle.ixl_theorem.specs.Cancels.{IsCancelRefused, MayCancel}
+use Rattle.ixl_theorem.specs.Cancels.{IsCancelRefused, IsResumeRefused, MayCancel}
 use Rattle.ixl_theorem.proofs.Picking.{none_is, some_same}
 
 -- what is so by why a cancel is refused
@@ -91,3 +91,26 @@ cancel_refused now route old new answer cause step refused = by_cause _ refl whe
   by_cause (Some other) is =
       subst (IsCancelRefused now old.state.ixl route.0) (ap (cause_of cause) (sym (answer_is now route old new answer step ∙ ap answer_by is) ∙ refused))
       (subst (Told now old.state.ixl route.0) is (told now old.state.ixl route.0 _ refl))
+
+-- ---- a resume
+
+resume_answer : (now : ℕ) (old new : InterlockingState) (answer : Reply) → HasStepped now (Commands commands.Resume) old new answer →
+    answer ≡ answer_by (refused_where (is_holding now old.state.ixl) refusals.Holding None)
+unfolding reply refusal all_clocked
+resume_answer now old new answer step = step.answered
+
+pub resume_accepted : (now : ℕ) (old new : InterlockingState) (answer : Reply) → HasStepped now (Commands commands.Resume) old new answer →
+    answer ≡ Accepted ↔ is_holding now old.state.ixl ≡ false
+unfolding is_accepted
+resume_accepted now old new answer step = by_hold (is_holding now old.state.ixl) (resume_answer now old new answer step) where
+  by_hold : (holds : Bool) → answer ≡ answer_by (refused_where holds refusals.Holding None) → answer ≡ Accepted ↔ holds ≡ false
+  by_hold true is = (λ accepted. absurd (false≢true (ap is_accepted (sym is ∙ accepted))), λ over. absurd (true≢false over))
+  by_hold false is = (λ accepted. refl, λ over. is)
+
+pub resume_refused : (now : ℕ) (old new : InterlockingState) (answer : Reply) (cause : Refusal) → HasStepped now (Commands commands.Resume) old new answer →
+    answer ≡ Refused cause → IsResumeRefused now old.state.ixl cause
+unfolding is_accepted cause_of
+resume_refused now old new answer cause step refused = by_hold (is_holding now old.state.ixl) refl where
+  by_hold : (holds : Bool) → is_holding now old.state.ixl ≡ holds → IsResumeRefused now old.state.ixl cause
+  by_hold true is = subst (IsResumeRefused now old.state.ixl) (ap (cause_of cause) (sym (resume_answer now old new answer step ∙ ap (λ holds. answer_by (refused_where holds refusals.Holding None)) is) ∙ refused)) is
+  by_hold false is = absurd (false≢true (ap is_accepted (sym refused ∙ resume_answer now old new answer step ∙ ap (λ holds. answer_by (refused_where holds refusals.Holding None)) is)))

@@ -17,11 +17,16 @@ pub mod GivenOnce
 pub mod Going
 pub mod Hears
 pub mod Holding
+pub mod InOrder
 pub mod Learning
 pub mod LinkRefusing
 pub mod Nodes
 pub mod Once
 pub mod Onward
+pub mod Ordered
+pub mod OrderedNext
+pub mod OrderedRules
+pub mod OrderedStep
 pub mod Picking
 pub mod Refusing
 pub mod Ruled

@@ -1,8 +1,8 @@
--- What a link refuses leaves it as it was, but for what doesn't belong into a connection.
-use Rattle.std.proofs.Common.{◌≡◌, ℕ, ◌<◌, Bool, true, false, List, Result, Ok, Err, arith, refl, ap, sym, ◌∙◌}
+-- What a link refuses leaves it as it was, but for what doesn't belong into the connection in which the link is.
+use Rattle.std.proofs.Common.{◌≡◌, ℕ, ◌+◌, ◌<◌, Bool, true, false, List, Result, Ok, Err, arith, refl, ap, sym, ◌∙◌}
 use Rattle.std.specs.Prelude.{◌&&◌, if◌then◌else◌, nat_le, nat_lt, ◌==◌, not}
-use Rattle.std.proofs.lemmas.Bool.{false≢true, leb-true}
-use Rattle.ixl_state.specs.rasta_core.Parameters.{connection_limit, sequence_range}
+use Rattle.std.proofs.lemmas.Bool.{false≢true, leb-true, true≢false}
+use Rattle.ixl_state.specs.rasta_core.Parameters.{connection_limit, quiet_time, sequence_range}
 use Rattle.ixl_state.specs.rasta_core.State.{LinkState, is_client, is_open}
 use Rattle.ixl_state.specs.rasta_core.Clock.{deadline, settled, state_at}
 use Rattle.ixl_state.specs.rasta_core.Sending.{silent, entered, limited, telling}
@@ -144,6 +144,52 @@ unfolding hearing_bytes
 hearing_bytes_leaves (Err fault) link = refuses (verdict.Unreadable fault) link
 hearing_bytes_leaves (Ok pdu) link = hearing_leaves pdu link
 
+-- ---- a link in no connection
+
+abbrev Rests : LinkState → Receipt → Type 0
+Rests link receipt = is_refusal receipt.verdict ≡ true → receipt ≡ refusing receipt.verdict link
+
+rests : (why : Verdict) (link : LinkState) → Rests link (refusing why link)
+rests why link refused = refl
+
+resting_rests : (body : Body) (pdu : Pdu) (link : LinkState) → Rests link (resting body pdu link)
+unfolding resting
+resting_rests (ConnectionRequest opening) pdu link = either (Rests link) (is_client link.identity.role) _ _ (rests verdict.WrongState link) (λ refused. absurd (false≢true refused))
+resting_rests (ConnectionResponse _) pdu link = rests verdict.WrongState link
+resting_rests RetransmissionRequest pdu link = rests verdict.WrongState link
+resting_rests RetransmissionResponse pdu link = rests verdict.WrongState link
+resting_rests (DisconnectionRequest _ _) pdu link = rests verdict.WrongState link
+resting_rests Heartbeat pdu link = rests verdict.WrongState link
+resting_rests (Data _) pdu link = rests verdict.WrongState link
+resting_rests (RetransmittedData _) pdu link = rests verdict.WrongState link
+
+-- it is in its quiet time, or down
+shut_state : (now : ℕ) (link : LinkState) (fact : State → Type 0) → is_open link.phase ≡ false → fact state.Quiet → fact state.Down → fact (state_at now link)
+unfolding state_at
+shut_state now link fact shut quiet down = rw shut (either fact (nat_lt now (deadline link + quiet_time)) _ _ quiet down)
+
+by_state_rests : (pdu : Pdu) (link : LinkState) → is_open link.phase ≡ false → Rests link (by_state (state_at link.clock link) pdu link)
+unfolding by_state
+by_state_rests pdu link shut = shut_state link.clock link (λ present. Rests link (by_state present pdu link)) shut (rests verdict.Quiet link) (resting_rests pdu.body pdu link)
+
+hearing_rests : (pdu : Pdu) (link : LinkState) → is_open link.phase ≡ false → Rests link (hearing pdu link)
+unfolding hearing
+hearing_rests pdu link shut =
+    either (Rests link) (not (pdu.receiver == link.identity.own)) _ _ (rests verdict.NotForMe link)
+    (either (Rests link) (not (pdu.sender == link.identity.partner)) _ _ (rests verdict.WrongSender link) (by_state_rests pdu link shut))
+
+hearing_bytes_rests : (read : Result Pdu PduFault) (link : LinkState) → is_open link.phase ≡ false → Rests link (hearing_bytes read link)
+unfolding hearing_bytes
+hearing_bytes_rests (Err fault) link shut = rests (verdict.Unreadable fault) link
+hearing_bytes_rests (Ok pdu) link shut = hearing_rests pdu link shut
+
+hearing_bytes_stays : (read : Result Pdu PduFault) (link : LinkState) → is_refusal (hearing_bytes read link).verdict ≡ true →
+    ((hearing_bytes read link).verdict ≡ verdict.WrongState → is_open link.phase ≡ false) → hearing_bytes read link ≡ refusing (hearing_bytes read link).verdict link
+hearing_bytes_stays read link refused shut = by_phase (is_open link.phase) refl where
+  by_phase : (b : Bool) → is_open link.phase ≡ b → hearing_bytes read link ≡ refusing (hearing_bytes read link).verdict link
+  by_phase true is = hearing_bytes_leaves read link refused (λ wrong. true≢false (sym is ∙ shut wrong))
+  by_phase false is = hearing_bytes_rests read link is refused
+
 -- ---- a link to which the clock rules of this reading were applied
 
 pub settled_again : (now : ℕ) (link : LinkState) → settled now (settled now link) ≡ settled now link
@@ -164,6 +210,6 @@ entered_still now link below same = ap (λ (l : LinkState). limited l) same ∙ 
   still false = refl
 
 pub refused_still : (now : ℕ) (bytes : List ℕ) (link : LinkState) → link.sent < connection_limit → settled now link ≡ link → is_refusal (receiving now bytes link).verdict ≡ true →
-    ((receiving now bytes link).verdict ≡ verdict.WrongState → ⊥) → receiving now bytes link ≡ refusing (receiving now bytes link).verdict link
+    ((receiving now bytes link).verdict ≡ verdict.WrongState → is_open link.phase ≡ false) → receiving now bytes link ≡ refusing (receiving now bytes link).verdict link
 unfolding receiving
-refused_still now bytes link below same = rw (entered_still now link below same) (hearing_bytes_leaves (reading link.identity.key bytes) link)
+refused_still now bytes link below same = rw (entered_still now link below same) (hearing_bytes_stays (reading link.identity.key bytes) link)

@@ -41,7 +41,7 @@ module _ (Holds : StepSoFar → Type 0) where
   along_holds does each [] part is = is
   along_holds does each (first ∷ others) part is = along_holds does each others (does first part) (each first part is)
 
-  repeated_holds : (does : StepSoFar → StepSoFar) → ((part : StepSoFar) → Holds part → Holds (does part)) → (n : ℕ) (part : StepSoFar) → Holds part → Holds (repeated n does part)
+  pub repeated_holds : (does : StepSoFar → StepSoFar) → ((part : StepSoFar) → Holds part → Holds (does part)) → (n : ℕ) (part : StepSoFar) → Holds part → Holds (repeated n does part)
   repeated_holds does each zero part is = is
   repeated_holds does each (suc n) part is = repeated_holds does each n (does part) (each part is)
 
@@ -53,7 +53,7 @@ module _ (Holds : StepSoFar → Type 0) where
   -- ---- what is seen
 
   module _ (kept : IsKeptByRoutes Holds) (table : Table) where
-    watching_holds : (number : ℕ) (part : StepSoFar) → Holds part → Holds (watching table number part)
+    pub watching_holds : (number : ℕ) (part : StepSoFar) → Holds part → Holds (watching table number part)
     unfolding watching
     watching_holds number part is = at_route_holds table number _ part (λ row route. either Holds (is_proceeding route.phase || is_withdrawn route.phase) _ _ (kept number _ part is) is) is
 
@@ -67,10 +67,38 @@ module _ (Holds : StepSoFar → Type 0) where
     pub looking_holds : (look : ℕ × Bool) (part : StepSoFar) → Holds part → Holds (looking table look part)
     looking_holds look part is = over_holds (looking_by look.0 look.1 table) (looking_by_holds look.0 look.1) (count table) part is
 
-  -- ---- the rules
+    -- ---- the rules that change a route alone
+
+    pub ending_holds : (now number : ℕ) (part : StepSoFar) → Holds part → Holds (ending_authority now table number part)
+    unfolding ending_authority
+    ending_holds now number part is = at_route_holds table number _ part (λ row route.
+        either Holds (is_withdrawn route.phase && is_at_known_stop now part.ixl row.entry) _ _ (kept number _ part is) is) is
+
+    next_holds : (number : ℕ) (part : StepSoFar) → Holds part → Holds (freeing_next table number part)
+    unfolding freeing_next
+    next_holds number part is = at_route_holds table number _ part (λ row route. either Holds (frees_next table part.ixl row route route.phase) _ _ (kept number _ part is) is) is
+
+    pub passage_holds : (number : ℕ) (part : StepSoFar) → Holds part → Holds (freeing_by_passage table number part)
+    unfolding freeing_by_passage
+    passage_holds number part is = at_route_holds table number _ part (λ row route. repeated_holds (freeing_next table number) (next_holds number) (length row.sections) part is) is
+
+    pub cancel_holds : (now number : ℕ) (part : StepSoFar) → Holds part → Holds (freeing_by_cancel now table number part)
+    unfolding freeing_by_cancel
+    cancel_holds now number part is = at_route_holds table number _ part (λ row route.
+        either Holds (route.cancelled && frees_cancelled now table part.ixl row route route.phase) _ _ (kept number _ part is) is) is
+
+    -- authority ends, and sections and routes are freed
+    pub freed_holds : (now : ℕ) (part : StepSoFar) → Holds part →
+        Holds (over (freeing_by_cancel now table) (count table) (over (freeing_by_passage table) (count table) (over (ending_authority now table) (count table) part)))
+    freed_holds now part is =
+        over_holds (freeing_by_cancel now table) (cancel_holds now) (count table) _
+        (over_holds (freeing_by_passage table) passage_holds (count table) _
+        (over_holds (ending_authority now table) (ending_holds now) (count table) part is))
+
+  -- ---- all rules
 
   module _ (now : ℕ) (kept : IsKeptByChanges now Holds) (table : Table) where
-    withdrawing_holds : (number : ℕ) (part : StepSoFar) → Holds part → Holds (withdrawing now table number part)
+    pub withdrawing_holds : (number : ℕ) (part : StepSoFar) → Holds part → Holds (withdrawing now table number part)
     unfolding withdrawing
     withdrawing_holds number part is = at_route_holds table number _ part (λ row route.
         either Holds (is_stop_due table part.ixl row route) _ _ (stop row (with_route number _ part) (kept.route number _ part is)) is) is
@@ -78,35 +106,17 @@ module _ (Holds : StepSoFar → Type 0) where
         stop : (row : Row) (part : StepSoFar) → Holds part → Holds (stopped now row part)
         stop row part is = either Holds (is_signal_ready part.ixl row.entry) _ _ (kept.aspect row.entry _ part is) is
 
-    ending_holds : (number : ℕ) (part : StepSoFar) → Holds part → Holds (ending_authority now table number part)
-    unfolding ending_authority
-    ending_holds number part is = at_route_holds table number _ part (λ row route.
-        either Holds (is_withdrawn route.phase && is_at_known_stop now part.ixl row.entry) _ _ (kept.route number _ part is) is) is
-
-    next_holds : (number : ℕ) (part : StepSoFar) → Holds part → Holds (freeing_next table number part)
-    unfolding freeing_next
-    next_holds number part is = at_route_holds table number _ part (λ row route. either Holds (frees_next table part.ixl row route route.phase) _ _ (kept.route number _ part is) is) is
-
-    passage_holds : (number : ℕ) (part : StepSoFar) → Holds part → Holds (freeing_by_passage table number part)
-    unfolding freeing_by_passage
-    passage_holds number part is = at_route_holds table number _ part (λ row route. repeated_holds (freeing_next table number) (next_holds number) (length row.sections) part is) is
-
-    cancel_holds : (number : ℕ) (part : StepSoFar) → Holds part → Holds (freeing_by_cancel now table number part)
-    unfolding freeing_by_cancel
-    cancel_holds number part is = at_route_holds table number _ part (λ row route.
-        either Holds (route.cancelled && frees_cancelled now table part.ixl row route route.phase) _ _ (kept.route number _ part is) is) is
-
-    moving_one_holds : (number : ℕ) (need : Need) (part : StepSoFar) → Holds part → Holds (moving_one now table number need part)
+    pub moving_one_holds : (number : ℕ) (need : Need) (part : StepSoFar) → Holds part → Holds (moving_one now table number need part)
     unfolding moving_one
     moving_one_holds number need part is = at_route_holds table number _ part (λ row route.
         picked Holds (is_move_due table part.ixl number route need) _ _
         (λ due. kept.move need.point need.side part (due_available table part.ixl number route need due) is) (λ none. is)) is
 
-    moving_holds : (number : ℕ) (part : StepSoFar) → Holds part → Holds (moving now table number part)
+    pub moving_holds : (number : ℕ) (part : StepSoFar) → Holds part → Holds (moving now table number part)
     unfolding moving
     moving_holds number part is = at_route_holds table number _ part (λ row route. along_holds (moving_one now table number) (moving_one_holds number) row.needs part is) is
 
-    proceeding_holds : (number : ℕ) (part : StepSoFar) → Holds part → Holds (proceeding now table number part)
+    pub proceeding_holds : (number : ℕ) (part : StepSoFar) → Holds part → Holds (proceeding now table number part)
     unfolding proceeding
     proceeding_holds number part is = at_route_holds table number _ part (λ row route.
         either Holds (is_proceed_due now table part.ixl row route) _ _ (kept.aspect row.entry row.aspect (with_route number (authorised table part.ixl row) part) (kept.route number _ part is)) is) is
@@ -115,7 +125,4 @@ module _ (Holds : StepSoFar → Type 0) where
     ruled_holds part is =
         over_holds (proceeding now table) proceeding_holds (count table) _
         (over_holds (moving now table) moving_holds (count table) _
-        (over_holds (freeing_by_cancel now table) cancel_holds (count table) _
-        (over_holds (freeing_by_passage table) passage_holds (count table) _
-        (over_holds (ending_authority now table) ending_holds (count table) _
-        (over_holds (withdrawing now table) withdrawing_holds (count table) part is)))))
+        (freed_holds kept.route table now _ (over_holds (withdrawing now table) withdrawing_holds (count table) part is)))

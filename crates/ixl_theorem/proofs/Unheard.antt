@@ -28,7 +28,7 @@ use Rattle.ixl_state.specs.ixl_rules.Step.{Accepted, Datagram, Received, Refused
 use Rattle.ixl_state.specs.ixl_rules.Table.{Table}
 use Rattle.ixl_state.specs.First.{key_of}
 use Rattle.ixl.specs.Interlocking.{HasStepped, InterlockingState}
-use Rattle.ixl_theorem.specs.Refused.{IsWithoutInput, MayHear, step_without_input}
+use Rattle.ixl_theorem.specs.Refused.{IsInNoConnection, IsWithoutInput, MayHear, step_without_input}
 use Rattle.ixl_theorem.proofs.Blind.{Alike, seen_and_ruled}
 use Rattle.ixl_theorem.proofs.Clients.{detector_client, known_signal_client, known_point_client}
 use Rattle.ixl_theorem.proofs.LinkRefusing.{refused_still, settled_again}
@@ -91,11 +91,11 @@ pub record Refuses (now : ℕ) (bytes : List ℕ) (one : ClientState) : Type 0 w
   pub may : MayHear one
   pub settled_is : settled now one.link ≡ one.link
   pub refusal : is_refusal (receiving now bytes one.link).verdict ≡ true
-  pub other : (receiving now bytes one.link).verdict ≡ verdicts.WrongState → ⊥
+  pub shut : (receiving now bytes one.link).verdict ≡ verdicts.WrongState → IsInNoConnection one
 
 pub unheard : (now : ℕ) (bytes : List ℕ) (one : ClientState) (outbox : OutboxState) → Refuses now bytes one → Unheard (begun one outbox) (hearing now bytes (begun one outbox))
 unheard now bytes one outbox is = subst (Unheard (begun one outbox))
-    (sym (hearing_is now bytes (begun one outbox) ∙ ap (with_receipt now bytes (begun one outbox)) (refused_still now bytes one.link is.may.numbered is.settled_is is.refusal is.other)))
+    (sym (hearing_is now bytes (begun one outbox) ∙ ap (with_receipt now bytes (begun one outbox)) (refused_still now bytes one.link is.may.numbered is.settled_is is.refusal is.shut)))
     (refused_unheard now bytes (begun one outbox) is.may.steady.outside (receiving now bytes one.link).verdict)
 
 -- ---- an interlocking once the clock has acted
@@ -198,14 +198,14 @@ module _ (now : ℕ) (table : Table) (bytes : List ℕ) (ixl : IxlState) (outbox
 
   -- what is said of the client of the datagram's sender
   abbrev Said : ClientState → Type 0
-  Said one = MayHear one × (is_refusal (receiving now bytes one.link).verdict ≡ true) × ((receiving now bytes one.link).verdict ≡ verdicts.WrongState → ⊥)
+  Said one = MayHear one × (is_refusal (receiving now bytes one.link).verdict ≡ true) × ((receiving now bytes one.link).verdict ≡ verdicts.WrongState → IsInNoConnection one)
 
   refuses : (one : ClientState) (old : ClientState) → one ≡ clocked now old → Said one → Refuses now bytes one
   refuses one old is said = record {
     may = said.0;
     settled_is = subst (λ (c : ClientState). settled now c.link ≡ c.link) (sym is) (clocked_settled now old);
     refusal = said.1;
-    other = said.2;
+    shut = said.2;
   }
 
   signal_unheard : (place : ℕ) (one : ClientState) → client_at (Signal place) part.ixl ≡ Some one → Said one → Alike (known_signal_hearing now bytes place part) part
@@ -276,9 +276,9 @@ received (Refused cause) = verdicts.Taken
 
 pub refused_datagram_is_without : (now : ℕ) (bytes : List ℕ) (old new : InterlockingState) (why : Verdict) (one : ClientState) → HasStepped now (Datagram bytes) old new (Received why) →
     client_of (addressed (reading (key_of old.state.sited.site) bytes) (all_clocked now old.state.ixl)) (all_clocked now old.state.ixl) ≡ Some one → MayHear one →
-    is_refusal why ≡ true → (why ≡ verdicts.WrongState → ⊥) → IsWithoutInput now old new
+    is_refusal why ≡ true → (why ≡ verdicts.WrongState → IsInNoConnection one) → IsWithoutInput now old new
 unfolding stepped given ticked reply
-refused_datagram_is_without now bytes old new why one step is may refusal other = by_node (addressed read clocked) is refl where
+refused_datagram_is_without now bytes old new why one step is may refusal shut = by_node (addressed read clocked) is refl where
   table : Table
   table = old.state.sited.table
 
@@ -301,7 +301,7 @@ refused_datagram_is_without now bytes old new why one step is may refusal other 
   by_node None none at = absurd (none_is none)
   by_node (Some node) told at =
       let alike : Alike (behind (Some node)) (step_without_input now table old.state.ixl) = seen_and_ruled now table (node_hearing now table bytes node begun) begun
-      (node_unheard now table bytes old.state.ixl empty_outbox node one told (may, ap is_refusal (sym why_is) ∙ refusal, λ wrong. other (why_is ∙ wrong)))
+      (node_unheard now table bytes old.state.ixl empty_outbox node one told (may, ap is_refusal (sym why_is) ∙ refusal, λ wrong. shut (why_is ∙ wrong)))
       in record {
         ixl = step.ixl ∙ ap (λ n. (behind n).ixl) at ∙ alike.ixl;
         outbox = step.outbox ∙ ap (λ n. (behind n).outbox) at ∙ alike.outbox;

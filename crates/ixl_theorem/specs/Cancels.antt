@@ -1,4 +1,4 @@
--- When a route is cancelled, and why not.
+-- When a cancel and a resume are accepted, and why not. Each cause is told where none before it is given.
 use Rattle.std.specs.Prelude.{◌≡◌, ℕ, true, false, slice_get, Some}
 use Rattle.ixl_state.specs.ixl_rules.Refusals.{Obeys}
 use Rattle.ixl_state.specs.ixl_rules.State.{IxlState, RouteState}
@@ -26,3 +26,7 @@ IsCancelRefused now ixl number refusals.Holding = IsKept ixl number × (is_holdi
 IsCancelRefused now ixl number refusals.NotResumed = IsKept ixl number × (is_holding now ixl ≡ false) × (ixl.resumed ≡ false)
 IsCancelRefused now ixl number refusals.NotSet = Obeys now ixl × IsNotSet ixl number
 IsCancelRefused now ixl number _ = ⊥
+
+abbrev pub IsResumeRefused : ℕ → IxlState → Refusal → Type 0
+IsResumeRefused now ixl refusals.Holding = is_holding now ixl ≡ true
+IsResumeRefused now ixl _ = ⊥

@@ -6,6 +6,7 @@ pub mod GivenOnce
 pub mod Links
 pub mod Nodes
 pub mod Onward
+pub mod Order
 pub mod Refused
 pub mod Standing
 pub mod WholeStep

@@ -20,14 +20,15 @@ ghost use Rattle.ixl_state.specs.ixl_rules.declared.command.Command.{Command};
 ghost use Rattle.ixl_state.specs.ixl_rules.declared.command.Refusal.{Refusal};
 ghost use Rattle.ixl_state.specs.ixl_rules.declared.phase.Phase.{Phase};
 ghost use Rattle.ixl_state.specs.First.{Beginning, key_of, new_ixl};
-ghost use Rattle.ixl.specs.Interlocking.{HasStepped, InterlockingState};
+ghost use Rattle.ixl.specs.Interlocking.{HasStepped, InterlockingState, step_of};
 ghost use Rattle.ixl_theorem.specs.Answered.{GoesOnAnswered, IsAnswered, last_told};
 ghost use Rattle.ixl_theorem.specs.Apart.{AllApart, DoNotConflict, IsWhole, StandApart};
 ghost use Rattle.ixl_theorem.specs.Called.{ActsOnTaken, HandsOut, IsNobody, ReceivesFirst, Stays, acted_at, calls_at, items_taken, receipt_at};
-ghost use Rattle.ixl_theorem.specs.Cancels.{IsCancelRefused, MayCancel};
+ghost use Rattle.ixl_theorem.specs.Cancels.{IsCancelRefused, IsResumeRefused, MayCancel};
 ghost use Rattle.ixl_theorem.specs.Links.{NoneDown};
 ghost use Rattle.ixl_theorem.specs.Onward.{GoesOn};
-ghost use Rattle.ixl_theorem.specs.Refused.{IsWithoutInput, MayHear};
+ghost use Rattle.ixl_theorem.specs.Order.{CallsInOrder, handed_out, links_at};
+ghost use Rattle.ixl_theorem.specs.Refused.{IsInNoConnection, IsWithoutInput, MayHear};
 ghost use Rattle.ixl_state.specs.ixl_client.Client.{ClientState, is_outside};
 ghost use Rattle.ixl_state.specs.ixl_client.Made.{link_after};
 ghost use Rattle.ixl_state.specs.rasta_core.Clock.{settled};
@@ -84,15 +85,15 @@ pub fn moves_are_given_once()
 {}
 
 /// What is refused leaves what a step without it leaves, and hands out what it hands out: a command; a datagram that can't be
-/// read or comes from no controller; and a datagram that the link of its sender refuses, but for one that doesn't belong
-/// into the connection, which closes it.
+/// read or comes from no controller; and a datagram that the link of its sender refuses. One that doesn't belong into the
+/// connection of this link closes it: of that the law speaks only where the link is in no connection.
 pub fn refused_inputs_change_nothing()
     ensures command { (now : ℕ) (command : Command) (old new : InterlockingState) (cause : Refusal) → HasStepped now (Commands command) old new (Refused cause) → IsWithoutInput now old new }
     ensures datagram { (now : ℕ) (bytes : List ℕ) (old new : InterlockingState) (answer : Reply) → HasStepped now (Datagram bytes) old new answer
         → addressed (reading (key_of old.state.sited.site) bytes) (all_clocked now old.state.ixl) ≡ None → IsWithoutInput now old new }
     ensures link { (now : ℕ) (bytes : List ℕ) (old new : InterlockingState) (why : Verdict) (client : ClientState) → HasStepped now (Datagram bytes) old new (Received why)
         → client_of (addressed (reading (key_of old.state.sited.site) bytes) (all_clocked now old.state.ixl)) (all_clocked now old.state.ixl) ≡ Some client → MayHear client
-        → is_refusal why ≡ true → (why ≡ verdicts.WrongState → ⊥) → IsWithoutInput now old new }
+        → is_refusal why ≡ true → (why ≡ verdicts.WrongState → IsInNoConnection client) → IsWithoutInput now old new }
 {}
 
 /// A cancel is accepted exactly where the hold is over, the interlocking was told to resume, and the route is set; and it is
@@ -102,6 +103,14 @@ pub fn cancels_are_accepted_where_a_route_is_set()
         → answer ≡ Accepted ↔ MayCancel now old.state.ixl route.0 }
     ensures refused { (now : ℕ) (route : RouteId) (old new : InterlockingState) (answer : Reply) (cause : Refusal) → HasStepped now (Commands (commands.Cancel route)) old new answer
         → answer ≡ Refused cause → IsCancelRefused now old.state.ixl route.0 cause }
+{}
+
+/// The interlocking is told to resume exactly where the hold is over; there is no other cause against it.
+pub fn resumes_are_accepted_behind_the_hold()
+    ensures accepted { (now : ℕ) (old new : InterlockingState) (answer : Reply) → HasStepped now (Commands commands.Resume) old new answer
+        → answer ≡ Accepted ↔ is_holding now old.state.ixl ≡ false }
+    ensures refused { (now : ℕ) (old new : InterlockingState) (answer : Reply) (cause : Refusal) → HasStepped now (Commands commands.Resume) old new answer
+        → answer ≡ Refused cause → IsResumeRefused now old.state.ixl cause }
 {}
 
 /// Behind a tick the link of no controller is down: each is in a connection, or in its quiet time.
@@ -118,6 +127,19 @@ pub fn routes_with_authority_hold_all()
     ensures sections { (row : Row) (phase : Phase) (section : ℕ) → has_authority phase ≡ true → Contains row.sections section → HoldsSection row phase section }
     ensures points { (row : Row) (phase : Phase) (need : Need) → has_authority phase ≡ true → Contains row.needs need → 0 < need.until → HoldsPoint row phase need.point need.side }
 {}
+
+/// A step calls its links in one order: the input's calls; stops; moves; the aspects of routes; and on a tick the heartbeat
+/// and the opening of each link, before those of the next. Stops, moves and aspects stand in table order, and the moves of one
+/// route in layout order. Its datagrams stand in the order of the calls that hand them out.
+pub fn datagrams_stand_in_their_order()
+    ensures calls { (now : ℕ) (input : Input) (old new : InterlockingState) (answer : Reply) → HasStepped now input old new answer → CallsInOrder now input old }
+    ensures datagrams { (now : ℕ) (input : Input) (old new : InterlockingState) (answer : Reply) → HasStepped now input old new answer
+        → new.outbox.datagrams ≡ handed_out now (step_of now input old.state).calls (links_at now old.state.ixl) }
+{
+    step_hears_what_was_taken();
+    step_is_calls();
+    step_keeps_the_peer();
+}
 
 /// In its present connection each move that a point is given is answered by one report. Behind the initial status so many
 /// reports were heard as moves were given, or one fewer while the last move is unanswered; and the side that is kept of the

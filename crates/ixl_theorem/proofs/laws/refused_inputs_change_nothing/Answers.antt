@@ -9,4 +9,4 @@ pub returns-clause-datagram : goal.returns-clause-datagram
 returns-clause-datagram c now bytes old new answer stepped lost = lost_datagram_is_without now bytes old new answer stepped lost
 
 pub returns-clause-link : goal.returns-clause-link
-returns-clause-link c now bytes old new why client stepped is may refusal other = refused_datagram_is_without now bytes old new why client stepped is may refusal other
+returns-clause-link c now bytes old new why client stepped is may refusal shut = refused_datagram_is_without now bytes old new why client stepped is may refusal shut
