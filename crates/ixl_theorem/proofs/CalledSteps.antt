@@ -34,7 +34,7 @@ pub record ClientLaws (now : ℕ) : Type 0 where
   pub same_command : (command : Command) (part : client.ClientSoFar) → (commanding now command part).client.peer ≡ part.client.peer
   pub same_tick : (part : client.ClientSoFar) → (ticking now part).client.peer ≡ part.client.peer
 
-commanding_acts : (now : ℕ) (command : Command) (part : client.ClientSoFar) → (commanding now command part).acted ≡ part.acted
+pub commanding_acts : (now : ℕ) (command : Command) (part : client.ClientSoFar) → (commanding now command part).acted ≡ part.acted
 unfolding commanding
 commanding_acts now command part = (posting_posts now (message_of command) part).acted
 

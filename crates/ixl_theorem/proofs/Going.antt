@@ -213,7 +213,7 @@ unfolding watching
 watching_goes table number part = at_route_goes table number _ part (λ row route is.
     either (PartGoes part) (is_proceeding route.phase || is_withdrawn route.phase) _ _ (with_route_goes number _ part (λ other also. onward_same other.phase)) (same_goes part part refl))
 
-looks_phase : (section : ℕ) (occupied : Bool) (row : Row) (route : RouteState) → (route_looks section occupied row route).phase ≡ route.phase
+pub looks_phase : (section : ℕ) (occupied : Bool) (row : Row) (route : RouteState) → (route_looks section occupied row route).phase ≡ route.phase
 looks_phase section occupied row route = by_place (place_in section row.sections) refl where
   by_place : (place : Option ℕ) → place_in section row.sections ≡ place → (route_looks section occupied row route).phase ≡ route.phase
   by_place None is = rw is refl
@@ -339,7 +339,7 @@ where_none : (fails : Bool) (told : Refusal) (rest : Option Refusal) → refused
 where_none true told rest is = absurd (some_is is)
 where_none false told rest is = (refl, is)
 
-request_free : (now : ℕ) (table : Table) (route : RouteId) (ixl : IxlState) (before : RouteState) → slice_get ixl.routes route.0 ≡ Some before →
+pub request_free : (now : ℕ) (table : Table) (route : RouteId) (ixl : IxlState) (before : RouteState) → slice_get ixl.routes route.0 ≡ Some before →
     refusal now table (commands.Request route) ixl ≡ None → is_set before.phase ≡ false
 unfolding refusal
 request_free now table route ixl before is none = by_row (slice_get table.rows route.0) (sym (ap (request_refusal now table ixl route.0 (slice_get table.rows route.0)) is) ∙ none) where

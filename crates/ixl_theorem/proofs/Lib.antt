@@ -16,6 +16,9 @@ pub mod Falling
 pub mod GivenOnce
 pub mod Going
 pub mod Hears
+pub mod HistoryLists
+pub mod HistoryParts
+pub mod HistoryStep
 pub mod Holding
 pub mod InOrder
 pub mod Learning

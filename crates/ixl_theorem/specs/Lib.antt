@@ -3,6 +3,7 @@ pub mod Apart
 pub mod Called
 pub mod Cancels
 pub mod GivenOnce
+pub mod History
 pub mod Links
 pub mod Nodes
 pub mod Onward

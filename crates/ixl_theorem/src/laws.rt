@@ -14,7 +14,7 @@ ghost use Rattle.ixl_state.specs.ixl_rules.StepSoFar.{Node, StepSoFar, giving_mo
 ghost use Rattle.ixl_state.specs.ixl_rules.State.{IxlState, RouteState, KnownPointState};
 ghost use Rattle.ixl_state.specs.ixl_rules.Step.{Accepted, Commands, Datagram, Input, Received, Refused, Reply, Tick, all_clocked, addressed, client_at, client_of};
 ghost use Rattle.ixl_state.specs.ixl_rules.Table.{Need, Row, Table};
-ghost use Rattle.ixl_state.specs.ixl_rules.View.{freed_sections, has_authority, is_holding, is_set};
+ghost use Rattle.ixl_state.specs.ixl_rules.View.{freed_sections, has_authority, is_holding, is_set, was_authorised};
 ghost use Rattle.ixl_state.specs.ixl_rules.declared.command.Command.TheVariants as commands;
 ghost use Rattle.ixl_state.specs.ixl_rules.declared.command.Command.{Command};
 ghost use Rattle.ixl_state.specs.ixl_rules.declared.command.Refusal.{Refusal};
@@ -25,6 +25,7 @@ ghost use Rattle.ixl_theorem.specs.Answered.{GoesOnAnswered, IsAnswered, last_to
 ghost use Rattle.ixl_theorem.specs.Apart.{AllApart, DoNotConflict, IsWhole, StandApart};
 ghost use Rattle.ixl_theorem.specs.Called.{ActsOnTaken, HandsOut, IsNobody, ReceivesFirst, Stays, acted_at, calls_at, items_taken, receipt_at};
 ghost use Rattle.ixl_theorem.specs.Cancels.{IsCancelRefused, IsResumeRefused, MayCancel};
+ghost use Rattle.ixl_theorem.specs.History.{BeginsTold, GoesOnTold, History, TellsOf};
 ghost use Rattle.ixl_theorem.specs.Links.{NoneDown};
 ghost use Rattle.ixl_theorem.specs.Onward.{GoesOn};
 ghost use Rattle.ixl_theorem.specs.Order.{CallsInOrder, handed_out, links_at};
@@ -139,6 +140,21 @@ pub fn datagrams_stand_in_their_order()
     step_hears_what_was_taken();
     step_is_calls();
     step_keeps_the_peer();
+}
+
+/// What is kept of a route's sections and of its approach is what was told since the route was given authority. A section is
+/// seen where it was told as occupied since, and is occupied where it was told so last. The approach counts where in some step
+/// with authority it wasn't clear. So it begins with the step that gives authority, and goes on through every step of the
+/// setting.
+pub fn routes_keep_what_was_told_since_authority()
+    ensures first { (now : ℕ) (input : Input) (old new : InterlockingState) (answer : Reply) (number : ℕ) (row : Row) (before after : RouteState) → HasStepped now input old new answer
+        → slice_get old.state.sited.table.rows number ≡ Some row → slice_get old.state.ixl.routes number ≡ Some before → slice_get new.state.ixl.routes number ≡ Some after
+        → was_authorised before.phase ≡ false → was_authorised after.phase ≡ true → BeginsTold now input old row after }
+    ensures kept { (now : ℕ) (input : Input) (old new : InterlockingState) (answer : Reply) (number : ℕ) (row : Row) (before after : RouteState) (history : History) → HasStepped now input old new answer
+        → slice_get old.state.sited.table.rows number ≡ Some row → slice_get old.state.ixl.routes number ≡ Some before → slice_get new.state.ixl.routes number ≡ Some after
+        → was_authorised before.phase ≡ true → was_authorised after.phase ≡ true → TellsOf history row before → GoesOnTold now input old new row before after history }
+{
+    step_hears_what_was_taken();
 }
 
 /// In its present connection each move that a point is given is answered by one report. Behind the initial status so many
