@@ -125,7 +125,7 @@ stays_answered now input old new answer place before after moves told hears says
 
 -- ---- an interlocking that was just made
 
-was_mapped : {A B : Type 0} (change : A → B) (place : ℕ) (list : List A) (one : B) → slice_get (map change list) place ≡ Some one → (old : A) × (one ≡ change old)
+pub was_mapped : {A B : Type 0} (change : A → B) (place : ℕ) (list : List A) (one : B) → slice_get (map change list) place ≡ Some one → (old : A) × (one ≡ change old)
 was_mapped change place [] one is = absurd (none_is is)
 was_mapped change zero (first ∷ others) one is = (first, sym (some_same is))
 was_mapped change (suc place) (first ∷ others) one is = was_mapped change place others one is

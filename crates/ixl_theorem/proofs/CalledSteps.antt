@@ -38,7 +38,7 @@ pub commanding_acts : (now : ℕ) (command : Command) (part : client.ClientSoFar
 unfolding commanding
 commanding_acts now command part = (posting_posts now (message_of command) part).acted
 
-ticking_acts : (now : ℕ) (part : client.ClientSoFar) → (ticking now part).acted ≡ part.acted
+pub ticking_acts : (now : ℕ) (part : client.ClientSoFar) → (ticking now part).acted ≡ part.acted
 unfolding ticking calling
 ticking_acts now part = refl
 

@@ -10,12 +10,10 @@ use Rattle.std.proofs.lemmas.List.Quantifiers.{position-Some}
 use Rattle.ixl_state.specs.bit_row.Places.{Places}
 use Rattle.ixl_state.specs.release.Passage.{PassageState, after_look}
 use Rattle.ixl_state.specs.ixl_client.declared.indication.Indication.{Indication}
-use Rattle.ixl_state.specs.ixl_rules.State.{RouteState}
-use Rattle.ixl_state.specs.ixl_rules.Step.{is_told_occupied, route_looks, told_before, told_now}
-use Rattle.ixl_state.specs.ixl_rules.Table.{Row, at, passes}
+use Rattle.ixl_state.specs.ixl_rules.Step.{is_told_occupied, told_before, told_now}
+use Rattle.ixl_state.specs.ixl_rules.Table.{Row, at}
 use Rattle.ixl_state.specs.ixl_rules.View.{place_in}
 use Rattle.ixl_theorem.specs.History.{kept_of, last_told, reports_of}
-use Rattle.ixl_theorem.proofs.Picking.{none_is, some_same}
 
 -- ---- of a list of looks, those at one section
 
@@ -150,7 +148,7 @@ one_contained : (a b : Bool) → Contains (a ∷ []) b → a ≡ b
 one_contained a b (zero, within, is) = is
 one_contained a b (suc place, within, is) = absurd (omega (arith, within))
 
-last_joined : (before : Bool) (some more : List Bool) → last_told before (some ++ more) ≡ last_told (last_told before some) more
+pub last_joined : (before : Bool) (some more : List Bool) → last_told before (some ++ more) ≡ last_told (last_told before some) more
 last_joined before [] more = refl
 last_joined before (first ∷ others) more = last_joined first others more
 

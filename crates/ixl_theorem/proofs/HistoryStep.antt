@@ -1,8 +1,8 @@
 -- What a route keeps of its sections and its approach is what was told since authority was given.
-use Rattle.std.proofs.Common.{◌≡◌, ◌⊎◌, ◌↔◌, inl, inr, ℕ, zero, suc, Bool, true, false, if◌then◌else◌, List, [], ◌∷◌, ◌++◌, append-nil, length, ◌<◌, arith, refl, ap, sym, ◌∙◌, subst}
+use Rattle.std.proofs.Common.{◌≡◌, ◌↔◌, inl, inr, ℕ, zero, suc, Bool, true, false, if◌then◌else◌, List, [], ◌∷◌, ◌++◌, append-nil, length, ◌<◌, arith, refl, ap, sym, ◌∙◌, subst}
 use Rattle.std.specs.Prelude.{◌==◌, ◌&&◌, ◌||◌, not, map, Option, Some, None, slice_get}
-use Rattle.std.specs.FinSet.{contains, contains-empty, empty}
-use Rattle.std.specs.List.{All, Contains, list_all}
+use Rattle.std.specs.FinSet.{contains, contains-empty}
+use Rattle.std.specs.List.{Contains, list_all}
 use Rattle.std.specs.Ordering.{nat_cmp}
 use Rattle.std.proofs.lemmas.Bool.{eqb-true, false≢true, true≢false}
 use Rattle.std.proofs.lemmas.List.Sums.{AllPass-from_list_all, list_all-from_AllPass}
@@ -16,28 +16,28 @@ use Rattle.ixl_state.specs.ixl_client.Step.{commanding, hearing}
 use Rattle.ixl_state.specs.ixl_client.declared.command.Command.TheVariants as given_commands
 use Rattle.ixl_state.specs.ixl_client.declared.indication.Indication.{Indication}
 use Rattle.ixl_state.specs.ixl_rules.Commands.{commanded_by, obeyed, refusal, set_anew}
-use Rattle.ixl_state.specs.ixl_rules.Due.{AllClear, At, IsClear}
-use Rattle.ixl_state.specs.ixl_rules.StepSoFar.{Detector, Node, Point, Signal, StepSoFar, along, begun_with, detector_after, empty_outbox, giving_aspect, giving_move, noted, over, with_detector, with_one, with_route}
-use Rattle.ixl_state.specs.ixl_rules.Rules.{count, ruled}
-use Rattle.ixl_state.specs.ixl_rules.State.{IxlState, KnownDetectorState, RouteState, changed}
-use Rattle.ixl_state.specs.ixl_rules.Step.{Commands, Datagram, Input, Reply, Tick, addressed, all_clocked, client_at, detector_hearing, given, known_point_hearing, known_signal_hearing, looking, looks, node_hearing, occupied_heard, stepped, ticked, told_before, told_now, watching}
+use Rattle.ixl_state.specs.ixl_rules.Due.{At, IsClear}
+use Rattle.ixl_state.specs.ixl_rules.StepSoFar.{Detector, Node, Point, Signal, StepSoFar, along, begun_with, detector_after, empty_outbox, giving_aspect, giving_move, noted, with_detector, with_one}
+use Rattle.ixl_state.specs.ixl_rules.Rules.{count}
+use Rattle.ixl_state.specs.ixl_rules.State.{IxlState, KnownDetectorState, RouteState}
+use Rattle.ixl_state.specs.ixl_rules.Step.{Commands, Datagram, Input, Reply, Tick, addressed, all_clocked, client_at, detector_hearing, given, known_point_hearing, known_signal_hearing, looking, looks, node_hearing, occupied_heard, stepped, ticked, told_before, told_now}
 use Rattle.ixl_state.specs.ixl_rules.Table.{Row, Table, at, passes}
-use Rattle.ixl_state.specs.ixl_rules.View.{has_authority, is_approach_clear, is_clear, is_set, place_in, was_authorised}
+use Rattle.ixl_state.specs.ixl_rules.View.{has_authority, is_approach_clear, is_clear, was_authorised}
 use Rattle.ixl_state.specs.ixl_rules.declared.command.Command.{Command}
 use Rattle.ixl_state.specs.ixl_rules.declared.command.Command.TheVariants as commands
 use Rattle.ixl_state.specs.ixl_rules.declared.command.Refusal.{Refusal}
 use Rattle.ixl_state.specs.First.{key_of}
 use Rattle.ixl.specs.Interlocking.{HasStepped, InterlockingState, step_of}
 use Rattle.ixl_theorem.specs.Called.{acted_at}
-use Rattle.ixl_theorem.specs.History.{BeginsTold, GoesOnTold, History, IsApproachClear, TellsOf, as_told, told_by_detector, told_by_node, told_in, told_if_listed, kept_of, last_told, reports_of}
+use Rattle.ixl_theorem.specs.History.{BeginsTold, GoesOnTold, History, IsApproachClear, TellsOf, told_by_detector, told_by_node, told_in, told_if_listed, kept_of, last_told, reports_of}
 use Rattle.ixl_theorem.specs.Nodes.{of_node}
 use Rattle.ixl_theorem.proofs.CalledSteps.{commanding_acts}
 use Rattle.ixl_theorem.proofs.Clients.{becomes_there, detection_at, detector_client, detector_kept}
 use Rattle.ixl_theorem.proofs.Going.{request_free}
 use Rattle.ixl_theorem.proofs.HistoryLists.{approached_more, before_told, begins_approached, look_all, looks_at, looks_joined, now_told, occupied_is, seen_after, seen_is, seen_more, told_last}
-use Rattle.ixl_theorem.proofs.HistoryParts.{Has, HasBegun, IsKept, IsUnauthorised, Keeps, Of, With, along_looks, along_unauthorised, authorised_set, changes_has, changing_all, ruled_begins, ruled_kept, seen_unauthorised, seen_watched, ticked_of, watched}
+use Rattle.ixl_theorem.proofs.HistoryParts.{Has, HasBegun, IsKept, IsUnauthorised, Keeps, Of, along_looks, along_unauthorised, authorised_set, changes_has, changing_all, ruled_begins, ruled_kept, seen_unauthorised, seen_watched, ticked_of, watched}
 use Rattle.ixl_theorem.proofs.Nodes.{node_self, of_itself}
-use Rattle.ixl_theorem.proofs.Picking.{both, either, none_is, some_same}
+use Rattle.ixl_theorem.proofs.Picking.{both, none_is, some_same}
 use Rattle.ixl_theorem.proofs.Ruled.{IsKeptByChanges, looking_holds, along_holds, ruled_holds, seen_holds, with_one_holds}
 
 -- ---- what is known of the approach

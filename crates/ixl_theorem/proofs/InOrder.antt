@@ -1,8 +1,7 @@
 -- Turns of controllers in the order of a list.
-use Rattle.std.proofs.Common.{◌≡◌, inl, inr, ℕ, zero, suc, List, [], ◌∷◌, ◌++◌, append_assoc, append-nil, length, refl, ap, sym, ◌∙◌, subst}
+use Rattle.std.proofs.Common.{◌≡◌, inr, ℕ, zero, suc, List, [], ◌∷◌, ◌++◌, append_assoc, append-nil, length, refl, ap, sym, ◌∙◌, subst}
 use Rattle.std.specs.Prelude.{map, Option, Some, None, slice_get}
-use Rattle.ixl_state.specs.ixl_client.ClientSoFar.{LinkCall}
-use Rattle.ixl_state.specs.ixl_rules.StepSoFar.{Node, StepSoFar, along, at_route, over, with_one}
+use Rattle.ixl_state.specs.ixl_rules.StepSoFar.{StepSoFar, along, at_route, over, with_one}
 use Rattle.ixl_state.specs.ixl_rules.State.{RouteState}
 use Rattle.ixl_state.specs.ixl_rules.Table.{Row, Table}
 use Rattle.ixl_theorem.specs.Order.{AtMostOne, InOrderOf, Turn, calls_of}

@@ -32,6 +32,7 @@ pub mod OrderedRules
 pub mod OrderedStep
 pub mod Picking
 pub mod Refusing
+pub mod Reported
 pub mod Ruled
 pub mod RunOnce
 pub mod Shut

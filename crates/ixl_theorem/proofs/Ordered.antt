@@ -1,7 +1,6 @@
 -- A step so far: its outbox is what its calls hand out, one after another.
-use Rattle.std.proofs.Common.{◌≡◌, ℕ, zero, suc, Bool, true, false, if◌then◌else◌, List, [], ◌∷◌, ◌++◌, append_assoc, append-nil, length, refl, ap, sym, ◌∙◌, subst}
-use Rattle.std.specs.Prelude.{map, Option, Some, None, option_map}
-use Rattle.std.proofs.lemmas.Bool.{false≢true, true≢false}
+use Rattle.std.proofs.Common.{◌≡◌, ℕ, zero, suc, Bool, true, false, List, [], ◌∷◌, ◌++◌, append_assoc, length, refl, ap, sym, ◌∙◌, subst}
+use Rattle.std.specs.Prelude.{map, Option, Some, option_map}
 use Rattle.ixl_state.specs.rasta_core.Outbox.{OutboxState}
 use Rattle.ixl_state.specs.rasta_core.State.{LinkState}
 use Rattle.ixl_state.specs.ixl_client.Client.{ClientState}

@@ -1,5 +1,5 @@
 -- The rules of a step call links in the order of the table: stops, then moves, then the aspects of routes.
-use Rattle.std.proofs.Common.{◌≡◌, ◌⊎◌, inl, inr, ℕ, Bool, true, false, List, [], ◌∷◌, ◌++◌, length, refl, ap, sym, ◌∙◌, subst}
+use Rattle.std.proofs.Common.{◌≡◌, ◌⊎◌, inl, inr, ℕ, List, [], ◌∷◌, ◌++◌, length, refl, ap, ◌∙◌, subst}
 use Rattle.std.specs.Prelude.{Option, Some, None, slice_get}
 use Rattle.ixl_state.specs.rasta_core.Calls.{answer_to_send}
 use Rattle.ixl_state.specs.rasta_core.Outbox.{OutboxState}

@@ -1,5 +1,5 @@
 -- A whole step calls links in its order, and hands out what the calls do.
-use Rattle.std.proofs.Common.{◌≡◌, ◌<◌, ◌≤◌, inl, inr, ℕ, zero, suc, List, [], ◌∷◌, ◌++◌, append_assoc, append-nil, arith, length, refl, ap, sym, ◌∙◌, subst}
+use Rattle.std.proofs.Common.{◌≡◌, ◌<◌, ◌≤◌, inl, ℕ, zero, suc, List, [], ◌∷◌, ◌++◌, append_assoc, append-nil, arith, length, refl, ap, sym, ◌∙◌}
 use Rattle.std.specs.Prelude.{map, Option, Some, None, option_map, slice_get}
 use Rattle.ixl_state.specs.rasta_pdu.Reading.{reading}
 use Rattle.ixl_state.specs.rasta_core.Clock.{settled}
@@ -7,8 +7,7 @@ use Rattle.ixl_state.specs.rasta_core.Outbox.{OutboxState}
 use Rattle.ixl_state.specs.rasta_core.State.{LinkState}
 use Rattle.ixl_state.specs.ixl_client.Client.{ClientState}
 use Rattle.ixl_state.specs.ixl_client.Step.{clocked, hearing, ticking}
-use Rattle.ixl_state.specs.ixl_client.ClientSoFar as client
-use Rattle.ixl_state.specs.ixl_client.ClientSoFar.{LinkCall, Opens, Receives, Ticks, begun, calling}
+use Rattle.ixl_state.specs.ixl_client.ClientSoFar.{Opens, Receives, Ticks, begun, calling}
 use Rattle.ixl_state.specs.ixl_rules.Commands.{commanded_by, obeyed, refusal, unmoved_for}
 use Rattle.ixl_state.specs.ixl_rules.StepSoFar.{Detector, Node, Point, Signal, StepSoFar, begun_with, empty_outbox, over, with_one, with_route}
 use Rattle.ixl_state.specs.ixl_rules.Rules.{count, ruled}
@@ -30,7 +29,7 @@ use Rattle.ixl_theorem.proofs.Ordered.{Ordered, SameSizes, SpeaksAs, begins_orde
 use Rattle.ixl_theorem.proofs.OrderedNext.{Made, detector_next, point_next, signal_next}
 use Rattle.ixl_theorem.proofs.OrderedRules.{RulesGrow, route_ordered, rules_grow}
 use Rattle.ixl_theorem.proofs.Picking.{none_is, some_same}
-use Rattle.ixl_theorem.proofs.Ruled.{along_holds, looking_holds, over_holds, seen_holds, with_one_or_none}
+use Rattle.ixl_theorem.proofs.Ruled.{along_holds, looking_holds, seen_holds, with_one_or_none}
 
 -- ---- lists
 

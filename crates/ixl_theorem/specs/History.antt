@@ -1,5 +1,7 @@
--- What was told of a route's sections, and how its approach stood, since the route was given authority.
-use Rattle.std.specs.Prelude.{◌≡◌, ◌==◌, ◌↔◌, ℕ, zero, suc, Bool, true, false, List, [], ◌∷◌, ◌++◌, Option, Some, None, slice_get, if◌then◌else◌}
+-- What was told of a route's sections, and how its approach stood, since the route was given authority. The reports are
+-- those of the items that were acted on, and not the looks of a step. So looks that left one out, or turned it, would keep
+-- a passage that tells of another history, and one step less that is watched an approach that does.
+use Rattle.std.specs.Prelude.{◌≡◌, ◌==◌, ◌↔◌, ℕ, suc, Bool, true, false, List, [], ◌∷◌, ◌++◌, Option, Some, None, slice_get, if◌then◌else◌}
 use Rattle.std.specs.FinSet.{contains}
 use Rattle.std.specs.List.{Contains}
 use Rattle.ixl_state.specs.bit_row.Places.{Places}
@@ -25,7 +27,7 @@ reports_of section sections [] = []
 reports_of section sections (first ∷ others) =
     if at sections first.place (λ own. own == section) then is_told_occupied first.state ∷ reports_of section sections others else reports_of section sections others
 
--- and what it is kept as, by its place from this one on
+-- and what is kept of it, by its place in the detector's order, from this place on
 abbrev pub kept_of : ℕ → Places → ℕ → List ℕ → List Bool
 kept_of section occupied place [] = []
 kept_of section occupied place (first ∷ others) =

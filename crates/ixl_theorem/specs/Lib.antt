@@ -9,5 +9,6 @@ pub mod Nodes
 pub mod Onward
 pub mod Order
 pub mod Refused
+pub mod Reported
 pub mod Standing
 pub mod WholeStep

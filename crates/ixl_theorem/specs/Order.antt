@@ -6,7 +6,7 @@ use Rattle.ixl_state.specs.rasta_core.reason.Reason.TheVariants as reason
 use Rattle.ixl_state.specs.sci_telegram.Telegrams.{writing}
 use Rattle.ixl_state.specs.sci_telegram.declared.message.Aspect.TheVariants as aspects
 use Rattle.ixl_state.specs.rasta_pdu.Reading.{reading}
-use Rattle.ixl_state.specs.ixl_client.Client.{ClientState, PeerState}
+use Rattle.ixl_state.specs.ixl_client.Client.{ClientState}
 use Rattle.ixl_state.specs.ixl_client.ClientSoFar.{LinkCall, Closes, Opens, Receives, Sends, Ticks, call_made}
 use Rattle.ixl_state.specs.ixl_client.Step.{message_of, telegram_to}
 use Rattle.ixl_state.specs.ixl_client.declared.command.Command.{Command}

@@ -7,11 +7,12 @@ ghost use Rattle.ixl_state.specs.rasta_pdu.Reading.{reading};
 ghost use Rattle.ixl_state.specs.rasta_pdu.declared.key.Key.{Key};
 ghost use Rattle.ixl_state.specs.layout.Entries.{Site};
 ghost use Rattle.ixl_state.specs.layout.declared.ids.RouteId.{RouteId};
+ghost use Rattle.ixl_state.specs.ixl_client.declared.indication.Indication.{Indication};
 ghost use Rattle.ixl_state.specs.ixl_client.declared.indication.ObjectState.{ObjectState};
 ghost use Rattle.ixl_state.specs.sci_telegram.declared.message.Side.{Side};
 ghost use Rattle.ixl_state.specs.ixl_rules.Due.{HoldsPoint, HoldsSection, Known, MoveDue};
 ghost use Rattle.ixl_state.specs.ixl_rules.StepSoFar.{Node, StepSoFar, giving_move};
-ghost use Rattle.ixl_state.specs.ixl_rules.State.{IxlState, RouteState, KnownPointState};
+ghost use Rattle.ixl_state.specs.ixl_rules.State.{IxlState, KnownDetectorState, RouteState, KnownPointState};
 ghost use Rattle.ixl_state.specs.ixl_rules.Step.{Accepted, Commands, Datagram, Input, Received, Refused, Reply, Tick, all_clocked, addressed, client_at, client_of};
 ghost use Rattle.ixl_state.specs.ixl_rules.Table.{Need, Row, Table};
 ghost use Rattle.ixl_state.specs.ixl_rules.View.{freed_sections, has_authority, is_holding, is_set, was_authorised};
@@ -30,6 +31,7 @@ ghost use Rattle.ixl_theorem.specs.Links.{NoneDown};
 ghost use Rattle.ixl_theorem.specs.Onward.{GoesOn};
 ghost use Rattle.ixl_theorem.specs.Order.{CallsInOrder, handed_out, links_at};
 ghost use Rattle.ixl_theorem.specs.Refused.{IsInNoConnection, IsWithoutInput, MayHear};
+ghost use Rattle.ixl_theorem.specs.Reported.{GoesOnReported, IsReported};
 ghost use Rattle.ixl_state.specs.ixl_client.Client.{ClientState, is_outside};
 ghost use Rattle.ixl_state.specs.ixl_client.Made.{link_after};
 ghost use Rattle.ixl_state.specs.rasta_core.Clock.{settled};
@@ -129,9 +131,9 @@ pub fn routes_with_authority_hold_all()
     ensures points { (row : Row) (phase : Phase) (need : Need) → has_authority phase ≡ true → Contains row.needs need → 0 < need.until → HoldsPoint row phase need.point need.side }
 {}
 
-/// A step calls its links in one order: the input's calls; stops; moves; the aspects of routes; and on a tick the heartbeat
-/// and the opening of each link, before those of the next. Stops, moves and aspects stand in table order, and the moves of one
-/// route in layout order. Its datagrams stand in the order of the calls that hand them out.
+/// A step calls its links in one order: the input's calls, then stops, moves, and the aspects of routes. On a tick follow the
+/// heartbeat and the opening of each link, before those of the next. Stops, moves and aspects stand in table order, and the
+/// moves of one route in layout order. Its datagrams stand in the order of the calls that hand them out.
 pub fn datagrams_stand_in_their_order()
     ensures calls { (now : ℕ) (input : Input) (old new : InterlockingState) (answer : Reply) → HasStepped now input old new answer → CallsInOrder now input old }
     ensures datagrams { (now : ℕ) (input : Input) (old new : InterlockingState) (answer : Reply) → HasStepped now input old new answer
@@ -155,6 +157,18 @@ pub fn routes_keep_what_was_told_since_authority()
         → was_authorised before.phase ≡ true → was_authorised after.phase ≡ true → TellsOf history row before → GoesOnTold now input old new row before after history }
 {
     step_hears_what_was_taken();
+}
+
+/// Of each section a detector's last report in its present connection stands, and where it made none yet the section is kept as
+/// clear. So it is at first, and through every step.
+pub fn sections_are_kept_as_they_were_told_last()
+    ensures first { (site : Site) (table : Table) (begins : Beginning) (place : ℕ) (detector : KnownDetectorState) → slice_get (new_ixl site table begins).detectors place ≡ Some detector → IsReported [] detector }
+    ensures kept { (now : ℕ) (input : Input) (old new : InterlockingState) (answer : Reply) (place : ℕ) (before after : KnownDetectorState) (told : List Indication) → HasStepped now input old new answer
+        → slice_get old.state.ixl.detectors place ≡ Some before → slice_get new.state.ixl.detectors place ≡ Some after
+        → IsReported told before → GoesOnReported now input old place before after told }
+{
+    step_hears_what_was_taken();
+    step_keeps_the_peer();
 }
 
 /// In its present connection each move that a point is given is answered by one report. Behind the initial status so many
