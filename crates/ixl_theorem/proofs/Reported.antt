@@ -1,27 +1,25 @@
 -- A section is kept as it was told last in the present connection.
-use Rattle.std.proofs.Common.{◌≡◌, ℕ, zero, suc, Bool, true, false, if◌then◌else◌, not, List, [], ◌∷◌, ◌++◌, append-nil, length, refl, ap, sym, ◌∙◌, subst}
-use Rattle.std.specs.Prelude.{◌==◌, ◌&&◌, ◌||◌, map, Option, Some, None, slice_get}
+use Rattle.std.proofs.Common.{◌≡◌, ℕ, Bool, true, false, if◌then◌else◌, not, List, [], ◌∷◌, ◌++◌, append-nil, length, refl, ap, sym, ◌∙◌, subst}
+use Rattle.std.specs.Prelude.{◌==◌, ◌&&◌, ◌||◌, Option, Some, None, slice_get}
 use Rattle.std.specs.Cmp.{nat_cmp_total, unsigned_tied}
 use Rattle.std.specs.FinSet.{contains, contains-empty, contains-insert, contains-remove, empty, insert, remove}
 use Rattle.std.specs.Ordering.{nat_cmp}
-use Rattle.std.proofs.lemmas.Bool.{eq-eqb, eqb-true, false≢true, true≢false}
+use Rattle.std.proofs.lemmas.Bool.{eq-eqb, eqb-true, false≢true}
 use Rattle.ixl_state.specs.layout.Entries.{Site}
 use Rattle.ixl_state.specs.bit_row.Places.{Places}
 use Rattle.ixl_state.specs.rasta_core.Clock.{settled}
 use Rattle.ixl_state.specs.rasta_core.Outbox.{OutboxState}
 use Rattle.ixl_state.specs.rasta_pdu.Reading.{reading}
-use Rattle.ixl_state.specs.ixl_client.Client.{ClientState, PeerState, is_outside}
+use Rattle.ixl_state.specs.ixl_client.Client.{ClientState, is_outside}
 use Rattle.ixl_state.specs.ixl_client.Made.{ActsOn, told_by_all}
 use Rattle.ixl_state.specs.ixl_client.ClientSoFar as client
 use Rattle.ixl_state.specs.ixl_client.ClientSoFar.{begun, calling}
-use Rattle.ixl_state.specs.ixl_client.Step.{clocked, fallen, hearing, ticking}
+use Rattle.ixl_state.specs.ixl_client.Step.{clocked, hearing, ticking}
 use Rattle.ixl_state.specs.ixl_client.declared.indication.Indication.{Indication}
-use Rattle.ixl_state.specs.ixl_client.declared.stage.Stage.{Stage}
 use Rattle.ixl_state.specs.ixl_rules.Commands.{commanded_by, obeyed, refusal}
-use Rattle.ixl_state.specs.ixl_rules.StepSoFar.{Detector, Node, Point, Signal, StepSoFar, along, begun_with, detector_after, empty_outbox, giving_aspect, giving_move, noted, over, with_detector, with_one, with_route}
-use Rattle.ixl_state.specs.ixl_rules.Rules.{count, ruled}
-use Rattle.ixl_state.specs.ixl_rules.State.{IxlState, KnownDetectorState, RouteState, changed}
-use Rattle.ixl_state.specs.ixl_rules.Step.{Commands, Datagram, Input, Reply, Tick, addressed, all_clocked, clocked_detector, detector_hearing, detector_ticking, given, is_told_occupied, known_point_hearing, known_point_ticking, known_signal_hearing, known_signal_ticking, looking, looks, node_hearing, occupied_heard, stepped, ticked, watching}
+use Rattle.ixl_state.specs.ixl_rules.StepSoFar.{Detector, Node, Point, Signal, StepSoFar, begun_with, detector_after, empty_outbox, giving_aspect, giving_move, noted, with_detector, with_route}
+use Rattle.ixl_state.specs.ixl_rules.State.{IxlState, KnownDetectorState, RouteState}
+use Rattle.ixl_state.specs.ixl_rules.Step.{Commands, Datagram, Input, Reply, Tick, addressed, all_clocked, clocked_detector, detector_hearing, detector_ticking, given, is_told_occupied, known_point_hearing, known_point_ticking, known_signal_hearing, known_signal_ticking, looking, looks, node_hearing, occupied_heard, stepped, ticked}
 use Rattle.ixl_state.specs.ixl_rules.Table.{Table}
 use Rattle.ixl_state.specs.ixl_rules.declared.command.Command.{Command}
 use Rattle.ixl_state.specs.ixl_rules.declared.command.Command.TheVariants as commands
@@ -29,7 +27,6 @@ use Rattle.ixl_state.specs.ixl_rules.declared.command.Refusal.{Refusal}
 use Rattle.ixl_state.specs.First.{Beginning, key_of, new_detector_of, new_ixl}
 use Rattle.ixl.specs.Interlocking.{HasStepped, InterlockingState, step_of}
 use Rattle.ixl_theorem.specs.Answered.{kept_by}
-use Rattle.ixl_theorem.specs.Called.{acted_at}
 use Rattle.ixl_theorem.specs.History.{last_told}
 use Rattle.ixl_theorem.specs.Nodes.{is_node, of_node}
 use Rattle.ixl_theorem.specs.Reported.{GoesOnReported, IsReported, told_at}
@@ -39,7 +36,7 @@ use Rattle.ixl_theorem.proofs.Clients.{becomes_there, detector_client, mapped}
 use Rattle.ixl_theorem.proofs.Hears.{fallen_peer, inside_stays}
 use Rattle.ixl_theorem.proofs.HistoryLists.{last_joined}
 use Rattle.ixl_theorem.proofs.Nodes.{noted_elsewhere, noted_here}
-use Rattle.ixl_theorem.proofs.Picking.{changed_elsewhere, either, none_is, picked, some_same}
+use Rattle.ixl_theorem.proofs.Picking.{changed_elsewhere, some_same}
 use Rattle.ixl_theorem.proofs.Ruled.{IsKeptByChanges, along_holds, looking_holds, over_holds, ruled_holds, seen_holds, with_one_holds}
 
 -- ---- what is heard
