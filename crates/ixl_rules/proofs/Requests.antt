@@ -150,16 +150,16 @@ unfolding refusal
 request_answers now table ixl route = by_row (slice_get table.rows route.0) (slice_get ixl.routes route.0) refl refl where
   by_row : (row : Option Row) (state : Option RouteState) → slice_get table.rows route.0 ≡ row → slice_get ixl.routes route.0 ≡ state →
       Answers now table ixl route.0 (request_refusal now table ixl route.0 row state)
-  by_row None state is also = λ row other found. none_is (sym is ∙ found.0)
-  by_row (Some row) None is also = λ one other found. none_is (sym also ∙ found.1)
+  by_row None state is also = λ known. none_is (sym is ∙ known.2.0)
+  by_row (Some row) None is also = λ known. none_is (sym also ∙ known.2.1)
   by_row (Some row) (Some state) is also = by_hold (is_holding now ixl) refl where
     by_hold : (b : Bool) → is_holding now ixl ≡ b → Answers now table ixl route.0 (refused_where b refusals.Holding
         (refused_where (not ixl.resumed) refusals.NotResumed (refused_where (is_set state.phase) refusals.AlreadySet (locking_refusal now table ixl route.0 row))))
-    by_hold true holding = holding
+    by_hold true holding = ((row, state, (is, also)), holding)
     by_hold false over = by_resumed ixl.resumed refl where
       by_resumed : (b : Bool) → ixl.resumed ≡ b → Answers now table ixl route.0
           (refused_where (not b) refusals.NotResumed (refused_where (is_set state.phase) refusals.AlreadySet (locking_refusal now table ixl route.0 row)))
-      by_resumed false waits = (over, waits)
+      by_resumed false waits = ((row, state, (is, also)), over, waits)
       by_resumed true resumed = by_set (is_set state.phase) refl where
         by_set : (b : Bool) → is_set state.phase ≡ b → Answers now table ixl route.0 (refused_where b refusals.AlreadySet (locking_refusal now table ixl route.0 row))
         by_set true set = ((over, resumed), (row, state, (is, also), set))
@@ -222,9 +222,9 @@ same_row now table ixl number can row route is cause why =
     cause_is_not now table ixl number can cause (subst (λ r. IsCause now table ixl number r cause) (same_Some _ _ (sym is.0 ∙ can.known.0)) why)
 
 never_refused : (now : ℕ) (table : Table) (ixl : IxlState) (number : ℕ) → Admissible now table ixl number → (cause : Refusal) → IsRequestRefused now table ixl number cause → ⊥
-never_refused now table ixl number can refusals.UnknownRoute why = why can.row can.route can.known
-never_refused now table ixl number can refusals.Holding why = true≢false (sym why ∙ can.over)
-never_refused now table ixl number can refusals.NotResumed why = true≢false (sym can.resumed ∙ why.1)
+never_refused now table ixl number can refusals.UnknownRoute why = why (can.row, can.route, can.known)
+never_refused now table ixl number can refusals.Holding why = true≢false (sym why.1 ∙ can.over)
+never_refused now table ixl number can refusals.NotResumed why = true≢false (sym can.resumed ∙ why.2)
 never_refused now table ixl number can refusals.AlreadySet why =
     true≢false (sym why.1.3 ∙ ap (λ route. is_set route.phase) (same_Some _ _ (sym why.1.2.1 ∙ can.known.1)) ∙ can.free)
 never_refused now table ixl number can (refusals.Conflict a) why = same_row now table ixl number can why.1.0 why.1.1 why.1.2 (refusals.Conflict a) why.1.4

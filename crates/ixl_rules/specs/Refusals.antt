@@ -60,11 +60,15 @@ IsCause now table ixl number row _ = ⊥
 abbrev pub Obeys : ℕ → IxlState → Type 0
 Obeys now ixl = (is_holding now ixl ≡ false) × (ixl.resumed ≡ true)
 
--- Why a request is refused.
+-- the table has the route, and the interlocking keeps it
+abbrev pub IsKnownRoute : Table → IxlState → ℕ → Type 0
+IsKnownRoute table ixl number = (row : Row) × (route : RouteState) × IsRouteOf table ixl number row route
+
+-- Why a request is refused. Each cause is told where none before it is given.
 abbrev pub IsRequestRefused : ℕ → Table → IxlState → ℕ → Refusal → Type 0
-IsRequestRefused now table ixl number refusals.UnknownRoute = (row : Row) (route : RouteState) → IsRouteOf table ixl number row route → ⊥
-IsRequestRefused now table ixl number refusals.Holding = is_holding now ixl ≡ true
-IsRequestRefused now table ixl number refusals.NotResumed = (is_holding now ixl ≡ false) × (ixl.resumed ≡ false)
+IsRequestRefused now table ixl number refusals.UnknownRoute = IsKnownRoute table ixl number → ⊥
+IsRequestRefused now table ixl number refusals.Holding = IsKnownRoute table ixl number × (is_holding now ixl ≡ true)
+IsRequestRefused now table ixl number refusals.NotResumed = IsKnownRoute table ixl number × (is_holding now ixl ≡ false) × (ixl.resumed ≡ false)
 IsRequestRefused now table ixl number refusals.AlreadySet =
     Obeys now ixl × ((row : Row) × (route : RouteState) × IsRouteOf table ixl number row route × IsTrue (is_set route.phase))
 IsRequestRefused now table ixl number cause =
