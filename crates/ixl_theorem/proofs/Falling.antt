@@ -1,7 +1,8 @@
--- An aspect that is unsound behind the input of a step falls in the step.
-use Rattle.std.proofs.Common.{◌≡◌, ◌⊎◌, inl, inr, ℕ, zero, suc, ◌+◌, List, [], ◌∷◌, ◌++◌, length, arith, refl, ap, sym, ◌∙◌, subst}
+-- An aspect that is unsound behind the input of a step falls in the step, and so does that of a cancelled route.
+use Rattle.std.proofs.Common.{◌≡◌, ◌⊎◌, inl, inr, ℕ, zero, suc, ◌+◌, List, [], ◌∷◌, ◌++◌, true, length, arith, refl, ap, sym, ◌∙◌, subst}
 use Rattle.std.specs.Prelude.{◌==◌, map, Some, slice_get}
-use Rattle.ixl_state.specs.ixl_rules.Due.{ProceedDue, StopDue}
+use Rattle.std.proofs.lemmas.Bool.{false≢true}
+use Rattle.ixl_state.specs.ixl_rules.Due.{IsRouteOf, ProceedDue, StopDue}
 use Rattle.ixl_state.specs.ixl_rules.EndDue.{SomeFreeable}
 use Rattle.ixl_state.specs.ixl_rules.Rules.{authorised, come_to, freed, one_freed, stopped}
 use Rattle.ixl_state.specs.ixl_rules.State.{IxlState, RouteState}
@@ -13,6 +14,7 @@ use Rattle.ixl_theorem.specs.Onward.{order_of}
 use Rattle.ixl_theorem.specs.Standing.{IsUnsound}
 use Rattle.ixl_theorem.specs.WholeStep.{Beat, DoesItsTurn, EndAuthority, Follow, FreeCancelled, FreeSection, MovePoint, Passed, Proceed, Turn, TurnTaken, Watch, Withdraw, approach_seen, beaten, for_each, turns_of_rules}
 use Rattle.ixl_theorem.proofs.Learning.{LearnsNothing, learns_kept, nothing_at_first}
+use Rattle.ixl_theorem.proofs.Cancelled.{IsOff, Off, off_kept}
 use Rattle.ixl_theorem.proofs.Picking.{changed_here, either, none_is, some_same}
 use Rattle.ixl_theorem.proofs.TurnKeeps.{Stays, from_turn, turn_at, up_to, where_stays}
 use Rattle.ixl_theorem.proofs.TurnOrder.{beaten_keeps, stopped_keeps}
@@ -40,34 +42,15 @@ freed_down row other clock done = either (λ (r : RouteState). r.phase ≡ phase
 next_down : (table : Table) (ixl : IxlState) (row : Row) (route other : RouteState) → SomeFreeable table ixl row route → (one_freed row route.phase other).phase ≡ phase.Proceeding → ⊥
 next_down table ixl row route other (place, due) at = freed_down row other due.clock place (ap (λ (p : Phase). (one_freed row p other).phase) (sym due.ended) ∙ at)
 
-module _ (now : ℕ) (table : Table) (number : ℕ) (row : Row) (there : slice_get table.rows number ≡ Some row) (start : IxlState) (unsound : IsUnsound table start row) where
-  -- it stays unsound, since nothing is learnt
-  unsound_yet : (part : StepSoFar) → LearnsNothing table start part → IsUnsound table part.ixl row
-  unsound_yet part same = by_cause unsound where
-    by_cause : IsUnsound table start row → IsUnsound table part.ixl row
-    by_cause (inl (inl points)) = inl (inl (λ all. points (λ k d within. same.known _ _ (all k d within))))
-    by_cause (inl (inr clear)) = inl (inr (λ all. clear (λ k d within. same.clear _ (all k d within))))
-    by_cause (inr ready) = inr (λ is. ready (same.ready row.entry is))
-
-  -- so proceed isn't due, and stop is where the aspect was given
-  none_due : (part : StepSoFar) (other : Row) (route : RouteState) → LearnsNothing table start part → row ≡ other → ProceedDue now table part.ixl other route → ⊥
-  none_due part other route same is due = by_cause (subst (IsUnsound table part.ixl) is (unsound_yet part same)) where
-    by_cause : IsUnsound table part.ixl other → ⊥
-    by_cause (inl (inl points)) = points due.points
-    by_cause (inl (inr clear)) = clear due.clear
-    by_cause (inr ready) = ready due.ready
-
-  stop_due : (part : StepSoFar) (other : Row) (route : RouteState) → LearnsNothing table start part → row ≡ other → route.phase ≡ phase.Proceeding → StopDue table part.ixl other route
-  stop_due part other route same is given = by_cause (subst (IsUnsound table part.ixl) is (unsound_yet part same)) where
-    by_cause : IsUnsound table part.ixl other → StopDue table part.ixl other route
-    by_cause (inl (inl points)) = record { given = given; why = inl (inl (inr points)) }
-    by_cause (inl (inr clear)) = record { given = given; why = inl (inr clear) }
-    by_cause (inr ready) = record { given = given; why = inr ready }
-
+-- for a reason that each turn keeps, for which proceed isn't due, and for which stop is where the aspect was given
+module _ (now : ℕ) (table : Table) (number : ℕ) (row : Row) (there : slice_get table.rows number ≡ Some row) (Reason : StepSoFar → Type 0)
+    (keeps : (turn : Turn) (before after : StepSoFar) → DoesItsTurn now table turn before after → Reason before → Stays (Reason after))
+    (none_due : (part : StepSoFar) (route : RouteState) → IsRouteOf table part.ixl number row route → Reason part → ProceedDue now table part.ixl row route → ⊥)
+    (stop_due : (part : StepSoFar) (route : RouteState) → IsRouteOf table part.ixl number row route → Reason part → route.phase ≡ phase.Proceeding → StopDue table part.ixl row route) where
   abbrev Down : StepSoFar → Type 0
   Down part = IsDown number part
 
-  stays_down : (turn : Turn) (before after : StepSoFar) → DoesItsTurn now table turn before after → LearnsNothing table start before → IsDown number before → Stays (IsDown number after)
+  stays_down : (turn : Turn) (before after : StepSoFar) → DoesItsTurn now table turn before after → Reason before → IsDown number before → Stays (IsDown number after)
   stays_down (Watch place) before after (other, route, is, does) same down lost =
       where_stays Down before (with_route place (approach_seen table before.ixl other) before) after does down
       (λ due. route_down number place (approach_seen table before.ixl other) before (λ one at here was given. was given) down) lost
@@ -93,18 +76,19 @@ module _ (now : ℕ) (table : Table) (number : ℕ) (row : Row) (there : slice_g
       (λ due. same_down number (with_route place (authorised table before.ixl other) before) (giving_aspect now other.entry other.aspect (with_route place (authorised table before.ixl other) before))
       (aspect_keeps now other.entry other.aspect (with_route place (authorised table before.ixl other) before))
       (route_down number place (authorised table before.ixl other) before
-      (λ one at here was given. none_due before other route same (some_same (sym there ∙ ap (λ n. slice_get table.rows n) here ∙ is.0)) due) down)) lost
+      (λ one at here was given. none_due before route (there, ap (λ n. slice_get before.ixl.routes n) here ∙ is.1) same
+      (subst (λ (r : Row). ProceedDue now table before.ixl r route) (some_same (sym is.0 ∙ ap (λ n. slice_get table.rows n) (sym here) ∙ there)) due)) down)) lost
   stays_down (Beat node) before after alike same down lost = lost (subst Down (sym alike) (same_down number before (beaten now node before) (beaten_keeps now node before) down))
 
   abbrev Fallen : StepSoFar → Type 0
-  Fallen part = LearnsNothing table start part × IsDown number part
+  Fallen part = Reason part × IsDown number part
 
   fallen_kept : (turn : Turn) (before after : StepSoFar) → DoesItsTurn now table turn before after → Fallen before → Stays (Fallen after)
   fallen_kept turn before after does (same, down) lost =
-      learns_kept now table start turn before after does same (λ still. stays_down turn before after does same down (λ yet. lost (still, yet)))
+      keeps turn before after does same (λ still. stays_down turn before after does same down (λ yet. lost (still, yet)))
 
   -- where rule 1 has come to the route its aspect is down
-  down_there : (taken : TurnTaken) → DoesItsTurn now table (Withdraw number) taken.before taken.after → LearnsNothing table start taken.before → IsDown number taken.after
+  down_there : (taken : TurnTaken) → DoesItsTurn now table (Withdraw number) taken.before taken.after → Reason taken.before → IsDown number taken.after
   down_there taken (other, route, is, does) same = by_phase route.phase refl where
     withdrawn : StepSoFar
     withdrawn = with_route number (come_to phase.Withdrawn) taken.before
@@ -118,7 +102,7 @@ module _ (now : ℕ) (table : Table) (number : ℕ) (row : Row) (there : slice_g
     by_phase : (p : Phase) → route.phase ≡ p → IsDown number taken.after
     by_phase phase.Proceeding at = is_withdrawn where
       after : taken.after ≡ stopped now other (with_route number (come_to phase.Withdrawn) taken.before)
-      after = does.due (stop_due taken.before other route same (some_same (sym there ∙ is.0)) at)
+      after = does.due (subst (λ (r : Row). StopDue table taken.before.ixl r route) (some_same (sym there ∙ is.0)) (stop_due taken.before route (there, is.1) same at))
 
       is_withdrawn : IsDown number taken.after
       is_withdrawn one kept given =
@@ -132,11 +116,11 @@ module _ (now : ℕ) (table : Table) (number : ℕ) (row : Row) (there : slice_g
     by_phase phase.Withdrawn at = as_before phase.Withdrawn at (λ same_phase. let wrong : 2 ≡ 1 = ap order_of same_phase in omega (arith, wrong))
     by_phase (phase.Ended clock done) at = as_before (phase.Ended clock done) at (λ same_phase. let wrong : 3 ≡ 1 = ap order_of same_phase in omega (arith, wrong))
 
-  down_at_end : (turns : List TurnTaken) (begin end : StepSoFar) → begin.ixl ≡ start → Follow now table begin turns end → (place : ℕ) (taken : TurnTaken) → slice_get turns place ≡ Some taken → taken.turn ≡ Withdraw number → IsDown number end
+  down_at_end : (turns : List TurnTaken) (begin end : StepSoFar) → Reason begin → Follow now table begin turns end → (place : ℕ) (taken : TurnTaken) → slice_get turns place ≡ Some taken → taken.turn ≡ Withdraw number → IsDown number end
   down_at_end turns begin end begins follow place taken at turn route is given =
       let does : DoesItsTurn now table taken.turn taken.before taken.after = turn_at now table turns begin end follow place taken at
-      in up_to now table (LearnsNothing table start) (learns_kept now table start) turns begin end follow place taken at (subst (λ (i : IxlState). LearnsNothing table i begin) begins (nothing_at_first table begin))
-      (λ same. learns_kept now table start taken.turn taken.before taken.after does same
+      in up_to now table Reason keeps turns begin end follow place taken at begins
+      (λ same. keeps taken.turn taken.before taken.after does same
       (λ still. from_turn now table Fallen fallen_kept turns begin end follow place taken at
       (still, down_there taken (subst (λ (t : Turn). DoesItsTurn now table t taken.before taken.after) turn does) same)
       (λ end_is. end_is.1 route is given)))
@@ -172,8 +156,50 @@ rule_comes turns rows more number row there are =
     in let one = mapped_from (λ (taken : TurnTaken). taken.turn) turns found.0 (Withdraw number) (ap (λ (list : List Turn). slice_get list found.0) are ∙ whole)
     in (found.0, one.0, one.1, one.2)
 
-pub falls : (now : ℕ) (table : Table) (turns : List TurnTaken) (more : List Turn) (begin end : StepSoFar) (number : ℕ) (row : Row) → slice_get table.rows number ≡ Some row → map (λ (taken : TurnTaken). taken.turn) turns ≡ turns_of_rules table.rows ++ more →
-    Follow now table begin turns end → IsUnsound table begin.ixl row → IsDown number end
-falls now table turns more begin end number row there are follow unsound =
-    let found = rule_comes turns table.rows more number row there are
-    in down_at_end now table number row there begin.ixl unsound turns begin end refl follow found.0 found.1 found.2 found.3
+module _ (now : ℕ) (table : Table) (turns : List TurnTaken) (more : List Turn) (begin end : StepSoFar) (number : ℕ) (row : Row) (there : slice_get table.rows number ≡ Some row)
+    (are : map (λ (taken : TurnTaken). taken.turn) turns ≡ turns_of_rules table.rows ++ more) (follow : Follow now table begin turns end) where
+  -- what is unsound stays so, since nothing is learnt
+  pub unsound_falls : IsUnsound table begin.ixl row → IsDown number end
+  unsound_falls unsound =
+      let found = rule_comes turns table.rows more number row there are
+      in down_at_end now table number row there (LearnsNothing table begin.ixl) (learns_kept now table begin.ixl) none_due stop_due turns begin end (nothing_at_first table begin) follow found.0 found.1 found.2 found.3
+    where
+      unsound_yet : (part : StepSoFar) → LearnsNothing table begin.ixl part → IsUnsound table part.ixl row
+      unsound_yet part same = by_cause unsound where
+        by_cause : IsUnsound table begin.ixl row → IsUnsound table part.ixl row
+        by_cause (inl (inl points)) = inl (inl (λ all. points (λ k d within. same.known _ _ (all k d within))))
+        by_cause (inl (inr clear)) = inl (inr (λ all. clear (λ k d within. same.clear _ (all k d within))))
+        by_cause (inr ready) = inr (λ is. ready (same.ready row.entry is))
+
+      none_due : (part : StepSoFar) (route : RouteState) → IsRouteOf table part.ixl number row route → LearnsNothing table begin.ixl part → ProceedDue now table part.ixl row route → ⊥
+      none_due part route is same due = by_cause (unsound_yet part same) where
+        by_cause : IsUnsound table part.ixl row → ⊥
+        by_cause (inl (inl points)) = points due.points
+        by_cause (inl (inr clear)) = clear due.clear
+        by_cause (inr ready) = ready due.ready
+
+      stop_due : (part : StepSoFar) (route : RouteState) → IsRouteOf table part.ixl number row route → LearnsNothing table begin.ixl part → route.phase ≡ phase.Proceeding → StopDue table part.ixl row route
+      stop_due part route is same given = by_cause (unsound_yet part same) where
+        by_cause : IsUnsound table part.ixl row → StopDue table part.ixl row route
+        by_cause (inl (inl points)) = record { given = given; why = inl (inl (inr points)) }
+        by_cause (inl (inr clear)) = record { given = given; why = inl (inr clear) }
+        by_cause (inr ready) = record { given = given; why = inr ready }
+
+  -- a route that is cancelled stays so until it is free
+  pub cancelled_falls : (was : RouteState) → slice_get begin.ixl.routes number ≡ Some was → was.cancelled ≡ true → IsDown number end
+  cancelled_falls was is cancelled =
+      let found = rule_comes turns table.rows more number row there are
+      in down_at_end now table number row there (IsOff number) (off_kept now table number) none_due stop_due turns begin end
+      (λ route also. inl (ap (λ (r : RouteState). r.cancelled) (some_same (sym also ∙ is)) ∙ cancelled)) follow found.0 found.1 found.2 found.3
+    where
+      none_due : (part : StepSoFar) (route : RouteState) → IsRouteOf table part.ixl number row route → IsOff number part → ProceedDue now table part.ixl row route → ⊥
+      none_due part route is off due = by_cause (off route is.1) where
+        by_cause : Off route → ⊥
+        by_cause (inl yet) = false≢true (sym due.goes_on ∙ yet)
+        by_cause (inr free) = let wrong : 4 ≡ 0 = ap order_of (sym free ∙ due.waits) in omega (arith, wrong)
+
+      stop_due : (part : StepSoFar) (route : RouteState) → IsRouteOf table part.ixl number row route → IsOff number part → route.phase ≡ phase.Proceeding → StopDue table part.ixl row route
+      stop_due part route is off given = by_cause (off route is.1) where
+        by_cause : Off route → StopDue table part.ixl row route
+        by_cause (inl yet) = record { given = given; why = inl (inl (inl yet)) }
+        by_cause (inr free) = let wrong : 4 ≡ 1 = ap order_of (sym free ∙ given) in absurd (omega (arith, wrong))

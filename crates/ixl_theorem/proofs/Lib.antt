@@ -9,6 +9,7 @@ pub mod CalledNext
 pub mod CalledReceipt
 pub mod CalledSoFar
 pub mod CalledSteps
+pub mod Cancelled
 pub mod Cancelling
 pub mod Clients
 pub mod Courses

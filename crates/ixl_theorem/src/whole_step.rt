@@ -1,6 +1,6 @@
 //! A whole step as a list of turns, in each of which exactly what is due is done, and what follows from that.
 
-ghost use Rattle.std.specs.Prelude.{◌≡◌, ℕ, List, [], ◌∷◌, Some, slice_get};
+ghost use Rattle.std.specs.Prelude.{◌≡◌, ℕ, true, List, [], ◌∷◌, Some, slice_get};
 ghost use Rattle.ixl_state.specs.First.{Beginning, new_ixl};
 ghost use Rattle.ixl_state.specs.ixl_client.declared.command.Command.TheVariants as telegrams;
 ghost use Rattle.ixl_state.specs.ixl_rules.State.{KnownPointState, KnownSignalState, RouteState};
@@ -63,12 +63,16 @@ pub fn a_step_gives_each_once()
         → NoneBehind (GivesMove old.state.sited.table point) (GivesMove old.state.sited.table point) step.turns }
 {}
 
-/// No aspect outlives a step behind whose input it is unsound. Where a point that the route requires isn't known at its side
-/// then, a section isn't clear, or the signal's link isn't ready, the route's aspect doesn't stand behind the step.
+/// No aspect outlives a step behind whose input it is unsound: where a point that the route requires isn't known at its side
+/// then, a section isn't clear, or the signal's link isn't ready. Nor does the aspect of a route that is cancelled then.
+/// Behind the step the route's aspect doesn't stand.
 pub fn an_unsound_aspect_falls()
-    ensures { (now number : ℕ) (input : Input) (old new : InterlockingState) (row : Row) (route : RouteState) → WholeStep now input old new
+    ensures unsound { (now number : ℕ) (input : Input) (old new : InterlockingState) (row : Row) (route : RouteState) → WholeStep now input old new
         → slice_get old.state.sited.table.rows number ≡ Some row → slice_get new.state.ixl.routes number ≡ Some route
         → IsUnsound old.state.sited.table (heard now input old).ixl row → route.phase ≡ phase.Proceeding → ⊥ }
+    ensures cancelled { (now number : ℕ) (input : Input) (old new : InterlockingState) (row : Row) (was route : RouteState) → WholeStep now input old new
+        → slice_get old.state.sited.table.rows number ≡ Some row → slice_get new.state.ixl.routes number ≡ Some route
+        → slice_get (heard now input old).ixl.routes number ≡ Some was → was.cancelled ≡ true → route.phase ≡ phase.Proceeding → ⊥ }
 {}
 
 /// Behind a step in which a route's aspect was given no step gives it again, until a request for the route is accepted.
