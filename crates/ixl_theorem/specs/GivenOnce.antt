@@ -49,7 +49,7 @@ NoneBehind One Another turns = (earlier later : ℕ) (one another : TurnTaken) �
 
 -- ---- as telegrams
 
--- One telegram is given to a controller's link, and no other link is called. Where the window refuses it, that link closes.
+-- One telegram is given to a controller's link, and no other link is called.
 pub record GivesTelegram (node : Node) (item : List ℕ) (before after : StepSoFar) : Type 0 where
   pub calls : List LinkCall
   pub made : after.calls ≡ before.calls ++ map (λ call. (node, call)) calls
