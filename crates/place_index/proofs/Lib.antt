@@ -1,0 +1,4 @@
+pub mod Homes
+pub mod Linked
+pub mod Searches
+pub mod Whole
