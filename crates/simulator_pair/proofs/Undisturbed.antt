@@ -1,6 +1,6 @@
 -- An end outside that doesn't take what comes to it is left as the rules of its clock alone leave it.
 use Rattle.std.proofs.Common.{◌≡◌, ℕ, ◌+◌, ap, ◌∙◌, refl, Bool, true, false, List, ◌++◌, Result, Ok, Err}
-use Rattle.std.specs.Prelude.{not, nat_le, nat_lt, ◌==◌, if◌then◌else◌}
+use Rattle.std.specs.Prelude.{not, nat_lt, ◌==◌, if◌then◌else◌}
 use Rattle.std.proofs.lemmas.Bool.{true≢false}
 use Rattle.std.proofs.lemmas.List.{append-nil}
 use Rattle.rasta_core.specs.Calls.{hearing_bytes, receiving}

@@ -3,5 +3,6 @@ pub mod Seen
 pub mod Calling
 pub mod Finding
 pub mod Order
+pub mod Indexed
 pub mod Lit
 pub mod Parts

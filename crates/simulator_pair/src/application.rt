@@ -90,7 +90,12 @@ impl Parts {
         ensures refused { IfErr result (λ why. refusal_of_delivery who bytes.now.items (seen_ends self.now) ≡ Some why) }
         ensures not_memory { result ≢ Err OutOfMemory }
     {
-        let copy = bag::newest_copy(self.sent.as_slice(), self.time, bytes.as_slice());
+        let copy = bag::newest_copy(
+            self.sent.as_slice(),
+            &self.index,
+            self.time,
+            bytes.as_slice(),
+        );
         match copy {
             Some(connection) => Ok(connection),
             None => {
@@ -123,6 +128,7 @@ impl Parts {
             PairEvent::Deliver(who, bytes) => self.delivered(*who, bytes),
             PairEvent::Lose(bytes) => match bag::oldest_copy(
                 self.sent.as_slice(),
+                &self.index,
                 bytes.as_slice(),
             ) {
                 Some(place) => Ok(place),
@@ -174,7 +180,7 @@ impl Parts {
         ensures sound { AreSound self.new }
         ensures room { KeepRoom 2 self.old self.new }
     {
-        bag::lose_at(self.sent.as_mut_slice(), place);
+        bag::lose_at(self.sent.as_mut_slice(), &mut self.index, place);
     }
 
     /// An end is made anew; a restarted server has a new lamp.
@@ -263,8 +269,9 @@ impl Parts {
             return Ok(());
         }
         let items = events.saturating_mul(ITEMS_FOR_EACH_EVENT);
-        self.sent
-            .reserve(events.saturating_mul(DATAGRAMS_FOR_EACH_EVENT))?;
+        let datagrams = events.saturating_mul(DATAGRAMS_FOR_EACH_EVENT);
+        self.sent.reserve(datagrams)?;
+        self.index.reserve(datagrams)?;
         self.client.reserve(items)?;
         self.server.reserve(items)?;
         self.room = events;

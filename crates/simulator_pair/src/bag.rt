@@ -6,9 +6,11 @@ ghost use Rattle.std.specs.Vec.{vec_len, vec_capacity};
 ghost use Rattle.rasta_core.specs.Bag as spec;
 ghost use Rattle.rasta_core.specs.Ends.{handed_out};
 ghost use Rattle.simulator_pair.specs.inside.Finding.{StandsAt};
+ghost use Rattle.simulator_pair.specs.inside.Indexed.{keys_of};
 ghost use Rattle.simulator_pair.specs.inside.Order.{AreInOrder};
 ghost use Rattle.simulator_pair.specs.Events.{clock_limit};
 
+use place_index::{PlaceIndex, key_of};
 use rasta_core::{Outbox, Role, Sent};
 
 /// How long a datagram can be delivered, in microseconds of true time.
@@ -49,63 +51,82 @@ fn is_copy(sent: &Sent, bytes: &[u8]) -> bool
 }
 
 /// The connection of the newest copy of these bytes that can still be delivered. The search goes from the newest
-/// datagram back, and ends at one that is too old.
-pub(crate) fn newest_copy(sent: &[Sent], time: u64, bytes: &[u8]) -> Option<usize>
+/// datagram of their key back, and ends at one that is too old.
+pub(crate) fn newest_copy(
+    sent: &[Sent],
+    index: &PlaceIndex,
+    time: u64,
+    bytes: &[u8],
+) -> Option<usize>
     requires in_order { AreInOrder time sent.now }
     requires within { time ≤ clock_limit }
+    requires indexed { index.now.keys ≡ keys_of sent.now }
     ensures { result ≡ option_map (λ s. s.connection) (spec.newest_copy time bytes.now sent.now) }
 {
-    let mut index = sent.len();
-    while index > 0 {
-        index -= 1;
-        let one = &sent[index];
+    let mut found = index.newest(key_of(bytes));
+    while let Some(place) = found {
+        let one = &sent[place];
         if one.at() + LIFETIME < time {
             return None;
         }
         if is_copy(one, bytes) {
             return Some(one.connection());
         }
+        found = index.older(place);
     }
     None
 }
 
 /// The place of the oldest copy of these bytes that isn't lost.
-pub(crate) fn oldest_copy(sent: &[Sent], bytes: &[u8]) -> Option<usize>
+pub(crate) fn oldest_copy(sent: &[Sent], index: &PlaceIndex, bytes: &[u8]) -> Option<usize>
+    requires { index.now.keys ≡ keys_of sent.now }
     ensures found { IfSome result (λ place. (spec.has_copy bytes.now sent.now ≡ true) × StandsAt place bytes.now sent.now) }
     ensures none { IfNone result (spec.has_copy bytes.now sent.now ≡ false) }
 {
-    for (place, one) in sent.iter().enumerate() {
-        if is_copy(one, bytes) {
+    let mut found = index.oldest(key_of(bytes));
+    while let Some(place) = found {
+        if is_copy(&sent[place], bytes) {
             return Some(place);
         }
+        found = index.newer(place);
     }
     None
 }
 
 /// The network loses the datagram at this place: of bytes whose oldest copy it is, this copy.
-pub(crate) fn lose_at(sent: &mut [Sent], place: usize)
-    requires { place < length sent.old }
-    ensures { (bytes : List ℕ) → StandsAt place bytes sent.old → sent.new ≡ spec.without_oldest bytes sent.old }
+pub(crate) fn lose_at(sent: &mut [Sent], index: &mut PlaceIndex, place: usize)
+    requires within { place < length sent.old }
+    requires indexed { index.old.keys ≡ keys_of sent.old }
+    ensures lost { (bytes : List ℕ) → StandsAt place bytes sent.old → sent.new ≡ spec.without_oldest bytes sent.old }
+    ensures indexed { index.new.keys ≡ keys_of sent.new }
+    ensures room { index.new.room ≡ index.old.room }
 {
     sent[place].lose();
+    index.remove(place);
 }
 
 /// What was handed out is sent, by this end in its connection.
 pub(crate) fn send_all(
     sent: &mut Vec<Sent>,
+    index: &mut PlaceIndex,
     outbox: &mut Outbox,
     time: u64,
     sender: Role,
     connection: Option<usize>,
 )
-    requires { vec_len sent.old + length outbox.old.datagrams ≤ vec_capacity sent.old }
+    requires memory { vec_len sent.old + length outbox.old.datagrams ≤ vec_capacity sent.old }
+    requires room { length outbox.old.datagrams ≤ index.old.room }
+    requires indexed { index.old.keys ≡ keys_of sent.old.items }
     ensures items { sent.new.items ≡ sent.old.items ++ handed_out time sender connection outbox.old.datagrams }
     ensures len { vec_len sent.new ≡ vec_len sent.old + length outbox.old.datagrams }
     ensures capacity { vec_capacity sent.new ≡ vec_capacity sent.old }
+    ensures indexed { index.new.keys ≡ keys_of sent.new.items }
+    ensures room { index.new.room + length outbox.old.datagrams ≡ index.old.room }
     ensures emptied { outbox.new ≡ record outbox.old { datagrams = [] } }
 {
     let number = connection.unwrap_or(0);
     while let Some(datagram) = outbox.take_first() {
+        index.push(key_of(datagram.as_slice()));
         sent.push_reserved(Sent::new(datagram, time, sender, number));
     }
 }

@@ -12,6 +12,7 @@ use crate::bag::Bag;
 use crate::event::{PairEvent, PairReply, Refused};
 use crate::node::Node;
 use crate::parts::Parts;
+use place_index::PlaceIndex;
 use rasta_core::{
     Inbox, Link, Outbox, Role, Sent, every_event_keeps_order, every_event_keeps_time,
     items_are_fresh, opening_is_new, order_is_safe, outside_until_it_enters, own_connection,
@@ -80,6 +81,7 @@ fn new_parts(alloc: Global) -> Result<Parts, AllocError>
         client: new_node(alloc, client),
         server: new_node(alloc, server),
         sent: Vec::new(alloc),
+        index: PlaceIndex::new(alloc),
         lamp: Lamp::new(),
         outbox,
         inbox: Inbox::new(),

@@ -8,6 +8,7 @@ ghost use Rattle.rasta_core.specs.identity.Role.TheVariants.{Client, Server};
 
 use crate::node::{Call, Node};
 use crate::{bag, lamp};
+use place_index::PlaceIndex;
 use rasta_core::{Inbox, Outbox, Role, SendFault, Sent};
 use signal_ctl::Lamp;
 use std::alloc::Global;
@@ -21,6 +22,8 @@ pub(crate) struct Parts {
     pub(crate) server: Node,
     /// Every datagram sent, oldest first; those not lost are the bag.
     pub(crate) sent: Vec<Sent>,
+    /// By which those in the bag are found.
+    pub(crate) index: PlaceIndex,
     pub(crate) lamp: Lamp,
     /// What the present call hands out, and the items that it took; both empty between calls.
     pub(crate) outbox: Outbox,
@@ -52,6 +55,7 @@ impl Parts {
         let connection = self.client.connection;
         bag::send_all(
             &mut self.sent,
+            &mut self.index,
             &mut self.outbox,
             self.time,
             Role::Client,
@@ -82,6 +86,7 @@ impl Parts {
         let connection = self.server.connection;
         bag::send_all(
             &mut self.sent,
+            &mut self.index,
             &mut self.outbox,
             self.time,
             Role::Server,

@@ -8,6 +8,7 @@ use Rattle.rasta_pdu.specs.Items.{IsItem}
 use Rattle.simulator_pair.specs.Pair.{PairState}
 use Rattle.simulator_pair.specs.Events.{clock_limit}
 use Rattle.simulator_pair.specs.inside.Order.{AreInOrder}
+use Rattle.simulator_pair.specs.inside.Indexed.{keys_of}
 use Rattle.simulator_pair.specs.inside.Seen.{seen_end, IsAtClock, HasLists, KeepsLists}
 use Rattle.simulator_pair.specs.inside.Lit.{IsLit}
 use Rattle.simulator_pair.specs.Theorem.{names}
@@ -35,6 +36,7 @@ pub record AreSound (parts : Parts) : Type 0 where
   pub outbox_room : 24 ≤ parts.outbox.capacity
   pub nothing_in : parts.inbox.items ≡ []
   pub in_order : AreInOrder parts.time parts.sent.items
+  pub indexed : parts.index.keys ≡ keys_of parts.sent.items
   pub time_within : parts.time ≤ clock_limit
   pub client_within : parts.client.clock ≤ clock_limit
   pub server_within : parts.server.clock ≤ clock_limit
@@ -44,6 +46,7 @@ pub record HaveRoom (calls : ℕ) (parts : Parts) : Type 0 where
   pub client_lists : HasLists (3 * calls) parts.client
   pub server_lists : HasLists (3 * calls) parts.server
   pub sent : vec_len parts.sent + 24 * calls ≤ vec_capacity parts.sent
+  pub index : 24 * calls ≤ parts.index.room
 
 -- and it stays, but for what so many calls may use
 pub record KeepRoom (calls : ℕ) (old new : Parts) : Type 0 where
@@ -52,6 +55,7 @@ pub record KeepRoom (calls : ℕ) (old new : Parts) : Type 0 where
   pub sent_memory : vec_capacity old.sent ≤ vec_capacity new.sent
   pub sent_more : vec_len new.sent ≤ vec_len old.sent + 24 * calls
   pub sent_stays : vec_len old.sent ≤ vec_len new.sent
+  pub index_more : old.index.room ≤ new.index.room + 24 * calls
   pub room : new.room ≡ old.room
 
 -- what is always true of a pair: an event makes at most two calls

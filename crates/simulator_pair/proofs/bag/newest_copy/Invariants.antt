@@ -1,10 +1,9 @@
-use Rattle.std.proofs.Common.{◌≡◌, ◌≤◌, length, take}
-use Rattle.rasta_core.specs.Bag.{newest_copy}
+use Rattle.std.proofs.Common.{length}
+use Rattle.simulator_pair.proofs.Copies.{HasKey, NoneBetween, reach}
 use Rattle.simulator_pair.proofs.bag.newest_copy.Given as goal
 
-abbrev pub invariant-loop-index : goal.invariant-loop-index
-invariant-loop-index l =
-    (newest_copy l.time l.bytes (take l.index l.sent) ≡ newest_copy l.time l.bytes l.sent) × (l.index ≤ length l.sent)
+abbrev pub invariant-loop-found : goal.invariant-loop-found
+invariant-loop-found l = NoneBetween l.bytes (reach l.found) (length l.sent) l.sent × HasKey l.bytes l.index.keys l.found
 
-abbrev pub decreases-loop-index : goal.decreases-loop-index
-decreases-loop-index l = l.index
+abbrev pub decreases-loop-found : goal.decreases-loop-found
+decreases-loop-found l = reach l.found

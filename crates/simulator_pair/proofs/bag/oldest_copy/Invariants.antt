@@ -1,7 +1,9 @@
-use Rattle.std.proofs.Common.{◌≡◌, ◌++◌, take, drop}
-use Rattle.rasta_core.specs.Bag.{has_copy, without_oldest}
+use Rattle.std.proofs.Common.{◌-◌, length}
+use Rattle.simulator_pair.proofs.Copies.{HasKey, NoneBetween, start}
 use Rattle.simulator_pair.proofs.bag.oldest_copy.Given as goal
 
-abbrev pub invariant-loop-place : goal.invariant-loop-place
-invariant-loop-place l =
-    (take l.place l.sent ++ without_oldest l.bytes (drop l.place l.sent) ≡ without_oldest l.bytes l.sent) × (has_copy l.bytes (drop l.place l.sent) ≡ has_copy l.bytes l.sent)
+abbrev pub invariant-loop-found : goal.invariant-loop-found
+invariant-loop-found l = NoneBetween l.bytes 0 (start l.found (length l.sent)) l.sent × HasKey l.bytes l.index.keys l.found
+
+abbrev pub decreases-loop-found : goal.decreases-loop-found
+decreases-loop-found l = length l.sent - start l.found (length l.sent)

@@ -13,11 +13,17 @@ use Rattle.simulator_pair.proofs.Calls.{server_step, lamp_in_steps, datagrams-po
 use Rattle.simulator_pair.proofs.Order.{in_order_sending}
 use Rattle.simulator_pair.proofs.parts.Parts.call_server.Goals as goal
 
-pub send_all-requires : goal.send_all-requires
-send_all-requires c =
+pub send_all-requires-clause-memory : goal.send_all-requires-clause-memory
+send_all-requires-clause-memory c =
     let made = c.call-answer.ensures
     in let sent = length-posted_alone _ _ _ _ c.requires.sound.nothing_out made.handed.posted
     in omega (arith, sent, made.handed.few, c.requires.room.sent)
+
+pub send_all-requires-clause-room : goal.send_all-requires-clause-room
+send_all-requires-clause-room c =
+    let made = c.call-answer.ensures
+    in let sent = length-posted_alone _ _ _ _ c.requires.sound.nothing_out made.handed.posted
+    in omega (arith, sent, made.handed.few, c.requires.room.index)
 
 pub returns-clause-step : goal.returns-clause-step
 unfolding seen seen_ends seen_end
@@ -49,6 +55,7 @@ returns-clause-sound c =
       outbox_room = omega (arith, capacity, sound.outbox_room);
       nothing_in = c.clear.ensures;
       in_order = subst Ordered (sym c.send_all.ensures.items) (in_order_sending c.args.self.now.time c.args.self.now.sent.items Server c.call-answer.new.self.connection c.call-answer.new.outbox.datagrams sound.in_order);
+      indexed = c.send_all.ensures.indexed;
       time_within = sound.time_within;
       client_within = sound.client_within;
       server_within = subst Within (sym made.same_clock) sound.server_within;
@@ -64,5 +71,6 @@ returns-clause-room c =
       sent_memory = omega (arith, c.send_all.ensures.capacity);
       sent_more = omega (arith, sent, made.handed.few, c.send_all.ensures.len);
       sent_stays = omega (arith, c.send_all.ensures.len);
+      index_more = omega (arith, sent, made.handed.few, c.send_all.ensures.room);
       room = refl;
     }

@@ -2,6 +2,7 @@ use Rattle.std.proofs.Common.{◌≡◌, sym, ap, ◌∙◌, subst, List, ◌++�
 use Rattle.std.proofs.Math.Seq.{take-append_seam}
 use Rattle.rasta_core.specs.Ends.{Sent}
 use Rattle.simulator_pair.specs.inside.Finding.{StandsAt}
+use Rattle.simulator_pair.specs.inside.Indexed.{keys_of}
 use Rattle.simulator_pair.specs.inside.Order.{AreInOrder}
 use Rattle.simulator_pair.proofs.Order.{in_order_losing}
 use Rattle.simulator_pair.proofs.parts.Parts.lose.Goals as goal
@@ -15,7 +16,8 @@ returns-clause-sound c =
     in let lost = c.lose_at.new.sent
     in let rest = drop (length lost) c.args.self.now.sent.items
     in let same_length : c.args.self.now.sent.len ≡ length lost = omega (arith, c.lose_at.auto.sent, c.as_mut_slice.ensures.len)
-    in let stored = ap (λ n. take n (lost ++ rest)) same_length ∙ take-append_seam lost rest ∙ c.lose_at.ensures c.requires.stands.0 (subst (StandsAt c.args.place c.requires.stands.0) (sym c.as_mut_slice.ensures.value) c.requires.stands.1)
+    in let written = ap (λ n. take n (lost ++ rest)) same_length ∙ take-append_seam lost rest
+    in let stored = written ∙ c.lose_at.ensures.lost c.requires.stands.0 (subst (StandsAt c.args.place c.requires.stands.0) (sym c.as_mut_slice.ensures.value) c.requires.stands.1)
     in record {
       client_clock = sound.client_clock;
       server_clock = sound.server_clock;
@@ -23,6 +25,7 @@ returns-clause-sound c =
       outbox_room = sound.outbox_room;
       nothing_in = sound.nothing_in;
       in_order = subst Ordered (sym stored) (in_order_losing c.args.self.now.time c.requires.stands.0 sent before);
+      indexed = c.lose_at.ensures.indexed ∙ sym (ap keys_of written);
       time_within = sound.time_within;
       client_within = sound.client_within;
       server_within = sound.server_within;

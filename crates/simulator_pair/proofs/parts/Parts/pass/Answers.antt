@@ -20,6 +20,7 @@ returns-clause-sound c =
       outbox_room = sound.outbox_room;
       nothing_in = sound.nothing_in;
       in_order = in_order_later _ _ _ (omega arith) sound.in_order;
+      indexed = sound.indexed;
       time_within = limits.0;
       client_within = omega (arith, client, limits.1);
       server_within = omega (arith, server, limits.2);
