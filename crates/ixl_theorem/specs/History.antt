@@ -1,6 +1,6 @@
--- What was told of a route's sections, and how its approach stood, since the route was given authority. The reports are
--- those of the items that were acted on, and not the looks of a step. So looks that left one out, or turned it, would keep
--- a passage that tells of another history, and one step less that is watched an approach that does.
+-- What was told of a route's sections, and how its approach stood, since the route was given authority. The looks of a step
+-- aren't named here: the reports are those of the items that were acted on. So the law would be false of looks that left a
+-- report out or turned it, and of watching that forgot a step.
 use Rattle.std.specs.Prelude.{◌≡◌, ◌==◌, ◌↔◌, ℕ, suc, Bool, true, false, List, [], ◌∷◌, ◌++◌, Option, Some, None, slice_get, if◌then◌else◌}
 use Rattle.std.specs.FinSet.{contains}
 use Rattle.std.specs.List.{Contains}
