@@ -3,8 +3,7 @@
 
 openings  clients that are made anew again and again, each with an opening of its own; losses of old and new ones, losses that
           come twice, damaged and late deliveries
-copies    the same with few clocks and numbers, so that each opening has thousands of equal copies
-standing  time stands still, and each delivery behind a gap makes the server ask again: all that was sent can be delivered"""
+copies    the same with few clocks and numbers, so that each opening has thousands of equal copies"""
 import functools, random, struct, sys
 
 MASK = 0xFFFFFFFF
@@ -74,17 +73,7 @@ def openings(draw, lines, numbers):
             ))
 
 
-def standing(draw, lines, numbers):
-    """The link comes up, the client gives two items, and the second is delivered without the first."""
-    yield "flow 6030"
-    yield "give C 04"
-    yield "give C 01"
-    first, second = (pdu(6240, 2, 1, number, 0, 6030, 6010, struct.pack("<HB", 1, item)) for number, item in ((2, 4), (3, 1)))
-    while True:
-        yield draw.choice((f"deliver S {second.hex()}",) * 6 + (f"lose {damaged(draw, first).hex()}", f"deliver S {damaged(draw, second).hex()}"))
-
-
-KINDS = {"openings": (openings, 1 << 32), "copies": (openings, 4), "standing": (standing, 0)}
+KINDS = {"openings": (openings, 1 << 32), "copies": (openings, 4)}
 
 
 def main():

@@ -48,7 +48,7 @@ a_pdu = best([pdu, "both", "1", "1000000"]) / 1e6 * 1e9
 print(f"{LINES * EVENTS_A_LINE} events: {short:.2f} s, {an_event:.0f} ns an event")
 print(f"ten times as many: {long:.2f} s, {long / short:.2f} times as long")
 is_within = True
-for kind in ("openings", "copies", "standing"):
+for kind in ("openings", "copies"):
     short, long = (best([pair], subprocess.run([hostile, kind, str(lines)], check=True, capture_output=True, text=True).stdout) for lines in HOSTILE)
     keeps = long <= MOST_TIMES * short
     is_within = is_within and keeps

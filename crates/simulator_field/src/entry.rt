@@ -13,7 +13,8 @@ use simulator_run::rasta_core::Role;
 pub(crate) struct Entry {
     /// Where its bytes begin in the row.
     pub(crate) start: usize,
-    pub(crate) length: usize,
+    /// How many bytes it has: at most 256.
+    pub(crate) length: u16,
     /// The true time of its sending, in microseconds.
     pub(crate) at: u64,
     pub(crate) connection: usize,
@@ -30,7 +31,7 @@ impl Entry {
         ensures { result.now ≡ bytes_of row.now self.now }
     {
         let (_, from_start) = row.split_at(self.start);
-        let (own, _) = from_start.split_at(self.length);
+        let (own, _) = from_start.split_at(usize::from(self.length));
         own
     }
 

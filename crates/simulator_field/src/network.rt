@@ -12,6 +12,7 @@ use crate::bag::Bag;
 use crate::copies_found;
 use crate::entry::Entry;
 use crate::sent_on::SentOn;
+use place_index::{PlaceIndex, key_of};
 use simulator_run::rasta_core::Role;
 use simulator_run::rasta_pdu::{Datagram, Key, is_intact};
 use std::alloc::{AllocError, Global};
@@ -29,6 +30,8 @@ pub struct Network {
     time: u64,
     entries: Vec<Entry>,
     row: Vec<u8>,
+    /// By which the datagrams that aren't lost are found.
+    index: PlaceIndex,
     /// How many datagrams have their memory already, however long they are.
     room: usize,
 }
@@ -40,11 +43,13 @@ impl Model for Network {
 
     ghost Value = { NetworkState };
 
+    ghost use Rattle.std.specs.Prelude.{◌≡◌};
     ghost use Rattle.simulator_field.specs.inside.Entries.{AreKept, on_links};
+    ghost use Rattle.simulator_field.specs.inside.Indexed.{keys_of};
 
     ghost view = { λ n. record { time = n.time; sent = on_links n.row.items n.entries.items; room = n.room } };
 
-    ghost invariant = { λ n. AreKept n.time n.row.items n.entries.items × (vec_len n.entries + n.room ≤ vec_capacity n.entries) × (vec_len n.row + 256 * n.room ≤ vec_capacity n.row) };
+    ghost invariant = { λ n. AreKept n.time n.row.items n.entries.items × (vec_len n.entries + n.room ≤ vec_capacity n.entries) × (vec_len n.row + 256 * n.room ≤ vec_capacity n.row) × (n.index.keys ≡ keys_of n.row.items n.entries.items) × (n.room ≤ n.index.room) };
 }
 
 impl Network {
@@ -56,6 +61,7 @@ impl Network {
             time: 0,
             entries: Vec::new(alloc),
             row: Vec::new(alloc),
+            index: PlaceIndex::new(alloc),
             room: 0,
         }
     }
@@ -94,6 +100,7 @@ impl Network {
         }
         self.row.reserve(datagrams.saturating_mul(MOST_BYTES))?;
         self.entries.reserve(datagrams)?;
+        self.index.reserve(datagrams)?;
         self.room = datagrams;
         Ok(())
     }
@@ -120,7 +127,7 @@ impl Network {
         let bytes = datagram.as_slice();
         let entry = Entry {
             start: self.row.len(),
-            length: bytes.len(),
+            length: bytes.len() as u16,
             at: self.time,
             connection: connection.unwrap_or(0),
             link,
@@ -129,6 +136,7 @@ impl Network {
         };
         let _ = self.row.extend_from_slice(bytes);
         self.entries.push_reserved(entry);
+        self.index.push(key_of(bytes));
         self.room -= 1;
     }
 
@@ -139,7 +147,13 @@ impl Network {
         ensures allowed { IfSome result (λ connection. (is_none (bag.newest_copy self.now.time bytes.now (datagrams self.now.sent)) && intact key.now bytes.now) ≡ false) }
         ensures none { IfNone result ((is_none (bag.newest_copy self.now.time bytes.now (datagrams self.now.sent)) && intact key.now bytes.now) ≡ true) }
     {
-        let copy = copies_found::newest_copy(&self.entries, &self.row, self.time, bytes);
+        let copy = copies_found::newest_copy(
+            &self.entries,
+            &self.row,
+            &self.index,
+            self.time,
+            bytes,
+        );
         match copy {
             Some(connection) => Some(connection),
             None if is_intact(key, bytes) => None,
@@ -152,7 +166,7 @@ impl Network {
         ensures found { IfSome result (λ place. IsOldestCopy place bytes.now self.now.sent) }
         ensures none { IfNone result (bag.has_copy bytes.now (datagrams self.now.sent) ≡ false) }
     {
-        copies_found::oldest_copy(&self.entries, &self.row, bytes)
+        copies_found::oldest_copy(&self.entries, &self.row, &self.index, bytes)
     }
 
     /// The network loses the datagram at this place.
@@ -161,6 +175,7 @@ impl Network {
         ensures { (one : OnLink) → one ≡ slice_index_or self.old.sent place one → self.new ≡ record self.old { sent = slice_set self.old.sent place (lost one) } }
     {
         self.entries[place].is_lost = true;
+        self.index.remove(place);
     }
 
     /// The datagram at this place, lost or not.

@@ -1,12 +1,9 @@
-use Rattle.std.proofs.Common.{◌≡◌, ◌≤◌, length, take}
-use Rattle.simulator_run.specs.rasta_core.Bag.{newest_copy}
-use Rattle.simulator_field.specs.Network.{datagrams}
-use Rattle.simulator_field.specs.inside.Entries.{on_links}
+use Rattle.simulator_field.proofs.Copies.{reach}
+use Rattle.simulator_field.proofs.Searches.{KnowsBack}
 use Rattle.simulator_field.proofs.copies_found.newest_copy.Given as goal
 
-abbrev pub invariant-loop-index : goal.invariant-loop-index
-invariant-loop-index l =
-    (newest_copy l.time l.bytes (take l.index (datagrams (on_links l.row l.entries))) ≡ newest_copy l.time l.bytes (datagrams (on_links l.row l.entries))) × (l.index ≤ length l.entries)
+abbrev pub invariant-loop-found : goal.invariant-loop-found
+invariant-loop-found l = KnowsBack l.bytes l.index.keys l.row l.entries l.found
 
-abbrev pub decreases-loop-index : goal.decreases-loop-index
-decreases-loop-index l = l.index
+abbrev pub decreases-loop-found : goal.decreases-loop-found
+decreases-loop-found l = reach l.found
