@@ -1,15 +1,14 @@
-//! What is printed for a command line that asks for nothing.
+//! What comes of a command line.
 
 use station_command::Error;
-use std::alloc::{AllocError, Global};
+use std::alloc::Global;
 use std::process::Abort;
-use std::test::Fail;
 
 /// What is printed for an error; where memory is lacking it is made once more.
-fn printed(alloc: Global, error: &Error) -> Result<String, AllocError> {
+fn printed(rt: &impl Abort, alloc: Global, error: &Error) -> String {
     match format!(in alloc; "{error}") {
-        Ok(text) => Ok(text),
-        Err(_) => format!(in alloc; "{error}"),
+        Ok(text) => text,
+        Err(_) => format!(in alloc; "{error}").expect(rt, "a text"),
     }
 }
 
@@ -20,9 +19,12 @@ pub(crate) fn expect_printed(
     error: &Error,
     is_wrong: bool,
     text: &str,
-) -> Result<(), Fail> {
-    let printed = printed(alloc, error)?;
-    assert!(rt; printed.as_str() == text);
+) {
+    assert!(rt; printed(rt, alloc, error).as_str() == text);
     assert!(rt; error.use_stderr() == is_wrong);
-    Ok(())
+}
+
+/// Expects what is so of a command line.
+pub(crate) fn expect_of(rt: &impl Abort, is_so: bool, words: &[&str]) {
+    assert!(rt; is_so, "at {words:?}");
 }

@@ -5,19 +5,17 @@
 #[cfg(test)]
 mod bell;
 #[cfg(test)]
-mod check_faults;
-#[cfg(test)]
 mod command_bench;
 #[cfg(test)]
 mod endless_files;
+#[cfg(test)]
+mod faults;
 #[cfg(test)]
 mod memory;
 #[cfg(test)]
 mod pair;
 #[cfg(test)]
 mod run_bench;
-#[cfg(test)]
-mod run_faults;
 #[cfg(test)]
 mod runs;
 #[cfg(test)]

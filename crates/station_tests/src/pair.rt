@@ -1,11 +1,10 @@
 //! What command lines ask for, and the texts for those that ask for nothing, which no contract says. What takes memory
 //! is done again where it is lacking, so that the answers also hold with any one allocation refused.
 
-use crate::command_bench::expect_printed;
+use crate::command_bench::{expect_of, expect_printed};
 use simulator_pair_text::{Asked, Error, is_memory, read_words, status};
 use std::alloc::Global;
 use std::process::Abort;
-use std::test::Fail;
 
 const HELP: &str = "Runs lines of events over one link.
 
@@ -58,64 +57,65 @@ Usage: pair [FILE]
 For more information, try '--help'.
 ";
 
+/// Command lines that ask for nothing, each with its status and what is printed.
+const PRINTED: [(&[&str], u8, &str); 7] = [
+    (&["pair", "--help"], 0, HELP),
+    (&["pair", "-h"], 0, SHORT_HELP),
+    (&["pair", "a.txt", "-h"], 0, SHORT_HELP),
+    (&["pair", "--version"], 0, VERSION),
+    (&["pair", "-V"], 0, VERSION),
+    (&["pair", "a.txt", "other"], 1, A_WORD_TOO_MANY),
+    (&["pair", "--frobnicate"], 1, NO_SUCH_FLAG),
+];
+
+/// Command lines with what they ask for.
+const ASKED: [(&[&str], Asked<'static>); 7] = [
+    (&["pair"], Asked::Input),
+    (&["pair", "stdin"], Asked::File("stdin")),
+    (&["/usr/bin/other", "a b/c"], Asked::File("a b/c")),
+    (&["pair", "--", "--help"], Asked::File("--help")),
+    (&["pair", "--"], Asked::Input),
+    (&["pair", "-"], Asked::File("-")),
+    (&["pair", ""], Asked::File("")),
+];
+
 /// Reads the words of a command line; where memory is lacking they are read once more.
-fn read<'a>(alloc: Global, words: &'a [&str]) -> Result<Asked<'a>, Error> {
+fn read<'a>(rt: &impl Abort, alloc: Global, words: &'a [&str]) -> Result<Asked<'a>, Error> {
     match read_words(alloc, words) {
-        Err(error) if is_memory(&error) => read_words(alloc, words),
-        answer => answer,
+        Err(error) if is_memory(&error) => {}
+        answer => return answer,
     }
+    let answer = read_words(alloc, words);
+    assert!(rt;
+        !matches!(&answer, Err(error) if is_memory(error)),
+        "there is memory"
+    );
+    answer
 }
 
-// What is printed for a command line, to the standard error where the status is 1.
-fn expect_text(
-    rt: &impl Abort,
-    alloc: Global,
-    words: &[&str],
-    ends_with: u8,
-    text: &str,
-) -> Result<(), Fail> {
-    match read(alloc, words) {
-        Ok(asked) => assert!(rt; false, "{asked:?} was asked"),
-        Err(error) => {
-            assert!(rt; !is_memory(&error), "there is memory");
-            assert!(rt; status(&error) == ends_with);
-            expect_printed(rt, alloc, &error, ends_with == 1, text)?;
-        }
-    }
-    Ok(())
+/// Expects that a command line prints this text and ends with this status.
+fn expect_text(rt: &impl Abort, alloc: Global, words: &[&str], ends_with: u8, text: &str) {
+    let error = read(rt, alloc, words).expect_err(rt, "nothing is asked");
+    assert!(rt; status(&error) == ends_with);
+    expect_printed(rt, alloc, &error, ends_with == 1, text);
+}
+
+/// Whether a command line asks for this.
+fn asks(rt: &impl Abort, alloc: Global, words: &[&str], wanted: Asked<'_>) -> bool {
+    matches!(read(rt, alloc, words), Ok(asked) if asked == wanted)
 }
 
 #[test]
-fn help_and_version_are_printed_where_they_are_asked_for(rt: HostRuntime) -> Result<(), Fail> {
-    let alloc = rt.alloc();
-    expect_text(&rt, alloc, &["pair", "--help"], 0, HELP)?;
-    expect_text(&rt, alloc, &["pair", "-h"], 0, SHORT_HELP)?;
-    expect_text(&rt, alloc, &["pair", "a.txt", "-h"], 0, SHORT_HELP)?;
-    expect_text(&rt, alloc, &["pair", "--version"], 0, VERSION)?;
-    expect_text(&rt, alloc, &["pair", "-V"], 0, VERSION)
-}
-
-#[test]
-fn a_wrong_command_line_has_status_1(rt: HostRuntime) -> Result<(), Fail> {
-    let alloc = rt.alloc();
-    expect_text(&rt, alloc, &["pair", "a.txt", "other"], 1, A_WORD_TOO_MANY)?;
-    expect_text(&rt, alloc, &["pair", "--frobnicate"], 1, NO_SUCH_FLAG)
+fn help_the_version_or_what_is_wrong_is_printed(rt: HostRuntime) {
+    for (words, status, text) in &PRINTED {
+        expect_text(&rt, rt.alloc(), *words, *status, *text);
+    }
 }
 
 #[test]
 fn at_most_one_file_is_asked_for(rt: HostRuntime) {
-    for (words, asked) in [
-        (["pair"].as_slice(), Asked::Input),
-        (["pair", "stdin"].as_slice(), Asked::File("stdin")),
-        (["/usr/bin/other", "a b/c"].as_slice(), Asked::File("a b/c")),
-        (["pair", "--", "--help"].as_slice(), Asked::File("--help")),
-        (["pair", "--"].as_slice(), Asked::Input),
-        (["pair", "-"].as_slice(), Asked::File("-")),
-        (["pair", ""].as_slice(), Asked::File("")),
-    ] {
-        match read(rt.alloc(), words) {
-            Ok(answer) => assert!(rt; answer == asked),
-            Err(error) => assert!(rt; false, "{error}"),
-        }
+    for (words, asked) in &ASKED {
+        let is_asked = asks(&rt, rt.alloc(), *words, *asked);
+        expect_of(&rt, is_asked, *words);
     }
 }

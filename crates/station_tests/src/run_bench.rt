@@ -7,6 +7,7 @@ use station_sim::replay_text;
 use std::alloc::Global;
 use std::io;
 use std::io::Write;
+use std::process::Abort;
 
 /// One point, with a route over each of its legs from the same signal, and one back over its left leg.
 pub(crate) const SMALL: &str = r#"section = ["GA", "GP", "G1", "G2"]
@@ -125,12 +126,10 @@ fn run_prepared(alloc: Global, prepared: Prepared, drive: Drive<'_>) -> Left {
     }
 }
 
-/// Runs the small station over memory, unless its script is faulty.
-pub(crate) fn run_small(alloc: Global, drive: Drive<'_>) -> Option<Left> {
-    match prepare(alloc, SMALL, drive.script) {
-        Ok(prepared) => Some(run_prepared(alloc, prepared, drive)),
-        Err(_) => None,
-    }
+/// Runs the small station over memory.
+pub(crate) fn run_small(rt: &impl Abort, alloc: Global, drive: Drive<'_>) -> Left {
+    let prepared = prepare(alloc, SMALL, drive.script).expect(rt, "a station and its script");
+    run_prepared(alloc, prepared, drive)
 }
 
 /// What a run of the small station told.

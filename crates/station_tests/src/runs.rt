@@ -1,14 +1,14 @@
 //! A small station that runs.
 
+use crate::command_bench::expect_of;
 use crate::run_bench::{
     Drive, SMALL, Told, is_same, lacks_delivery, run_over_sockets, run_small, whole_lines,
 };
 use station_run::Asked;
-use std::alloc::Global;
+use std::alloc::{AllocError, Global};
 use std::fs::File;
 use std::ops::Range;
 use std::process::Abort;
-use std::test::Fail;
 use std::time::Duration;
 use std::{fs, thread};
 
@@ -39,25 +39,28 @@ const WHOLE: Drive<'static> = Drive {
     failing: 0,
 };
 
-// A route is set and its record answers the same again. Where the disk has no room for all of the record, what is left is a
-// beginning of it.
+/// Expects that a run whose record has no more room fails, and leaves a beginning of the whole record, which answers the same again.
+fn expect_cut(rt: &impl Abort, alloc: Global, whole: &[u8], room: usize) {
+    let left = run_small(rt, alloc, Drive { room, ..WHOLE });
+    assert!(rt; left.status == 1 && left.out.is_empty());
+    assert!(rt; left.err.as_slice() == b"cannot run\n".as_slice());
+    assert!(rt; left.record.len() == room && whole.starts_with(&left.record));
+    assert!(rt; is_same(alloc, whole_lines(&left.record)));
+}
+
+/// For how many bytes of a record there is room.
+const ROOMS: [usize; 4] = [0, 1, 3000, 100_007];
+
+// A route is set and its record answers the same again.
 #[test]
-fn a_run_over_memory_is_recorded(rt: HostRuntime) -> Result<(), Fail> {
-    let alloc = rt.alloc();
-    let whole = run_small(alloc, WHOLE).ok_or("a fault")?;
-    assert!(rt; whole.status == 0);
+fn a_run_over_memory_is_recorded(rt: HostRuntime) {
+    let whole = run_small(&rt, rt.alloc(), WHOLE);
+    assert!(rt; whole.status == 0 && whole.err.is_empty());
     assert!(rt; whole.out.as_slice() == PICTURE.as_bytes());
-    assert!(rt; whole.err.is_empty());
-    assert!(rt; is_same(alloc, &whole.record));
-    for room in [0, 1, 3000, 100_007] {
-        let left = run_small(alloc, Drive { room, ..WHOLE }).ok_or("a fault")?;
-        assert!(rt; left.status == 1);
-        assert!(rt; left.out.is_empty());
-        assert!(rt; left.err.as_slice() == b"cannot run\n".as_slice());
-        assert!(rt; left.record.len() == room && whole.record.starts_with(&left.record));
-        assert!(rt; is_same(alloc, whole_lines(&left.record)));
+    assert!(rt; is_same(rt.alloc(), &whole.record));
+    for room in &ROOMS {
+        expect_cut(&rt, rt.alloc(), &whole.record, *room);
     }
-    Ok(())
 }
 
 /// The links open in the second round, and R1 is set as soon as they are ready.
@@ -68,26 +71,28 @@ const OPENING: Drive<'static> = Drive {
     ..WHOLE
 };
 
-// Runs the station once for each call of some that fails, counted from 0 at the first that sends. A record replays as the same
-// session, and differs from that of a run where none fails by a delivery that isn't there first. It answers how many differ.
+/// Runs the station while one call of its network fails. The record replays as the same session. Where it isn't that of a run in which
+/// none fails, it differs first by a delivery that isn't there. It answers whether it differs.
+fn fail_one(rt: &impl Abort, alloc: Global, whole: &[u8], failing: u64) -> bool {
+    let left = run_small(rt, alloc, Drive { failing, ..OPENING });
+    assert!(rt; (left.status, left.faults) == (0, 1) && left.err.is_empty());
+    assert!(rt; is_same(alloc, &left.record));
+    let differs = left.record.as_slice() != whole;
+    assert!(rt; !differs || lacks_delivery(&left.record, whole));
+    differs
+}
+
+/// Runs the station once for each call of some that fails, counted from 0 at the first that sends. It answers how many records differ
+/// from that of a run in which none fails.
 fn fail_each(rt: &impl Abort, alloc: Global, calls: Range<u64>) -> u64 {
-    let whole = run_small(alloc, OPENING).expect(rt, "the small station is sound");
+    let whole = run_small(rt, alloc, OPENING);
     assert!(rt; (whole.status, whole.faults) == (0, 0));
     assert!(rt; whole.out.starts_with(b"time 7000\nsignal S1 proceed R1\n"));
     let mut differing: u64 = 0;
     for call in calls {
         let failing = whole.first_sent.saturating_add(call);
-        let left = run_small(alloc, Drive { failing, ..OPENING }).expect(
-            rt,
-            "the small station is sound",
-        );
-        assert!(rt; (left.status, left.faults) == (0, 1));
-        assert!(rt; left.err.is_empty());
-        assert!(rt; is_same(alloc, &left.record));
-        if left.record != whole.record {
-            assert!(rt; lacks_delivery(&left.record, &whole.record));
-            differing = differing.saturating_add(1);
-        }
+        let differs = fail_one(rt, alloc, &whole.record, failing);
+        differing = differing.saturating_add(u64::from(differs));
     }
     differing
 }
@@ -118,7 +123,10 @@ fn so_does_one_from_the_241st_to_the_300th(rt: HostRuntime) {
     fail_each(&rt, rt.alloc(), 240..300);
 }
 
-/// The small station with a record.
+/// A record that is never written, since nothing is opened.
+const UNWRITTEN: &str = "unwritten";
+
+/// What is asked of the small station, with a record.
 const fn asked(record: &str) -> Asked<'_> {
     Asked {
         layout: SMALL,
@@ -128,14 +136,63 @@ const fn asked(record: &str) -> Asked<'_> {
     }
 }
 
+/// A track with a route that leaves it by the wrong end.
+const BROKEN: &str = r#"section = ["GA"]
+track = [{name="A1",section="GA"}]
+point = []
+border = ["W", "E"]
+joint = [["W.end","A1.a"], ["A1.b","E.end"]]
+signal = [{name="S1",id=2,at="W.end"}]
+detector = [{name="D1",id=3,sections=["GA"]}]
+route = [{name="R1",entry="S1",exit="E",path=["A1.a"],points={}}]
+[station]
+name = "IXL1"
+id = 1
+"#;
+
+/// Layouts and scripts that are faulty, with what is told.
+const FAULTY: [(&str, &str, &str); 5] = [
+    ("section = ", "at", "layout fault 1 Toml\n"),
+    (BROKEN, "at", "table fault 1 PathBroken at route R1\n"),
+    (SMALL, "at 0 tick S1", "session fault 1 at line 1\n"),
+    (
+        SMALL,
+        "at 0 resume\nat 0 occupy R1",
+        "session fault 2 at line 2\n",
+    ),
+    (
+        SMALL,
+        "at 500 resume\nat 400 set R1\n",
+        "session fault 6 at line 2\n",
+    ),
+];
+
+/// Paths of which none can be written: in a folder that isn't there, a folder, and a disk without room.
+const NO_RECORDS: [&str; 3] = ["no/such/folder/record", ".", "/dev/full"];
+
 /// Whether a run fails, and tells just this text.
 fn is_told(rt: &HostRuntime, asked: &Asked<'_>, text: &str) -> bool {
     let told = run_over_sockets(rt, asked);
     told.status == 1 && told.out.is_empty() && told.err.as_slice() == text.as_bytes()
 }
 
+// The layout is judged before the script, and the script before anything is opened.
+#[test]
+fn faulty_texts_are_told(rt: HostRuntime) {
+    for (layout, script, text) in &FAULTY {
+        let asked = Asked {
+            layout: *layout,
+            script: *script,
+            ..asked(UNWRITTEN)
+        };
+        let is_so = is_told(&rt, &asked, *text);
+        expect_of(&rt, is_so, &[*script, *text]);
+    }
+    assert!(rt; fs::read_to_string(&rt, UNWRITTEN).is_err());
+}
+
 /// Takes every file that the system gives to a program.
-fn take_all_files(rt: &HostRuntime) -> Result<Vec<File>, Fail> {
+fn take_all_files(rt: &HostRuntime) -> Result<Vec<File>, AllocError> {
     let mut files = Vec::new(rt.alloc());
     for _ in 0..10_000_000 {
         match File::open(rt, "/dev/null") {
@@ -146,64 +203,54 @@ fn take_all_files(rt: &HostRuntime) -> Result<Vec<File>, Fail> {
     Ok(files)
 }
 
-// The layout is judged before the script, and the script before anything is opened. Then come a folder that isn't there, a
-// folder, a disk without room, and sockets that the system doesn't give.
+/// Whether a run fails where the system gives no sockets.
+fn needs_sockets(rt: &HostRuntime) -> bool {
+    let files = take_all_files(rt);
+    let is_told = is_told(rt, &asked(UNWRITTEN), "cannot run\n");
+    files.is_ok() && is_told
+}
+
 #[test]
-fn what_cannot_run_is_told(rt: HostRuntime) -> Result<(), Fail> {
-    let (before, behind) = SMALL
-        .split_once(", {name=\"S4\",id=4,at=\"T2.a\"}")
-        .ok_or("no S4")?;
-    let open = format!(in rt.alloc(); "{before}{behind}")?;
-    for (layout, script, text) in [
-        ("section = ", "at", "layout fault 1 Toml\n"),
-        (open.as_str(), "at", "table fault 6 FlankOpen at route R2\n"),
-        (SMALL, "at 0 tick S1", "session fault 1 at line 1\n"),
-        (
-            SMALL,
-            "at 0 resume\nat 0 occupy R1",
-            "session fault 2 at line 2\n",
-        ),
-        (
-            SMALL,
-            "at 500 resume\nat 400 set R1\n",
-            "session fault 6 at line 2\n",
-        ),
-    ] {
-        let asked = Asked {
-            layout,
-            script,
-            ..asked("unwritten")
-        };
-        assert!(rt; is_told(&rt, &asked, text), "{text}");
+fn what_cannot_run_is_told(rt: HostRuntime) {
+    for record in &NO_RECORDS {
+        let is_so = is_told(&rt, &asked(*record), "cannot run\n");
+        expect_of(&rt, is_so, &[*record]);
     }
-    for record in ["no/such/folder/record", ".", "/dev/full"] {
-        assert!(rt; is_told(&rt, &asked(record), "cannot run\n"), "{record}");
-    }
-    let files = take_all_files(&rt)?;
-    assert!(rt; is_told(&rt, &asked("unwritten"), "cannot run\n"));
-    drop(files);
-    assert!(rt; fs::read_to_string(&rt, "unwritten").is_err());
-    Ok(())
+    assert!(rt; needs_sockets(&rt));
+    assert!(rt; fs::read_to_string(&rt, UNWRITTEN).is_err());
 }
 
-/// The record of a run, as far as it is written after some seconds.
-fn seen_after(rt: &HostRuntime, seconds: u64, record: &str) -> Option<Vec<u8>> {
+/// The record of a run, as far as it is written after some seconds; nothing where it can't be read.
+fn seen_after(rt: &HostRuntime, seconds: u64, record: &str) -> Vec<u8> {
     thread::sleep(rt, Duration::from_secs(seconds));
-    fs::read(rt, record).ok()
+    read(rt, record)
 }
 
-/// Whether a run of 12000 ms came to its end, with a record that answers the same again.
-fn is_whole(alloc: Global, told: &Told, record: &[u8]) -> bool {
+/// What is written in a file; nothing where it can't be read.
+fn read(rt: &HostRuntime, file: &str) -> Vec<u8> {
+    fs::read(rt, file).unwrap_or(Vec::new(rt.alloc()))
+}
+
+/// Whether a run of 12000 ms came to its end, with a record that answers the same again. Its file is removed.
+fn is_whole(rt: &HostRuntime, told: &Told, record: &str) -> bool {
+    let written = read(rt, record);
     told.status == 0
         && told.out.starts_with(b"time 1")
         && told.out.ends_with(b"\nsafe\n")
         && told.err.is_empty()
-        && is_same(alloc, record)
+        && is_same(rt.alloc(), &written)
+        && fs::remove_file(rt, record).is_ok()
 }
 
-// Two runs at once, each with its record; and what is left of one of them, if it is stopped in between.
+/// Whether what is left of a run that is stopped in between is a beginning of its record that answers the same again.
+fn is_beginning(rt: &HostRuntime, seen: &[u8], record: &str) -> bool {
+    let written = read(rt, record);
+    !seen.is_empty() && written.starts_with(seen) && is_same(rt.alloc(), whole_lines(seen))
+}
+
+// Two runs at once, and what is left of one of them if it is stopped in between.
 #[test]
-fn two_runs_over_sockets_are_recorded(rt: HostRuntime) -> Result<(), Fail> {
+fn two_runs_over_sockets_are_recorded(rt: HostRuntime) {
     let ((one, other), seen) = thread::join(
         &rt,
         || {
@@ -215,13 +262,7 @@ fn two_runs_over_sockets_are_recorded(rt: HostRuntime) -> Result<(), Fail> {
         },
         || seen_after(&rt, 5, "one"),
     );
-    let seen = seen.ok_or("no record")?;
-    let first = fs::read(&rt, "one")?;
-    assert!(rt; !seen.is_empty() && first.starts_with(&seen));
-    assert!(rt; is_same(rt.alloc(), whole_lines(&seen)));
-    assert!(rt; is_whole(rt.alloc(), &one, &first));
-    assert!(rt; is_whole(rt.alloc(), &other, &fs::read(&rt, "other")?));
-    fs::remove_file(&rt, "one")?;
-    fs::remove_file(&rt, "other")?;
-    Ok(())
+    assert!(rt; is_beginning(&rt, &seen, "one"));
+    assert!(rt; is_whole(&rt, &one, "one"));
+    assert!(rt; is_whole(&rt, &other, "other"));
 }

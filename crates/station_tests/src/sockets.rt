@@ -1,83 +1,88 @@
 //! Sockets of the machine, and its clock.
 
-use station_drive::{Clock, Datagrams, NetFault, Received};
+use crate::memory::receives;
+use station_drive::{Clock, Datagrams, NetFault};
 use station_network::{RoundClock, Sockets};
 use station_sim::simulator_event::NodeId;
+use std::alloc::Global;
 use std::cell::Cell;
 use std::io;
-use std::test::Fail;
+use std::net::Net;
+use std::process::Abort;
 use std::time::{Clock as Timer, Duration};
 
-/// What a node receives, for which it may have to ask again for a while.
-fn come(sockets: &mut Sockets, node: usize) -> Result<Received, Fail> {
+/// The sockets of so many nodes.
+fn open<R: Net + Abort>(rt: &R, alloc: Global, nodes: usize) -> Sockets {
+    Sockets::open(rt, alloc, nodes).expect(rt, "sockets")
+}
+
+/// Whether bytes are sent to a node.
+fn sends(sockets: &mut Sockets, node: usize, bytes: &[u8]) -> bool {
+    sockets.send(NodeId(node), bytes).is_ok()
+}
+
+/// Whether these bytes come to a node, for which it may have to ask again for a while.
+fn comes(sockets: &mut Sockets, node: usize, wanted: &[u8]) -> bool {
     for _ in 0..100_000 {
         match sockets.receive(NodeId(node)) {
-            Ok(Some(bytes)) => return Ok(bytes),
+            Ok(Some(bytes)) => return bytes.as_slice() == wanted,
             Ok(None) => {}
-            Err(_) => return Err("a call failed".into()),
+            Err(_) => return false,
         }
     }
-    Err("nothing came".into())
-}
-
-fn open(rt: &HostRuntime, nodes: usize) -> Result<Sockets, Fail> {
-    Sockets::open(rt, rt.alloc(), nodes).map_err(|_| "no sockets".into())
+    false
 }
 
 #[test]
-fn what_is_sent_to_a_node_comes_there_once(rt: HostRuntime) -> Result<(), Fail> {
-    let mut sockets = open(&rt, 3)?;
-    assert!(rt; sockets.send(NodeId(2), b"late") == Ok(()));
-    assert!(rt; sockets.send(NodeId(0), b"early") == Ok(()));
-    assert!(rt; come(&mut sockets, 0)?.as_slice() == b"early".as_slice());
-    assert!(rt; come(&mut sockets, 2)?.as_slice() == b"late".as_slice());
+fn what_is_sent_to_a_node_comes_there_once(rt: HostRuntime) {
+    let mut sockets = open(&rt, rt.alloc(), 3);
+    assert!(rt; sends(&mut sockets, 2, b"late"));
+    assert!(rt; sends(&mut sockets, 0, b"early"));
+    assert!(rt; comes(&mut sockets, 0, b"early"));
+    assert!(rt; comes(&mut sockets, 2, b"late"));
     for node in 0..3 {
-        assert!(rt; sockets.receive(NodeId(node)) == Ok(None));
+        assert!(rt; receives(&mut sockets, node, None));
     }
     assert!(rt; sockets.faults() == 0);
-    Ok(())
 }
 
 #[test]
-fn an_empty_datagram_is_one(rt: HostRuntime) -> Result<(), Fail> {
-    let mut sockets = open(&rt, 1)?;
-    assert!(rt; sockets.send(NodeId(0), b"") == Ok(()));
-    assert!(rt; come(&mut sockets, 0)?.is_empty());
-    Ok(())
+fn an_empty_datagram_is_one_and_a_long_one_is_cut(rt: HostRuntime) {
+    let mut sockets = open(&rt, rt.alloc(), 1);
+    assert!(rt; sends(&mut sockets, 0, b""));
+    assert!(rt; comes(&mut sockets, 0, b""));
+    assert!(rt; sends(&mut sockets, 0, &[7; 600]));
+    assert!(rt; comes(&mut sockets, 0, &[7; 512]));
+    assert!(rt; receives(&mut sockets, 0, None));
 }
 
 #[test]
-fn a_long_datagram_is_cut(rt: HostRuntime) -> Result<(), Fail> {
-    let mut sockets = open(&rt, 1)?;
-    assert!(rt; sockets.send(NodeId(0), &[7; 600]) == Ok(()));
-    assert!(rt; come(&mut sockets, 0)?.as_slice() == [7; 512].as_slice());
-    assert!(rt; sockets.receive(NodeId(0)) == Ok(None));
-    Ok(())
+fn two_stations_do_not_hear_each_other(rt: HostRuntime) {
+    let mut one = open(&rt, rt.alloc(), 2);
+    let mut other = open(&rt, rt.alloc(), 2);
+    assert!(rt; sends(&mut one, 1, b"one"));
+    assert!(rt; sends(&mut other, 1, b"other"));
+    assert!(rt; comes(&mut other, 1, b"other"));
+    assert!(rt; comes(&mut one, 1, b"one"));
+    assert!(rt; receives(&mut one, 1, None));
+    assert!(rt; receives(&mut other, 1, None));
 }
 
-#[test]
-fn two_stations_do_not_hear_each_other(rt: HostRuntime) -> Result<(), Fail> {
-    let (mut one, mut other) = (open(&rt, 2)?, open(&rt, 2)?);
-    assert!(rt; one.send(NodeId(1), b"one") == Ok(()));
-    assert!(rt; other.send(NodeId(1), b"other") == Ok(()));
-    assert!(rt; come(&mut other, 1)?.as_slice() == b"other".as_slice());
-    assert!(rt; come(&mut one, 1)?.as_slice() == b"one".as_slice());
-    assert!(rt; one.receive(NodeId(1)) == Ok(None));
-    assert!(rt; other.receive(NodeId(1)) == Ok(None));
-    Ok(())
+/// Whether no datagram of so many bytes is sent to a node.
+fn is_too_long(rt: &impl Abort, alloc: Global, sockets: &mut Sockets, bytes: usize) -> bool {
+    let long = vec![in alloc; 0u8; bytes].expect(rt, "a long datagram");
+    sockets.send(NodeId(1), &long) == Err(NetFault::Failed)
 }
 
 // No datagram of UDP is so long, and there is no third node.
 #[test]
-fn failed_calls_are_counted(rt: HostRuntime) -> Result<(), Fail> {
-    let mut sockets = open(&rt, 2)?;
-    let long = vec![in rt.alloc(); 0u8; 70_000]?;
-    assert!(rt; sockets.send(NodeId(1), &long) == Err(NetFault::Failed));
-    assert!(rt; sockets.receive(NodeId(1)) == Ok(None));
+fn failed_calls_are_counted(rt: HostRuntime) {
+    let mut sockets = open(&rt, rt.alloc(), 2);
+    assert!(rt; is_too_long(&rt, rt.alloc(), &mut sockets, 70_000));
+    assert!(rt; receives(&mut sockets, 1, None));
     assert!(rt; sockets.send(NodeId(2), b"a") == Err(NetFault::Failed));
     assert!(rt; sockets.receive(NodeId(2)) == Err(NetFault::Failed));
     assert!(rt; sockets.faults() == 3);
-    Ok(())
 }
 
 /// A clock that reads what it is set to, in microseconds, and goes on by what it is told to sleep.
@@ -106,39 +111,52 @@ impl Timer for Watch {
     }
 }
 
+/// What the machine's clock is set to, what is read then, and how long that waits. The second round took 4 ms, the third one 15 ms.
+const ROUNDS: [(u64, u64, u64); 3] = [
+    (5_000_300, 300, 0),
+    (5_004_300, 10_300, 6_000),
+    (5_025_300, 25_300, 0),
+];
+
+/// Expects what is read where the machine's clock is set to a time, and how long that waits.
+fn expect_reading<C: Clock>(
+    rt: &impl Abort,
+    watch: &Watch,
+    clock: &mut C,
+    (micros, reading, slept): (u64, u64, u64),
+) {
+    watch.slept.set(0);
+    watch.micros.set(micros);
+    assert!(rt;
+        (clock.read(), watch.slept.get()) == (reading, slept),
+        "at {micros}"
+    );
+}
+
 #[test]
-fn a_round_is_due_every_10_ms(rt: HostRuntime) -> Result<(), Fail> {
+fn a_round_is_due_every_10_ms(rt: HostRuntime) {
     let watch = Watch {
         micros: Cell::new(5_000_000),
         slept: Cell::new(0),
     };
-    let mut clock = RoundClock::start(&watch)?;
-    watch.micros.set(5_000_300);
-    assert!(rt; clock.read() == 300);
-    assert!(rt; watch.slept.get() == 0);
-    // A round that took 4 ms, and one that took 15 ms.
-    watch.micros.set(5_004_300);
-    assert!(rt; clock.read() == 10_300);
-    assert!(rt; watch.slept.get() == 6_000);
-    watch.micros.set(5_025_300);
-    assert!(rt; clock.read() == 25_300);
-    assert!(rt; watch.slept.get() == 6_000);
+    let mut clock = RoundClock::start(&watch).expect(&rt, "a clock");
+    for round in &ROUNDS {
+        expect_reading(&rt, &watch, &mut clock, *round);
+    }
     // The machine's clock goes back, and can't be read.
     watch.micros.set(5_000_000);
     assert!(rt; clock.read() == 25_300);
     watch.micros.set(u64::MAX);
     assert!(rt; clock.read() == 25_300);
-    Ok(())
 }
 
 #[test]
-fn the_clock_of_the_machine_goes_on(rt: HostRuntime) -> Result<(), Fail> {
-    let mut clock = RoundClock::start(&rt)?;
+fn the_clock_of_the_machine_goes_on(rt: HostRuntime) {
+    let mut clock = RoundClock::start(&rt).expect(&rt, "a clock");
     let mut last = clock.read();
     for _ in 0..5 {
         let next = clock.read();
         assert!(rt; next.saturating_sub(last) >= 10_000);
         last = next;
     }
-    Ok(())
 }

@@ -1,11 +1,10 @@
 //! The texts for command lines, which no contract says. What takes memory is done again where it is lacking, so that
 //! the answers also hold with any one allocation refused.
 
-use crate::command_bench::expect_printed;
+use crate::command_bench::{expect_of, expect_printed};
 use station_command::{Asked, Error, is_memory, read_words};
 use std::alloc::Global;
 use std::process::Abort;
-use std::test::Fail;
 
 const HELP: &str = "The interlocking of a railway station
 
@@ -214,152 +213,145 @@ Usage: station run --script <S> --record <R> --for <MS> <FILE>
 For more information, try '--help'.
 ";
 
+/// Command lines that ask for nothing, each with its status and what is printed.
+const PRINTED: [(&[&str], i32, &str); 20] = [
+    (&["station", "--help"], 0, HELP),
+    (&["station", "help"], 0, HELP),
+    (&["station", "check", "--help"], 0, CHECK_HELP),
+    (&["station", "check", "-h"], 0, SHORT_CHECK_HELP),
+    (&["station", "sim", "--help"], 0, SIM_HELP),
+    (&["station", "help", "replay"], 0, REPLAY_HELP),
+    (&["station", "run", "--help"], 0, RUN_HELP),
+    (&["station", "--version"], 0, "station 1.0.0\n"),
+    (&["station", "-V"], 0, "station 1.0.0\n"),
+    (&["station"], 2, HELP),
+    (&["station", "check"], 2, NO_FILE),
+    (&["station", "frobnicate"], 2, NO_SUCH_COMMAND),
+    (
+        &["station", "check", "a.toml", "b.toml"],
+        2,
+        A_WORD_TOO_MANY,
+    ),
+    (&["station", "sim", "a.toml"], 2, NO_EVENTS),
+    (&["station", "replay", "a", "b", "c"], 2, A_RECORD_TOO_MANY),
+    (
+        &["station", "run", "f", "--script", "s"],
+        2,
+        NO_RECORD_AND_NO_TIME,
+    ),
+    (
+        &["station", "run", "f", "--script", "s", "--for", "999"],
+        2,
+        TOO_SHORT,
+    ),
+    (&["station", "run", "--for=600001"], 2, TOO_LONG),
+    (&["station", "run", "--for=1s"], 2, NO_TIME),
+    (
+        &["station", "run", "--script=a", "--script=b"],
+        2,
+        A_SECOND_SCRIPT,
+    ),
+];
+
+const SIM: Asked<'static> = Asked::Sim {
+    layout: "a b",
+    events: "-",
+};
+
+const REPLAY: Asked<'static> = Asked::Replay {
+    layout: "a b",
+    recording: "--help",
+};
+
+const SHORT_RUN: Asked<'static> = Asked::Run {
+    layout: "a b",
+    script: "s",
+    record: "-",
+    for_ms: 1000,
+};
+
+const LONG_RUN: Asked<'static> = Asked::Run {
+    layout: "a b",
+    script: "s",
+    record: "-",
+    for_ms: 600_000,
+};
+
+/// Command lines with what they ask for.
+const ASKED: [(&[&str], Asked<'static>); 11] = [
+    (
+        &["station", "check", "small.toml"],
+        Asked::Check("small.toml"),
+    ),
+    (&["/usr/bin/other", "check", "a b/c"], Asked::Check("a b/c")),
+    (
+        &["station", "check", "--", "--help"],
+        Asked::Check("--help"),
+    ),
+    (&["station", "sim", "a b", "-"], SIM),
+    (&["station", "sim", "--", "a b", "-"], SIM),
+    (&["station", "sim", "a b", "--", "-"], SIM),
+    (&["station", "sim", "a b", "-", "--"], SIM),
+    (&["station", "replay", "--", "a b", "--help"], REPLAY),
+    (&["station", "replay", "a b", "--", "--help"], REPLAY),
+    (
+        &[
+            "station", "run", "a b", "--script", "s", "--record", "-", "--for", "1000",
+        ],
+        SHORT_RUN,
+    ),
+    (
+        &[
+            "station",
+            "run",
+            "--for=+600000",
+            "--record=-",
+            "--script",
+            "s",
+            "--",
+            "a b",
+        ],
+        LONG_RUN,
+    ),
+];
+
 /// Reads the words of a command line; where memory is lacking they are read once more.
-fn read<'a>(alloc: Global, words: &'a [&str]) -> Result<Asked<'a>, Error> {
+fn read<'a>(rt: &impl Abort, alloc: Global, words: &'a [&str]) -> Result<Asked<'a>, Error> {
     match read_words(alloc, words) {
-        Err(error) if is_memory(&error) => read_words(alloc, words),
-        answer => answer,
+        Err(error) if is_memory(&error) => {}
+        answer => return answer,
     }
+    let answer = read_words(alloc, words);
+    assert!(rt;
+        !matches!(&answer, Err(error) if is_memory(error)),
+        "there is memory"
+    );
+    answer
 }
 
-// What is printed for a command line, to the standard error where the status is 2.
-fn expect_text(
-    rt: &impl Abort,
-    alloc: Global,
-    words: &[&str],
-    status: i32,
-    text: &str,
-) -> Result<(), Fail> {
-    match read(alloc, words) {
-        Ok(asked) => assert!(rt; false, "{asked:?} was asked"),
-        Err(error) => {
-            assert!(rt; !is_memory(&error), "there is memory");
-            assert!(rt; error.exit_code() == status);
-            expect_printed(rt, alloc, &error, status == 2, text)?;
-        }
-    }
-    Ok(())
+/// Expects that a command line prints this text and ends with this status.
+fn expect_text(rt: &impl Abort, alloc: Global, words: &[&str], status: i32, text: &str) {
+    let error = read(rt, alloc, words).expect_err(rt, "nothing is asked");
+    assert!(rt; error.exit_code() == status);
+    expect_printed(rt, alloc, &error, status == 2, text);
 }
 
-#[test]
-fn help_and_the_version_are_printed_where_they_are_asked_for(rt: HostRuntime) -> Result<(), Fail> {
-    for (words, text) in [
-        (["station", "--help"].as_slice(), HELP),
-        (["station", "help"].as_slice(), HELP),
-        (["station", "check", "--help"].as_slice(), CHECK_HELP),
-        (["station", "check", "-h"].as_slice(), SHORT_CHECK_HELP),
-        (["station", "sim", "--help"].as_slice(), SIM_HELP),
-        (["station", "help", "replay"].as_slice(), REPLAY_HELP),
-        (["station", "run", "--help"].as_slice(), RUN_HELP),
-        (["station", "--version"].as_slice(), "station 1.0.0\n"),
-        (["station", "-V"].as_slice(), "station 1.0.0\n"),
-    ] {
-        expect_text(&rt, rt.alloc(), words, 0, text)?;
-    }
-    Ok(())
+/// Whether a command line asks for this.
+fn asks(rt: &impl Abort, alloc: Global, words: &[&str], wanted: Asked<'_>) -> bool {
+    matches!(read(rt, alloc, words), Ok(asked) if asked == wanted)
 }
 
 #[test]
-fn a_wrong_command_line_has_status_2(rt: HostRuntime) -> Result<(), Fail> {
-    let run = ["station", "run", "f", "--script", "s", "--for", "999"];
-    for (words, text) in [
-        (["station"].as_slice(), HELP),
-        (["station", "check"].as_slice(), NO_FILE),
-        (["station", "frobnicate"].as_slice(), NO_SUCH_COMMAND),
-        (
-            ["station", "check", "a.toml", "b.toml"].as_slice(),
-            A_WORD_TOO_MANY,
-        ),
-        (["station", "sim", "a.toml"].as_slice(), NO_EVENTS),
-        (
-            ["station", "replay", "a", "b", "c"].as_slice(),
-            A_RECORD_TOO_MANY,
-        ),
-        (&run[..5], NO_RECORD_AND_NO_TIME),
-        (run.as_slice(), TOO_SHORT),
-        (["station", "run", "--for=600001"].as_slice(), TOO_LONG),
-        (["station", "run", "--for=1s"].as_slice(), NO_TIME),
-        (
-            ["station", "run", "--script=a", "--script=b"].as_slice(),
-            A_SECOND_SCRIPT,
-        ),
-    ] {
-        expect_text(&rt, rt.alloc(), words, 2, text)?;
+fn help_the_version_or_what_is_wrong_is_printed(rt: HostRuntime) {
+    for (words, status, text) in &PRINTED {
+        expect_text(&rt, rt.alloc(), *words, *status, *text);
     }
-    Ok(())
 }
 
 #[test]
 fn words_are_read(rt: HostRuntime) {
-    let (layout, script, record) = ("a b", "s", "-");
-    let sim = Asked::Sim {
-        layout,
-        events: "-",
-    };
-    let replay = Asked::Replay {
-        layout,
-        recording: "--help",
-    };
-    let short = [
-        "station", "run", "a b", "--script", "s", "--record", "-", "--for", "1000",
-    ];
-    let long = [
-        "station",
-        "run",
-        "--for=+600000",
-        "--record=-",
-        "--script",
-        "s",
-        "--",
-        "a b",
-    ];
-    for (words, asked) in [
-        (
-            ["station", "check", "small.toml"].as_slice(),
-            Asked::Check("small.toml"),
-        ),
-        (
-            ["/usr/bin/other", "check", "a b/c"].as_slice(),
-            Asked::Check("a b/c"),
-        ),
-        (
-            ["station", "check", "--", "--help"].as_slice(),
-            Asked::Check("--help"),
-        ),
-        (["station", "sim", "a b", "-"].as_slice(), sim),
-        (["station", "sim", "--", "a b", "-"].as_slice(), sim),
-        (["station", "sim", "a b", "--", "-"].as_slice(), sim),
-        (["station", "sim", "a b", "-", "--"].as_slice(), sim),
-        (
-            ["station", "replay", "--", "a b", "--help"].as_slice(),
-            replay,
-        ),
-        (
-            ["station", "replay", "a b", "--", "--help"].as_slice(),
-            replay,
-        ),
-        (
-            short.as_slice(),
-            Asked::Run {
-                layout,
-                script,
-                record,
-                for_ms: 1000,
-            },
-        ),
-        (
-            long.as_slice(),
-            Asked::Run {
-                layout,
-                script,
-                record,
-                for_ms: 600_000,
-            },
-        ),
-    ] {
-        match read(rt.alloc(), words) {
-            Ok(read) => assert!(rt; read == asked),
-            Err(error) => assert!(rt; false, "{error}"),
-        }
+    for (words, asked) in &ASKED {
+        let is_asked = asks(&rt, rt.alloc(), *words, *asked);
+        expect_of(&rt, is_asked, *words);
     }
 }

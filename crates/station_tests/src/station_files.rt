@@ -2,34 +2,31 @@
 //! hold with any one allocation refused.
 
 use station_command::{Failure, text_of, words};
-use std::alloc::{AllocError, Global};
+use std::alloc::Global;
 use std::env::{Env, FillError};
-use std::test::Fail;
+use std::process::Abort;
 
-/// The text of a file; where memory is lacking it is read once more.
-fn read(rt: &HostRuntime, file: &str) -> Result<String, Failure> {
+/// Why a file can't be read, if it can't; where memory is lacking it is read once more.
+fn failure_at(rt: &HostRuntime, file: &str) -> Option<Failure> {
     match text_of(rt, file) {
-        Err(Failure::OutOfMemory) => text_of(rt, file),
-        answer => answer,
+        Err(Failure::OutOfMemory) => text_of(rt, file).err(),
+        answer => answer.err(),
     }
 }
 
-/// What is told where a file can't be read, if it can't; where memory is lacking it is made once more.
-fn told(rt: &HostRuntime, file: &str) -> Result<Option<String>, Fail> {
-    let Err(failure) = read(rt, file) else {
-        return Ok(None);
-    };
-    match format!(in rt.alloc(); "{failure}") {
-        Ok(text) => Ok(Some(text)),
-        Err(_) => Ok(Some(format!(in rt.alloc(); "{failure}")?)),
+/// What is told for a failure; where memory is lacking it is made once more.
+fn line_of(rt: &impl Abort, alloc: Global, failure: &Failure) -> String {
+    match format!(in alloc; "{failure}") {
+        Ok(text) => text,
+        Err(_) => format!(in alloc; "{failure}").expect(rt, "a line"),
     }
 }
 
 #[test]
-fn a_file_that_is_not_there_cannot_be_read(rt: HostRuntime) -> Result<(), Fail> {
-    let told = told(&rt, "no/such file.toml")?.ok_or("a failure")?;
-    assert!(rt; told.as_str() == "cannot read no/such file.toml");
-    Ok(())
+fn a_file_that_is_not_there_cannot_be_read(rt: HostRuntime) {
+    let failure = failure_at(&rt, "no/such file.toml").expect(&rt, "a failure");
+    let line = line_of(&rt, rt.alloc(), &failure);
+    assert!(rt; line.as_str() == "cannot read no/such file.toml", "{line}");
 }
 
 /// A command line of these words.
@@ -64,34 +61,28 @@ fn words_of(alloc: Global, line: &Line) -> Result<Vec<String>, Failure> {
     }
 }
 
-/// What is told for a failure; where memory is lacking it is made once more.
-fn line_of(alloc: Global, failure: &Failure) -> Result<String, AllocError> {
-    match format!(in alloc; "{failure}") {
-        Ok(text) => Ok(text),
-        Err(_) => format!(in alloc; "{failure}"),
-    }
-}
-
 const SOUND: Line = Line(&[b"station", b"check", b"caf\xc3\xa9.toml"]);
 
 const NO_TEXT: Line = Line(&[b"station", b"check", b"caf\xe9.toml", b"\xff"]);
 
-#[test]
-fn all_words_are_read(rt: HostRuntime) -> Result<(), Fail> {
-    let Ok(words) = words_of(rt.alloc(), &SOUND) else {
-        return Err(Fail::from("no words"));
-    };
-    assert!(rt; words.len() == 3);
-    assert!(rt; words.last().ok_or("a word")?.as_str() == "caf\u{e9}.toml");
-    Ok(())
+/// Whether the last of three words is this one.
+fn ends_with(words: &[String], wanted: &str) -> bool {
+    match words {
+        [_, _, last] => last.as_str() == wanted,
+        _ => false,
+    }
 }
 
 #[test]
-fn the_first_word_that_is_no_text_is_told(rt: HostRuntime) -> Result<(), Fail> {
-    let Err(failure) = words_of(rt.alloc(), &NO_TEXT) else {
-        return Err(Fail::from("words"));
-    };
-    assert!(rt; line_of(rt.alloc(), &failure)?.as_str() == "argument 2 is not UTF-8");
+fn all_words_are_read(rt: HostRuntime) {
+    let words = words_of(rt.alloc(), &SOUND).expect(&rt, "words");
+    assert!(rt; ends_with(&words, "caf\u{e9}.toml"));
+}
+
+#[test]
+fn the_first_word_that_is_no_text_is_told(rt: HostRuntime) {
+    let failure = words_of(rt.alloc(), &NO_TEXT).expect_err(&rt, "no text");
+    let line = line_of(&rt, rt.alloc(), &failure);
+    assert!(rt; line.as_str() == "argument 2 is not UTF-8", "{line}");
     assert!(rt; failure.status() == 2);
-    Ok(())
 }

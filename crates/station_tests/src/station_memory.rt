@@ -2,6 +2,7 @@
 //! refused, and with all refused from any one on. So nothing here takes memory but what is tried, and the room for answers.
 
 use station_sim::{replay_text, sim_text};
+use std::alloc::Global;
 
 /// One track with a route over it.
 const LAYOUT: &str = "section = [\"GA\"]
@@ -75,6 +76,18 @@ fn may_come(answers: &[(u8, &str)], status: u8, out: &[u8], err: &[u8]) -> bool 
     false
 }
 
+/// Whether the lines are answered as they may be.
+fn are_lines_answered(alloc: Global, out: &mut Vec<u8>, err: &mut Vec<u8>) -> bool {
+    let status = sim_text(alloc, LAYOUT, LINES, out, err);
+    may_come(&ANSWERS, status, out.as_slice(), err.as_slice())
+}
+
+/// Whether the session is answered as it may be.
+fn is_session_answered(alloc: Global, out: &mut Vec<u8>, err: &mut Vec<u8>) -> bool {
+    let status = replay_text(alloc, LAYOUT, SESSION, out, err);
+    may_come(&VERDICTS, status, out.as_slice(), err.as_slice())
+}
+
 #[test]
 fn texts_are_answered_or_want_of_memory_is_told(rt: HostRuntime) {
     let out: Result<_, _> = Vec::with_capacity(rt.alloc(), 128);
@@ -82,10 +95,8 @@ fn texts_are_answered_or_want_of_memory_is_told(rt: HostRuntime) {
     let (Ok(mut out), Ok(mut err)) = (out, err) else {
         return;
     };
-    let status = sim_text(rt.alloc(), LAYOUT, LINES, &mut out, &mut err);
-    assert!(rt; may_come(&ANSWERS, status, out.as_slice(), err.as_slice()));
+    assert!(rt; are_lines_answered(rt.alloc(), &mut out, &mut err));
     out.clear();
     err.clear();
-    let status = replay_text(rt.alloc(), LAYOUT, SESSION, &mut out, &mut err);
-    assert!(rt; may_come(&VERDICTS, status, out.as_slice(), err.as_slice()));
+    assert!(rt; is_session_answered(rt.alloc(), &mut out, &mut err));
 }

@@ -49,8 +49,8 @@ fn was_lacking(told: &[u8]) -> bool {
 
 /// A writer that takes so many bytes and then fails.
 #[derive(Drop)]
-struct Failing {
-    left: usize,
+pub(crate) struct Failing {
+    pub(crate) left: usize,
 }
 
 impl Write for Failing {
@@ -82,10 +82,13 @@ impl Write for Withholding {
     }
 }
 
+/// How many bytes are taken of a report before a write fails.
+const TAKEN: [usize; 5] = [0, 1, 40, 50, REPORT_LENGTH - 1];
+
 #[test]
 fn a_report_that_is_not_written_ends_with_status_1(rt: HostRuntime) {
-    for left in [0, 1, 40, 50, REPORT_LENGTH - 1] {
-        let status = status_on(rt.alloc(), &mut Failing { left });
+    for left in &TAKEN {
+        let status = status_on(rt.alloc(), &mut Failing { left: *left });
         assert!(rt; status == Some(1), "after {left} bytes");
     }
     assert!(rt; status_on(rt.alloc(), &mut Withholding) == Some(1));
@@ -115,35 +118,40 @@ impl Write for Slow {
     }
 }
 
-/// Tells what is wrong with a text that is no TOML, to a writer; nothing is reported on it.
-fn tell<E: Write>(alloc: Global, err: &mut E) -> u8 {
+/// Whether what is wrong with a text that is no TOML is told to a writer with status 1; nothing is reported on it.
+fn tells<E: Write>(alloc: Global, err: &mut E) -> bool {
     let mut out: ArrayVec<u8, 40> = ArrayVec::new();
-    let status = check_text(alloc, NO_LAYOUT, &mut out, err);
-    if out.is_empty() { status } else { 0 }
+    check_text(alloc, NO_LAYOUT, &mut out, err) == 1 && out.is_empty()
+}
+
+/// Whether the first bytes of the fault are told to a writer that has no room for more.
+fn is_cut(alloc: Global) -> bool {
+    let mut room: ArrayVec<u8, 14> = ArrayVec::new();
+    let mut is_told = tells(alloc, &mut room);
+    if room.as_slice() == b"layout fault 8".as_slice() {
+        room.clear();
+        is_told = is_told && tells(alloc, &mut room);
+    }
+    is_told && room.as_slice() == b"layout fault 1".as_slice()
+}
+
+/// Whether the whole fault is told to a slow writer.
+fn is_whole(alloc: Global) -> bool {
+    let mut slow = Slow {
+        told: ArrayVec::new(),
+        is_interrupted: false,
+    };
+    let mut is_told = tells(alloc, &mut slow);
+    if was_lacking(slow.told.as_slice()) {
+        slow.told.clear();
+        is_told = is_told && tells(alloc, &mut slow);
+    }
+    is_told && slow.told.as_slice() == b"layout fault 1 Toml\n".as_slice()
 }
 
 #[test]
 fn a_fault_is_told_as_far_as_it_is_taken(rt: HostRuntime) {
-    assert!(rt; tell(rt.alloc(), &mut Failing { left: 3 }) == 1);
-    let mut room: ArrayVec<u8, 14> = ArrayVec::new();
-    assert!(rt; tell(rt.alloc(), &mut room) == 1);
-    if room.as_slice() == b"layout fault 8".as_slice() {
-        room.clear();
-        tell(rt.alloc(), &mut room);
-    }
-    assert!(rt; room.as_slice() == b"layout fault 1".as_slice());
-}
-
-#[test]
-fn a_slow_writer_is_told_the_whole_fault(rt: HostRuntime) {
-    let mut err = Slow {
-        told: ArrayVec::new(),
-        is_interrupted: false,
-    };
-    assert!(rt; tell(rt.alloc(), &mut err) == 1);
-    if was_lacking(err.told.as_slice()) {
-        err.told.clear();
-        tell(rt.alloc(), &mut err);
-    }
-    assert!(rt; err.told.as_slice() == b"layout fault 1 Toml\n".as_slice());
+    assert!(rt; tells(rt.alloc(), &mut Failing { left: 3 }));
+    assert!(rt; is_cut(rt.alloc()));
+    assert!(rt; is_whole(rt.alloc()));
 }
