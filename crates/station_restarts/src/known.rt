@@ -5,16 +5,25 @@ use station_sim::simulator_event::{Event, NodeId};
 /// How many microseconds a millisecond has.
 const MICROS: u64 = 1000;
 
+/// With which clock and which number a node is made anew.
+#[derive(Clone, Copy)]
+pub(crate) enum Way {
+    /// 0 and 0.
+    Zero,
+    /// Its clock, and the number that it began with.
+    Clock,
+}
+
 /// A node as events leave it.
 #[derive(Clone, Copy)]
 pub(crate) struct Known {
-    pub(crate) node: NodeId,
+    node: NodeId,
     /// For how long it has stood since it was made, in microseconds of true time.
     pub(crate) age: u64,
     /// Its clock, in microseconds.
     clock: u64,
     /// The number that it was made with.
-    pub(crate) first: u32,
+    first: u32,
 }
 
 impl Known {
@@ -26,20 +35,6 @@ impl Known {
             clock: 0,
             first: 0,
         }
-    }
-
-    /// A node behind some events.
-    pub(crate) fn behind(node: NodeId, events: &[Event]) -> Known {
-        let mut known = Known::new(node);
-        for event in events {
-            known.pass(event);
-        }
-        known
-    }
-
-    /// The clock of the node, in whole milliseconds.
-    pub(crate) fn millis(&self) -> u64 {
-        self.clock / MICROS
     }
 
     /// An event happened.
@@ -54,12 +49,25 @@ impl Known {
                 node,
                 clock,
                 first_sequence_number,
-            } if *node == self.node => {
+            } if node.0 == self.node.0 => {
                 self.age = 0;
                 self.clock = clock.saturating_mul(MICROS);
                 self.first = *first_sequence_number;
             }
             _ => {}
+        }
+    }
+
+    /// That the node is made anew.
+    pub(crate) fn restart(&self, way: Way) -> Event {
+        let (clock, first_sequence_number) = match way {
+            Way::Zero => (0, 0),
+            Way::Clock => (self.clock / MICROS, self.first),
+        };
+        Event::Restart {
+            node: self.node,
+            clock,
+            first_sequence_number,
         }
     }
 }

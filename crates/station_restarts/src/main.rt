@@ -9,18 +9,30 @@
 //! interlocking is also made anew a second and a third time. The station has to be safe after every event. Since a node was
 //! made anew, datagrams that were never sent so (2) and points that aren't driven so (4) may be refused; commands are refused
 //! 2 in the hold alone.
+//!
+//! Functions that only pass on what a `World` answers have no clauses: so those above them are proved over little.
 #![tactic(auto)]
 
+mod fault;
 mod known;
 mod lists;
-mod made;
 mod rounds;
 mod run;
 mod tally;
-mod watched;
+mod trials;
+mod watch;
+mod worlds;
 
 use crate::lists::make_anew;
+use std::process::ExitCode;
 
-fn main(rt: HostRuntime) -> anyhow::Result<()> {
-    make_anew(&rt)
+fn main(rt: HostRuntime) -> ExitCode {
+    match make_anew(&rt) {
+        Ok(()) => ExitCode::SUCCESS,
+        Err(fault) => {
+            // Where this can't be written, the status has to do.
+            let _ = eprintln!(rt; "Error: {fault}");
+            ExitCode::FAILURE
+        }
+    }
 }

@@ -1,117 +1,101 @@
-//! A run in which a node is made anew.
+//! A run on a station that is looked at after every event.
 
-use crate::known::Known;
+use crate::fault::Fault;
+use crate::known::Way;
+use crate::rounds::{POINTS, ROUND, Rounds, time};
 use crate::tally::{Tally, count};
-use crate::watched::Watched;
-use anyhow::Context;
+use crate::watch::Watch;
+use crate::worlds::{answer, delivery, is_open, new_world, nodes, sent};
+use station_sim::control_table::Checked;
 use station_sim::replay_lines::SimLine;
-use station_sim::simulator_event::Event;
-use std::alloc::Global;
+use station_sim::simulator::World;
+use station_sim::simulator_event::{Event, NodeId};
+use std::alloc::{AllocError, Global};
 
 /// After how many microseconds a node is made anew again.
 const AGAIN: u64 = 1_500_000;
 
-/// How many milliseconds a round has.
-pub(crate) const ROUND: u64 = 100;
-
-/// With which clock and which number a node is made anew.
-#[derive(Clone, Copy)]
-pub(crate) enum Way {
-    /// 0 and 0.
-    Zero,
-    /// Its clock, and the number that it began with.
-    Clock,
-}
-
-/// A station of which a node is made anew.
+/// A station with one node that may be made anew.
 #[derive(Drop)]
 pub(crate) struct Run {
-    station: Watched,
-    known: Known,
+    world: World,
+    /// The events that it kept, among them those of its rounds.
+    pub(crate) events: Vec<Event>,
+    rounds: Rounds,
+    pub(crate) watch: Watch,
     way: Way,
     /// How many times the node is still made anew.
     left: u8,
 }
 
-impl Way {
-    /// That a node is made anew.
-    fn restart(self, known: &Known) -> Event {
-        let (clock, first_sequence_number) = match self {
-            Way::Zero => (0, 0),
-            Way::Clock => (known.millis(), known.first),
-        };
-        Event::Restart {
-            node: known.node,
-            clock,
-            first_sequence_number,
-        }
-    }
-}
-
 impl Run {
-    /// A run on a station, of which a node is made anew in a way so many times.
-    pub(crate) fn new(station: Watched, known: Known, way: Way, left: u8) -> Run {
-        Run {
-            station,
-            known,
-            way,
-            left,
-        }
-    }
-
-    /// Makes the node anew, and applies what follows to the end of the run.
-    pub(crate) fn play(
-        &mut self,
+    /// A new station, behind what happened on others. Its node is made anew in a way.
+    pub(crate) fn new(
         alloc: Global,
-        events: &[Event],
-        rounds: &[SimLine],
-        tally: &mut Tally,
-    ) -> anyhow::Result<()> {
-        self.make_anew(tally)?;
-        self.apply_all(events, tally)?;
-        self.carry_out(alloc, rounds, tally)?;
-        self.end(tally);
-        Ok(())
+        table: &Checked,
+        node: NodeId,
+        way: Way,
+        tally: Tally,
+    ) -> Result<Run, AllocError> {
+        Ok(Run {
+            world: new_world(alloc, table)?,
+            events: Vec::new(alloc),
+            rounds: Rounds::new(),
+            watch: Watch::new(node, tally),
+            way,
+            left: 0,
+        })
     }
 
-    /// Makes the node anew.
-    fn make_anew(&mut self, tally: &mut Tally) -> anyhow::Result<()> {
-        self.left = self.left.saturating_sub(1);
-        let event = self.way.restart(&self.known);
-        self.known.pass(&event);
-        self.station.apply(&event, tally)
+    /// Makes the node anew now and so many times later.
+    pub(crate) fn make_anew(&mut self, later: u8) -> Result<(), Fault> {
+        self.left = later;
+        let event = self.watch.node.restart(self.way);
+        self.look(&event)
     }
 
-    /// Applies events, and makes the node anew again where it is time.
-    fn apply_all(&mut self, events: &[Event], tally: &mut Tally) -> anyhow::Result<()> {
-        for (place, event) in events.iter().enumerate() {
-            self.apply(event, tally)
-                .context(format_args!("at event {place} behind it"))?;
+    /// Applies an event, and looks at the station. It fails where anything is wrong.
+    fn look(&mut self, event: &Event) -> Result<(), Fault> {
+        if matches!(event, Event::Restart { .. }) && is_open(&self.world) {
+            count(&mut self.watch.tally.open);
         }
-        Ok(())
+        let reply = answer(&mut self.world, event)?;
+        self.watch.pass(event);
+        self.watch.judge(reply)
     }
 
     /// Applies an event, and makes the node anew again where it is time.
-    fn apply(&mut self, event: &Event, tally: &mut Tally) -> anyhow::Result<()> {
-        self.station.apply(event, tally)?;
-        self.known.pass(event);
-        if self.left > 0 && self.known.age >= AGAIN {
-            self.make_anew(tally)?;
+    pub(crate) fn apply(&mut self, event: &Event) -> Result<(), Fault> {
+        self.look(event)?;
+        if self.left > 0 && self.watch.node.age >= AGAIN {
+            return self.make_anew(self.left - 1);
         }
         Ok(())
     }
 
+    /// Applies events, and makes the node anew again where it is time.
+    pub(crate) fn apply_all(&mut self, events: &[Event]) -> Result<(), Fault> {
+        for event in events {
+            self.apply(event)?;
+        }
+        Ok(())
+    }
+
+    /// Applies an event, and keeps it.
+    pub(crate) fn keep(&mut self, event: Event) -> Result<(), Fault> {
+        let applied = self.apply(&event);
+        match self.events.push(event) {
+            Ok(()) => applied,
+            Err(_) => Err(Fault::OutOfMemory),
+        }
+    }
+
     /// Carries out lines, whose flows are rounds that begin with what the station has sent.
-    fn carry_out(
-        &mut self,
-        alloc: Global,
-        lines: &[SimLine],
-        tally: &mut Tally,
-    ) -> anyhow::Result<()> {
+    pub(crate) fn follow(&mut self, alloc: Global, lines: &[SimLine]) -> Result<(), Fault> {
         for line in lines {
             match line {
-                SimLine::Event(event) => self.apply(event, tally)?,
-                SimLine::Flow(length) => self.flow(alloc, *length, tally)?,
+                SimLine::Event(event) => self.apply(event)?,
+                SimLine::Flow(length) => self.flow(alloc, *length)?,
                 SimLine::Picture => {}
             }
         }
@@ -119,20 +103,63 @@ impl Run {
     }
 
     /// Makes rounds for so many milliseconds.
-    fn flow(&mut self, alloc: Global, length: u64, tally: &mut Tally) -> anyhow::Result<()> {
+    pub(crate) fn flow(&mut self, alloc: Global, length: u64) -> Result<(), Fault> {
         for _ in 0..length / ROUND {
-            let events = self.station.next_round(alloc)?;
-            self.apply_all(&events, tally)?;
-            self.station.rest();
+            self.round(alloc)?;
         }
         Ok(())
     }
 
-    /// Counts the run, which ends.
-    fn end(&self, tally: &mut Tally) {
-        count(&mut tally.runs);
-        if self.station.is_open() {
-            count(&mut tally.open_later);
+    /// Makes a round.
+    fn round(&mut self, alloc: Global) -> Result<(), Fault> {
+        let (nodes, sent) = (nodes(&self.world), sent(&self.world));
+        match time(alloc, nodes) {
+            Ok(event) => self.keep(event)?,
+            Err(_) => return Err(Fault::OutOfMemory),
+        }
+        self.deliver(alloc, sent)?;
+        self.tick(nodes)?;
+        self.reach()?;
+        self.rounds.rest(&self.world);
+        Ok(())
+    }
+
+    /// What was sent up to here arrives.
+    fn deliver(&mut self, alloc: Global, sent: usize) -> Result<(), Fault> {
+        for place in self.rounds.passed..sent {
+            match delivery(alloc, &self.world, place) {
+                Ok(Some(event)) => self.keep(event)?,
+                Ok(None) => {}
+                Err(_) => return Err(Fault::OutOfMemory),
+            }
+        }
+        self.rounds.passed = sent;
+        Ok(())
+    }
+
+    /// Every node is called.
+    fn tick(&mut self, nodes: usize) -> Result<(), Fault> {
+        for node in 0..nodes {
+            self.keep(Event::Tick(NodeId(node)))?;
+        }
+        Ok(())
+    }
+
+    /// Points come to lie that were found driven for long enough.
+    fn reach(&mut self) -> Result<(), Fault> {
+        for place in 0..POINTS {
+            if let Some(event) = self.rounds.reach(place) {
+                self.keep(event)?;
+            }
+        }
+        Ok(())
+    }
+
+    /// The run ends, and is counted.
+    pub(crate) fn end(&mut self) {
+        count(&mut self.watch.tally.runs);
+        if is_open(&self.world) {
+            count(&mut self.watch.tally.open_later);
         }
     }
 }

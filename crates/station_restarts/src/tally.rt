@@ -3,7 +3,7 @@
 use std::fmt;
 
 /// How often what happened.
-#[derive(Default, Drop)]
+#[derive(Clone, Copy)]
 pub(crate) struct Tally {
     pub(crate) runs: u64,
     /// Events behind which the station was looked at.
@@ -18,6 +18,21 @@ pub(crate) struct Tally {
     pub(crate) undriven: u64,
     /// Commands that came in the hold.
     pub(crate) held_back: u64,
+}
+
+impl Tally {
+    /// Nothing has happened.
+    pub(crate) fn new() -> Tally {
+        Tally {
+            runs: 0,
+            events: 0,
+            open: 0,
+            open_later: 0,
+            unsent: 0,
+            undriven: 0,
+            held_back: 0,
+        }
+    }
 }
 
 impl fmt::Display for Tally {

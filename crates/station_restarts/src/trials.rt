@@ -1,0 +1,144 @@
+//! The runs of a list.
+
+use crate::fault::Fault;
+use crate::known::Way;
+use crate::run::Run;
+use crate::tally::Tally;
+use crate::watch::STATION;
+use station_sim::control_table::Checked;
+use station_sim::ixl_rules::Command;
+use station_sim::replay_lines::SimLine;
+use station_sim::simulator_event::{Event, NodeId};
+use std::alloc::Global;
+
+/// How many more times the interlocking is made anew in every second run.
+const MORE: u8 = 2;
+
+/// A list.
+#[derive(Drop)]
+pub(crate) struct List<'a> {
+    pub(crate) name: &'a str,
+    pub(crate) table: &'a Checked,
+    pub(crate) events: &'a [Event],
+    /// What follows behind the events.
+    pub(crate) rounds: &'a [SimLine],
+    /// Nodes are made anew behind the first of so many events.
+    pub(crate) step: usize,
+}
+
+/// What is tried in a run: a node is made anew in a way behind so many events, and so many times later.
+#[derive(Clone, Copy)]
+struct Trial {
+    node: NodeId,
+    place: usize,
+    way: Way,
+    later: u8,
+}
+
+/// The events that lines come to on a new station, where rounds of 100 ms stand for their flows.
+pub(crate) fn events_of(
+    alloc: Global,
+    table: &Checked,
+    lines: Vec<SimLine>,
+) -> Result<Vec<Event>, Fault> {
+    let Ok(mut run) = Run::new(alloc, table, STATION, Way::Zero, Tally::new()) else {
+        return Err(Fault::OutOfMemory);
+    };
+    match keep_all(alloc, &mut run, lines) {
+        Ok(()) => Ok(run.events),
+        Err(fault) => Err(fault),
+    }
+}
+
+/// Keeps what lines come to.
+fn keep_all(alloc: Global, run: &mut Run, lines: Vec<SimLine>) -> Result<(), Fault> {
+    for line in lines {
+        match line {
+            SimLine::Event(event) => run.keep(event)?,
+            SimLine::Flow(length) => run.flow(alloc, length)?,
+            SimLine::Picture => {}
+        }
+    }
+    Ok(())
+}
+
+/// The place of the first request of a route.
+fn first_request(events: &[Event]) -> Option<usize> {
+    events.iter().position(|event| matches!(event, Event::Request(Command::Request(_))))
+}
+
+impl List<'_> {
+    /// Makes a node anew at each place from the first request on, and tells what happened.
+    pub(crate) fn try_node(&self, rt: &HostRuntime, node: NodeId) -> Result<Tally, Fault> {
+        let Some(first) = first_request(self.events) else {
+            return Err(Fault::Request);
+        };
+        let mut tally = Tally::new();
+        for place in (first..=self.events.len()).step_by(self.step.max(1)) {
+            self.try_place(rt, node, place, &mut tally)?;
+        }
+        Ok(tally)
+    }
+
+    /// Makes a node anew behind so many events, the interlocking also more often.
+    fn try_place(
+        &self,
+        rt: &HostRuntime,
+        node: NodeId,
+        place: usize,
+        tally: &mut Tally,
+    ) -> Result<(), Fault> {
+        for way in [Way::Zero, Way::Clock] {
+            let trial = Trial {
+                node,
+                place,
+                way,
+                later: 0,
+            };
+            self.carry_out(rt, trial, tally)?;
+            if node.0 == STATION.0 {
+                let later = MORE;
+                self.carry_out(rt, Trial { later, ..trial }, tally)?;
+            }
+        }
+        Ok(())
+    }
+
+    /// Makes a run, and tells which one it was where it fails, and behind how many events.
+    fn carry_out(&self, rt: &HostRuntime, trial: Trial, tally: &mut Tally) -> Result<(), Fault> {
+        let begun = tally.events;
+        let tried = self.run(rt.alloc(), trial, tally);
+        if tried.is_err() {
+            let (name, node, place) = (self.name, trial.node.0, trial.place);
+            let events = tally.events.saturating_sub(begun);
+            // Where this can't be written, the fault has to do.
+            let _ = eprintln!(rt;
+                "{name}: node {node} behind {place} events: fails behind {events}"
+            );
+        }
+        tried
+    }
+
+    /// Plays a run to its end.
+    fn run(&self, alloc: Global, trial: Trial, tally: &mut Tally) -> Result<(), Fault> {
+        let Ok(mut run) = Run::new(alloc, self.table, trial.node, trial.way, *tally) else {
+            return Err(Fault::OutOfMemory);
+        };
+        let played = self.play(alloc, trial, &mut run);
+        *tally = run.watch.tally;
+        played
+    }
+
+    /// Applies the events up to the trial's place, makes the node anew, and applies what follows.
+    fn play(&self, alloc: Global, trial: Trial, run: &mut Run) -> Result<(), Fault> {
+        let Some((before, behind)) = self.events.split_at_checked(trial.place) else {
+            return Err(Fault::Request);
+        };
+        run.apply_all(before)?;
+        run.make_anew(trial.later)?;
+        run.apply_all(behind)?;
+        run.follow(alloc, self.rounds)?;
+        run.end();
+        Ok(())
+    }
+}
