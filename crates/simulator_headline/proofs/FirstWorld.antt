@@ -1,7 +1,10 @@
--- The first world, seen by the first state of the machine.
-use Rattle.std.proofs.Common.{◌≡◌, ◌∙◌, true, false, ℕ, ◌<◌, ◌≤◌, List, [], ◌∷◌, map, Some, refl, sym, ap, subst, arith}
+-- A station as it lies when it is started, seen by the first state of the machine.
+use Rattle.std.proofs.Common.{◌≡◌, ◌∙◌, true, false, ℕ, ◌<◌, ◌≤◌, List, [], ◌∷◌, length, map, Some, option_map, refl, sym, ap, subst, arith}
+use Rattle.std.specs.List.{zip}
 use Rattle.std.specs.Prelude.{slice_get}
 use Rattle.std.proofs.lemmas.Bool.{false≢true}
+use Rattle.std.proofs.lemmas.Option.{get_or_from_slice_get, slice_get-map}
+use Rattle.std.proofs.lemmas.Slice.Zip.{firsts-zip, seconds-zip}
 use Rattle.simulator_run.specs.sci_telegram.Names.{IsName}
 use Rattle.simulator_run.specs.sci_telegram.declared.message.Position.{Position}
 use Rattle.simulator_run.specs.sci_telegram.declared.message.Position.TheVariants as positions
@@ -39,13 +42,13 @@ use Rattle.simulator_machine_interlocking.specs.Made.{IsJustMade, IsMadeClient, 
 use Rattle.simulator_machine_interlocking.specs.Nodes.{IsOfPoint, phase_seen}
 use Rattle.simulator_machine_interlocking.specs.Rows.{machine_table}
 use Rattle.simulator_machine_interlocking.specs.Sees.{Given, Sees}
-use Rattle.simulator_run.specs.First.{Beginning, at_zero, first_server, host_of, first_world, new_ixl, new_known_signal_of, new_point, new_route_of, new_signal, new_known_point_of}
+use Rattle.simulator_run.specs.First.{Beginning, IsOutsetOf, Outset, at_zero, first_server, host_of, new_ixl, new_known_signal_of, new_point, new_route_of, new_signal, new_known_point_of, point_standing, world_at}
 use Rattle.simulator_run.specs.Links.{names_at, starts_at_zero}
 use Rattle.simulator_run.specs.Nodes.{links, names_of, point_link}
 use Rattle.simulator_run.specs.State.{ServerState}
 use Rattle.simulator_run_links.specs.Whole.{IsNamed, IsWhole}
 use Rattle.simulator_headline.specs.Represents.{AreFrozen, ArePointsSeen, AreSignalsSeen, IsHostOf, IsStationSeen, given_in}
-use Rattle.simulator_headline.specs.Seen.{AreHeldPairs}
+use Rattle.simulator_headline.specs.Seen.{AreHeldPairs, positions_at}
 use Rattle.simulator_headline.proofs.WorldLists.{contains_none, get_map, map_length, some_injective}
 
 -- ---- an interlocking that was just made
@@ -84,18 +87,21 @@ pub record FirstLaws : Type 0 where
   pub quiet : (ixl : IxlState) (positions : ℕ → machine.Position) → IsQuietMachine ixl (first positions)
   pub holds : (site : Site) (table : Table) (begins : Beginning) → begins.clock ≤ 9000000000000 → is_holding begins.clock (new_ixl site table begins) ≡ true
 
--- what is seen as the left side is it
-is_left : (position : Position) → Some machine.Left ≡ position_seen position → position ≡ positions.Left
-is_left positions.Left same = refl
-is_left positions.Right same = absurd (cc (same))
-is_left positions.NoEndPosition same = absurd (cc (same))
+-- what stands at a place of a list of pairs
+module _ {A B : Type 0} (xs : List A) (ys : List B) (same : length ys ≡ length xs) (place : ℕ) (both : A × B) (at : slice_get (zip xs ys) place ≡ Some both) where
+  first_of_pair : slice_get xs place ≡ Some both.0
+  first_of_pair = ap (λ l. slice_get l place) (sym (firsts-zip xs ys same)) ∙ (slice_get-map (λ (p : A × B). p.0) (zip xs ys) place ∙ ap (option_map (λ (p : A × B). p.0)) at)
 
-module _ (laws : FirstLaws) (site : Site) (table : Table) (lawful : AreLawful (links site) (names_at site) (begun (names_at site) starts_at_zero)) (whole : IsWhole site (first_world site table)) where
+  second_of_pair : slice_get ys place ≡ Some both.1
+  second_of_pair = ap (λ l. slice_get l place) (sym (seconds-zip xs ys same)) ∙ (slice_get-map (λ (p : A × B). p.1) (zip xs ys) place ∙ ap (option_map (λ (p : A × B). p.1)) at)
+
+module _ (laws : FirstLaws) (site : Site) (table : Table) (outset : Outset) (lies : IsOutsetOf site outset) (lawful : AreLawful (links site) (names_at site) (begun (names_at site) starts_at_zero))
+    (whole : IsWhole site (world_at site table outset)) where
   abbrev network : Links
   network = begun (names_at site) starts_at_zero
 
   abbrev begins : Machine
-  begins = first (λ place. Some machine.Left)
+  begins = first (positions_at outset)
 
   fit_at : (link : ℕ) → link < links site → AreFit (started (names_at site link) (start_of link starts_at_zero))
   fit_at link below = laws.fit (names_at site link) (seen link network) (laws.each (links site) (names_at site) network lawful link below)
@@ -112,10 +118,10 @@ module _ (laws : FirstLaws) (site : Site) (table : Table) (lawful : AreLawful (l
   one_signal place entry at =
       let named = laws.signal_named site place entry at
       in subst (λ (names : Names). IsSignalSeen (seen place network) (new_host signal_behaviour (identity_of role.Server names) entry.name site.station.name 0 0 (record { lamp = new_lamp; owes = false }) (telegram_version site)) (begins.signals place))
-      named.1 (laws.signals (names_at site place) (start_of place starts_at_zero) entry.name site.station.name (record { lamp = new_lamp; owes = false }) (telegram_version site) place (λ place. Some machine.Left) (fit_at place named.0))
+      named.1 (laws.signals (names_at site place) (start_of place starts_at_zero) entry.name site.station.name (record { lamp = new_lamp; owes = false }) (telegram_version site) place (positions_at outset) (fit_at place named.0))
 
-  pub first_signals : AreSignalsSeen site network (first_world site table).signals begins
-  unfolding first_world
+  pub first_signals : AreSignalsSeen site network (world_at site table outset).signals begins
+  unfolding world_at
   first_signals = record {
     each = λ place server at.
         let found = get_map signal_made site.signals place server at
@@ -126,51 +132,61 @@ module _ (laws : FirstLaws) (site : Site) (table : Table) (lawful : AreLawful (l
         in subst (λ (s : ServerState SignalState). IsHostOf site entry.name s.host) (ap signal_made (sym same) ∙ found.2) (host_is signal_behaviour entry.name entry.id (record { lamp = new_lamp; owes = false }));
   }
 
-  abbrev point_made : Point → ServerState PointState
-  point_made entry = first_server (new_point site at_zero positions.Left entry)
-
-  abbrev positions_made : List Position
-  positions_made = map (λ (entry : Point). positions.Left) site.points
+  abbrev stood : List (Point × Position)
+  stood = zip site.points outset.positions
 
   -- the names of a point's host
-  point_names : (place : ℕ) (entry : Point) → slice_get (map point_made site.points) place ≡ Some (point_made entry) → IsNamed (new_point site at_zero positions.Left entry)
-  unfolding first_world
-  point_names place entry at = whole.points_named place (point_made entry) at
+  point_names : (place : ℕ) (both : Point × Position) → slice_get (map (point_standing site) stood) place ≡ Some (point_standing site both) → IsNamed (new_point site at_zero both.1 both.0)
+  unfolding world_at
+  point_names place both at = whole.points_named place (point_standing site both) at
 
-  one_point : (place : ℕ) (entry : Point) → slice_get site.points place ≡ Some entry → IsNamed (new_point site at_zero positions.Left entry)
-      → IsPointSeen (seen (point_link site place) network) (new_point site at_zero positions.Left entry) (begins.points place)
+  -- the machine's point stands where the point does
+  position_is : (place : ℕ) (both : Point × Position) → slice_get stood place ≡ Some both → positions_at outset place ≡ position_seen both.1
+  position_is place both at =
+      ap position_seen (get_or_from_slice_get outset.positions place both.1 positions.NoEndPosition (second_of_pair site.points outset.positions lies.positions place both at))
+
+  one_point : (place : ℕ) (both : Point × Position) → slice_get stood place ≡ Some both → IsNamed (new_point site at_zero both.1 both.0)
+      → IsPointSeen (seen (point_link site place) network) (new_point site at_zero both.1 both.0) (begins.points place)
   unfolding new_host keeping
-  one_point place entry at names =
-      let named = laws.point_named site place entry at
-      in subst (λ (names : Names). IsPointSeen (seen (point_link site place) network) (new_host point_behaviour (identity_of role.Server names) entry.name site.station.name 0 0 (made positions.Left) (telegram_version site)) (begins.points place))
-      named.1 (laws.points (names_at site (point_link site place)) (start_of (point_link site place) starts_at_zero) entry.name site.station.name (made positions.Left) (telegram_version site) place (λ place. Some machine.Left)
-      (fit_at (point_link site place) named.0) names.own_name names.peer_name names.version refl)
+  one_point place both at names =
+      let entry = both.0
+      in let named = laws.point_named site place entry (first_of_pair site.points outset.positions lies.positions place both at)
+      in subst (λ (names : Names). IsPointSeen (seen (point_link site place) network) (new_host point_behaviour (identity_of role.Server names) entry.name site.station.name 0 0 (made both.1) (telegram_version site)) (begins.points place))
+      named.1 (laws.points (names_at site (point_link site place)) (start_of (point_link site place) starts_at_zero) entry.name site.station.name (made both.1) (telegram_version site) place (positions_at outset)
+      (fit_at (point_link site place) named.0) names.own_name names.peer_name names.version (position_is place both at))
 
-  each_point : (place : ℕ) (server : ServerState PointState) → slice_get (map point_made site.points) place ≡ Some server → IsPointSeen (seen (point_link site place) network) server.host (begins.points place)
+  each_point : (place : ℕ) (server : ServerState PointState) → slice_get (map (point_standing site) stood) place ≡ Some server → IsPointSeen (seen (point_link site place) network) server.host (begins.points place)
   each_point place server at =
-      let found = get_map point_made site.points place server at
+      let found = get_map (point_standing site) stood place server at
       in subst (λ (s : ServerState PointState). IsPointSeen (seen (point_link site place) network) s.host (begins.points place)) found.2
       (one_point place found.0 found.1 (point_names place found.0 (at ∙ ap (λ s. Some s) (sym found.2))))
 
-  pub first_points : ArePointsSeen site network (first_world site table).points (first_world site table).positions begins
-  unfolding first_world
-  first_points = record {
-    each = each_point;
-    hosts = λ place entry server is at.
-        let found = get_map point_made site.points place server at
-        in let same : found.0 ≡ entry = some_injective found.0 entry (sym found.1 ∙ is)
-        in subst (λ (s : ServerState PointState). IsHostOf site entry.name s.host) (ap point_made (sym same) ∙ found.2) (host_is point_behaviour entry.name entry.id (made positions.Left));
-    sensed = λ place server position at is.
-        is_left server.host.object.sensed (each_point place server at).position ∙ (get_map (λ (entry : Point). positions.Left) site.points place position is).2;
-    count = map_length (λ (entry : Point). positions.Left) site.points;
-  }
+  point_host : (place : ℕ) (entry : Point) (server : ServerState PointState) → slice_get site.points place ≡ Some entry → slice_get (map (point_standing site) stood) place ≡ Some server
+      → IsHostOf site entry.name server.host
+  point_host place entry server is at =
+      let found = get_map (point_standing site) stood place server at
+      in let same : found.0.0 ≡ entry = some_injective found.0.0 entry (sym (first_of_pair site.points outset.positions lies.positions place found.0 found.1) ∙ is)
+      in subst (λ (p : Point). IsHostOf site p.name server.host) same
+      (subst (λ (s : ServerState PointState). IsHostOf site found.0.0.name s.host) found.2 (host_is point_behaviour found.0.0.name found.0.0.id (made found.0.1)))
+
+  point_sensed : (place : ℕ) (server : ServerState PointState) (position : Position) → slice_get (map (point_standing site) stood) place ≡ Some server → slice_get outset.positions place ≡ Some position
+      → server.host.object.sensed ≡ position
+  unfolding new_host keeping
+  point_sensed place server position at is =
+      let found = get_map (point_standing site) stood place server at
+      in ap (λ (s : ServerState PointState). s.host.object.sensed) (sym found.2)
+      ∙ some_injective found.0.1 position (sym (second_of_pair site.points outset.positions lies.positions place found.0 found.1) ∙ is)
+
+  pub first_points : ArePointsSeen site network (world_at site table outset).points (world_at site table outset).positions begins
+  unfolding world_at
+  first_points = record { each = each_point; hosts = point_host; sensed = point_sensed; count = lies.positions }
 
   -- ---- the interlocking
 
-  pub first_station : IsStationSeen site table network (first_world site table).station begins
-  unfolding first_world new_ixl new_client
+  pub first_station : IsStationSeen site table network (world_at site table outset).station begins
+  unfolding world_at new_ixl new_client
   first_station = record {
-    sees = laws.made_seen 0 (new_ixl site table at_zero) (given_in site network) begins (laws.holds site table at_zero (omega arith)) (just_made site table at_zero) (laws.quiet (new_ixl site table at_zero) (λ place. Some machine.Left));
+    sees = laws.made_seen 0 (new_ixl site table at_zero) (given_in site network) begins (laws.holds site table at_zero (omega arith)) (just_made site table at_zero) (laws.quiet (new_ixl site table at_zero) (positions_at outset));
     routes = map_length new_route_of table.rows;
     objects = λ place entry known_point is at.
         let found = get_map (new_known_point_of site at_zero) site.points place known_point at
@@ -182,6 +198,6 @@ module _ (laws : FirstLaws) (site : Site) (table : Table) (lawful : AreLawful (l
   none_held : AreHeldPairs (machine_table table) [] (λ route. false)
   none_held signal route = (λ contained. absurd (contains_none _ contained), λ both. absurd (false≢true both.1))
 
-  pub first_frozen : AreFrozen site table (first_world site table).frozen begins
-  unfolding first_world
+  pub first_frozen : AreFrozen site table (world_at site table outset).frozen begins
+  unfolding world_at
   first_frozen = record { pairs = none_held; there = λ pair contained. absurd (contains_none pair contained) }

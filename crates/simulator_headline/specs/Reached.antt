@@ -24,7 +24,7 @@ use Rattle.simulator_run.specs.simulator_snapshot.Safe.{position_at}
 use Rattle.simulator_run.specs.simulator_snapshot.declared.snapshot.Held.{Held}
 use Rattle.simulator_run.specs.Run.{CanHappen, after_all}
 use Rattle.simulator_run_links.specs.HasLinks.{HasLinks, IsSafeLink, links_in}
-use Rattle.simulator_run.specs.First.{first_world}
+use Rattle.simulator_run.specs.First.{IsOutsetOf, Outset, world_at}
 use Rattle.simulator_run.specs.Links.{names_at}
 use Rattle.simulator_run.specs.Nodes.{links}
 use Rattle.simulator_run.specs.Refusals.{refusal}
@@ -32,11 +32,13 @@ use Rattle.simulator_run.specs.State.{ServerState, WorldState}
 use Rattle.simulator_run.specs.Station.{held_of}
 use Rattle.simulator_headline.specs.InFlight.{MovesOrMayMove, ShowsOrMayShow, TakesFromFlight, given_on}
 
--- A station has come to be so: from its first world on, each of these events could happen where it came.
+-- A station has come to be so: it lay in some way when it was started, and each of these events could happen where it came.
 pub record IsReached (site : Site) (table : Table) (world : WorldState) : Type 0 where
+  pub outset : Outset
+  pub lies : IsOutsetOf site outset
   pub events : List Event
-  pub can : CanHappen site table events (first_world site table)
-  pub after : world ≡ after_all site table events (first_world site table)
+  pub can : CanHappen site table events (world_at site table outset)
+  pub after : world ≡ after_all site table events (world_at site table outset)
 
 -- ---- links
 

@@ -1,6 +1,6 @@
 //! Every event, and every list of events.
 
-ghost use Rattle.std.specs.Prelude.{[], ◌++◌, ◌∷◌, ◌≡◌, List, None, Some};
+ghost use Rattle.std.specs.Prelude.{[], ◌++◌, ◌∷◌, ◌≡◌, List, None};
 ghost use Rattle.simulator_run.specs.layout.Entries.{Site};
 ghost use Rattle.simulator_run.specs.layout.Once.{Once};
 ghost use Rattle.simulator_run.specs.layout.Station.{IsStation};
@@ -8,10 +8,9 @@ ghost use Rattle.simulator_run.specs.ixl_rules.Table.{Table};
 ghost use Rattle.ixl_table.specs.Table.{IsTableOf};
 ghost use Rattle.simulator_run.specs.simulator_event.declared.event.Event.{Event};
 ghost use Rattle.simulator_machine.specs.Machine.{Machine};
-ghost use Rattle.simulator_machine.specs.Point.{Left};
 ghost use Rattle.simulator_machine.specs.Run.{first};
 ghost use Rattle.simulator_run.specs.Run.{CanHappen, after_all};
-ghost use Rattle.simulator_run.specs.First.{first_world};
+ghost use Rattle.simulator_run.specs.First.{IsOutsetOf, Outset, world_at};
 ghost use Rattle.simulator_run.specs.Happens.{happens};
 ghost use Rattle.simulator_run.specs.Refusals.{refusal};
 ghost use Rattle.simulator_run.specs.Seen.{IsSnapshotOf};
@@ -19,11 +18,12 @@ ghost use Rattle.simulator_run.specs.State.{WorldState};
 ghost use Rattle.simulator_run.specs.simulator_snapshot.Safe.{Safe};
 ghost use Rattle.simulator_run.specs.simulator_snapshot.declared.snapshot.Snapshot.{Snapshot};
 ghost use Rattle.simulator_headline.specs.Represents.{Represents, RepresentsAfter};
+ghost use Rattle.simulator_headline.specs.Seen.{positions_at};
 
 use crate::{
-    controllers_events_are_represented, first_worlds_are_represented, represented_worlds_are_safe,
-    restarts_of_stations_are_represented, steps_of_stations_are_represented,
-    time_keeps_representations,
+    controllers_events_are_represented, represented_worlds_are_safe,
+    restarts_of_stations_are_represented, stations_begin_represented,
+    steps_of_stations_are_represented, time_keeps_representations,
 };
 use simulator_machine::lists_of_moves_compose;
 
@@ -40,26 +40,26 @@ pub fn every_event_is_represented()
 }
 
 /// So it is with every list of events that can happen to a world that the machine sees (*on*). From the machine's first state,
-/// with every point left, moves lead to one in which it sees what the events have made of the first world (*first*).
+/// with each point where it stands, moves lead to one in which it sees what the events have made of the station (*first*).
 pub fn every_world_is_reached_by_moves()
     ensures on { (site : Site) (table : Table) (events : List Event) (world : WorldState) (machine : Machine) → Once site → IsStation site → IsTableOf site table
         → Represents site table world machine → CanHappen site table events world → RepresentsAfter site table machine (after_all site table events world) }
-    ensures first { (site : Site) (table : Table) (events : List Event) → Once site → IsStation site → IsTableOf site table
-        → CanHappen site table events (first_world site table) → RepresentsAfter site table (first (λ place. Some Left)) (after_all site table events (first_world site table)) }
+    ensures first { (site : Site) (table : Table) (outset : Outset) (events : List Event) → Once site → IsStation site → IsTableOf site table → IsOutsetOf site outset
+        → CanHappen site table events (world_at site table outset) → RepresentsAfter site table (first (positions_at outset)) (after_all site table events (world_at site table outset)) }
 {
     every_event_is_represented();
-    first_worlds_are_represented();
+    stations_begin_represented();
     lists_of_moves_compose();
 }
 
 /// After every list of requests, occupancies, steps of the clocks, ticks, deliveries, losses, movements of points and restarts
-/// that can happen to a station from its first world on, the machine sees the station (*seen*), and it is safe: every snapshot
+/// that can happen to a station, however it lies when it is started, the machine sees the station (*seen*), and it is safe: every snapshot
 /// of it is (*safe*).
 pub fn every_world_is_safe()
-    ensures seen { (site : Site) (table : Table) (events : List Event) → Once site → IsStation site → IsTableOf site table
-        → CanHappen site table events (first_world site table) → (machine : Machine) × Represents site table (after_all site table events (first_world site table)) machine }
-    ensures safe { (site : Site) (table : Table) (events : List Event) (seen : Snapshot) → Once site → IsStation site → IsTableOf site table
-        → CanHappen site table events (first_world site table) → IsSnapshotOf table (after_all site table events (first_world site table)) seen → Safe site seen }
+    ensures seen { (site : Site) (table : Table) (outset : Outset) (events : List Event) → Once site → IsStation site → IsTableOf site table → IsOutsetOf site outset
+        → CanHappen site table events (world_at site table outset) → (machine : Machine) × Represents site table (after_all site table events (world_at site table outset)) machine }
+    ensures safe { (site : Site) (table : Table) (outset : Outset) (events : List Event) (seen : Snapshot) → Once site → IsStation site → IsTableOf site table → IsOutsetOf site outset
+        → CanHappen site table events (world_at site table outset) → IsSnapshotOf table (after_all site table events (world_at site table outset)) seen → Safe site seen }
 {
     every_world_is_reached_by_moves();
     represented_worlds_are_safe();

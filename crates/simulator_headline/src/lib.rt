@@ -27,7 +27,7 @@ pub use ends::{
 };
 pub use events::controllers_events_are_represented;
 pub use far_ends::{clients_are_alone_after_quiet, far_ends_are_known, reports_made_are_heard};
-pub use first::{first_worlds_are_represented, new_interlockings_are_just_made};
+pub use first::{new_interlockings_are_just_made, stations_begin_represented};
 pub use flight::{
     aspects_in_flight_are_of_held_routes, items_are_read_off_the_datagrams,
     points_of_held_routes_are_at_rest, what_is_taken_was_in_flight,

@@ -7,7 +7,7 @@ ghost use Rattle.simulator_run.specs.layout.Station.{IsStation};
 ghost use Rattle.simulator_run.specs.ixl_rules.Table.{Table};
 ghost use Rattle.ixl_table.specs.Table.{IsTableOf};
 ghost use Rattle.simulator_run.specs.simulator_event.declared.event.Event.{Event};
-ghost use Rattle.simulator_run.specs.First.{first_world};
+ghost use Rattle.simulator_run.specs.First.{IsOutsetOf, Outset, first_world, world_at};
 ghost use Rattle.simulator_run.specs.Happens.{happens};
 ghost use Rattle.simulator_run.specs.Refusals.{refusal};
 ghost use Rattle.simulator_run.specs.Seen.{IsSnapshotOf};
@@ -21,12 +21,14 @@ use crate::flight::{
     points_of_held_routes_are_at_rest, what_is_taken_was_in_flight,
 };
 use crate::headline::{every_world_is_safe, lists_of_events_go_on};
+use simulator_run::the_first_world_is_at_rest;
 use simulator_run_links::{each_link_of_a_station_is_safe, stations_have_links};
 
-/// The first world is reached by no event, and an event that can happen to a world that is reached leads to one (*on*). Each
-/// of them is safe, and so is each of its links (*links*). What is in flight in it is of held routes, and what was given is read
-/// off its datagrams (*reached*).
+/// A station as it lies when it is started is reached by no event (*at*), and so is the first world (*first*). An event that
+/// can happen to a world that is reached leads to one (*on*). Each of them is safe, and so is each of its links (*links*).
+/// What is in flight in it is of held routes, and what was given is read off its datagrams (*reached*).
 pub fn reached_worlds_are_safe()
+    ensures at { (site : Site) (table : Table) (outset : Outset) → IsOutsetOf site outset → IsReached site table (world_at site table outset) }
     ensures first { (site : Site) (table : Table) → IsReached site table (first_world site table) }
     ensures on { (site : Site) (table : Table) (event : Event) (world : WorldState) → IsReached site table world → refusal site event world ≡ None
         → IsReached site table (happens site table event world) }
@@ -43,5 +45,6 @@ pub fn reached_worlds_are_safe()
     lists_of_events_go_on();
     points_of_held_routes_are_at_rest();
     stations_have_links();
+    the_first_world_is_at_rest();
     what_is_taken_was_in_flight();
 }

@@ -1,5 +1,6 @@
 -- How a station is made: the first world of a layout, and a node that is made anew.
-use Rattle.std.specs.Prelude.{ℕ, false, List, [], map, Option, None, slice_index_or}
+use Rattle.std.specs.Prelude.{◌≡◌, ℕ, false, List, [], length, map, Option, None, slice_index_or}
+use Rattle.std.specs.List.{zip}
 use Rattle.ixl_rules.specs.sci_telegram.declared.message.Occupancy.{Occupancy}
 use Rattle.ixl_rules.specs.sci_telegram.declared.message.Occupancy.TheVariants as occupancies
 use Rattle.ixl_rules.specs.sci_telegram.declared.message.Position.{Position}
@@ -25,7 +26,7 @@ use Rattle.ixl_rules.specs.Table.{Table}
 pub use Rattle.ixl_rules.specs.First.{Beginning, client_of, new_detector_of, new_known_signal_of, new_route_of, new_known_point_of}
 unfoldable pub use Rattle.ixl_rules.specs.First.{new_ixl}
 use Rattle.simulator_run.specs.Nodes.{names_of, partners}
-use Rattle.simulator_run.specs.State.{ServerState, WorldState}
+use Rattle.simulator_run.specs.State.{ServerState, StationState, WorldState}
 
 -- ---- object controllers
 
@@ -64,18 +65,42 @@ no_connection id = None
 abbrev pub first_server : {Object : Type 0} → HostState Object → ServerState Object
 first_server host = record { host = host; clock = 0; connection = None; left = 0 }
 
--- All clocks and first sequence numbers are 0, every point stands left, every section is clear, and nothing was sent.
+-- How a station lies when it is started: where each point stands, and which sections are occupied.
+pub record Outset : Type 0 where
+  pub positions : List Position
+  pub occupancies : List Occupancy
+
+-- Each point of the layout has its position, and each section its occupancy.
+pub record IsOutsetOf (site : Site) (outset : Outset) : Type 0 where
+  pub positions : length outset.positions ≡ length site.points
+  pub occupancies : length outset.occupancies ≡ length site.sections
+
+-- the controller of a point, which senses it where it stands
+abbrev pub point_standing : Site → Point × Position → ServerState PointState
+point_standing site both = first_server (new_point site at_zero both.1 both.0)
+
+-- the interlocking, in no connection yet
+abbrev pub first_station : Site → Table → StationState
+first_station site table = record { ixl = new_ixl site table at_zero; clock = 0; connections = map no_connection (partners site) }
+
+-- A station as it lies: all clocks and first sequence numbers are 0, and nothing was sent.
+unfoldable pub world_at : Site → Table → Outset → WorldState
+world_at site table outset = record {
+  time = 0;
+  station = first_station site table;
+  signals = map (λ signal. first_server (new_signal site at_zero signal)) site.signals;
+  points = map (point_standing site) (zip site.points outset.positions);
+  detectors = map (λ detector. first_server (new_detector site at_zero outset.occupancies detector)) site.detectors;
+  positions = outset.positions;
+  occupancies = outset.occupancies;
+  sent = [];
+  frozen = [];
+}
+
+-- every point stands left, and every section is clear
+abbrev pub at_rest : Site → Outset
+at_rest site = record { positions = map (λ point. positions.Left) site.points; occupancies = map (λ (name : List ℕ). occupancies.Clear) site.sections }
+
+-- the world that begins so
 unfoldable pub first_world : Site → Table → WorldState
-first_world site table =
-    let clear : List Occupancy = map (λ (name : List ℕ). occupancies.Clear) site.sections
-    in record {
-      time = 0;
-      station = record { ixl = new_ixl site table at_zero; clock = 0; connections = map no_connection (partners site) };
-      signals = map (λ signal. first_server (new_signal site at_zero signal)) site.signals;
-      points = map (λ point. first_server (new_point site at_zero positions.Left point)) site.points;
-      detectors = map (λ detector. first_server (new_detector site at_zero clear detector)) site.detectors;
-      positions = map (λ point. positions.Left) site.points;
-      occupancies = clear;
-      sent = [];
-      frozen = [];
-    }
+first_world site table = world_at site table (at_rest site)

@@ -7,7 +7,7 @@ ghost use Rattle.simulator_event.specs.declared.refused.Refused.TheVariants.{NoS
 ghost use Rattle.ixl_rules.specs.Table.{Table};
 ghost use Rattle.ixl_rules.specs.View.{is_holding};
 ghost use Rattle.ixl_rules.specs.rasta_core.Links.{begun};
-ghost use Rattle.simulator_run.specs.First.{Beginning, first_world, new_ixl};
+ghost use Rattle.simulator_run.specs.First.{Beginning, IsOutsetOf, Outset, at_rest, first_world, new_ixl, world_at};
 ghost use Rattle.simulator_run.specs.Links.{AreLinksOf, names_at, starts_at_zero};
 ghost use Rattle.simulator_run.specs.Nodes.{nodes};
 ghost use Rattle.simulator_run.specs.Refusals.{refusal};
@@ -28,8 +28,15 @@ pub fn a_restarted_station_holds()
     new_interlockings_hold();
 }
 
-/// The first world has the links of its layout at their beginning.
+/// A station as it lies has the links of its layout at their beginning.
 #[tactic(auto, using(crate::proofs::FirstLinks::first_is_links))]
-pub fn the_first_world_begins_its_links()
-    ensures { (site : Site) (table : Table) → AreLinksOf site (first_world site table) (begun (names_at site) starts_at_zero) }
+pub fn a_station_begins_its_links()
+    ensures { (site : Site) (table : Table) (outset : Outset) → IsOutsetOf site outset → AreLinksOf site (world_at site table outset) (begun (names_at site) starts_at_zero) }
+{}
+
+/// The first world is that of a station in which every point stands left and every section is clear.
+#[tactic(auto, using(crate::proofs::FirstLinks::rest_is_outset), unfolding(crate::specs::First::first_world))]
+pub fn the_first_world_is_at_rest()
+    ensures outset { (site : Site) → IsOutsetOf site (at_rest site) }
+    ensures world { (site : Site) (table : Table) → first_world site table ≡ world_at site table (at_rest site) }
 {}

@@ -7,7 +7,8 @@ mod node_count;
 mod round;
 
 pub use laws::{
-    a_restarted_station_holds, an_event_at_no_node_is_refused, the_first_world_begins_its_links,
+    a_restarted_station_holds, a_station_begins_its_links, an_event_at_no_node_is_refused,
+    the_first_world_is_at_rest,
 };
 pub use node_count::{links, nodes};
 pub use round::{FoundDriven, RoundEvent};

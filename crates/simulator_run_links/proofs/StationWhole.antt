@@ -1,7 +1,8 @@
 -- A step of the interlocking, and a node that is made anew, keep the nodes of a world whole.
-use Rattle.std.proofs.Common.{◌≡◌, ℕ, zero, suc, ◌<◌, List, [], ◌∷◌, ◌++◌, length, map, Option, Some, None, slice_get, slice_index_or, refl, sym, ap, subst, ◌∙◌, arith}
-use Rattle.std.specs.List.{All}
-use Rattle.std.proofs.lemmas.Option.{get_or_from_slice_get}
+use Rattle.std.proofs.Common.{◌≡◌, ℕ, zero, suc, ◌<◌, List, [], ◌∷◌, ◌++◌, length, map, Option, Some, None, option_map, slice_get, slice_index_or, refl, sym, ap, subst, ◌∙◌, arith}
+use Rattle.std.specs.List.{All, zip}
+use Rattle.std.proofs.lemmas.Option.{get_or_from_slice_get, slice_get-map}
+use Rattle.std.proofs.lemmas.Slice.Zip.{firsts-zip}
 use Rattle.std.proofs.lemmas.Option.{same_Some}
 use Rattle.simulator_run.specs.layout.Entries.{DetectorEntry, Site}
 use Rattle.simulator_run.specs.layout.Station.{HasSection, IsStation}
@@ -23,7 +24,7 @@ use Rattle.simulator_run.specs.tds_ctl.Sections.{losing, made}
 use Rattle.simulator_run.specs.ixl_client.Client.{ClientState, new_client}
 use Rattle.simulator_run.specs.ixl_rules.State.{KnownDetectorState, KnownSignalState, KnownPointState, changed}
 use Rattle.simulator_run.specs.ixl_rules.Table.{Table}
-use Rattle.simulator_run.specs.First.{Beginning, at_zero, client_of, first_world, host_of, named_section, new_detector, new_detector_of, new_ixl, new_known_signal_of, new_point, new_signal, new_known_point_of, no_connection}
+use Rattle.simulator_run.specs.First.{Beginning, IsOutsetOf, Outset, at_zero, client_of, host_of, named_section, new_detector, new_detector_of, new_ixl, new_known_signal_of, new_point, new_signal, new_known_point_of, no_connection, world_at}
 use Rattle.simulator_run.specs.Happens.{detector_anew, made_anew, point_anew, signal_anew}
 use Rattle.simulator_run.specs.Nodes.{Node, Station, Signal, Point, Detector, partners}
 use Rattle.simulator_run.specs.Servers.{server_anew}
@@ -56,6 +57,14 @@ all_map : {A B : Type 0} (P : B → Type 0) (f : A → B) (list : List A) → Al
 all_map P f [] all place one at = none_there one at
 all_map P f (first ∷ others) all zero one at = subst P (same_Some (f first) one at) (all zero first refl)
 all_map P f (first ∷ others) all (suc place) one at = all_map P f others (λ n a is. all (suc n) a is) place one at
+
+-- pairs of lists of one length
+module _ {A B : Type 0} (xs : List A) (ys : List B) (same : length ys ≡ length xs) where
+  length_zipped : length (zip xs ys) ≡ length xs
+  length_zipped = sym (length_map (λ (p : A × B). p.0) (zip xs ys)) ∙ ap length (firsts-zip xs ys same)
+
+  first_of_pair : (place : ℕ) (both : A × B) → slice_get (zip xs ys) place ≡ Some both → slice_get xs place ≡ Some both.0
+  first_of_pair place both at = ap (λ l. slice_get l place) (sym (firsts-zip xs ys same)) ∙ (slice_get-map (λ (p : A × B). p.0) (zip xs ys) place ∙ ap (option_map (λ (p : A × B). p.0)) at)
 
 all_joined : {A : Type 0} (P : A → Type 0) (first rest : List A) → AllAt P first → AllAt P rest → AllAt P (first ++ rest)
 all_joined P [] rest all more place one at = more place one at
@@ -104,18 +113,19 @@ module _ (site : Site) (names : HasNames site) where
         (all_map Peered (λ (detector : KnownDetectorState). detector.client) _ (all_map (λ (detector : KnownDetectorState). Peered detector.client) (new_detector_of site begins) site.detectors (λ place entry at. client_peered _ begins entry.name entry.id _ (names.detectors place entry at)))));
   }
 
-  -- ---- the first world
+  -- ---- a station as it lies
 
-  pub first_is_whole : (station : IsStation site) (table : Table) → IsWhole site (first_world site table)
-  unfolding first_world
-  first_is_whole station table = record {
+  pub outset_is_whole : (station : IsStation site) (table : Table) (outset : Outset) → IsOutsetOf site outset → IsWhole site (world_at site table outset)
+  unfolding world_at
+  outset_is_whole station table outset is = record {
     clients = clients_made table at_zero;
     connections = length_map no_connection (partners site) ∙ partners_count site;
     signals = length_map _ site.signals;
-    points = length_map _ site.points;
+    points = length_map _ (zip site.points outset.positions) ∙ length_zipped site.points outset.positions is.positions;
     detectors = length_map _ site.detectors;
     signals_named = all_map (λ server. IsNamed server.host) _ site.signals (λ place entry at. host_named signal_behaviour at_zero entry.name entry.id _ (names.signals place entry at));
-    points_named = all_map (λ server. IsNamed server.host) _ site.points (λ place entry at. host_named point_behaviour at_zero entry.name entry.id _ (names.points place entry at));
+    points_named = all_map (λ server. IsNamed server.host) _ (zip site.points outset.positions) (λ place both at.
+        host_named point_behaviour at_zero both.0.name both.0.id _ (names.points place both.0 (first_of_pair site.points outset.positions is.positions place both at)));
     detectors_named = all_map (λ server. IsNamed server.host) _ site.detectors (λ place entry at. host_named detection_behaviour at_zero entry.name entry.id _ (names.detectors place entry at));
     sections_named = all_map (λ server. HasSections server.host) _ site.detectors (λ place entry at. detector_sections station at_zero _ place entry at);
   }

@@ -7,7 +7,7 @@ ghost use Rattle.simulator_run.specs.layout.Station.{IsStation};
 ghost use Rattle.simulator_run.specs.rasta_core.Links.{AreLinks, seen};
 ghost use Rattle.simulator_run.specs.simulator_event.declared.event.Event.{Event};
 ghost use Rattle.simulator_run.specs.ixl_rules.Table.{Table};
-ghost use Rattle.simulator_run.specs.First.{first_world};
+ghost use Rattle.simulator_run.specs.First.{IsOutsetOf, Outset, world_at};
 ghost use Rattle.simulator_run.specs.Happens.{happens};
 ghost use Rattle.simulator_run.specs.Links.{names_at};
 ghost use Rattle.simulator_run.specs.Nodes.{links};
@@ -17,29 +17,29 @@ ghost use Rattle.simulator_run.specs.Run.{CanHappen, after_all};
 ghost use Rattle.simulator_run_links.specs.HasLinks.{HasLinks, IsSafeLink, IsStanding, links_in};
 
 use crate::events::events_are_those_of_the_links;
+use simulator_run::a_station_begins_its_links;
 use simulator_run::rasta_core::{
     each_link_is_a_run, items_are_fresh, links_keep_time, opening_is_new, own_connection,
 };
-use simulator_run::the_first_world_begins_its_links;
 
 /// The links of a layout have one key, and no controller has an identity that another end uses.
 pub fn layouts_name_their_links()
     ensures { (site : Site) → IsStation site → Once site → AreLinks (links site) (names_at site) }
 {}
 
-/// A station has the links of its layout, and all its nodes: at the beginning, after every event that can happen, and so
+/// A station has the links of its layout, and all its nodes: at the beginning, however it lies, after every event that can happen, and so
 /// after every list of them.
 pub fn stations_have_links()
-    ensures first { (site : Site) (table : Table) → IsStation site → IsStanding site (first_world site table) }
+    ensures first { (site : Site) (table : Table) (outset : Outset) → IsStation site → IsOutsetOf site outset → IsStanding site (world_at site table outset) }
     ensures kept { (site : Site) (table : Table) (event : Event) (world : WorldState) → IsStation site → Once site → IsStanding site world
         → refusal site event world ≡ None → IsStanding site (happens site table event world) }
-    ensures run { (site : Site) (table : Table) (events : List Event) → IsStation site → Once site
-        → CanHappen site table events (first_world site table) → IsStanding site (after_all site table events (first_world site table)) }
+    ensures run { (site : Site) (table : Table) (outset : Outset) (events : List Event) → IsStation site → Once site → IsOutsetOf site outset
+        → CanHappen site table events (world_at site table outset) → IsStanding site (after_all site table events (world_at site table outset)) }
 {
     events_are_those_of_the_links();
     layouts_name_their_links();
     links_keep_time();
-    the_first_world_begins_its_links();
+    a_station_begins_its_links();
 }
 
 /// Each link of a station is safe: what was taken is a beginning of what was given, what is held for confirmed was taken,

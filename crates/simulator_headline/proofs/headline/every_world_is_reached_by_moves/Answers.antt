@@ -1,4 +1,4 @@
-use Rattle.std.proofs.Common.{List, Some}
+use Rattle.std.proofs.Common.{List}
 use Rattle.simulator_run.specs.layout.Entries.{Site}
 use Rattle.simulator_run.specs.layout.Once.{Once}
 use Rattle.simulator_run.specs.layout.Station.{IsStation}
@@ -6,12 +6,12 @@ use Rattle.simulator_run.specs.ixl_rules.Table.{Table}
 use Rattle.ixl_table.specs.Table.{IsTableOf}
 use Rattle.simulator_run.specs.simulator_event.declared.event.Event.{Event}
 use Rattle.simulator_machine.specs.Machine.{Machine}
-use Rattle.simulator_machine.specs.Point.{Left}
 use Rattle.simulator_machine.specs.Run.{first}
+use Rattle.simulator_headline.specs.Seen.{positions_at}
 use Rattle.simulator_headline.specs.Represents.{Represents, RepresentsAfter}
 use Rattle.simulator_machine_interlocking.specs.Rows.{machine_table}
 use Rattle.simulator_run.specs.Run.{CanHappen, after_all}
-use Rattle.simulator_run.specs.First.{first_world}
+use Rattle.simulator_run.specs.First.{world_at}
 use Rattle.simulator_run.specs.State.{WorldState}
 use Rattle.simulator_headline.proofs.AllEvents.{MovingLaws, all_kept}
 use Rattle.simulator_headline.proofs.headline.every_world_is_reached_by_moves.Goals as goal
@@ -29,6 +29,6 @@ returns c =
     = λ site table events world machine once station is represented can. all_kept site table (laws site table once station is) events world machine represented can
     in record {
       on = on;
-      first = λ site table events once station is can.
-          on site table events (first_world site table) (first (λ place. Some Left)) once station is (c.first_worlds_are_represented.ensures site table station once) can;
+      first = λ site table outset events once station is lies can.
+          on site table events (world_at site table outset) (first (positions_at outset)) once station is (c.stations_begin_represented.ensures site table outset station once lies) can;
     }

@@ -6,24 +6,24 @@ use Rattle.simulator_run.specs.ixl_rules.Table.{Table}
 use Rattle.simulator_run.specs.rasta_core.EachLink.{AreTimely}
 use Rattle.simulator_run.specs.rasta_core.Links.{AreLinks, begun}
 use Rattle.simulator_run.specs.simulator_event.declared.event.Event.{Event}
-use Rattle.simulator_run.specs.First.{first_world}
+use Rattle.simulator_run.specs.First.{IsOutsetOf, Outset, world_at}
 use Rattle.simulator_run.specs.Happens.{happens}
 use Rattle.simulator_run.specs.Links.{names_at, starts_at_zero}
 use Rattle.simulator_run.specs.Nodes.{links}
 use Rattle.simulator_run.specs.Refusals.{refusal}
 use Rattle.simulator_run.specs.State.{WorldState}
 use Rattle.simulator_run_links.proofs.Runs.{all_stand, links_go_on}
-use Rattle.simulator_run_links.proofs.StationWhole.{first_is_whole}
+use Rattle.simulator_run_links.proofs.StationWhole.{outset_is_whole}
 use Rattle.simulator_run_links.specs.HasLinks.{IsStanding, links_in}
 use Rattle.simulator_run_links.proofs.Names.{station_names}
 use Rattle.simulator_run_links.proofs.stations.stations_have_links.Goals as goal
 
 pub returns : goal.returns
 returns c =
-    let first : (site : Site) (table : Table) → IsStation site → IsStanding site (first_world site table)
-    = λ site table station. record {
-      linked = record { events = []; may = tt; are = c.the_first_world_begins_its_links.ensures site table };
-      whole = first_is_whole site (station_names site station) station table;
+    let first : (site : Site) (table : Table) (outset : Outset) → IsStation site → IsOutsetOf site outset → IsStanding site (world_at site table outset)
+    = λ site table outset station is. record {
+      linked = record { events = []; may = tt; are = c.a_station_begins_its_links.ensures site table outset is };
+      whole = outset_is_whole site (station_names site station) station table outset is;
     }
     in let kept : (site : Site) (table : Table) (event : Event) (world : WorldState) → IsStation site → Once site → IsStanding site world
     → refusal site event world ≡ None → IsStanding site (happens site table event world)
@@ -39,5 +39,5 @@ returns c =
     in record {
       first = first;
       kept = kept;
-      run = λ site table events station once can. all_stand site table (λ event world stands none. kept site table event world station once stands none) events (first_world site table) (first site table station) can;
+      run = λ site table outset events station once is can. all_stand site table (λ event world stands none. kept site table event world station once stands none) events (world_at site table outset) (first site table outset station is) can;
     }
