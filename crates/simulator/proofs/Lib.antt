@@ -9,3 +9,4 @@ mod Runs
 mod Whole
 mod Within
 mod Promise
+mod AtRest

@@ -5,7 +5,7 @@ ghost use Rattle.std.specs.Option.{option_map};
 ghost use Rattle.simulator_ixl.specs.layout.Once.{Once};
 ghost use Rattle.simulator_ixl.specs.layout.Station.{IsStation};
 ghost use Rattle.simulator_ixl.specs.ixl_table.Table.{IsTableOf};
-ghost use Rattle.simulator_ixl.specs.simulator_run.First.{first_world};
+ghost use Rattle.simulator_ixl.specs.simulator_run.First.{world_at};
 ghost use Rattle.simulator_ixl.specs.simulator_run.Refusals.{driven_at};
 ghost use Rattle.simulator_ixl.specs.simulator_run.Seen.{shown_by};
 ghost use Rattle.simulator_ixl.specs.simulator_run.Station.{held_of};
@@ -15,7 +15,7 @@ use arrayvec::ArrayVec;
 use simulator_ixl::ClockedInterlocking;
 use simulator_ixl::control_table::Checked;
 use simulator_ixl::layout::{Layout, PointId, SignalId};
-use simulator_ixl::sci_telegram::{Aspect, Side};
+use simulator_ixl::sci_telegram::{Aspect, Occupancy, Position, Side};
 use simulator_ixl::simulator_field::Controllers;
 use simulator_ixl::simulator_snapshot::Held;
 use std::alloc::{AllocError, Global};
@@ -31,13 +31,20 @@ pub(crate) struct Parts {
 }
 
 impl Parts {
-    /// The parts of the first world of a table.
-    pub(crate) fn new(alloc: Global, checked: Checked) -> Result<Parts, AllocError>
+    /// The parts of a station as it lies when it is started.
+    pub(crate) fn at(
+        alloc: Global,
+        checked: Checked,
+        positions: &[Position],
+        occupancies: &[Occupancy],
+    ) -> Result<Parts, AllocError>
+        requires positions { length positions.now ≡ length checked.points }
+        requires occupancies { length occupancies.now ≡ length checked.sections }
         ensures site { IfOk result (λ parts. site_of parts ≡ checked) }
-        ensures first { IfOk result (λ parts. seen parts ≡ first_world (site_of parts) (table_of parts)) }
+        ensures first { IfOk result (λ parts. seen parts ≡ world_at (site_of parts) (table_of parts) (record { positions = positions.now; occupancies = occupancies.now })) }
         ensures whole { IfOk result IsWhole }
     {
-        let controllers = Controllers::new(alloc, &checked)?;
+        let controllers = Controllers::at(alloc, &checked, positions, occupancies)?;
         let station = ClockedInterlocking::new(alloc, checked)?;
         Ok(Parts {
             station,

@@ -7,7 +7,7 @@ ghost use Rattle.simulator_ixl.specs.ixl_table.Table.{IsTableOf};
 ghost use Rattle.simulator_ixl.specs.simulator_event.declared.refused.Refused.TheVariants.{OutOfMemory};
 ghost use Rattle.simulator_headline.specs.Reached.{HasSafeLinks, IsReachedSafely};
 ghost use Rattle.simulator_ixl.specs.simulator_field.Bag.{in_bag, not_lost};
-ghost use Rattle.simulator_ixl.specs.simulator_run.First.{first_world};
+ghost use Rattle.simulator_ixl.specs.simulator_run.First.{first_world, world_at};
 ghost use Rattle.simulator_ixl.specs.simulator_run.Happens.{happens, is_restart, reply_to};
 ghost use Rattle.simulator_ixl.specs.simulator_run.Refusals.{driven_at, refusal};
 ghost use Rattle.simulator_ixl.specs.simulator_run.Seen.{IsSnapshotOf, shown_by};
@@ -62,8 +62,32 @@ impl World {
         ensures links { IfOk result (λ world. HasSafeLinks world.sited.site world.run) }
         ensures reached { IfOk result (λ world. IsReachedSafely world.sited.site world.sited.table world.run) }
     {
+        let layout = checked.layout();
+        let positions = vec![in alloc; Position::Left; layout.points().len()]?;
+        let occupancies = vec![in alloc; Occupancy::Clear; layout.sections().len()]?;
+        let world = World::at(alloc, checked, &positions, &occupancies)?;
+        Ok(world)
+    }
+
+    /// The world of a station as it lies when it is started: each point of the layout has its position, and each section its
+    /// occupancy, both in the layout's order. All clocks and first sequence numbers are 0, and nothing was sent.
+    pub fn at(
+        alloc: Global,
+        checked: Checked,
+        positions: &[Position],
+        occupancies: &[Occupancy],
+    ) -> Result<World, AllocError>
+        requires positions { length positions.now ≡ length checked.points }
+        requires occupancies { length occupancies.now ≡ length checked.sections }
+        ensures site { IfOk result (λ world. world.sited.site ≡ checked) }
+        ensures run { IfOk result (λ world. world.run ≡ world_at world.sited.site world.sited.table (record { positions = positions.now; occupancies = occupancies.now })) }
+        ensures table { IfOk result (λ world. IsTableOf world.sited.site world.sited.table) }
+        ensures safe { IfOk result IsSafeWorld }
+        ensures links { IfOk result (λ world. HasSafeLinks world.sited.site world.run) }
+        ensures reached { IfOk result (λ world. IsReachedSafely world.sited.site world.sited.table world.run) }
+    {
         reached_worlds_are_safe();
-        let parts = Parts::new(alloc, checked)?;
+        let parts = Parts::at(alloc, checked, positions, occupancies)?;
         let world = World { parts };
         world.facts();
         Ok(world)

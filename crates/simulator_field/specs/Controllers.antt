@@ -3,7 +3,7 @@ use Rattle.std.specs.Prelude.{◌≡◌, ℕ, ◌+◌, ◌≤◌, true, List, []
 use Rattle.simulator_run.specs.layout.Entries.{Site}
 use Rattle.simulator_run.specs.ixl_rules.Table.{Table}
 use Rattle.simulator_run.specs.simulator_snapshot.declared.snapshot.Held.{Held}
-use Rattle.simulator_run.specs.First.{first_world}
+use Rattle.simulator_run.specs.First.{Outset, first_station, world_at}
 use Rattle.simulator_run.specs.Refusals.{are_within, clock_limit}
 use Rattle.simulator_run.specs.State.{StationState, WorldState}
 use Rattle.simulator_field.specs.declared.controllers.Controllers.{Controllers}
@@ -30,9 +30,9 @@ pub record AreOf (site : Site) (controllers : Controllers) : Type 0 where
   pub positions : length controllers.positions.items ≡ length site.points
   pub occupancies : length controllers.occupancies.items ≡ length site.sections
 
--- They are those of the first world of a site.
-abbrev pub AreFirst : Site → Controllers → Type 0
-AreFirst site controllers = (table : Table) → world_of (first_world site table).station [] controllers ≡ first_world site table
+-- They are those of a station as it lies when it is started.
+abbrev pub AreAt : Site → Outset → Controllers → Type 0
+AreAt site outset controllers = (table : Table) → world_of (first_station site table) [] controllers ≡ world_at site table outset
 
 -- True time and the clocks of all controllers may go on by these steps: there is one for each, and none passes the limit.
 pub record MayPass (elapsed : ℕ) (steps : List ℕ) (controllers : Controllers) : Type 0 where

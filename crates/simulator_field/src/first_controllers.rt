@@ -1,9 +1,9 @@
 //! How the controllers of a layout are made.
 
-ghost use Rattle.std.specs.Prelude.{◌≡◌, IfOk, map};
+ghost use Rattle.std.specs.Prelude.{◌≡◌, IfOk, length, map};
+ghost use Rattle.std.specs.List.{zip};
 ghost use Rattle.simulator_run.specs.First as first;
-ghost use Rattle.simulator_field.specs.Controllers.{AreFirst, AreOf};
-ghost use Rattle.simulator_run.specs.sci_telegram.declared.message.Position.TheVariants.{Left};
+ghost use Rattle.simulator_field.specs.Controllers.{AreAt, AreOf};
 
 use crate::controllers::Controllers;
 use crate::{ClockedController, Network, new_detector, new_point, new_signal};
@@ -28,12 +28,18 @@ fn first_signals(
     Ok(signals)
 }
 
-fn first_points(alloc: Global, table: &Checked) -> Result<Vec<ClockedController<Point>>, AllocError>
-    ensures { IfOk result (λ v. v.items ≡ map (λ entry. first.first_server (first.new_point table.now first.at_zero Left entry)) table.now.points) }
+fn first_points(
+    alloc: Global,
+    table: &Checked,
+    positions: &[Position],
+) -> Result<Vec<ClockedController<Point>>, AllocError>
+    requires { length positions.now ≡ length table.now.points }
+    ensures { IfOk result (λ v. v.items ≡ map (first.point_standing table.now) (zip table.now.points positions.now)) }
 {
+    let entries = table.layout().points();
     let mut points = Vec::new(alloc);
-    for entry in table.layout().points() {
-        let hosted = new_point(alloc, table, entry, Position::Left, 0, 0)?;
+    for place in 0..entries.len() {
+        let hosted = new_point(alloc, table, &entries[place], positions[place], 0, 0)?;
         points.push(ClockedController::new(hosted, 0))?;
     }
     Ok(points)
@@ -55,22 +61,26 @@ fn first_detectors(
 }
 
 impl Controllers {
-    /// All clocks and first sequence numbers are 0, every point stands left, every section is clear, and nothing was sent.
-    pub fn new(alloc: Global, table: &Checked) -> Result<Controllers, AllocError>
-        ensures first { IfOk result (λ controllers. AreFirst table.now controllers) }
+    /// The controllers of a station as it lies when it is started: each point has its position, and each section its
+    /// occupancy. All clocks and first sequence numbers are 0, and nothing was sent.
+    pub fn at(
+        alloc: Global,
+        table: &Checked,
+        positions: &[Position],
+        occupancies: &[Occupancy],
+    ) -> Result<Controllers, AllocError>
+        requires positions { length positions.now ≡ length table.now.points }
+        requires occupancies { length occupancies.now ≡ length table.now.sections }
+        ensures first { IfOk result (λ controllers. AreAt table.now (record { positions = positions.now; occupancies = occupancies.now }) controllers) }
         ensures each { IfOk result (λ controllers. AreOf table.now controllers) }
     {
-        let layout = table.layout();
-        let occupancies = vec![in alloc; Occupancy::Clear; layout.sections().len()]?;
-        let positions = vec![in alloc; Position::Left; layout.points().len()]?;
-        let detectors = first_detectors(alloc, table, &occupancies)?;
         Ok(Controllers {
             network: Network::new(alloc),
             signals: first_signals(alloc, table)?,
-            points: first_points(alloc, table)?,
-            detectors,
-            positions,
-            occupancies,
+            points: first_points(alloc, table, positions)?,
+            detectors: first_detectors(alloc, table, occupancies)?,
+            positions: positions.to_vec(alloc)?,
+            occupancies: occupancies.to_vec(alloc)?,
         })
     }
 }

@@ -4,16 +4,15 @@ use Rattle.ixl_state.specs.layout.Entries.{Site}
 use Rattle.ixl_state.specs.ixl_rules.State.{IxlState}
 use Rattle.ixl_state.specs.ixl_rules.Table.{Table}
 use Rattle.ixl_state.specs.ixl_table.Table.{SitedTable}
-use Rattle.simulator_run.specs.First.{first_world, new_ixl, no_connection}
+use Rattle.simulator_run.specs.First.{first_station, new_ixl, no_connection}
 use Rattle.simulator_run.specs.Nodes.{partners}
 use Rattle.simulator_run.specs.State.{StationState}
 use Rattle.simulator_run.specs.Station.{station_anew}
 use Rattle.simulator_ixl.specs.Station.{StationView}
 
-pub first_station : (site other : Site) (table : Table) (ixl : IxlState) (begun : List (Option ℕ)) → ixl ≡ new_ixl site table (record { clock = 0; first = 0 }) → begun ≡ map no_connection (partners other) → other ≡ site
-    → (record { ixl = ixl; clock = 0; connections = begun }) ≡ (first_world site table).station
-unfolding first_world
-first_station site other table ixl begun ixl_is begun_is same_site =
+pub first_made : (site other : Site) (table : Table) (ixl : IxlState) (begun : List (Option ℕ)) → ixl ≡ new_ixl site table (record { clock = 0; first = 0 }) → begun ≡ map no_connection (partners other) → other ≡ site
+    → (record { ixl = ixl; clock = 0; connections = begun }) ≡ first_station site table
+first_made site other table ixl begun ixl_is begun_is same_site =
     let Made : IxlState → List (Option ℕ) → StationState = λ i b. record { ixl = i; clock = 0; connections = b }
     in ap (λ i. Made i begun) ixl_is
     ∙ ap (Made (new_ixl site table (record { clock = 0; first = 0 }))) (begun_is ∙ ap (λ p. map no_connection (partners p)) same_site)

@@ -8,7 +8,7 @@ ghost use Rattle.ixl_state.specs.rasta_core.Ends.{reading_of};
 ghost use Rattle.ixl.specs.Interlocking.{meant, told};
 ghost use Rattle.ixl_state.specs.ixl_rules.View.{authority_from, is_holding, is_set};
 ghost use Rattle.ixl_state.specs.State.{AtRoute};
-ghost use Rattle.simulator_run.specs.First.{at_zero, first_world, new_ixl};
+ghost use Rattle.simulator_run.specs.First.{at_zero, first_station, new_ixl};
 ghost use Rattle.simulator_run.specs.Station.{sending_all, station_anew};
 ghost use Rattle.simulator_ixl.specs.Station.{HasStepped};
 ghost use Rattle.simulator_ixl.specs.inside.Connections.{AreOf, sending_by};
@@ -77,7 +77,7 @@ impl ClockedInterlocking {
     /// connection.
     pub fn new(alloc: Global, checked: Checked) -> Result<ClockedInterlocking, AllocError>
         ensures site { IfOk result (λ s. s.sited.site ≡ checked) }
-        ensures station { IfOk result (λ s. s.station ≡ (first_world s.sited.site s.sited.table).station) }
+        ensures station { IfOk result (λ s. s.station ≡ first_station s.sited.site s.sited.table) }
     {
         let connections = Connections::new(alloc, checked.layout())?;
         let interlocking = Interlocking::new(alloc, checked, 0, 0)?;

@@ -1,12 +1,16 @@
-use Rattle.std.proofs.Common.{ap, ◌∙◌}
-use Rattle.simulator_run.specs.sci_telegram.declared.message.Position.TheVariants as positions
+use Rattle.std.proofs.Common.{ap, ◌∙◌, arith, rules, length}
 use Rattle.simulator_run.specs.layout.Entries.{Site}
-use Rattle.simulator_run.specs.First.{at_zero, first_server, new_point}
-use Rattle.simulator_field.proofs.First.{next_made}
+use Rattle.simulator_run.specs.First.{first_server}
+use Rattle.simulator_field.proofs.First.{all_points_made, next_point}
 use Rattle.simulator_field.proofs.first_controllers.first_points.Goals as goal
 
-pub loop-entry-preserved : goal.loop-entry-preserved
-loop-entry-preserved c =
-    next_made (λ entry. first_server (new_point c.args.table.now at_zero positions.Left entry)) c.points-entry-items.result.now c.args.table.now.points c.loop-entry.entry-index c.entry-item.result _ _ c.new.result
-    (c.points-entry-items.ensures ∙ ap (λ (p : Site). p.points) c.layout.ensures.entries) c.loop-entry-test.true c.entry-item.is c.loop-entry.invariant
+pub loop-place-preserved : goal.loop-place-preserved
+loop-place-preserved c =
+    next_point c.args.table.now c.points-entries.result.now c.args.positions.now c.loop-place.place c.index-entries-place.result _ _ _ c.new.result
+    (c.points-entries.ensures ∙ ap (λ (p : Site). p.points) c.layout.ensures.entries) c.requires c.loop-place-test.true c.index-entries-place.is (search rules) c.loop-place.invariant
     (c.new.ensures ∙ ap first_server c.in_ok-hosted.ensures.host) c.in_ok-push.ensures.items
+
+pub returns : goal.returns
+returns c =
+    let entries = ap length (c.points-entries.ensures ∙ ap (λ (p : Site). p.points) c.layout.ensures.entries)
+    in c.loop-place.invariant ∙ all_points_made c.args.table.now c.args.positions.now c.loop-place.place c.requires (omega (arith, c.loop-place-test.false, entries))

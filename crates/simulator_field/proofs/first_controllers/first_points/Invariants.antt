@@ -1,7 +1,7 @@
 use Rattle.std.proofs.Common.{◌≡◌, map, take}
-use Rattle.simulator_run.specs.sci_telegram.declared.message.Position.TheVariants as positions
-use Rattle.simulator_run.specs.First.{at_zero, first_server, new_point}
+use Rattle.std.specs.List.{zip}
+use Rattle.simulator_run.specs.First.{point_standing}
 use Rattle.simulator_field.proofs.first_controllers.first_points.Given as goal
 
-abbrev pub invariant-loop-entry : goal.invariant-loop-entry
-invariant-loop-entry l = l.points.items ≡ map (λ entry. first_server (new_point l.table at_zero positions.Left entry)) (take l.entry-index l.table.points)
+abbrev pub invariant-loop-place : goal.invariant-loop-place
+invariant-loop-place l = l.points.items ≡ map (point_standing l.table) (take l.place (zip l.table.points l.positions))

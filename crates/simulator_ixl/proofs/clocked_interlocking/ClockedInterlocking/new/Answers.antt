@@ -1,7 +1,7 @@
 use Rattle.std.proofs.Common.{refl, sym, ap, ◌∙◌}
 use Rattle.simulator_run.specs.Nodes.{partners}
 use Rattle.simulator_ixl.proofs.Clocks.{may_begin}
-use Rattle.simulator_ixl.proofs.Made.{first_station}
+use Rattle.simulator_ixl.proofs.Made.{first_made}
 use Rattle.simulator_ixl.proofs.clocked_interlocking.ClockedInterlocking.new.Goals as goal
 
 pub invariant_of-result : goal.invariant_of-result
@@ -15,5 +15,5 @@ invariant_of-result c =
 pub returns-clause-station : goal.returns-clause-station
 returns-clause-station c =
     let sited = c.in_ok-interlocking.interlocking.state.sited
-    in first_station sited.site c.layout.result.now sited.table c.in_ok-interlocking.interlocking.state.ixl c.in_ok-connections.connections.begun.items
+    in first_made sited.site c.layout.result.now sited.table c.in_ok-interlocking.interlocking.state.ixl c.in_ok-connections.connections.begun.items
     c.in_ok-interlocking.ensures.ixl c.in_ok-connections.ensures.begun (c.layout.ensures.entries ∙ sym c.in_ok-interlocking.ensures.site)
