@@ -1,0 +1,15 @@
+pub mod Lists
+pub mod Split
+pub mod Sent
+pub mod Counts
+pub mod Controllers
+pub mod Signals
+pub mod Points
+pub mod Detectors
+pub mod Station
+pub mod Runs
+pub mod Held
+pub mod Seen
+pub mod Said
+pub mod Readings
+pub mod Lines

@@ -1,0 +1,6 @@
+pub mod Told
+pub mod Lives
+pub mod Split
+pub mod Shown
+pub mod Said
+pub mod Readings

@@ -1,0 +1,67 @@
+-- What nodes hand out by their lives alone, and the lines by which a signal tells its lamp.
+use Rattle.std.specs.Prelude.{ℕ, List, [], ◌∷◌, ◌++◌, Option, Some, None, slice_get}
+use Rattle.simulator_run.specs.sci_telegram.declared.message.Occupancy.{Occupancy}
+use Rattle.simulator_run.specs.layout.declared.entries.Point.{Point as PointEntry}
+use Rattle.simulator_run.specs.layout.declared.entries.Signal.{Signal as SignalEntry}
+use Rattle.simulator_run.specs.layout.Entries.{DetectorEntry, Site}
+use Rattle.simulator_run.specs.rasta_core.Ends.{reading_of}
+use Rattle.simulator_run.specs.rasta_core.Outbox.{spellings}
+use Rattle.simulator_run.specs.object_host.Behaviour.{Behaviour}
+use Rattle.simulator_run.specs.object_host.Host.{HostState}
+use Rattle.simulator_run.specs.object_host.Step.{host_step}
+use Rattle.simulator_run.specs.object_host.declared.input.Input.{Input}
+use Rattle.simulator_run.specs.signal_ctl.Lamp.{Lamp}
+use Rattle.simulator_run.specs.signal_ctl.Signal.{SignalState, signal_behaviour}
+use Rattle.simulator_run.specs.point_ctl.Controlled.{point_behaviour}
+use Rattle.simulator_run.specs.tds_ctl.Controlled.{detection_behaviour}
+use Rattle.simulator_run.specs.ixl_rules.Table.{Table}
+use Rattle.simulator_run.specs.simulator_event.declared.event.Event.{Event}
+use Rattle.simulator_run.specs.First.{Beginning, Outset, new_detector, new_point, new_signal}
+use Rattle.simulator_run.specs.Station.{station_step}
+use Rattle.simulator_nodes.specs.Lives.{Life, detector_at, first_life, life_in}
+use Rattle.simulator_nodes.specs.Shown.{host_now, point_life, signal_life, station_life, station_now}
+use Rattle.simulator_nodes.specs.Told.{Told, Nobody, ToStation, ToSignal, ToPoint, ToDetector, told}
+
+abbrev pub detector_life : Site → Table → Outset → List Event → ℕ → Life (List Occupancy) Input
+detector_life site table outset events place = life_in site table (detector_at site place) events (first_life outset.occupancies)
+
+-- what a controller hands out by its life when it is told this
+abbrev pub says : {Object Contacts Entry : Type 0} → Behaviour Object → (Entry → Beginning → Contacts → HostState Object) → Input → Life Contacts Input → Option Entry → List (List ℕ)
+says does new input life None = []
+says does new input life (Some entry) =
+    let host = host_now does (new entry) life
+    in spellings host.link.identity.key (host_step does (reading_of life.clock) input host).pdus
+
+-- what the node that is told something behind these events hands out
+abbrev pub said_to : Site → Table → Outset → List Event → Told → List (List ℕ)
+said_to site table outset events Nobody = []
+said_to site table outset events (ToStation input) = (station_step site table input (station_now site table (station_life site table events))).outbox.datagrams
+said_to site table outset events (ToSignal place input) =
+    says signal_behaviour (λ (entry : SignalEntry) begins sensed. new_signal site begins entry) input (signal_life site table events place) (slice_get site.signals place)
+said_to site table outset events (ToPoint place input) =
+    says point_behaviour (λ (entry : PointEntry) begins position. new_point site begins position entry) input (point_life site table outset events place) (slice_get site.points place)
+said_to site table outset events (ToDetector place input) =
+    says detection_behaviour (λ (entry : DetectorEntry) begins occupied. new_detector site begins occupied entry) input (detector_life site table outset events place) (slice_get site.detectors place)
+
+-- all that the nodes handed out in these events, where others came before
+abbrev pub said_in : Site → Table → Outset → List Event → List Event → List (List ℕ)
+said_in site table outset before [] = []
+said_in site table outset before (first ∷ others) = said_to site table outset before (told site table first) ++ said_in site table outset (before ++ first ∷ []) others
+
+-- ---- lines to the field
+
+-- a line behind each step of a controller: what its equipment goes by
+abbrev pub lines_after : {Object Line : Type 0} → Behaviour Object → (Object → Line) → List (ℕ × Input) → HostState Object → List Line
+lines_after does line [] host = []
+lines_after does line (one ∷ others) host =
+    let next = (host_step does one.0 one.1 host).host
+    in line next.object ∷ lines_after does line others next
+
+-- the last line, or that which stood before
+abbrev pub last_line : {Line : Type 0} → Line → List Line → Line
+last_line line [] = line
+last_line line (next ∷ others) = last_line next others
+
+-- the line of a signal: its aspect, and the moment from which it is stop
+abbrev pub lamp_line : SignalState → Lamp
+lamp_line signal = signal.lamp
