@@ -1,6 +1,6 @@
 #!/usr/bin/env bash
 # Measures `pair` on long runs: a million events, and ten times as many, as LLVM builds it; an event against writing and
-# reading one PDU of 99 bytes; and hostile lists (bench/hostile_pair.py) of 99,000 lines and of 311,000, of which it tells whether
+# reading one PDU of 99 bytes; and hostile lists (bench/hostile.py) of 99,000 lines and of 311,000, of which it tells whether
 # the longer one keeps its bound. usage: bench/pair.sh [ROUNDS]. The best of all rounds counts. The status is 1 where the bound is
 # exceeded.
 set -eu
@@ -8,7 +8,7 @@ rounds=${1:-3}
 cd "$(dirname "$0")/../crates"
 (cd rasta_pdu_speed && rt run -- both 1 3 >/dev/null 2>&1) # proves it where it isn't yet, and leaves out/rasta_pdu_speed
 (cd pair && rt run >/dev/null 2>&1)                         # likewise out/pair
-exec python3 - "$PWD/pair/out/pair" "$PWD/rasta_pdu_speed/out/rasta_pdu_speed" "$rounds" "$PWD/../bench/hostile_pair.py" <<'PY'
+exec python3 - "$PWD/pair/out/pair" "$PWD/rasta_pdu_speed/out/rasta_pdu_speed" "$rounds" "$PWD/../bench/hostile.py" <<'PY'
 import os, platform, resource, subprocess, sys, tempfile
 
 pair, pdu, rounds, hostile = sys.argv[1], sys.argv[2], int(sys.argv[3]), sys.argv[4]
@@ -49,7 +49,7 @@ print(f"{LINES * EVENTS_A_LINE} events: {short:.2f} s, {an_event:.0f} ns an even
 print(f"ten times as many: {long:.2f} s, {long / short:.2f} times as long")
 is_within = True
 for kind in ("openings", "copies"):
-    short, long = (best([pair], subprocess.run([hostile, kind, str(lines)], check=True, capture_output=True, text=True).stdout) for lines in HOSTILE)
+    short, long = (best([pair], subprocess.run([hostile, "pair", kind, str(lines)], check=True, capture_output=True, text=True).stdout) for lines in HOSTILE)
     keeps = long <= MOST_TIMES * short
     is_within = is_within and keeps
     print(f"{kind}: {HOSTILE[0]} lines: {short:.2f} s; {HOSTILE[1]}: {long:.2f} s, {long / short:.1f} times as long, {'within' if keeps else 'beyond'} {MOST_TIMES}")

@@ -1,8 +1,9 @@
 #!/usr/bin/env bash
 # Measures `station sim` in long flows of the small station and of one at every limit, as LLVM builds it: an event against
 # writing and reading one PDU of 99 bytes, ten times as long a flow, and the memory that each datagram takes, of which it tells
-# whether it is within its bound; and `station replay` of a million lines. usage: bench/sim.sh [ROUNDS]. The best of all rounds
-# counts. The status is 1 where the bound is exceeded.
+# whether it is within its bound; hostile lists (bench/hostile.py) of 99,000 lines and of 311,000, of which it tells whether the
+# longer one keeps its bound; and `station replay` of a million lines. usage: bench/sim.sh [ROUNDS]. The best of all rounds
+# counts. The status is 1 where a bound is exceeded.
 set -eu
 rounds=${1:-3}
 here=$(cd "$(dirname "$0")/.." && pwd)
@@ -17,6 +18,8 @@ SHORT, LONG = 60_000, 600_000
 ROUND = 10
 HEARTBEAT = 300  # after so many milliseconds in which it sent nothing an end sends a heartbeat, of 36 bytes
 MOST_MEMORY = 96  # bytes for each
+HOSTILE = 99_000, 311_000
+MOST_TIMES = 4  # as long for three times the lines
 
 
 def used():
@@ -75,6 +78,19 @@ def tell_memory(layout, links, room):
     return is_within
 
 
+def hostile_list(kind, lines, room):
+    with open(f"{room}/hostile", "w") as text:
+        subprocess.run([f"{here}/bench/hostile.py", "sim", kind, str(lines)], check=True, stdout=text)
+    return text.name
+
+
+def tell_hostile(kind, layout, room):
+    short, long = (best([station, "sim", layout, hostile_list(kind, lines, room)]) for lines in HOSTILE)
+    is_within = long <= MOST_TIMES * short
+    print(f"{kind}: {HOSTILE[0]} lines: {short:.2f} s; {HOSTILE[1]}: {long:.2f} s, {long / short:.1f} times as long, {'within' if is_within else 'beyond'} {MOST_TIMES}")
+    return is_within
+
+
 def tell_replay(layout, room):
     with open(f"{room}/session", "w") as text:
         text.write("tick S1 = ok\n" * 1_000_000)
@@ -92,6 +108,8 @@ with tempfile.TemporaryDirectory() as room:
     tell("the small station", f"{here}/examples/small.toml", 6, room, a_pdu)
     tell("a station at every limit", largest, 81, room, a_pdu)
     is_within = tell_memory(f"{here}/examples/small.toml", 5, room)
+    for kind in ("openings", "copies"):
+        is_within = tell_hostile(kind, f"{here}/examples/small.toml", room) and is_within
     tell_replay(f"{here}/examples/small.toml", room)
 sys.exit(not is_within)
 PY

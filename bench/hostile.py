@@ -1,10 +1,11 @@
 #!/usr/bin/env python3
-"""Writes a hostile list of lines for `pair`, drawn from a seed. usage: bench/hostile_pair.py KIND LINES [SEED]
+"""Writes a hostile list of lines, drawn from a seed, for `pair`, or for `station sim` and the small station.
+usage: bench/hostile.py pair|sim KIND LINES [SEED]
 
-openings  clients that are made anew again and again, each with an opening of its own; losses of old and new ones, losses that
-          come twice, damaged and late deliveries
+openings  a client that is made anew again and again, each time with openings of its own; losses of old and new ones, losses
+          that come twice, damaged and late deliveries
 copies    the same with few clocks and numbers, so that each opening has thousands of equal copies"""
-import functools, random, struct, sys
+import functools, itertools, random, struct, sys
 
 MASK = 0xFFFFFFFF
 STANDARD = (0x67452301, 0xEFCDAB89, 0x98BADCFE, 0x10325476)
@@ -36,9 +37,9 @@ def pdu(kind, receiver, sender, number, confirmed, stamp, returned, payload=b"")
 
 
 @functools.lru_cache(100)
-def opening(number, stamp):
-    """The connection request of the client."""
-    return pdu(6200, 2, 1, number, 0, stamp, 0, b"0303" + struct.pack("<H", 20) + bytes(8))
+def opening(server, number, stamp):
+    """The connection request of the client to a server of this identity."""
+    return pdu(6200, server, 1, number, 0, stamp, 0, b"0303" + struct.pack("<H", 20) + bytes(8))
 
 
 def damaged(draw, text):
@@ -47,44 +48,44 @@ def damaged(draw, text):
     return text[: place // 8] + bytes([text[place // 8] ^ 1 << place % 8]) + text[place // 8 + 1 :]
 
 
-def openings(draw, lines, numbers):
-    """Each opening takes three lines; between them stand other events."""
+def openings(draw, client, servers, numbers):
+    """Its openings take the client three lines; between them stand other events."""
     sent = []
-    count = 0
     while True:
         clock = draw.randrange(numbers)
         number = draw.randrange(numbers)
-        yield f"restart C {clock} {number}"
+        yield f"restart {client} {clock} {number}"
         yield "time 6000000"
-        yield "tick C"
-        sent.append(opening(number, clock + 6000))
+        yield f"tick {client}"
+        sent += [(server, opening(identity, number, clock + 6000)) for server, identity in servers.items()]
         for _ in range(draw.randrange(4)):
-            old, new = draw.choice(sent), sent[-1]
+            (server, old), (newest, new) = draw.choice(sent), sent[-1]
             yield draw.choice((
                 f"lose {old.hex()}",
                 f"lose {old.hex()}",
                 f"lose {new.hex()}",
-                f"deliver S {new.hex()}",
-                f"deliver S {old.hex()}",
-                f"deliver S {damaged(draw, old).hex()}",
-                f"restart S {clock} {number}",
-                "tick S",
+                f"deliver {newest} {new.hex()}",
+                f"deliver {server} {old.hex()}",
+                f"deliver {server} {damaged(draw, old).hex()}",
+                f"restart {server} {clock} {number}",
+                f"tick {server}",
                 "time 700",
             ))
 
 
-KINDS = {"openings": (openings, 1 << 32), "copies": (openings, 4)}
+# the client, and the servers with their identities
+PROGRAMS = {"pair": ("C", {"S": 2}), "sim": ("IXL1", {"S1": 2, "S3": 3, "S4": 4, "P1": 10, "D1": 20})}
+# below which number clocks and first sequence numbers are drawn
+KINDS = {"openings": 1 << 32, "copies": 4}
 
 
 def main():
-    if len(sys.argv) not in (3, 4) or sys.argv[1] not in KINDS:
+    if len(sys.argv) not in (4, 5) or sys.argv[1] not in PROGRAMS or sys.argv[2] not in KINDS:
         sys.exit(__doc__)
-    kind, numbers = KINDS[sys.argv[1]]
-    lines = int(sys.argv[2])
-    draw = random.Random(int(sys.argv[3]) if len(sys.argv) == 4 else 1)
-    rows = kind(draw, lines, numbers)
-    for _ in range(lines):
-        print(next(rows))
+    client, servers = PROGRAMS[sys.argv[1]]
+    draw = random.Random(int(sys.argv[4]) if len(sys.argv) == 5 else 1)
+    for line in itertools.islice(openings(draw, client, servers, KINDS[sys.argv[2]]), int(sys.argv[3])):
+        print(line)
 
 
 if __name__ == "__main__":
