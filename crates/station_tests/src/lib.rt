@@ -13,6 +13,8 @@ mod faults;
 #[cfg(test)]
 mod memory;
 #[cfg(test)]
+mod one_round;
+#[cfg(test)]
 mod pair;
 #[cfg(test)]
 mod run_bench;
