@@ -2,4 +2,5 @@ pub mod Answering
 pub mod Noted
 pub mod Rounds
 pub mod Transcripts
+pub mod Applying
 pub mod Safety
