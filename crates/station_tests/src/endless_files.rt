@@ -8,8 +8,8 @@ use std::io::{Error, ErrorKind, Read};
 use std::test::Fail;
 
 /// The text of a reader. Its clauses aren't known to the tests, which so are proved quickly.
-fn read<R: Read>(alloc: Global, reader: &mut R, limit: u64) -> Result<String, TextFault> {
-    text_up_to(alloc, reader, limit)
+fn read<R: Read>(alloc: Global, reader: &mut R, limit: u32) -> Result<String, TextFault> {
+    text_up_to(alloc, reader, u64::from(limit))
 }
 
 /// A reader that never ends, and counts what was taken from it.
