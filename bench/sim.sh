@@ -17,7 +17,9 @@ station, pdu = f"{here}/crates/station/out/station", f"{here}/crates/rasta_pdu_s
 SHORT, LONG = 60_000, 600_000
 ROUND = 10
 HEARTBEAT = 300  # after so many milliseconds in which it sent nothing an end sends a heartbeat, of 36 bytes
-MOST_MEMORY = 96  # bytes for each
+# bytes for each: 84 as long as no index finds copies, 12 of the index for its place, and at most 4 for the buckets, of which each
+# takes 8 bytes and has at least two places when it is made
+MOST_MEMORY = 84 + 12 + 4
 HOSTILE = 99_000, 311_000
 MOST_TIMES = 4  # as long for three times the lines
 
