@@ -64,6 +64,7 @@ pub mod Events
 pub mod Others
 pub mod Givings
 pub mod GivenKept
+pub mod HandedOut
 pub mod Outside
 pub mod LinkRuns
 pub mod Views

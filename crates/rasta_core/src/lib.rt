@@ -26,7 +26,8 @@ pub use rasta_core_run::{
     Identity, Inbox, Link, Millis, Outbox, Reason, Role, SendFault, Sent, State, Verdict,
 };
 pub use true_time::{
-    alone_after_quiet, alone_after_waiting, copies_are_delivered, every_event_keeps_time,
-    every_run_keeps_time, items_are_fresh, links_are_settled, one_connection, opening_is_new,
-    own_connection, quiet_is_counted, some_run_takes_an_item, starts_in_time,
+    alone_after_quiet, alone_after_waiting, calls_hand_out_pdus, copies_are_delivered,
+    every_event_keeps_time, every_run_keeps_time, items_are_fresh, links_are_settled,
+    one_connection, opening_is_new, own_connection, quiet_is_counted, some_run_takes_an_item,
+    starts_in_time,
 };

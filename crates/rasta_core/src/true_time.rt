@@ -8,11 +8,12 @@ ghost use Rattle.rasta_core_run.specs.State.{is_up};
 ghost use Rattle.rasta_core_run.specs.identity.Role.{Role};
 ghost use Rattle.rasta_core_run.specs.identity.Role.TheVariants as role;
 ghost use Rattle.rasta_core_run.specs.Bag.{lifetime, newest_copy};
-ghost use Rattle.rasta_core_run.specs.Ends.{Sent, Receives, is_taken, reading_of};
+ghost use Rattle.rasta_core_run.specs.Ends.{Call, Sent, Receives, is_taken, outcome, reading_of};
 ghost use Rattle.rasta_core_run.specs.Run.{Ends, end_of, called};
 ghost use Rattle.rasta_core_run.specs.Each.{Each};
-ghost use Rattle.rasta_core_run.specs.Events.{Event, IsDelivered, Restarts, May, MayRun, Start, happened, run, started};
+ghost use Rattle.rasta_core_run.specs.Events.{Event, IsDelivered, Restarts, May, MayCall, MayRun, Start, happened, run, started};
 ghost use Rattle.rasta_core_run.specs.Names.{AreNames, Names};
+ghost use Rattle.rasta_core_run.specs.Values.{IsPdu};
 ghost use Rattle.rasta_core.specs.Invariant.{Timely, HasBeenOut};
 ghost use Rattle.rasta_core_run.specs.Sentences.{IsDownNow, LeavesClient, IsIn, IsOpening, IsOut, freshness, receipt_at};
 
@@ -38,6 +39,14 @@ pub fn every_run_keeps_time()
         → Timely names (run events ends) }
 {
     every_event_keeps_time();
+}
+
+/// What an end hands out in a call that may be made are PDUs.
+pub fn calls_hand_out_pdus()
+    ensures { (names : Names) (ends : Ends) (who : Role) (call : Call) → Timely names ends → MayCall names who call ends
+        → Each IsPdu (outcome call ends.moment (end_of who ends)).pdus }
+{
+    read_was_written();
 }
 
 /// Each link is settled at its end's clock: what the clock rules do is done.

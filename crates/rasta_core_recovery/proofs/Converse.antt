@@ -1,0 +1,263 @@
+-- Two ends that have joined a connection and stay in it: each comes to take what the other says.
+use Rattle.std.proofs.Common.{◌≡◌, ℕ, ◌∙◌, ◌+◌, ◌-◌, ◌^◌, ◌≤◌, ◌<◌, ◌⊎◌, inl, inr, Bool, true, false, List, [], refl, sym, ap, subst, arith}
+use Rattle.rasta_core_run.specs.Sequence.{stamp}
+use Rattle.rasta_core_run.specs.State.{LinkState, is_open, is_up}
+use Rattle.rasta_core_run.specs.Sending.{Step}
+use Rattle.rasta_core_run.specs.identity.Role.{Role}
+use Rattle.rasta_core_run.specs.identity.Role.TheVariants as role
+use Rattle.rasta_core_run.specs.identity.Identity.{Identity}
+use Rattle.rasta_core_run.specs.pdu.Pdu.{Pdu}
+use Rattle.rasta_core_run.specs.Each.{Each}
+use Rattle.rasta_core_run.specs.Names.{Names, identity_of, partner_of}
+use Rattle.rasta_core_recovery.proofs.Links.{Pair, end_round, pair_round}
+use Rattle.rasta_core_recovery.proofs.Healthy.{beats}
+use Rattle.rasta_core_recovery.proofs.Calls.{at_reading}
+use Rattle.rasta_core_recovery.proofs.Words.{voice_of, Chain, chain_ends}
+use Rattle.rasta_core_recovery.proofs.Course.{Joined}
+use Rattle.rasta_core_recovery.proofs.Tuning.{IsPlainPdu, Round, Bounds, Ghost, Tuned, Mode, Hearing}
+use Rattle.rasta_core_recovery.proofs.Turn.{Either, gone, so, Turn, EndMode, turns}
+
+-- a tuned end takes what is under way to it, and has heard the last but that; one that isn't has heard nothing that was
+-- said since a reading of its partner's clock, which therefore knows no younger stamp of its own
+abbrev pub WayMode : Bool → ℕ → ℕ → LinkState → LinkState → ℕ → ℕ → ℕ → List Pdu → Type 0
+WayMode true start kept l m number count reading ps = Tuned l number count reading × (ps ≡ [] → m.sent_at ≤ kept)
+WayMode false start kept l m number count reading ps = (kept ≤ start) × (m.own_stamp ≤ start)
+
+-- One direction between two ends: what one has of its partner and what is under way to it, since two readings of their clocks.
+pub record Way (partner_start own_start : ℕ) (tuned : Bool) (kept other_kept : ℕ) (l m : LinkState) (ps : List Pdu) : Type 0 where
+  pub is : Joined l.clock l
+  pub first : l.partner_first ≡ m.own_first
+  pub some : 1 ≤ l.expected
+  pub most : l.expected ≤ m.sent
+  pub kept_is : l.partner_stamp ≡ stamp kept
+  pub before : kept ≤ m.clock
+  pub low : partner_start ≤ kept + 5000
+  pub sent_before : m.sent_at ≤ m.clock
+  pub number : ℕ
+  pub count : ℕ
+  pub reading : ℕ
+  pub chain : Chain (voice_of m) number count reading ps m.sent (m.expected - 1) other_kept
+  pub since : own_start ≤ reading + 5000
+  pub mode : WayMode tuned partner_start kept l m number count reading ps
+
+pub record Are (names : Names) (who : Role) (l m : LinkState) : Type 0 where
+  pub own : l.identity ≡ identity_of who names
+  pub other : m.identity ≡ identity_of (partner_of who) names
+
+abbrev pub round_of : Bool → ℕ → ℕ → LinkState → LinkState → List Pdu → Round
+round_of tuned kept other_kept l m ps = record {
+  now = l.clock + 10;
+  said_at = m.clock;
+  end = m.sent;
+  confirmed = m.expected - 1;
+  returned = other_kept;
+  voice = voice_of m;
+  kept = kept;
+  own = l.own_stamp;
+  tuned = tuned;
+  pdus = ps;
+}
+
+names_receiver : (names : Names) (who : Role) → (identity_of (partner_of who) names).partner ≡ (identity_of who names).own
+names_receiver names role.Client = refl
+names_receiver names role.Server = refl
+
+names_sender : (names : Names) (who : Role) → (identity_of (partner_of who) names).own ≡ (identity_of who names).partner
+names_sender names role.Client = refl
+names_sender names role.Server = refl
+
+module _ (names : Names) (who : Role) (start own_start : ℕ) (tuned other_tuned : Bool) (kept other_kept : ℕ) (l m : LinkState) (ps qs : List Pdu)
+    (are : Are names who l m) (there : Way start own_start tuned kept other_kept l m ps) (back : Way own_start start other_tuned other_kept kept m l qs)
+    (fits : m.sent < 2 ^ 31) (short : l.clock ≤ own_start + 100000) where
+  abbrev x : Round
+  x = round_of tuned kept other_kept l m ps
+
+  bounds : Bounds x
+  bounds = record { fits = fits; old = omega (arith, back.before); stamped = refl; kept = there.before }
+
+  abbrev ghost_now : Ghost
+  ghost_now = record { kept = kept; tuned = tuned }
+
+  start_mode : (b : Bool) → tuned ≡ b → WayMode b start kept l m there.number there.count there.reading ps → Mode x b kept (at_reading (l.clock + 10) l) there.number there.count there.reading ps
+  start_mode true e (t, recent) = (record { reading = t.reading; expected = t.expected; confirmed = t.confirmed; own = t.own }, inr (refl, refl, e))
+  start_mode false e m = (refl, refl)
+
+  hearing_now : l.clock + 10 < l.own_stamp + 1800 → Hearing x ghost_now ps (at_reading (l.clock + 10) l)
+  hearing_now young = record {
+    is = record { clock = refl; connected = there.is.connected; joined = there.is.joined; young = young; own = omega (arith, there.is.own) };
+    first = sym there.first;
+    partner_first = back.first;
+    receiver = ap (λ (i : Identity). i.partner) are.other ∙ names_receiver names who ∙ sym (ap (λ (i : Identity). i.own) are.own);
+    sender = ap (λ (i : Identity). i.own) are.other ∙ names_sender names who ∙ sym (ap (λ (i : Identity). i.partner) are.own);
+    some = there.some;
+    most = there.most;
+    kept_is = there.kept_is;
+    kept_before = there.before;
+    since = omega arith;
+    counts = omega (arith, back.some, back.most);
+    number = there.number;
+    count = there.count;
+    reading = there.reading;
+    chain = there.chain;
+    low = omega (arith, there.since, short);
+    mode = start_mode tuned refl there.mode;
+    plain = λ e. e;
+  }
+
+  -- what the round makes of this end, where it stays
+  turn : is_open (end_round (l.clock + 10) ps l).link.phase ≡ true → Turn x bounds tuned l (end_round (l.clock + 10) ps l)
+  turn is_in = choose (turns x bounds ghost_now l refl there.is refl hearing_now)
+    where
+      choose : Either (l.clock + 10) (end_round (l.clock + 10) ps l).link (Turn x bounds tuned l (end_round (l.clock + 10) ps l)) → Turn x bounds tuned l (end_round (l.clock + 10) ps l)
+      choose (gone left) = absurd (cc (left.is_out, is_in))
+      choose (so t) = t
+
+-- the direction after a round, from the rounds of both its ends
+pub way_goes : (start own_start : ℕ) (tuned other_tuned : Bool) (kept other_kept : ℕ) (l m : LinkState) (ps qs : List Pdu) (s r : Step)
+    → (there : Way start own_start tuned kept other_kept l m ps) → (back : Way own_start start other_tuned other_kept kept m l qs)
+    → (b : Bounds (round_of tuned kept other_kept l m ps)) → (c : Bounds (round_of other_tuned other_kept kept m l qs))
+    → (t : Turn (round_of tuned kept other_kept l m ps) b tuned l s) → (u : Turn (round_of other_tuned other_kept kept m l qs) c other_tuned m r)
+    → Way start own_start t.then_tuned t.says.kept u.says.kept s.link r.link r.pdus
+way_goes start own_start tuned other_tuned kept other_kept l m ps qs s r there back b c t u = record {
+  is = record { clock = refl; connected = t.says.is.connected; joined = t.says.is.joined; young = omega (arith, t.says.is.young, t.says.is.clock); own = omega (arith, t.says.is.own, t.says.is.clock) };
+  first = t.says.partner_first ∙ there.first ∙ sym u.says.own_first;
+  some = t.says.some;
+  most = omega (arith, t.says.most, sent_rises);
+  kept_is = t.says.kept_is;
+  before = omega (arith, t.says.kept_before, u.says.is.clock);
+  low = omega (arith, there.low, t.says.since);
+  sent_before = either u.says.sent_at;
+  number = m.sent;
+  count = m.expected - 1;
+  reading = other_kept;
+  chain = u.says.chain;
+  since = back.low;
+  mode = choose t.then_tuned refl t.mode;
+}
+  where
+    sent_rises : m.sent ≤ r.link.sent
+    sent_rises = (chain_ends (voice_of r.link) m.sent (m.expected - 1) other_kept r.link.sent (r.link.expected - 1) u.says.kept r.pdus u.says.chain).0
+
+    either : (r.link.sent_at ≡ m.sent_at) ⊎ (r.link.sent_at ≡ m.clock + 10) → r.link.sent_at ≤ r.link.clock
+    either (inl e) = omega (arith, e, there.sent_before, u.says.is.clock)
+    either (inr e) = omega (arith, e, u.says.is.clock)
+
+    recent : (t.says.kept ≡ m.clock) ⊎ ((ps ≡ []) × (t.says.kept ≡ kept) × (tuned ≡ true)) → r.pdus ≡ [] → r.link.sent_at ≤ t.says.kept
+    recent (inl e) none = omega (arith, e, u.says.spoken none, there.sent_before)
+    recent (inr (e, f, g)) none = omega (arith, f, u.says.spoken none, before g there.mode e)
+      where
+        before : tuned ≡ true → WayMode tuned start kept l m there.number there.count there.reading ps → ps ≡ [] → m.sent_at ≤ kept
+        before g mode e = (subst (λ (y : Bool). WayMode y start kept l m there.number there.count there.reading ps) g mode).1 e
+
+    -- an end that isn't tuned wasn't before
+    not_before : (y z : Bool) → y ≡ false → (z ≡ true → y ≡ true) → z ≡ false
+    not_before y true e f = absurd (cc (e, f refl))
+    not_before y false e f = refl
+
+    was_deaf : (z : Bool) → z ≡ false → WayMode z start kept l m there.number there.count there.reading ps → (kept ≤ start) × (m.own_stamp ≤ start)
+    was_deaf true e mode = absurd (cc e)
+    was_deaf false e mode = mode
+
+    own_old : (z : Bool) → EndMode (round_of other_tuned other_kept kept m l qs) c z u.says.kept r.link → (kept ≤ start) × (m.own_stamp ≤ start) → r.link.own_stamp ≤ start
+    own_old true (v, how) h = omega (arith, v.own, h.0)
+    own_old false (e, f) h = omega (arith, f, h.1)
+
+    choose : (y : Bool) → t.then_tuned ≡ y → EndMode (round_of tuned kept other_kept l m ps) b y t.says.kept s.link → WayMode y start t.says.kept s.link r.link m.sent (m.expected - 1) other_kept r.pdus
+    choose true same (v, how) = (v, recent how)
+    choose false same (e, f) = let deaf = was_deaf tuned (not_before t.then_tuned tuned same t.keeps) there.mode in (omega (arith, e, deaf.0), own_old u.then_tuned u.mode deaf)
+
+-- ---- both directions
+
+pub record Talk (names : Names) (of_client of_server : ℕ) (client_tuned server_tuned : Bool) (p : Pair) : Type 0 where
+  pub client : p.client.identity ≡ identity_of role.Client names
+  pub server : p.server.identity ≡ identity_of role.Server names
+  pub client_kept : ℕ
+  pub server_kept : ℕ
+  pub to_client : Way of_server of_client client_tuned client_kept server_kept p.client p.server p.to_client
+  pub to_server : Way of_client of_server server_tuned server_kept client_kept p.server p.client p.to_server
+
+-- what a round makes of both: a tuned end says nothing that asks; and where what came to it didn't ask either, it says a heartbeat
+-- at most; and it has heard its partner lately, where this wasn't silent for long
+pub record Goes (names : Names) (of_client of_server : ℕ) (client_tuned server_tuned : Bool) (p : Pair) : Type 0 where
+  pub then_client : Bool
+  pub then_server : Bool
+  pub client_keeps : client_tuned ≡ true → then_client ≡ true
+  pub server_keeps : server_tuned ≡ true → then_server ≡ true
+  pub talk : Talk names of_client of_server then_client then_server (pair_round p)
+  pub client_plain : client_tuned ≡ true → Each IsPlainPdu (pair_round p).to_server
+  pub server_plain : server_tuned ≡ true → Each IsPlainPdu (pair_round p).to_client
+  pub client_beats : client_tuned ≡ true → Each IsPlainPdu p.to_client → (b : Bool) × ((pair_round p).to_server ≡ beats b (pair_round p).client) × (b ≡ true → (pair_round p).client.sent_at ≡ (pair_round p).client.clock)
+  pub server_beats : server_tuned ≡ true → Each IsPlainPdu p.to_server → (b : Bool) × ((pair_round p).to_client ≡ beats b (pair_round p).server) × (b ≡ true → (pair_round p).server.sent_at ≡ (pair_round p).server.clock)
+  pub client_calm : is_up (pair_round p).client.phase ≡ true → (pair_round p).client.clock < (pair_round p).client.sent_at + 300
+  pub server_calm : is_up (pair_round p).server.phase ≡ true → (pair_round p).server.clock < (pair_round p).server.sent_at + 300
+  pub client_near : client_tuned ≡ true → p.server.clock < p.server.sent_at + 300 → (pair_round p).server.clock ≤ talk.client_kept + 309
+  pub server_near : server_tuned ≡ true → p.client.clock < p.client.sent_at + 300 → (pair_round p).client.clock ≤ talk.server_kept + 309
+  pub client_clock : (pair_round p).client.clock ≡ p.client.clock + 10
+  pub server_clock : (pair_round p).server.clock ≡ p.server.clock + 10
+
+near_after : (start own_start : ℕ) (tuned : Bool) (kept other_kept : ℕ) (l m : LinkState) (ps : List Pdu) (s : Step) (there : Way start own_start tuned kept other_kept l m ps)
+    → (b : Bounds (round_of tuned kept other_kept l m ps)) (t : Turn (round_of tuned kept other_kept l m ps) b tuned l s)
+    → tuned ≡ true → m.clock < m.sent_at + 300 → m.clock + 10 ≤ t.says.kept + 309
+near_after start own_start tuned kept other_kept l m ps s there b t is calm = choose t.then_tuned (t.keeps is) t.mode
+  where
+    recent : (z : Bool) → z ≡ true → WayMode z start kept l m there.number there.count there.reading ps → ps ≡ [] → m.sent_at ≤ kept
+    recent true e mode none = mode.1 none
+    recent false e mode none = absurd (cc e)
+
+    choose : (y : Bool) → y ≡ true → EndMode (round_of tuned kept other_kept l m ps) b y t.says.kept s.link → m.clock + 10 ≤ t.says.kept + 309
+    choose true e (v, inl f) = omega (arith, f)
+    choose true e (v, inr (f, g, h)) = omega (arith, g, calm, recent tuned is there.mode f)
+    choose false e mode = absurd (cc e)
+
+pub talks_on : (names : Names) (of_client of_server : ℕ) (client_tuned server_tuned : Bool) (p : Pair) → Talk names of_client of_server client_tuned server_tuned p
+    → p.client.sent < 2 ^ 31 → p.server.sent < 2 ^ 31 → p.client.clock ≤ of_client + 100000 → p.server.clock ≤ of_server + 100000
+    → is_open (pair_round p).client.phase ≡ true → is_open (pair_round p).server.phase ≡ true → Goes names of_client of_server client_tuned server_tuned p
+unfolding pair_round
+talks_on names of_client of_server client_tuned server_tuned p talk client_fits server_fits client_short server_short client_in server_in = record {
+  then_client = t.then_tuned;
+  then_server = u.then_tuned;
+  client_keeps = t.keeps;
+  server_keeps = u.keeps;
+  talk = record {
+    client = t.says.identity ∙ talk.client;
+    server = u.says.identity ∙ talk.server;
+    client_kept = t.says.kept;
+    server_kept = u.says.kept;
+    to_client = way_goes of_server of_client client_tuned server_tuned talk.client_kept talk.server_kept p.client p.server p.to_client p.to_server c s talk.to_client talk.to_server bc bs t u;
+    to_server = way_goes of_client of_server server_tuned client_tuned talk.server_kept talk.client_kept p.server p.client p.to_server p.to_client s c talk.to_server talk.to_client bs bc u t;
+  };
+  client_plain = t.plain;
+  server_plain = u.plain;
+  client_beats = λ e f. let g = t.beating e f in (g.0, g.1, λ h. g.2 h ∙ sym t.says.is.clock);
+  server_beats = λ e f. let g = u.beating e f in (g.0, g.1, λ h. g.2 h ∙ sym u.says.is.clock);
+  client_calm = λ e. omega (arith, t.says.calm e, t.says.is.clock);
+  server_calm = λ e. omega (arith, u.says.calm e, u.says.is.clock);
+  client_near = λ e f. omega (arith, near_after of_server of_client client_tuned talk.client_kept talk.server_kept p.client p.server p.to_client c talk.to_client bc t e f, u.says.is.clock);
+  server_near = λ e f. omega (arith, near_after of_client of_server server_tuned talk.server_kept talk.client_kept p.server p.client p.to_server s talk.to_server bs u e f, t.says.is.clock);
+  client_clock = t.says.is.clock;
+  server_clock = u.says.is.clock;
+}
+  where
+    c : Step
+    c = end_round (p.client.clock + 10) p.to_client p.client
+
+    s : Step
+    s = end_round (p.server.clock + 10) p.to_server p.server
+
+    bc : Bounds (round_of client_tuned talk.client_kept talk.server_kept p.client p.server p.to_client)
+    bc = bounds names role.Client of_server of_client client_tuned server_tuned talk.client_kept talk.server_kept p.client p.server p.to_client p.to_server (record { own = talk.client; other = talk.server }) talk.to_client talk.to_server server_fits client_short
+
+    bs : Bounds (round_of server_tuned talk.server_kept talk.client_kept p.server p.client p.to_server)
+    bs = bounds names role.Server of_client of_server server_tuned client_tuned talk.server_kept talk.client_kept p.server p.client p.to_server p.to_client (record { own = talk.server; other = talk.client }) talk.to_server talk.to_client client_fits server_short
+
+    t : Turn (round_of client_tuned talk.client_kept talk.server_kept p.client p.server p.to_client) bc client_tuned p.client c
+    t = turn names role.Client of_server of_client client_tuned server_tuned talk.client_kept talk.server_kept p.client p.server p.to_client p.to_server (record { own = talk.client; other = talk.server }) talk.to_client talk.to_server server_fits client_short client_in
+
+    u : Turn (round_of server_tuned talk.server_kept talk.client_kept p.server p.client p.to_server) bs server_tuned p.server s
+    u = turn names role.Server of_client of_server server_tuned client_tuned talk.server_kept talk.client_kept p.server p.client p.to_server p.to_client (record { own = talk.server; other = talk.client }) talk.to_server talk.to_client client_fits server_short server_in
+
+-- an end that wasn't tuned for 1800 ms has a partner that is outside
+pub tuned_by_then : (partner_start own_start : ℕ) (tuned : Bool) (kept other_kept : ℕ) (l m : LinkState) (ps : List Pdu) → Way partner_start own_start tuned kept other_kept l m ps
+    → m.clock < m.own_stamp + 1800 → partner_start + 1800 ≤ m.clock → tuned ≡ true
+tuned_by_then partner_start own_start true kept other_kept l m ps way young long = refl
+tuned_by_then partner_start own_start false kept other_kept l m ps way young long = absurd (omega (arith, way.mode.1, young, long))

@@ -1,0 +1,270 @@
+-- What is so of two ends at any moment, and is used of good rounds: from the invariants of time and of order.
+use Rattle.std.proofs.Common.{◌≡◌, ◌≢◌, ℕ, zero, suc, ◌∙◌, ◌+◌, ◌*◌, ◌/◌, ◌≤◌, ◌<◌, Bool, true, false, ◌&&◌, not, nat_le, if◌then◌else◌, List, [], ◌∷◌, drop, Some, refl, sym, ap, subst, arith, leb-true}
+use Rattle.rasta_core_run.specs.Sequence.{stamp}
+use Rattle.rasta_core_run.specs.State.{LinkState, is_open, is_asking}
+use Rattle.rasta_core_run.specs.identity.Role.{Role}
+use Rattle.rasta_core_run.specs.identity.Role.TheVariants as role
+use Rattle.rasta_core_run.specs.key.Key.{Key}
+use Rattle.rasta_core_run.specs.pdu.Pdu.{Pdu}
+use Rattle.rasta_core_run.specs.Bag.{lifetime}
+use Rattle.rasta_core_run.specs.Each.{Each}
+use Rattle.rasta_core_run.specs.Ends.{Sent}
+use Rattle.rasta_core_run.specs.Names.{Names, identity_of}
+use Rattle.rasta_core.specs.Standing.{Inside, Outside, IsInside, IsOutside, HasHeard, own_stamp, heard_stamp, closed_at, standing, Times, times_of}
+use Rattle.rasta_core.specs.Timely.{IsKnown}
+use Rattle.rasta_core.specs.Invariant.{InFlight, Timely}
+use Rattle.rasta_core.specs.Ordered.{Ordered, unbegun, alone, together}
+use Rattle.rasta_core.specs.EndFlow.{EndFlow}
+use Rattle.rasta_core.specs.Playing.{Plays, joined, asking, left, HasJoined}
+use Rattle.rasta_core_recovery.proofs.Links.{Pair}
+use Rattle.rasta_core_recovery.proofs.Mirror.{Mirrors, AreRead, arriving, pending, bytes_from}
+use Rattle.rasta_core_recovery.specs.Rounds.{Flow, can_come}
+
+-- an end inside, by its clock: its own stamp isn't younger than its clock, and not too old
+pub record Young (l : LinkState) : Type 0 where
+  pub own : l.own_stamp ≤ l.clock
+  pub young : l.clock < l.own_stamp + 1800
+
+-- the reading whose stamp an end keeps of its partner
+pub record Kept (l m : LinkState) : Type 0 where
+  pub reading : ℕ
+  pub kept_is : l.partner_stamp ≡ stamp reading
+  pub before : reading ≤ m.clock
+  pub recent : m.clock ≤ reading + 4000
+
+-- one end has joined the connection of the other
+pub record Shares (l m : LinkState) : Type 0 where
+  pub first : l.partner_first ≡ m.own_first
+  pub some : 1 ≤ l.expected
+  pub most : l.expected ≤ m.sent
+  pub kept : Kept l m
+
+pub record Facts (names : Names) (p : Pair) : Type 0 where
+  pub client : p.client.identity ≡ identity_of role.Client names
+  pub server : p.server.identity ≡ identity_of role.Server names
+  pub client_young : is_open p.client.phase ≡ true → Young p.client
+  pub server_young : is_open p.server.phase ≡ true → Young p.server
+  pub shares : is_open p.client.phase ≡ true → is_asking p.client ≡ false → is_open p.server.phase ≡ true → Shares p.client p.server × Shares p.server p.client
+  -- a client that has joined a connection is left alone for a short time only
+  pub alone : is_open p.client.phase ≡ true → is_asking p.client ≡ false → is_open p.server.phase ≡ false → p.server.clock ≤ p.server.closed_at + 1804
+  -- a client that is outside for so long has a server that is outside, and nothing is under way
+  pub waited : is_open p.client.phase ≡ false → p.client.closed_at + 5990 ≤ p.client.clock → (is_open p.server.phase ≡ false) × (p.to_client ≡ []) × (p.to_server ≡ [])
+
+standing_in : (l : LinkState) → is_open l.phase ≡ true → standing l ≡ Inside (is_asking l) l.own_stamp l.partner_stamp
+standing_in l e = ap (λ (b : Bool). if b then Inside (is_asking l) l.own_stamp l.partner_stamp else Outside l.closed_at) e
+
+standing_out : (l : LinkState) → is_open l.phase ≡ false → standing l ≡ Outside l.closed_at
+standing_out l e = ap (λ (b : Bool). if b then Inside (is_asking l) l.own_stamp l.partner_stamp else Outside l.closed_at) e
+
+is_inside : (l : LinkState) → is_open l.phase ≡ true → IsInside (standing l)
+is_inside l e = subst IsInside (sym (standing_in l e)) tt
+
+is_outside : (l : LinkState) → is_open l.phase ≡ false → IsOutside (standing l)
+is_outside l e = subst IsOutside (sym (standing_out l e)) tt
+
+has_heard : (l : LinkState) → is_open l.phase ≡ true → is_asking l ≡ false → HasHeard (standing l)
+has_heard l e joined_is = subst HasHeard (sym (standing_in l e ∙ ap (λ (b : Bool). Inside b l.own_stamp l.partner_stamp) joined_is)) tt
+
+of_open : (link : LinkState) → is_open link.phase ≡ false → is_open link.phase ≡ true → ⊥
+of_open link e f = cc
+
+module _ (names : Names) (f : Flow) (p : Pair) (m : Mirrors names f p) (ordered : Ordered names f.ends) where
+  abbrev timely : Timely names f.ends
+  timely = m.timely
+
+  abbrev times : Times
+  times = times_of f.ends timely.of_client timely.of_server timely.newest
+
+  client_clock : p.client.clock ≡ f.ends.client.clock / 1000
+  client_clock = sym (ap (λ (l : LinkState). l.clock) m.client) ∙ timely.client.clock
+
+  server_clock : p.server.clock ≡ f.ends.server.clock / 1000
+  server_clock = sym (ap (λ (l : LinkState). l.clock) m.server) ∙ timely.server.clock
+
+  abbrev c : LinkState
+  c = f.ends.client.link
+
+  abbrev s : LinkState
+  s = f.ends.server.link
+
+  -- how long ago what was returned last was sent, of an end inside
+  client_time : is_open c.phase ≡ true → (1000 * c.own_stamp ≤ f.ends.client.clock) × (f.ends.client.clock < 1000 * (c.own_stamp + 1800)) × (f.ends.time ≤ timely.of_client.returned_at + 1801802)
+  client_time is_in =
+      let own : own_stamp (standing c) ≡ c.own_stamp = ap own_stamp (standing_in c is_in) in
+      let read = timely.ends_timed.client.was_read (is_inside c is_in) in
+      let before = timely.ends_timed.client.returned_before in
+      let young = timely.ends_timed.client.young (is_inside c is_in) in
+      (omega (arith, own, read, before), omega (arith, own, young), omega (arith, own, read, young))
+
+  server_time : is_open s.phase ≡ true → (1000 * s.own_stamp ≤ f.ends.server.clock) × (f.ends.server.clock < 1000 * (s.own_stamp + 1800)) × (f.ends.time ≤ timely.of_server.returned_at + 1801802)
+  server_time is_in =
+      let own : own_stamp (standing s) ≡ s.own_stamp = ap own_stamp (standing_in s is_in) in
+      let read = timely.ends_timed.server.was_read (is_inside s is_in) in
+      let before = timely.ends_timed.server.returned_before in
+      let young = timely.ends_timed.server.young (is_inside s is_in) in
+      (omega (arith, own, read, before), omega (arith, own, young), omega (arith, own, read, young))
+
+  young_client : is_open c.phase ≡ true → Young c
+  young_client is_in = let t = client_time is_in in let at = timely.client.clock in record { own = omega (arith, t.0, at); young = omega (arith, t.1, at) }
+
+  young_server : is_open s.phase ≡ true → Young s
+  young_server is_in = let t = server_time is_in in let at = timely.server.clock in record { own = omega (arith, t.0, at); young = omega (arith, t.1, at) }
+
+  client_keeps : is_open c.phase ≡ true → is_asking c ≡ false → is_open s.phase ≡ true → Kept c s
+  client_keeps is_in joined_is server_in =
+      let heard = has_heard c is_in joined_is in
+      let read = timely.ends_timed.client_heard heard (is_inside s server_in) in
+      let t = client_time is_in in
+      let prompt = timely.ends_timed.client.prompt heard in
+      let before = timely.ends_timed.client.heard_before in
+      let at = timely.server.clock in
+      let least = read.least in let most = read.most in
+      record {
+        reading = timely.of_client.heard_clock;
+        kept_is = sym (ap heard_stamp (standing_in c is_in)) ∙ timely.ends_timed.client.heard_is heard;
+        before = omega (arith, least, before, at);
+        recent = omega (arith, most, prompt, t.2, at);
+      }
+
+  server_keeps : is_open s.phase ≡ true → is_asking s ≡ false → is_open c.phase ≡ true → Kept s c
+  server_keeps is_in joined_is client_in =
+      let heard = has_heard s is_in joined_is in
+      let read = timely.ends_timed.server_heard heard (is_inside c client_in) in
+      let t = server_time is_in in
+      let prompt = timely.ends_timed.server.prompt heard in
+      let before = timely.ends_timed.server.heard_before in
+      let at = timely.client.clock in
+      let least = read.least in let most = read.most in
+      record {
+        reading = timely.of_server.heard_clock;
+        kept_is = sym (ap heard_stamp (standing_in s is_in)) ∙ timely.ends_timed.server.heard_is heard;
+        before = omega (arith, least, before, at);
+        recent = omega (arith, most, prompt, t.2, at);
+      }
+
+  server_joined : is_open s.phase ≡ true → is_asking s ≡ false
+  server_joined is_in = not_client s (ap (λ i. i.role) timely.server.identity)
+    where
+      not_client : (l : LinkState) → l.identity.role ≡ role.Server → is_asking l ≡ false
+      not_client l e = grind (arith, e)
+
+  both_share : is_open c.phase ≡ true → is_asking c ≡ false → is_open s.phase ≡ true → Shares c s × Shares s c
+  both_share client_in client_joined server_in = of_order ordered
+    where
+      newest_client : f.ends.client.connection ≡ Some timely.newest
+      newest_client = timely.ends_timed.client.in_newest (is_inside c client_in)
+
+      newest_server : f.ends.server.connection ≡ Some timely.newest
+      newest_server = timely.ends_timed.server.in_newest (is_inside s server_in)
+
+      plays_in : (l : LinkState) (own other : EndFlow) → is_open l.phase ≡ true → is_asking l ≡ false → Plays l own other → HasJoined l own other
+      plays_in l own other is_in joined_is (joined h) = h
+      plays_in l own other is_in joined_is (asking a) = absurd (cc (a.asking, joined_is))
+      plays_in l own other is_in joined_is (left out keeps) = absurd (of_open l out is_in)
+
+      of_order : Ordered names f.ends → Shares c s × Shares s c
+      of_order (unbegun e) = absurd (cc (e, newest_client))
+      of_order (alone a) = absurd (a.not_of_server (newest_server ∙ sym newest_client ∙ a.of_client))
+      of_order (together t) =
+          let x = plays_in c t.client t.server client_in client_joined t.client_plays in
+          let y = plays_in s t.server t.client server_in (server_joined server_in) t.server_plays in
+          let there = t.order.back.counts in let back = t.order.there.counts in (
+            record {
+              first = x.partner_first ∙ sym y.inside.own_first;
+              some = omega (arith, x.expected, there.some);
+              most = omega (arith, x.expected, there.most, y.inside.counted);
+              kept = client_keeps client_in client_joined server_in;
+            },
+            record {
+              first = y.partner_first ∙ sym x.inside.own_first;
+              some = omega (arith, y.expected, back.some);
+              most = omega (arith, y.expected, back.most, x.inside.counted);
+              kept = server_keeps server_in (server_joined server_in) client_in;
+            },
+          )
+
+  left_alone : is_open c.phase ≡ true → is_asking c ≡ false → is_open s.phase ≡ false → s.clock ≤ s.closed_at + 1804
+  left_alone client_in client_joined server_out =
+      let heard = has_heard c client_in client_joined in
+      let t = client_time client_in in
+      let lone = timely.ends_timed.client_alone (is_inside c client_in) (is_outside s server_out) (timely.ends_timed.joined heard) in
+      let apart = timely.ends_timed.server.apart (is_outside s server_out) in
+      let closed = timely.ends_timed.server.closed (is_outside s server_out) ∙ ap closed_at (standing_out s server_out) in
+      let at = timely.server.clock in
+      omega (arith, t.2, lone, apart, closed, at)
+
+  -- how long ago a client that is outside left, by true time
+  long_ago : is_open c.phase ≡ false → c.closed_at + 5990 ≤ c.clock → timely.of_client.left_at + 5983000 ≤ f.ends.time
+  long_ago client_out long =
+      let apart = timely.ends_timed.client.apart (is_outside c client_out) in
+      let closed = timely.ends_timed.client.closed (is_outside c client_out) ∙ ap closed_at (standing_out c client_out) in
+      let at = timely.client.clock in
+      omega (arith, apart, closed, at, long)
+
+  server_gone : is_open c.phase ≡ false → c.closed_at + 5990 ≤ c.clock → is_open s.phase ≡ false
+  server_gone client_out long = choose (is_open s.phase) refl
+    where
+      choose : (b : Bool) → is_open s.phase ≡ b → is_open s.phase ≡ false
+      choose false e = e
+      choose true e =
+          let lone = timely.ends_timed.server_alone (is_inside s e) (is_outside c client_out) in
+          let t = server_time e in
+          absurd (omega (arith, lone, t.2, long_ago client_out long))
+
+  nothing_comes : is_open c.phase ≡ false → c.closed_at + 5990 ≤ c.clock → pending f ≡ []
+  nothing_comes client_out long = none (drop f.passed f.ends.sent) (each_drop (InFlight names times) f.passed f.ends.sent timely.datagrams)
+    where
+      ago : timely.of_client.left_at + 5983000 ≤ f.ends.time
+      ago = long_ago client_out long
+
+      by_sender : (who : Role) (d : Sent) (pdu : Pdu) (back : ℕ) → IsKnown times who d.at d.connection pdu back → d.connection ≡ timely.newest → d.at < timely.of_client.left_at + 3802000
+      by_sender role.Client d pdu back known newest = let w = known.last_word newest (is_outside c client_out) in omega (arith, w)
+      by_sender role.Server d pdu back known newest = known.lonely newest tt (is_outside c client_out)
+
+      old : (d : Sent) → InFlight names times d → can_come (f.ends.time + 10000) d ≡ false
+      old d flies = choose (can_come (f.ends.time + 10000) d) refl
+        where
+          both_true : (a b : Bool) → (a && b) ≡ true → b ≡ true
+          both_true true b e = e
+          both_true false b e = cc
+
+          choose : (b : Bool) → can_come (f.ends.time + 10000) d ≡ b → can_come (f.ends.time + 10000) d ≡ false
+          choose false e = e
+          choose true e =
+              let g = leb-true _ _ (both_true (not d.is_lost) (nat_le (f.ends.time + 10000) (d.at + lifetime)) e) in
+              absurd (in_new (λ newest. omega (arith, g, ago, by_sender d.sender d flies.pdu flies.back flies.known newest)) (λ h. let i = flies.known.dead h in omega (arith, g, i)))
+            where
+              in_new : ((d.connection ≡ timely.newest) → ⊥) → ((d.connection ≢ timely.newest) → ⊥) → ⊥
+              in_new a b = b a
+
+      none : (ds : List Sent) → Each (InFlight names times) ds → arriving (f.ends.time + 10000) ds ≡ []
+      none [] each = refl
+      none (d ∷ ds) each = ap (λ (b : Bool). if b then d ∷ arriving (f.ends.time + 10000) ds else arriving (f.ends.time + 10000) ds) (old d each.0) ∙ none ds each.1
+
+      each_drop : {X : Type 0} (P : X → Type 0) (n : ℕ) (xs : List X) → Each P xs → Each P (drop n xs)
+      each_drop P zero xs each = each
+      each_drop P (suc n) [] each = tt
+      each_drop P (suc n) (x ∷ xs) each = each_drop P n xs each.1
+
+  none_read : (key : Key) (bs : List (List ℕ)) (ps : List Pdu) → bs ≡ [] → AreRead key bs ps → ps ≡ []
+  none_read key [] [] e are = refl
+  none_read key [] (q ∷ ps) e are = absurd are
+  none_read key (b ∷ bs) ps e are = cc
+
+  pub facts : Facts names p
+  facts = record {
+    client = sym (ap (λ (l : LinkState). l.identity) m.client) ∙ timely.client.identity;
+    server = sym (ap (λ (l : LinkState). l.identity) m.server) ∙ timely.server.identity;
+    client_young = subst (λ (l : LinkState). is_open l.phase ≡ true → Young l) m.client young_client;
+    server_young = subst (λ (l : LinkState). is_open l.phase ≡ true → Young l) m.server young_server;
+    shares = subst (λ (l : LinkState). is_open l.phase ≡ true → is_asking l ≡ false → is_open p.server.phase ≡ true → Shares l p.server × Shares p.server l) m.client
+        (subst (λ (k : LinkState). is_open c.phase ≡ true → is_asking c ≡ false → is_open k.phase ≡ true → Shares c k × Shares k c) m.server both_share);
+    alone = subst (λ (l : LinkState). is_open l.phase ≡ true → is_asking l ≡ false → is_open p.server.phase ≡ false → p.server.clock ≤ p.server.closed_at + 1804) m.client
+        (subst (λ (k : LinkState). is_open c.phase ≡ true → is_asking c ≡ false → is_open k.phase ≡ false → k.clock ≤ k.closed_at + 1804) m.server left_alone);
+    waited = subst (λ (l : LinkState). is_open l.phase ≡ false → l.closed_at + 5990 ≤ l.clock → (is_open p.server.phase ≡ false) × (p.to_client ≡ []) × (p.to_server ≡ [])) m.client
+        (λ client_out long. (
+          ap (λ (l : LinkState). is_open l.phase) (sym m.server) ∙ server_gone client_out long,
+          none_read names.key _ p.to_client (ap (bytes_from role.Server) (nothing_comes client_out long)) m.to_client,
+          none_read names.key _ p.to_server (ap (bytes_from role.Client) (nothing_comes client_out long)) m.to_server,
+        ));
+  }

@@ -1,0 +1,505 @@
+-- A client that is outside opens again; and one way or another two ends become healthy.
+use Rattle.std.proofs.Common.{◌≡◌, ℕ, zero, suc, ◌⊎◌, inl, inr, ◌∙◌, ◌+◌, ◌*◌, ◌-◌, ◌≤◌, ◌<◌, Bool, true, false, nat_le, List, [], ◌∷◌, refl, sym, ap, subst, arith, leb-true, leb-false}
+use Rattle.std.proofs.lemmas.Bool.Decides.{nat_tests}
+use Rattle.rasta_core_run.specs.Sequence.{wire}
+use Rattle.rasta_core_run.specs.State.{LinkState, is_open, is_asking}
+use Rattle.rasta_core_run.specs.Clock.{settled, deadline}
+use Rattle.rasta_core_run.specs.Sending.{Step, silent}
+use Rattle.rasta_core_run.specs.identity.Role.TheVariants as role
+use Rattle.rasta_core_run.specs.pdu.Pdu.{Pdu}
+use Rattle.rasta_core_run.specs.Each.{Each}
+use Rattle.rasta_core_run.specs.Names.{Names, identity_of}
+use Rattle.rasta_core_recovery.proofs.Links.{Pair, all_heard, worked, end_round, pair_round, pair_rounds}
+use Rattle.rasta_core_recovery.proofs.Healthy.{Healthy}
+use Rattle.rasta_core_recovery.proofs.Opens.{Left, resting_link, asking_link, request, client_opens, client_waits, server_rests, step_is}
+use Rattle.rasta_core_recovery.proofs.Stays.{left_of, out_is, both_down, new_is_healthy, quiet_stays, quiet_works}
+use Rattle.rasta_core_recovery.proofs.Course.{Joined}
+use Rattle.rasta_core_recovery.proofs.Turn.{Either, gone, so}
+use Rattle.rasta_core_recovery.proofs.Asks.{Asks, AsksOn, InIt, IsTalkPdu, asking_is, in_round, alone_round, server_talks}
+use Rattle.rasta_core_recovery.proofs.Facts.{Young, Facts}
+use Rattle.rasta_core_recovery.proofs.Pasts.{Past}
+use Rattle.rasta_core_recovery.proofs.Seen.{Seen, BothIn, Stay, round_first, rounds_add, seen_on, seen_later, joined_of, stays_healthy}
+
+-- healthy after so many rounds at most
+pub record Comes (names : Names) (most : ℕ) (p : Pair) : Type 0 where
+  pub rounds : ℕ
+  pub soon : rounds ≤ most
+  pub healthy : Healthy names 1 (pair_rounds rounds p)
+
+comes_later : (names : Names) (m most all : ℕ) (p : Pair) → m + most ≤ all → Comes names most (pair_rounds m p) → Comes names all p
+comes_later names m most all p le c = record { rounds = c.rounds + m; soon = omega (arith, le, c.soon); healthy = subst (Healthy names 1) (rounds_add c.rounds m p) c.healthy }
+
+-- ---- the client is outside, quiet no longer in the next round, and nothing is under way
+
+abbrev the_pair : LinkState → LinkState → List Pdu → List Pdu → Pair
+the_pair c s tc ts = record { client = c; server = s; to_client = tc; to_server = ts }
+
+four : {a b c d : LinkState} {e f g h : List Pdu} → a ≡ b → c ≡ d → e ≡ f → g ≡ h → the_pair a c e g ≡ the_pair b d f h
+four w x y z = cc
+
+module _ (names : Names) (c s client_closed server_closed : ℕ) (client server : Left) (over : client_closed + 6000 ≤ c + 10) where
+  abbrev cf : ℕ
+  cf = wire client.own_first client.sent
+
+  abbrev start : Pair
+  start = both_down names c s client_closed server_closed client server
+
+  abbrev asked : ℕ → ℕ → Pair
+  asked now other = the_pair (asking_link names now client_closed cf (c + 10)) (resting_link names role.Server other server_closed server) [] []
+
+  opened : pair_round start ≡ the_pair (asking_link names (c + 10) client_closed cf (c + 10)) (resting_link names role.Server (s + 10) server_closed server) [] (request names cf (c + 10) ∷ [])
+  opened = step_is start _ _ (client_opens names c client_closed client over) (server_rests names s server_closed server)
+
+  -- a server that is quiet refuses the request
+  refused : s + 20 < server_closed + 6000 → pair_rounds 2 start ≡ asked (c + 10 + 10) (s + 10 + 10)
+  refused quiet = ap pair_round opened ∙ step_is _ _ _ (client_waits names client_closed cf (c + 10) (c + 10) (omega arith) (omega arith))
+      (quiet_stays (s + 10 + 10) (request names cf (c + 10) ∷ []) (resting_link names role.Server (s + 10) server_closed server) refl (omega (arith, quiet)))
+
+  -- the client waits in vain
+  waits : (i : ℕ) → i ≤ 178 → pair_rounds i (asked (c + 10 + 10) (s + 10 + 10)) ≡ asked (c + 20 + 10 * i) (s + 20 + 10 * i)
+  waits zero most = two (omega arith) (omega arith)
+    where
+      two : {a b d e : ℕ} → a ≡ b → d ≡ e → asked a d ≡ asked b e
+      two f g = cc
+  waits (suc i) most = ap pair_round (waits i (omega (arith, most)))
+      ∙ step_is (asked (c + 20 + 10 * i) (s + 20 + 10 * i)) _ _ (client_waits names client_closed cf (c + 10) (c + 20 + 10 * i) (omega arith) (omega (arith, most))) (server_rests names (s + 20 + 10 * i) server_closed server)
+      ∙ two (omega arith) (omega arith)
+    where
+      two : {a b d e : ℕ} → a ≡ b → d ≡ e → asked a d ≡ asked b e
+      two f g = cc
+
+  abbrev after : Left
+  after = left_of (asking_link names 0 client_closed cf (c + 10))
+
+  abbrev rested : ℕ → ℕ → Pair
+  rested now other = both_down names now other (c + 1810) server_closed after server
+
+  -- and closes by time
+  closes : pair_round (asked (c + 1800) (s + 1800)) ≡ rested (c + 1810) (s + 1810)
+  unfolding settled deadline end_round all_heard
+  closes = step_is (asked (c + 1800) (s + 1800)) _ _ closing (server_rests names (s + 1800) server_closed server) ∙ two (omega arith) (omega arith) (omega arith)
+    where
+      two : {a b d e g h : ℕ} → a ≡ b → d ≡ e → g ≡ h → both_down names a d g server_closed after server ≡ both_down names b e h server_closed after server
+      two f g h = cc
+
+      at : LinkState
+      at = asking_link names (c + 1800) client_closed cf (c + 10)
+
+      shut : LinkState
+      shut = resting_link names role.Client (c + 1800 + 10) (c + 10 + 1800) after
+
+      settles : settled (c + 1800 + 10) at ≡ shut
+      settles = rw late refl
+        where
+          late : nat_le (c + 10 + 1800) (c + 1800 + 10) ≡ true
+          late = grind (arith, nat_tests)
+
+      closing : end_round (c + 1800 + 10) [] at ≡ silent shut
+      closing = ap (λ (k : LinkState). worked (c + 1800 + 10) role.Client k) settles ∙ quiet_works (c + 1800 + 10) role.Client shut refl (omega arith)
+
+  rests : (i : ℕ) → i ≤ 599 → pair_rounds i (rested (c + 1810) (s + 1810)) ≡ rested (c + 1810 + 10 * i) (s + 1810 + 10 * i)
+  rests zero most = two (omega arith) (omega arith)
+    where
+      two : {a b d e : ℕ} → a ≡ b → d ≡ e → rested a d ≡ rested b e
+      two f g = cc
+  rests (suc i) most = ap pair_round (rests i (omega (arith, most)))
+      ∙ step_is (rested (c + 1810 + 10 * i) (s + 1810 + 10 * i)) _ _
+      (quiet_stays (c + 1810 + 10 * i + 10) [] (resting_link names role.Client (c + 1810 + 10 * i) (c + 1810) after) refl (omega (arith, most)))
+      (server_rests names (s + 1810 + 10 * i) server_closed server)
+      ∙ two (omega arith) (omega arith)
+    where
+      two : {a b d e : ℕ} → a ≡ b → d ≡ e → rested a d ≡ rested b e
+      two f g = cc
+
+  failing : s + 20 < server_closed + 6000 → server_closed ≤ s → Healthy names 1 (pair_rounds 784 start)
+  failing quiet before = subst (Healthy names 1) (sym whole) (new_is_healthy names 1 (c + 1810 + 10 * 599) (s + 1810 + 10 * 599) (c + 1810) server_closed after server (omega arith) (omega (arith, before)) (omega arith))
+    where
+      there : (a b d e : ℕ) → pair_rounds (a + (b + (d + e))) start ≡ pair_rounds a (pair_rounds b (pair_rounds d (pair_rounds e start)))
+      there a b d e = sym (ap (λ (q : Pair). pair_rounds a (pair_rounds b q)) (rounds_add d e start) ∙ ap (pair_rounds a) (rounds_add b (d + e) start) ∙ rounds_add a (b + (d + e)) start)
+
+      whole : pair_rounds 784 start ≡ pair_rounds 4 (rested (c + 1810 + 10 * 599) (s + 1810 + 10 * 599))
+      whole = there 4 600 178 2
+          ∙ ap (λ (q : Pair). pair_rounds 4 (pair_rounds 600 (pair_rounds 178 q))) (refused quiet)
+          ∙ ap (λ (q : Pair). pair_rounds 4 (pair_rounds 600 q)) (waits 178 (omega arith))
+          ∙ ap (λ (q : Pair). pair_rounds 4 q) (sym (rounds_add 599 1 (asked (c + 20 + 10 * 178) (s + 20 + 10 * 178))))
+          ∙ ap (λ (q : Pair). pair_rounds 4 (pair_rounds 599 (pair_round q))) (two (omega arith) (omega arith))
+          ∙ ap (λ (q : Pair). pair_rounds 4 (pair_rounds 599 q)) closes
+          ∙ ap (λ (q : Pair). pair_rounds 4 q) (rests 599 (omega arith))
+        where
+          two : {a b d e : ℕ} → a ≡ b → d ≡ e → asked a d ≡ asked b e
+          two f g = cc
+
+  pub opens_at_last : server_closed ≤ s → Comes names 784 start
+  opens_at_last before = choose (nat_le (server_closed + 6000) (s + 20)) refl
+    where
+      choose : (b : Bool) → nat_le (server_closed + 6000) (s + 20) ≡ b → Comes names 784 start
+      choose true e = record { rounds = 4; soon = omega arith; healthy = new_is_healthy names 1 c s client_closed server_closed client server over (leb-true _ _ e) (omega arith) }
+      choose false e = record { rounds = 784; soon = omega arith; healthy = failing (leb-false _ _ e) before }
+
+-- a client that is outside, and quiet no longer in the next round
+ready_comes : (names : Names) (p : Pair) → Facts names p → Past p.server → is_open p.client.phase ≡ false → p.client.closed_at + 6000 ≤ p.client.clock + 10 → Comes names 784 p
+ready_comes names p facts past client_out over = subst (Comes names 784) (sym same)
+    (opens_at_last names p.client.clock p.server.clock p.client.closed_at p.server.closed_at (left_of p.client) (left_of p.server) over (past.closed waited.0))
+  where
+    waited : (is_open p.server.phase ≡ false) × (p.to_client ≡ []) × (p.to_server ≡ [])
+    waited = facts.waited client_out (omega (arith, over))
+
+    same : p ≡ both_down names p.client.clock p.server.clock p.client.closed_at p.server.closed_at (left_of p.client) (left_of p.server)
+    same = four (out_is names role.Client p.client facts.client client_out) (out_is names role.Server p.server facts.server waited.0) waited.1 waited.2
+
+-- an end outside that is quiet stays so in a round
+client_quiet : (p : Pair) → is_open p.client.phase ≡ false → p.client.clock + 10 < p.client.closed_at + 6000 → (pair_round p).client ≡ record p.client { clock = p.client.clock + 10 }
+unfolding pair_round
+client_quiet p shut quiet = ap (λ (s : Step). s.link) (quiet_stays (p.client.clock + 10) p.to_client p.client shut quiet)
+
+server_quiet : (p : Pair) → is_open p.server.phase ≡ false → p.server.clock + 10 < p.server.closed_at + 6000 → (pair_round p).server ≡ record p.server { clock = p.server.clock + 10 }
+unfolding pair_round
+server_quiet p shut quiet = ap (λ (s : Step). s.link) (quiet_stays (p.server.clock + 10) p.to_server p.server shut quiet)
+
+waits_comes : (names : Names) (fuel n : ℕ) (p : Pair) → Seen names (fuel + n) p → is_open p.client.phase ≡ false → p.client.closed_at + 6000 ≤ p.client.clock + 10 + 10 * fuel → Comes names (fuel + 784) p
+waits_comes names zero n p seen shut over = let r = ready_comes names p (seen.facts 0) (seen.server_past 0) shut (omega (arith, over)) in record { rounds = r.rounds; soon = omega (arith, r.soon); healthy = r.healthy }
+waits_comes names (suc fuel) n p seen shut over = choose (λ s e f. waits_comes names fuel n (pair_round p) s e f) (nat_le (p.client.closed_at + 6000) (p.client.clock + 10)) refl
+  where
+    Again : Type 0
+    Again = Seen names (fuel + n) (pair_round p) → is_open (pair_round p).client.phase ≡ false → (pair_round p).client.closed_at + 6000 ≤ (pair_round p).client.clock + 10 + 10 * fuel → Comes names (fuel + 784) (pair_round p)
+
+    choose : Again → (b : Bool) → nat_le (p.client.closed_at + 6000) (p.client.clock + 10) ≡ b → Comes names (suc fuel + 784) p
+    choose again true e = let r = ready_comes names p (seen.facts 0) (seen.server_past 0) shut (leb-true _ _ e) in record { rounds = r.rounds; soon = omega (arith, r.soon); healthy = r.healthy }
+    choose again false e =
+        let on = client_quiet p shut (leb-false _ _ e) in
+        let r = again (seen_on names (fuel + n) p (subst (λ (k : ℕ). Seen names k p) (omega arith) seen)) (ap (λ (l : LinkState). is_open l.phase) on ∙ shut)
+        (omega (arith, over, ap (λ (l : LinkState). l.closed_at) on, ap (λ (l : LinkState). l.clock) on)) in
+        record { rounds = suc r.rounds; soon = omega (arith, r.soon); healthy = subst (Healthy names 1) (round_first r.rounds p) r.healthy }
+
+-- a client that is outside
+pub out_comes : (names : Names) (n : ℕ) (p : Pair) → 599 ≤ n → Seen names n p → is_open p.client.phase ≡ false → Comes names 1383 p
+out_comes names n p long seen shut = let r = waits_comes names 599 (n - 599) p (subst (λ (k : ℕ). Seen names k p) (omega (arith, long)) seen) shut (omega (arith, (seen.client_past 0).closed shut)) in
+    record { rounds = r.rounds; soon = omega (arith, r.soon); healthy = r.healthy }
+
+-- ---- a client that asks in vain
+
+record Stuck (p : Pair) : Type 0 where
+  asks : Asks p.client.clock p.client
+  mute : p.to_server ≡ []
+  talk : Each IsTalkPdu p.to_client
+
+to_role : (names : Names) (l : LinkState) → l.identity ≡ identity_of role.Server names → l.identity.role ≡ role.Server
+to_role names l e = ap (λ i. i.role) e
+
+stuck_step : (names : Names) (p : Pair) → Facts names p → Stuck p → (is_open (pair_round p).client.phase ≡ false) ⊎ (Stuck (pair_round p) × ((pair_round p).client.own_stamp ≡ p.client.own_stamp))
+unfolding pair_round
+stuck_step names p facts stuck = choose (alone_round (p.client.clock + 10) p.to_client p.client stuck.asks stuck.talk refl)
+  where
+    c : Step
+    c = end_round (p.client.clock + 10) p.to_client p.client
+
+    choose : Either (p.client.clock + 10) c.link (AsksOn (p.client.clock + 10) p.client c) → (is_open c.link.phase ≡ false)
+        ⊎ (Stuck (record { client = c.link; server = (end_round (p.server.clock + 10) p.to_server p.server).link; to_client = (end_round (p.server.clock + 10) p.to_server p.server).pdus; to_server = c.pdus }) × (c.link.own_stamp ≡ p.client.own_stamp))
+    choose (gone left) = inl left.is_out
+    choose (so a) = inr (
+      record {
+        asks = subst (λ (n : ℕ). Asks n c.link) (sym a.asks.clock) a.asks;
+        mute = a.silent;
+        talk = subst (λ (ps : List Pdu). Each IsTalkPdu (end_round (p.server.clock + 10) ps p.server).pdus) (sym stuck.mute) (server_talks (p.server.clock + 10) p.server (to_role names p.server facts.server));
+      },
+      a.own,
+    )
+
+record OutAt (most : ℕ) (p : Pair) : Type 0 where
+  rounds : ℕ
+  soon : rounds ≤ most
+  is_out : is_open (pair_rounds rounds p).client.phase ≡ false
+
+-- a client that went out in the last round
+record JustOut (l : LinkState) : Type 0 where
+  is_out : is_open l.phase ≡ false
+  lately : l.clock ≤ l.closed_at + 10
+
+-- and its server was outside before
+record OutAlone (most : ℕ) (p : Pair) : Type 0 where
+  rounds : ℕ
+  soon : rounds ≤ most
+  client : JustOut (pair_rounds rounds p).client
+  server : is_open (pair_rounds rounds p).server.phase ≡ false
+  closed : (pair_rounds rounds p).server.closed_at ≡ p.server.closed_at
+  clock : (pair_rounds rounds p).server.clock ≡ p.server.clock + 10 * rounds
+  some : 1 ≤ rounds
+
+stuck_out : (names : Names) (fuel n : ℕ) (p : Pair) → Seen names (fuel + n) p → Stuck p → p.client.own_stamp + 1800 ≤ p.client.clock + 10 * fuel → OutAt fuel p
+stuck_out names zero n p seen stuck late = let y = stuck.asks.young in absurd (omega (arith, y, late))
+stuck_out names (suc fuel) n p seen stuck late = choose (λ s k e. stuck_out names fuel n (pair_round p) s k e) (stuck_step names p (seen.facts 0) stuck)
+  where
+    Again : Type 0
+    Again = Seen names (fuel + n) (pair_round p) → Stuck (pair_round p) → (pair_round p).client.own_stamp + 1800 ≤ (pair_round p).client.clock + 10 * fuel → OutAt fuel (pair_round p)
+
+    choose : Again → (is_open (pair_round p).client.phase ≡ false) ⊎ (Stuck (pair_round p) × ((pair_round p).client.own_stamp ≡ p.client.own_stamp)) → OutAt (suc fuel) p
+    choose again (inl shut) = record { rounds = 1; soon = omega arith; is_out = shut }
+    choose again (inr (still, own)) =
+        let r = again (seen_on names (fuel + n) p (subst (λ (k : ℕ). Seen names k p) (omega arith) seen)) still (omega (arith, late, own, seen.client_clock 1)) in
+        record { rounds = suc r.rounds; soon = omega (arith, r.soon); is_out = subst (λ (q : Pair). is_open q.client.phase ≡ false) (round_first r.rounds p) r.is_out }
+
+-- ---- a client that is left alone
+
+-- a client inside that has joined goes out, or stays so
+joined_step : (p : Pair) → Joined p.client.clock p.client → JustOut (pair_round p).client ⊎ Joined (pair_round p).client.clock (pair_round p).client
+unfolding pair_round
+joined_step p is = choose (in_round (p.client.clock + 10) p.to_client p.client (inl is) refl)
+  where
+    c : Step
+    c = end_round (p.client.clock + 10) p.to_client p.client
+
+    choose : Either (p.client.clock + 10) c.link (Joined (p.client.clock + 10) c.link ⊎ AsksOn (p.client.clock + 10) p.client c) → JustOut c.link ⊎ Joined c.link.clock c.link
+    choose (gone left) = inl (record { is_out = left.is_out; lately = omega (arith, left.clock, left.lately) })
+    choose (so (inl j)) = inr (subst (λ (n : ℕ). Joined n c.link) (sym j.clock) j)
+    choose (so (inr a)) = absurd (cc (a.asked, is.joined))
+
+alone_out : (names : Names) (fuel n : ℕ) (p : Pair) → Seen names (fuel + n) p → Joined p.client.clock p.client → is_open p.server.phase ≡ false → p.server.closed_at + 1804 < p.server.clock + 10 * fuel → OutAlone fuel p
+alone_out names zero n p seen joined shut late = absurd (omega (arith, late, (seen.facts 0).alone joined.connected joined.joined shut))
+alone_out names (suc fuel) n p seen joined shut late = choose (λ s j e f. alone_out names fuel n (pair_round p) s j e f) (joined_step p joined)
+  where
+    Again : Type 0
+    Again = Seen names (fuel + n) (pair_round p) → Joined (pair_round p).client.clock (pair_round p).client → is_open (pair_round p).server.phase ≡ false
+        → (pair_round p).server.closed_at + 1804 < (pair_round p).server.clock + 10 * fuel → OutAlone fuel (pair_round p)
+
+    lately : p.server.clock ≤ p.server.closed_at + 1804
+    lately = (seen.facts 0).alone joined.connected joined.joined shut
+
+    on : (pair_round p).server ≡ record p.server { clock = p.server.clock + 10 }
+    on = server_quiet p shut (omega (arith, lately))
+
+    then_shut : is_open (pair_round p).server.phase ≡ false
+    then_shut = ap (λ (l : LinkState). is_open l.phase) on ∙ shut
+
+    choose : Again → JustOut (pair_round p).client ⊎ Joined (pair_round p).client.clock (pair_round p).client → OutAlone (suc fuel) p
+    choose again (inl gone_out) = record {
+      rounds = 1;
+      soon = omega arith;
+      client = gone_out;
+      server = then_shut;
+      closed = ap (λ (l : LinkState). l.closed_at) on;
+      clock = ap (λ (l : LinkState). l.clock) on ∙ omega arith;
+      some = omega arith;
+    }
+    choose again (inr still) =
+        let r = again (seen_on names (fuel + n) p (subst (λ (k : ℕ). Seen names k p) (omega arith) seen)) still then_shut
+        (omega (arith, late, ap (λ (l : LinkState). l.closed_at) on, ap (λ (l : LinkState). l.clock) on)) in
+        let e = round_first r.rounds p in record {
+          rounds = suc r.rounds;
+          soon = omega (arith, r.soon);
+          client = subst (λ (q : Pair). JustOut q.client) e r.client;
+          server = subst (λ (q : Pair). is_open q.server.phase ≡ false) e r.server;
+          closed = sym (ap (λ (q : Pair). q.server.closed_at) e) ∙ r.closed ∙ ap (λ (l : LinkState). l.closed_at) on;
+          clock = sym (ap (λ (q : Pair). q.server.clock) e) ∙ omega (arith, r.clock, ap (λ (l : LinkState). l.clock) on);
+          some = omega arith;
+        }
+
+-- ---- a client that goes out after its server opens at its first try
+
+-- a server outside to which nothing comes, or that is quiet, stays as it is
+server_round : (p : Pair) → p.to_server ≡ [] → (pair_round p).server ≡ (end_round (p.server.clock + 10) [] p.server).link
+unfolding pair_round
+server_round p none = ap (λ (ps : List Pdu). (end_round (p.server.clock + 10) ps p.server).link) none
+
+-- the client is ready, and so is the server
+quick : (names : Names) (p : Pair) → Facts names p → is_open p.client.phase ≡ false → p.client.closed_at + 6000 ≤ p.client.clock + 10 → p.server.closed_at + 6000 ≤ p.server.clock + 20 → Comes names 4 p
+quick names p facts client_out over server_over = subst (Comes names 4) (sym same)
+    (record { rounds = 4; soon = omega arith; healthy = new_is_healthy names 1 p.client.clock p.server.clock p.client.closed_at p.server.closed_at (left_of p.client) (left_of p.server) over server_over (omega arith) })
+  where
+    waited : (is_open p.server.phase ≡ false) × (p.to_client ≡ []) × (p.to_server ≡ [])
+    waited = facts.waited client_out (omega (arith, over))
+
+    same : p ≡ both_down names p.client.clock p.server.clock p.client.closed_at p.server.closed_at (left_of p.client) (left_of p.server)
+    same = four (out_is names role.Client p.client facts.client client_out) (out_is names role.Server p.server facts.server waited.0) waited.1 waited.2
+
+server_stays : (names : Names) (p : Pair) → Facts names p → is_open p.server.phase ≡ false → (p.to_server ≡ []) ⊎ (p.server.clock + 10 < p.server.closed_at + 6000) → (pair_round p).server ≡ record p.server { clock = p.server.clock + 10 }
+server_stays names p facts shut (inr quiet) = server_quiet p shut quiet
+server_stays names p facts shut (inl none) = server_round p none ∙ rests_then
+  where
+    resting : LinkState
+    resting = resting_link names role.Server p.server.clock p.server.closed_at (left_of p.server)
+
+    same : p.server ≡ resting
+    same = out_is names role.Server p.server facts.server shut
+
+    rests_then : (end_round (p.server.clock + 10) [] p.server).link ≡ record p.server { clock = p.server.clock + 10 }
+    rests_then = ap (λ (l : LinkState). (end_round (p.server.clock + 10) [] l).link) same
+        ∙ ap (λ (s : Step). s.link) (server_rests names p.server.clock p.server.closed_at (left_of p.server))
+        ∙ sym (ap (λ (l : LinkState). record l { clock = p.server.clock + 10 }) same)
+
+mute_quiet : (p : Pair) → is_open p.client.phase ≡ false → p.client.clock + 10 < p.client.closed_at + 6000 → (pair_round p).to_server ≡ []
+unfolding pair_round
+mute_quiet p shut quiet = ap (λ (s : Step). s.pdus) (quiet_stays (p.client.clock + 10) p.to_client p.client shut quiet)
+
+opens_quickly : (names : Names) (fuel n : ℕ) (p : Pair) → Seen names (fuel + n) p → is_open p.client.phase ≡ false → is_open p.server.phase ≡ false → (p.to_server ≡ []) ⊎ (p.server.clock + 10 < p.server.closed_at + 6000)
+    → p.server.closed_at + p.client.clock ≤ p.client.closed_at + p.server.clock → p.client.closed_at + 6000 ≤ p.client.clock + 10 + 10 * fuel → Comes names (fuel + 4) p
+opens_quickly names zero n p seen shut server_shut rests_or before over = let r = quick names p (seen.facts 0) shut (omega (arith, over)) (omega (arith, over, before)) in record { rounds = r.rounds; soon = omega (arith, r.soon); healthy = r.healthy }
+opens_quickly names (suc fuel) n p seen shut server_shut rests_or before over =
+    choose (λ s a b d e f. opens_quickly names fuel n (pair_round p) s a b d e f) (nat_le (p.client.closed_at + 6000) (p.client.clock + 10)) refl
+  where
+    Again : Type 0
+    Again = Seen names (fuel + n) (pair_round p) → is_open (pair_round p).client.phase ≡ false → is_open (pair_round p).server.phase ≡ false
+        → ((pair_round p).to_server ≡ []) ⊎ ((pair_round p).server.clock + 10 < (pair_round p).server.closed_at + 6000)
+        → (pair_round p).server.closed_at + (pair_round p).client.clock ≤ (pair_round p).client.closed_at + (pair_round p).server.clock
+        → (pair_round p).client.closed_at + 6000 ≤ (pair_round p).client.clock + 10 + 10 * fuel → Comes names (fuel + 4) (pair_round p)
+
+    choose : Again → (b : Bool) → nat_le (p.client.closed_at + 6000) (p.client.clock + 10) ≡ b → Comes names (suc fuel + 4) p
+    choose again true e = let g = leb-true _ _ e in let r = quick names p (seen.facts 0) shut g (omega (arith, g, before)) in record { rounds = r.rounds; soon = omega (arith, r.soon); healthy = r.healthy }
+    choose again false e =
+        let on = client_quiet p shut (leb-false _ _ e) in
+        let server_on = server_stays names p (seen.facts 0) server_shut rests_or in
+        let c = ap (λ (l : LinkState). l.closed_at) on in let d = ap (λ (l : LinkState). l.clock) on in
+        let g = ap (λ (l : LinkState). l.closed_at) server_on in let h = ap (λ (l : LinkState). l.clock) server_on in
+        let r = again (seen_on names (fuel + n) p (subst (λ (k : ℕ). Seen names k p) (omega arith) seen)) (ap (λ (l : LinkState). is_open l.phase) on ∙ shut) (ap (λ (l : LinkState). is_open l.phase) server_on ∙ server_shut)
+        (inl (mute_quiet p shut (leb-false _ _ e))) (omega (arith, before, c, d, g, h)) (omega (arith, over, c, d)) in
+        record { rounds = suc r.rounds; soon = omega (arith, r.soon); healthy = subst (Healthy names 1) (round_first r.rounds p) r.healthy }
+
+-- ---- the sum
+
+out_at_comes : (names : Names) (most n : ℕ) (p : Pair) → most + 599 ≤ n → Seen names n p → OutAt most p → Comes names (most + 1383) p
+out_at_comes names most n p long seen o =
+    comes_later names o.rounds 1383 (most + 1383) p (omega (arith, o.soon))
+    (out_comes names (n - o.rounds) (pair_rounds o.rounds p) (omega (arith, long, o.soon)) (seen_later names o.rounds (n - o.rounds) p (subst (λ (k : ℕ). Seen names k p) (omega (arith, long, o.soon)) seen)) o.is_out)
+
+-- one of the two is outside after one of these rounds, the client having joined until then
+data Leaves (n : ℕ) (p : Pair) : Type 0 where
+  client_leaves : OutAt n p → Leaves n p
+  server_leaves : (k : ℕ) → k ≤ n → Joined (pair_rounds k p).client.clock (pair_rounds k p).client → is_open (pair_rounds k p).server.phase ≡ false → Leaves n p
+
+-- or both stay
+record Stays (n : ℕ) (p : Pair) : Type 0 where
+  stay : Stay n p
+  joined : Joined (pair_rounds n p).client.clock (pair_rounds n p).client
+
+-- the server after the last of these rounds
+last_server : (n : ℕ) (p : Pair) → Joined (pair_rounds n p).client.clock (pair_rounds n p).client → ((k : ℕ) → k < n → BothIn (pair_rounds k p)) → (b : Bool) → is_open (pair_rounds n p).server.phase ≡ b → Leaves n p ⊎ Stays n p
+last_server n p j before false e = inl (server_leaves n (omega arith) j e)
+last_server n p j before true e = inr (record { stay = record { both = both }; joined = j })
+  where
+    both : (k : ℕ) → k ≤ n → BothIn (pair_rounds k p)
+    both k most = pick (nat_le n k) refl
+      where
+        pick : (b : Bool) → nat_le n k ≡ b → BothIn (pair_rounds k p)
+        pick false f = before k (leb-false _ _ f)
+        pick true f = let g = leb-true _ _ f in let h : n ≡ k = omega (arith, g, most) in subst (λ (i : ℕ). BothIn (pair_rounds i p)) h (record { client = j.connected; server = e })
+
+leaves_later : (n : ℕ) (p : Pair) → Leaves n p → Leaves (suc n) p
+leaves_later n p (client_leaves o) = client_leaves (record { rounds = o.rounds; soon = omega (arith, o.soon); is_out = o.is_out })
+leaves_later n p (server_leaves k most j e) = server_leaves k (omega (arith, most)) j e
+
+search_on : (n : ℕ) (p : Pair) → Stays n p → Leaves (suc n) p ⊎ Stays (suc n) p
+search_on n p s = client_on (joined_step (pair_rounds n p) s.joined)
+  where
+    client_on : JustOut (pair_rounds (suc n) p).client ⊎ Joined (pair_rounds (suc n) p).client.clock (pair_rounds (suc n) p).client → Leaves (suc n) p ⊎ Stays (suc n) p
+    client_on (inl j) = inl (client_leaves (record { rounds = suc n; soon = omega arith; is_out = j.is_out }))
+    client_on (inr j) = last_server (suc n) p j (λ k lt. s.stay.both k (omega (arith, lt))) (is_open (pair_rounds (suc n) p).server.phase) refl
+
+search : (n : ℕ) (p : Pair) → Joined p.client.clock p.client → Leaves n p ⊎ Stays n p
+search zero p j = last_server zero p j (λ k lt. absurd (omega (arith, lt))) (is_open p.server.phase) refl
+search (suc n) p j = follow (search n p j)
+  where
+    follow : Leaves n p ⊎ Stays n p → Leaves (suc n) p ⊎ Stays (suc n) p
+    follow (inl l) = inl (leaves_later n p l)
+    follow (inr s) = search_on n p s
+
+-- the server is outside, and the client has joined its connection
+alone_comes : (names : Names) (n : ℕ) (p : Pair) → 780 ≤ n → Seen names n p → Joined p.client.clock p.client → is_open p.server.phase ≡ false → Comes names 784 p
+alone_comes names n p long seen joined shut =
+    comes_later names o.rounds 603 784 p (omega (arith, o.soon))
+    (opens_quickly names 599 (n - o.rounds - 599) q (subst (λ (k : ℕ). Seen names k q) (omega (arith, long, o.soon)) seen_q) o.client.is_out o.server (inr (omega (arith, o.closed, o.clock, o.soon, lately)))
+    (omega (arith, o.closed, o.clock, o.some, o.client.lately, closed)) (omega (arith, (seen.client_past o.rounds).closed o.client.is_out)))
+  where
+    closed : p.server.closed_at ≤ p.server.clock
+    closed = (seen.server_past 0).closed shut
+
+    lately : p.server.clock ≤ p.server.closed_at + 1804
+    lately = (seen.facts 0).alone joined.connected joined.joined shut
+
+    o : OutAlone 181 p
+    o = alone_out names 181 (n - 181) p (subst (λ (k : ℕ). Seen names k p) (omega (arith, long)) seen) joined shut (omega (arith, closed))
+
+    q : Pair
+    q = pair_rounds o.rounds p
+
+    seen_q : Seen names (n - o.rounds) q
+    seen_q = seen_later names o.rounds (n - o.rounds) p (subst (λ (k : ℕ). Seen names k p) (omega (arith, long, o.soon)) seen)
+
+joined_comes : (names : Names) (n : ℕ) (p : Pair) → 1000 ≤ n → Seen names n p → Joined p.client.clock p.client → Comes names 1598 p
+joined_comes names n p long seen joined = choose (search 215 p joined)
+  where
+    choose : Leaves 215 p ⊎ Stays 215 p → Comes names 1598 p
+    choose (inr s) = record { rounds = 215; soon = omega arith; healthy = stays_healthy names 215 p (omega arith) (seen_narrow s.stay) s.stay joined.joined }
+      where
+        seen_narrow : Stay 215 p → Seen names 215 p
+        seen_narrow stay = record { facts = seen.facts; client_clock = seen.client_clock; server_clock = seen.server_clock; client_past = seen.client_past; server_past = seen.server_past; room = λ k most. seen.room k (omega (arith, most, long)) }
+    choose (inl (client_leaves o)) = out_at_comes names 215 n p (omega (arith, long)) seen o
+    choose (inl (server_leaves k most j shut)) =
+        comes_later names k 784 1598 p (omega (arith, most))
+        (alone_comes names (n - k) (pair_rounds k p) (omega (arith, long, most)) (seen_later names k (n - k) p (subst (λ (i : ℕ). Seen names i p) (omega (arith, long, most)) seen)) j shut)
+
+-- an end inside has joined, or asks
+in_it_of : (l : LinkState) → is_open l.phase ≡ true → Young l → InIt l.clock l
+in_it_of l is_in young = choose (is_asking l) refl
+  where
+    choose : (b : Bool) → is_asking l ≡ b → InIt l.clock l
+    choose false e = inl (joined_of l is_in e young)
+    choose true e = inr (asking_is l.clock l refl e young.young young.own)
+
+-- what a round makes of a client that asks: it goes out, has joined, or asks on and has said nothing
+data Asking (p : Pair) : Type 0 where
+  goes_out : is_open (pair_round p).client.phase ≡ false → Asking p
+  joins : Joined (pair_round p).client.clock (pair_round p).client → Asking p
+  asks_on : Asks (pair_round p).client.clock (pair_round p).client → (pair_round p).to_server ≡ [] → Asking p
+
+asking_step : (p : Pair) → Asks p.client.clock p.client → Asking p
+unfolding pair_round
+asking_step p is = choose (in_round (p.client.clock + 10) p.to_client p.client (inr is) refl)
+  where
+    c : Step
+    c = end_round (p.client.clock + 10) p.to_client p.client
+
+    choose : Either (p.client.clock + 10) c.link (Joined (p.client.clock + 10) c.link ⊎ AsksOn (p.client.clock + 10) p.client c) → Asking p
+    choose (gone left) = goes_out left.is_out
+    choose (so (inl j)) = joins (subst (λ (n : ℕ). Joined n c.link) (sym j.clock) j)
+    choose (so (inr a)) = asks_on (subst (λ (n : ℕ). Asks n c.link) (sym a.asks.clock) a.asks) a.silent
+
+no_opening : (names : Names) (p : Pair) → Facts names p → p.to_server ≡ [] → Each IsTalkPdu (pair_round p).to_client
+unfolding pair_round
+no_opening names p facts none = subst (λ (ps : List Pdu). Each IsTalkPdu (end_round (p.server.clock + 10) ps p.server).pdus) (sym none) (server_talks (p.server.clock + 10) p.server (to_role names p.server facts.server))
+
+-- a client that asks, and said nothing in the last round
+asks_twice : (names : Names) (n : ℕ) (p : Pair) → 1500 ≤ n → Seen names n p → Asks p.client.clock p.client → p.to_server ≡ [] → Comes names 1599 p
+asks_twice names n p long seen is none = choose (asking_step p is)
+  where
+    seen1 : Seen names (n - 1) (pair_round p)
+    seen1 = seen_on names (n - 1) p (subst (λ (k : ℕ). Seen names k p) (omega (arith, long)) seen)
+
+    choose : Asking p → Comes names 1599 p
+    choose (goes_out shut) = comes_later names 1 1383 1599 p (omega arith) (out_comes names (n - 1) (pair_round p) (omega (arith, long)) seen1 shut)
+    choose (joins j) = comes_later names 1 1598 1599 p (omega arith) (joined_comes names (n - 1) (pair_round p) (omega (arith, long)) seen1 j)
+    choose (asks_on a mute) = comes_later names 1 1563 1599 p (omega arith)
+        (out_at_comes names 180 (n - 1) (pair_round p) (omega (arith, long)) seen1
+        (stuck_out names 180 (n - 181) (pair_round p) (subst (λ (k : ℕ). Seen names k (pair_round p)) (omega (arith, long)) seen1)
+        (record { asks = a; mute = mute; talk = no_opening names p (seen.facts 0) none }) (omega (arith, a.own))))
+
+-- two ends, whatever has happened before
+pub all_comes : (names : Names) (n : ℕ) (p : Pair) → 1600 ≤ n → Seen names n p → Comes names 1600 p
+all_comes names n p long seen = by_phase (is_open p.client.phase) refl
+  where
+    seen1 : Seen names (n - 1) (pair_round p)
+    seen1 = seen_on names (n - 1) p (subst (λ (k : ℕ). Seen names k p) (omega (arith, long)) seen)
+
+    wide : (most : ℕ) → most ≤ 1600 → Comes names most p → Comes names 1600 p
+    wide most le c = record { rounds = c.rounds; soon = omega (arith, le, c.soon); healthy = c.healthy }
+
+    asked : Asking p → Comes names 1600 p
+    asked (goes_out shut) = comes_later names 1 1383 1600 p (omega arith) (out_comes names (n - 1) (pair_round p) (omega (arith, long)) seen1 shut)
+    asked (joins j) = comes_later names 1 1598 1600 p (omega arith) (joined_comes names (n - 1) (pair_round p) (omega (arith, long)) seen1 j)
+    asked (asks_on a mute) = comes_later names 1 1599 1600 p (omega arith) (asks_twice names (n - 1) (pair_round p) (omega (arith, long)) seen1 a mute)
+
+    inside : InIt p.client.clock p.client → Comes names 1600 p
+    inside (inl j) = wide 1598 (omega arith) (joined_comes names n p (omega (arith, long)) seen j)
+    inside (inr a) = asked (asking_step p a)
+
+    by_phase : (b : Bool) → is_open p.client.phase ≡ b → Comes names 1600 p
+    by_phase false e = wide 1383 (omega arith) (out_comes names n p (omega (arith, long)) seen e)
+    by_phase true e = inside (in_it_of p.client e ((seen.facts 0).client_young e))

@@ -1,0 +1,63 @@
+-- A round may happen.
+use Rattle.std.proofs.Common.{◌≡◌, ℕ, zero, suc, inl, inr, ◌∙◌, ◌+◌, ◌≤◌, Bool, true, false, ◌&&◌, not, nat_le, if◌then◌else◌, List, [], ◌∷◌, ◌++◌, drop, refl, arith, leb-true}
+use Rattle.rasta_core_run.specs.identity.Role.{Role}
+use Rattle.rasta_core_run.specs.identity.Role.TheVariants as role
+use Rattle.rasta_core_run.specs.Bag.{lifetime}
+use Rattle.rasta_core_run.specs.Ends.{Sent, Call, Receives}
+use Rattle.rasta_core_run.specs.Run.{Ends, called, later}
+use Rattle.rasta_core_run.specs.Events.{Calls, IsAmong, IsDelivered, MayRun}
+use Rattle.rasta_core_run.specs.Names.{Names, partner_of}
+use Rattle.rasta_core_recovery.specs.Rounds.{Flow, can_come, comings, own_work, round_events}
+
+among_front : (d : Sent) (a b : List Sent) → IsAmong d a → IsAmong d (a ++ b)
+among_front d [] b i = absurd i
+among_front d (x ∷ a) b (inl e) = inl e
+among_front d (x ∷ a) b (inr i) = inr (among_front d a b i)
+
+among_drop : (d : Sent) (n : ℕ) (a : List Sent) → IsAmong d (drop n a) → IsAmong d a
+among_drop d zero a i = i
+among_drop d (suc n) [] i = absurd i
+among_drop d (suc n) (x ∷ a) i = inr (among_drop d n a i)
+
+stays_sent : (who : Role) (call : Call) (ends : Ends) (d : Sent) → IsAmong d ends.sent → IsAmong d (called who call ends).sent
+unfolding called
+stays_sent who call ends d i = among_front d ends.sent _ i
+
+same_time : (who : Role) (call : Call) (ends : Ends) → (called who call ends).time ≡ ends.time
+unfolding called
+same_time role.Client call ends = refl
+same_time role.Server call ends = refl
+
+both_true : (a b : Bool) → (a && b) ≡ true → b ≡ true
+both_true true b e = e
+both_true false b e = cc
+
+comings_may : (names : Names) (t : ℕ) (ds : List Sent) (ends : Ends) → ((d : Sent) → IsAmong d ds → IsAmong d ends.sent) → ends.time ≡ t → MayRun names (comings t ds ++ own_work) ends
+comings_may names t [] ends among at = (tt, (tt, (tt, tt)))
+comings_may names t (d ∷ ds) ends among at = choose (can_come t d) refl
+    (comings_may names t ds ends (λ x i. among x (inr i)) at)
+    (comings_may names t ds (called who call ends) (λ x i. stays_sent who call ends x (among x (inr i))) (same_time who call ends ∙ at))
+  where
+    who : Role
+    who = partner_of d.sender
+
+    call : Call
+    call = Receives d.bytes d.connection
+
+    delivered : can_come t d ≡ true → IsDelivered ends d.bytes d.connection d
+    delivered e =
+        let f : nat_le t (d.at + lifetime) ≡ true = both_true (not d.is_lost) (nat_le t (d.at + lifetime)) e in
+        let g : t ≤ d.at + lifetime = leb-true _ _ f in
+        record { was_sent = among d (inl refl); bytes_same = refl; connection_same = refl; in_time = omega (arith, at, g) }
+
+    choose : (b : Bool) → can_come t d ≡ b → MayRun names (comings t ds ++ own_work) ends → MayRun names (comings t ds ++ own_work) (called who call ends)
+        → MayRun names ((if b then Calls who call ∷ comings t ds else comings t ds) ++ own_work) ends
+    choose false e skip take = skip
+    choose true e skip take = (inl (d, delivered e), take)
+
+pub may_happen : (names : Names) (f : Flow) → MayRun names (round_events f) f.ends
+unfolding later
+may_happen names f = (
+  (record { least = omega arith; most = omega arith }, record { least = omega arith; most = omega arith }),
+  comings_may names (f.ends.time + 10000) (drop f.passed f.ends.sent) (later 10000 10000 10000 f.ends) (λ d i. among_drop d f.passed f.ends.sent i) refl,
+)

@@ -1,0 +1,26 @@
+-- Two links by rounds, over PDUs.
+pub mod Links
+pub mod Healthy
+pub mod Mirror
+-- An end by itself.
+pub mod Calls
+pub mod Opens
+pub mod Health
+pub mod Stays
+pub mod Words
+pub mod Deed
+pub mod Fold
+pub mod Course
+pub mod Tuning
+pub mod Turn
+pub mod Asks
+pub mod Pasts
+-- Both ends, and the datagrams between them.
+pub mod Bridge
+pub mod Happen
+pub mod Ages
+pub mod Converse
+pub mod Facts
+pub mod Seen
+pub mod Fates
+pub mod Recovers

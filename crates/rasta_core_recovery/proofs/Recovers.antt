@@ -1,0 +1,126 @@
+-- After whatever events, both ends are up after every good round from some round on.
+use Rattle.std.proofs.Common.{◌≡◌, ℕ, zero, suc, ◌∙◌, ◌+◌, ◌*◌, ◌/◌, ◌-◌, ◌≤◌, ◌<◌, Bool, true, List, [], ◌∷◌, if◌then◌else◌, sym, ap, subst, arith}
+use Rattle.rasta_core_run.specs.State.{LinkState, is_open, is_asking, is_up}
+use Rattle.rasta_core_run.specs.identity.Role.TheVariants as role
+use Rattle.rasta_core_run.specs.phase.Phase.TheVariants as phase
+use Rattle.rasta_core_run.specs.Run.{Ends}
+use Rattle.rasta_core_run.specs.Events.{Event, May, MayRun, Start, happened, run, started}
+use Rattle.rasta_core_run.specs.Names.{Names, AreNames}
+use Rattle.rasta_core.specs.Standing.{Inside, Outside, IsInside, own_stamp, standing}
+use Rattle.rasta_core.specs.Invariant.{Timely}
+use Rattle.rasta_core.specs.Ordered.{Ordered}
+use Rattle.rasta_core_recovery.proofs.Links.{Pair, pair_rounds}
+use Rattle.rasta_core_recovery.proofs.Healthy.{Healthy}
+use Rattle.rasta_core_recovery.proofs.Mirror.{Mirrors}
+use Rattle.rasta_core_recovery.specs.Rounds.{Flow, round_events, good_round, good_rounds, AreUp, IsBelowLimit, StayBelowLimit, flow_after, recovery_rounds}
+use Rattle.rasta_core_recovery.proofs.Bridge.{KeepsTime, WrittenIsRead, HandsOut, mirror_of, mirrors_on}
+use Rattle.rasta_core_recovery.proofs.Ages.{rounds_clock}
+use Rattle.rasta_core_recovery.proofs.Facts.{facts}
+use Rattle.rasta_core_recovery.proofs.Happen.{may_happen}
+use Rattle.rasta_core_recovery.proofs.Pasts.{Past, Pasts, OwnBefore, run_past, starts_past}
+use Rattle.rasta_core_recovery.proofs.Seen.{Rooms, Seen, rounds_add, seen_later, healthy_for}
+use Rattle.rasta_core_recovery.proofs.Fates.{Comes, all_comes}
+
+abbrev pub KeepsOrder : Type 0
+KeepsOrder = (names : Names) (event : Event) (ends : Ends) → AreNames names → Timely names ends → Ordered names ends → May names event ends → Ordered names (happened event ends)
+
+-- laws of the layers below, handed in by who has them
+pub record Laws : Type 0 where
+  pub starts_timely : (names : Names) (start : Start) → AreNames names → Timely names (started names start)
+  pub time : KeepsTime
+  pub starts_ordered : (names : Names) (start : Start) → Ordered names (started names start)
+  pub order : KeepsOrder
+  pub written : WrittenIsRead
+  pub hands : HandsOut
+
+-- what holds of two ends
+record Holds (names : Names) (ends : Ends) : Type 0 where
+  timely : Timely names ends
+  ordered : Ordered names ends
+  pasts : Pasts ends
+
+own_before : (names : Names) (ends : Ends) → Timely names ends → OwnBefore ends.client.link × OwnBefore ends.server.link
+own_before names ends is = (
+  λ is_in. let own : own_stamp (standing ends.client.link) ≡ ends.client.link.own_stamp = ap own_stamp (standing_in ends.client.link is_in) in
+      omega (arith, own, is.ends_timed.client.was_read (subst IsInside (sym (standing_in ends.client.link is_in)) tt), is.ends_timed.client.returned_before, is.client.clock),
+  λ is_in. let own : own_stamp (standing ends.server.link) ≡ ends.server.link.own_stamp = ap own_stamp (standing_in ends.server.link is_in) in
+      omega (arith, own, is.ends_timed.server.was_read (subst IsInside (sym (standing_in ends.server.link is_in)) tt), is.ends_timed.server.returned_before, is.server.clock),
+)
+  where
+    standing_in : (l : LinkState) → is_open l.phase ≡ true → standing l ≡ Inside (is_asking l) l.own_stamp l.partner_stamp
+    standing_in l e = ap (λ (b : Bool). if b then Inside (is_asking l) l.own_stamp l.partner_stamp else Outside l.closed_at) e
+
+holds_run : Laws → (names : Names) → AreNames names → (events : List Event) (ends : Ends) → Holds names ends → MayRun names events ends → Holds names (run events ends)
+holds_run laws names are [] ends is may = is
+holds_run laws names are (e ∷ events) ends is may = holds_run laws names are events (happened e ends) (record {
+  timely = laws.time names e ends are is.timely may.0;
+  ordered = laws.order names e ends are is.timely is.ordered may.0;
+  pasts = run_past laws.time names are (own_before names) (e ∷ []) ends is.timely is.pasts (may.0, tt);
+}) may.1
+
+module _ (laws : Laws) (names : Names) (are : AreNames names) (f : Flow) (start : Holds names f.ends) where
+  holds : (k : ℕ) → Holds names (good_rounds k f).ends
+  unfolding good_round
+  holds zero = start
+  holds (suc k) = holds_run laws names are (round_events (good_rounds k f)) (good_rounds k f).ends (holds k) (may_happen names (good_rounds k f))
+
+  module _ (p : Pair) (first : Mirrors names f p) where
+    mirrors : (k : ℕ) → Mirrors names (good_rounds k f) (pair_rounds k p)
+    mirrors zero = first
+    mirrors (suc k) = mirrors_on laws.time laws.written laws.hands names are (good_rounds k f) (pair_rounds k p) (mirrors k)
+
+    reading_on : (clock start_clock reading start_reading k : ℕ) → clock ≡ start_clock + 10000 * k → reading ≡ clock / 1000 → start_reading ≡ start_clock / 1000 → reading ≡ start_reading + 10 * k
+    reading_on clock start_clock reading start_reading k e g h = omega (arith, e, g, h)
+
+    client_now : (k : ℕ) → (pair_rounds k p).client.clock ≡ (good_rounds k f).ends.client.clock / 1000
+    client_now k = sym (ap (λ (l : LinkState). l.clock) (mirrors k).client) ∙ (holds k).timely.client.clock
+
+    server_now : (k : ℕ) → (pair_rounds k p).server.clock ≡ (good_rounds k f).ends.server.clock / 1000
+    server_now k = sym (ap (λ (l : LinkState). l.clock) (mirrors k).server) ∙ (holds k).timely.server.clock
+
+    rooms_of : (e : Ends) (q : Pair) → e.client.link ≡ q.client → e.server.link ≡ q.server → IsBelowLimit e.client × IsBelowLimit e.server → Rooms q
+    rooms_of e q c s room = record {
+      client = subst (λ (l : LinkState). is_open l.phase ≡ true → l.sent + 1 < 2147483000) c room.0;
+      server = subst (λ (l : LinkState). is_open l.phase ≡ true → l.sent + 1 < 2147483000) s room.1;
+    }
+
+    seen : (n : ℕ) → StayBelowLimit n f → Seen names n p
+    seen n room = record {
+      facts = λ k. facts names (good_rounds k f) (pair_rounds k p) (mirrors k) (holds k).ordered;
+      client_clock = λ k. reading_on _ _ _ _ k (rounds_clock role.Client k f) (client_now k) (client_now 0);
+      server_clock = λ k. reading_on _ _ _ _ k (rounds_clock role.Server k f) (server_now k) (server_now 0);
+      client_past = λ k. subst Past (mirrors k).client (holds k).pasts.client;
+      server_past = λ k. subst Past (mirrors k).server (holds k).pasts.server;
+      room = λ k most. rooms_of (good_rounds k f).ends (pair_rounds k p) (mirrors k).client (mirrors k).server (room k most);
+    }
+
+    up_then : (n : ℕ) → recovery_rounds ≤ n → StayBelowLimit n f → AreUp (good_rounds n f).ends
+    up_then n long room = (is_up_then _ _ (mirrors n).client healthy.steady_client.up, is_up_then _ _ (mirrors n).server healthy.steady_server.up)
+      where
+        all : Seen names n p
+        all = seen n room
+
+        comes : Comes names 1600 p
+        comes = all_comes names n p long all
+
+        whole : comes.rounds + (n - comes.rounds) ≡ n
+        whole = omega (arith, long, comes.soon)
+
+        healthy : Healthy names 1 (pair_rounds n p)
+        healthy = subst (Healthy names 1) (rounds_add (n - comes.rounds) comes.rounds p ∙ ap (λ (k : ℕ). pair_rounds k p) (omega (arith, whole)))
+            (healthy_for names (n - comes.rounds) (n - comes.rounds) (pair_rounds comes.rounds p) (seen_later names comes.rounds (n - comes.rounds) p (subst (λ (k : ℕ). Seen names k p) (sym whole) all)) (omega arith) comes.healthy)
+
+        is_up_then : (l k : LinkState) → l ≡ k → k.phase ≡ phase.Up → is_up l.phase ≡ true
+        is_up_then l k e up = ap (λ (j : LinkState). is_up j.phase) e ∙ ap is_up up
+
+pub recovers : Laws → (names : Names) (start : Start) (events : List Event) (passed n : ℕ) → AreNames names → MayRun names events (started names start) → recovery_rounds ≤ n
+    → StayBelowLimit n (flow_after names start events passed) → AreUp (good_rounds n (flow_after names start events passed)).ends
+recovers laws names start events passed n are may long room =
+    let first : Holds names (run events (started names start)) = holds_run laws names are events (started names start) (record {
+      timely = laws.starts_timely names start are;
+      ordered = laws.starts_ordered names start;
+      pasts = starts_past names start;
+    }) may in
+    let f : Flow = flow_after names start events passed in
+    let m = mirror_of names f first.timely in
+    up_then laws names are f first m.0 m.1 n long room

@@ -1,0 +1,303 @@
+-- An end that took a PDU of the last round takes all that its partner said after it.
+use Rattle.std.proofs.Common.{◌≡◌, ℕ, ◌∙◌, ◌+◌, ◌-◌, ◌^◌, ◌≤◌, ◌<◌, ◌⊎◌, inl, inr, Bool, true, false, ◌==◌, List, [], ◌∷◌, ◌++◌, refl, sym, ap, subst, arith, ltb-true, ltb-false}
+use Rattle.std.proofs.lemmas.Bool.Decides.{nat_tests}
+use Rattle.rasta_core_run.specs.Sequence.{wire, stamp}
+use Rattle.rasta_core_run.specs.State.{LinkState}
+use Rattle.rasta_core_run.specs.Receiving.{age, ahead, behind, hearing}
+use Rattle.rasta_core_run.specs.header.Header.{Header}
+use Rattle.rasta_core_run.specs.identity.Identity.{Identity}
+use Rattle.rasta_core_run.specs.pdu.Pdu.{Pdu}
+use Rattle.rasta_core_run.specs.Each.{Each}
+use Rattle.rasta_core_recovery.proofs.Links.{heard, all_heard}
+use Rattle.rasta_core_recovery.proofs.Healthy.{is_reading}
+use Rattle.rasta_core_recovery.proofs.Words.{IsPlain, Says, Voice, voice_of, IsWord, Chain, chain_lower, chain_then, chain_ends}
+use Rattle.rasta_core_recovery.proofs.Deed.{Blocked, stranger, other, opens, far, stale, unconfirming, discarded, Passes, Taken, Asked, Deed, leaves, keeps, asks, takes, hears}
+use Rattle.rasta_core_recovery.proofs.Fold.{Out, heard_case, Next, gone_next, stays_next, all_hear}
+use Rattle.rasta_core_recovery.proofs.Course.{Joined, lively, Goes, goes_none, goes_then, voice_goes, taken_joined, placed, returned, counted, answers_chain, asked_chain, asked_joined, asked_goes, taken_goes}
+
+abbrev pub IsPlainPdu : Pdu → Type 0
+IsPlainPdu p = IsPlain p.body
+
+pub says_plain : (h : Header) (n end : ℕ) (ps : List Pdu) → Says IsPlain h n ps end → Each IsPlainPdu ps
+says_plain h n end [] s = tt
+says_plain h n end (p ∷ ps) s = (s.1, says_plain h (n + 1) end ps s.2)
+
+pub each_append : {X : Type 0} (P : X → Type 0) (xs ys : List X) → Each P xs → Each P ys → Each P (xs ++ ys)
+each_append P [] ys a b = b
+each_append P (x ∷ xs) ys a b = (a.0, each_append P xs ys a.1 b)
+
+same_eq : (a b : ℕ) → a ≡ b → (a == b) ≡ true
+same_eq a b e = subst (λ (x : ℕ). (a == x) ≡ true) e (grind (arith, nat_tests))
+
+-- what is fixed in a round: what the partner said and with which voice, at which reading of its clock, and where the end stood
+pub record Round : Type 0 where
+  pub now : ℕ
+  pub said_at : ℕ
+  pub end : ℕ
+  pub confirmed : ℕ
+  pub returned : ℕ
+  pub voice : Voice
+  pub kept : ℕ
+  pub own : ℕ
+  pub tuned : Bool
+  pub pdus : List Pdu
+
+pub record Bounds (x : Round) : Type 0 where
+  pub fits : x.end < 2 ^ 31
+  pub old : x.returned ≤ x.now
+  pub stamped : x.voice.stamp ≡ stamp x.said_at
+  pub kept : x.kept ≤ x.said_at
+
+-- the reading whose stamp it keeps, and whether it is tuned: whether it takes what comes
+pub record Ghost : Type 0 where
+  pub kept : ℕ
+  pub tuned : Bool
+
+pub record Tuned (l : LinkState) (n c r : ℕ) : Type 0 where
+  pub reading : is_reading l.phase ≡ true
+  pub expected : l.expected ≡ n
+  pub confirmed : l.confirmed ≤ c
+  pub own : l.own_stamp ≤ r
+
+abbrev pub Mode : Round → Bool → ℕ → LinkState → ℕ → ℕ → ℕ → List Pdu → Type 0
+Mode x false kept l n c r ps = (kept ≡ x.kept) × (l.own_stamp ≡ x.own)
+Mode x true kept l n c r ps = Tuned l n c r × ((kept ≡ x.said_at) ⊎ ((ps ≡ x.pdus) × (kept ≡ x.kept) × (x.tuned ≡ true)))
+
+pub record Hearing (x : Round) (g : Ghost) (ps : List Pdu) (l : LinkState) : Type 0 where
+  pub is : Joined x.now l
+  pub first : x.voice.first ≡ l.partner_first
+  pub partner_first : x.voice.partner_first ≡ l.own_first
+  pub receiver : x.voice.receiver ≡ l.identity.own
+  pub sender : x.voice.sender ≡ l.identity.partner
+  pub some : 1 ≤ l.expected
+  pub most : l.expected ≤ x.end
+  pub kept_is : l.partner_stamp ≡ stamp g.kept
+  pub kept_before : g.kept ≤ x.said_at
+  pub since : x.kept ≤ g.kept
+  pub counts : x.confirmed < l.sent
+  pub number : ℕ
+  pub count : ℕ
+  pub reading : ℕ
+  pub chain : Chain x.voice number count reading ps x.end x.confirmed x.returned
+  pub low : x.now < reading + 2 ^ 31
+  pub mode : Mode x g.tuned g.kept l number count reading ps
+  pub plain : Each IsPlainPdu x.pdus → Each IsPlainPdu ps
+
+pub record Answers (x : Round) (g : Ghost) (l : LinkState) (ps : List Pdu) (h : Ghost) (k : LinkState) : Type 0 where
+  pub goes : Goes x.now l ps k
+  pub rises : l.expected ≤ k.expected
+  pub chain : Chain (voice_of l) l.sent (l.expected - 1) g.kept ps k.sent (k.expected - 1) h.kept
+  pub stays_tuned : g.tuned ≡ true → h.tuned ≡ true
+  pub plain : g.tuned ≡ true → Each IsPlainPdu ps
+  pub calm : g.tuned ≡ true → Each IsPlainPdu x.pdus → ps ≡ []
+
+pub answers_none : (x : Round) (g : Ghost) (l : LinkState) → Answers x g l [] g l
+answers_none x g l = record { goes = goes_none x.now l; rises = omega arith; chain = (refl, omega arith, omega arith); stays_tuned = λ e. e; plain = λ e. tt; calm = λ e p. refl }
+
+pub answers_then : (x : Round) (g h i : Ghost) (l k j : LinkState) (ps qs : List Pdu) → Answers x g l ps h k → Answers x h k qs i j → Answers x g l (ps ++ qs) i j
+answers_then x g h i l k j ps qs a b = record {
+  goes = goes_then x.now l k j ps qs a.goes b.goes;
+  rises = omega (arith, a.rises, b.rises);
+  chain = chain_then (voice_of l) _ _ _ k.sent (k.expected - 1) h.kept _ _ _ ps qs a.chain (subst (λ (v : Voice). Chain v k.sent (k.expected - 1) h.kept qs j.sent (j.expected - 1) i.kept) (voice_goes x.now l k ps a.goes) b.chain);
+  stays_tuned = λ e. b.stays_tuned (a.stays_tuned e);
+  plain = λ e. each_append IsPlainPdu ps qs (a.plain e) (b.plain (a.stays_tuned e));
+  calm = λ e p. both (a.calm e p) (b.calm (a.stays_tuned e) p);
+}
+  where
+    both : ps ≡ [] → qs ≡ [] → ps ++ qs ≡ []
+    both e f = cc
+
+module _ (x : Round) (bounds : Bounds x) (g : Ghost) (p : Pdu) (ps : List Pdu) (l : LinkState) (is : Hearing x g (p ∷ ps) l) (room : l.sent < 2147483000) where
+  abbrev After : LinkState → List Pdu → Type 0
+  After k qs = Out x.now k ⊎ ((h : Ghost) × Hearing x h ps k × Answers x g l qs h k)
+
+  -- what the chain says of this PDU and the others
+  module _ (d q : ℕ) (h : is.count ≤ d) (i : is.reading ≤ q) (w : IsWord x.voice is.number d q p) (more : Chain x.voice (is.number + 1) d q ps x.end x.confirmed x.returned) where
+    before_end : is.number < x.end
+    before_end = omega (arith, (chain_ends x.voice (is.number + 1) d q x.end x.confirmed x.returned ps more).0)
+
+    d_most : d ≤ x.confirmed
+    d_most = (chain_ends x.voice (is.number + 1) d q x.end x.confirmed x.returned ps more).1
+
+    q_most : q ≤ x.returned
+    q_most = (chain_ends x.voice (is.number + 1) d q x.end x.confirmed x.returned ps more).2
+
+    age_is : age p l ≡ x.now - q
+    age_is = returned q x.now p l is.is.clock w.returns (omega (arith, q_most, bounds.old)) (omega (arith, is.low, i))
+
+    behind_is : behind p l ≡ l.sent - 1 - d
+    behind_is = counted x.voice d p l is.partner_first w.confirms (omega (arith, d_most, is.counts)) (omega (arith, room))
+
+    level : l.expected ≡ is.number → ahead p l ≡ 0
+    unfolding ahead
+    level e = let f = ap (λ (y : ℕ). wire y is.number) is.first in let n = w.numbered.number in omega (arith, e, f, n)
+
+    -- a tuned end takes it
+    not_blocked : Tuned l is.number is.count is.reading → Blocked p l → ⊥
+    not_blocked t (stranger e) = absurd (cc (e, same_eq p.receiver l.identity.own (w.numbered.receiver ∙ is.receiver)))
+    not_blocked t (other e) = absurd (cc (e, same_eq p.sender l.identity.partner (w.numbered.sender ∙ is.sender)))
+    not_blocked t (opens e) = e w.numbered.talk
+    not_blocked t (far e) = let f = ltb-true 200 (ahead p l) e in omega (arith, f, level t.expected)
+    not_blocked t (stale e) = let f = ltb-true (l.clock - l.own_stamp) (age p l) e in omega (arith, f, age_is, is.is.clock, t.own, i)
+    not_blocked t (unconfirming e) = let f = ltb-false (behind p l + l.confirmed) l.sent e in omega (arith, f, behind_is, t.confirmed, h, d_most, is.counts)
+    not_blocked t (discarded e) = cc (e, t.reading)
+
+    not_apart : Tuned l is.number is.count is.reading → (ahead p l == 0) ≡ false → ⊥
+    not_apart t e = cc (e, same_eq (ahead p l) 0 (level t.expected))
+
+    -- one that isn't tuned lets it be
+    lets_be : (b : Bool) → g.tuned ≡ b → (Tuned l is.number is.count is.reading → ⊥) → Mode x g.tuned g.kept l is.number is.count is.reading (p ∷ ps) → (g.tuned ≡ false) × (g.kept ≡ x.kept) × (l.own_stamp ≡ x.own)
+    lets_be true e never mode = absurd (never (subst (λ (b : Bool). Mode x b g.kept l is.number is.count is.reading (p ∷ ps)) e mode).0)
+    lets_be false e never mode = let m = subst (λ (b : Bool). Mode x b g.kept l is.number is.count is.reading (p ∷ ps)) e mode in (e, m.0, m.1)
+
+    deaf_mode : (k : LinkState) → k.own_stamp ≡ l.own_stamp → (g.tuned ≡ false) × (g.kept ≡ x.kept) × (l.own_stamp ≡ x.own) → Mode x g.tuned g.kept k (is.number + 1) d q ps
+    deaf_mode k e m = subst (λ (b : Bool). Mode x b g.kept k (is.number + 1) d q ps) (sym m.0) (m.1, e ∙ m.2)
+
+    kept_hearing : (g.tuned ≡ false) × (g.kept ≡ x.kept) × (l.own_stamp ≡ x.own) → Hearing x g ps l
+    kept_hearing m = record {
+      is = is.is;
+      first = is.first;
+      partner_first = is.partner_first;
+      receiver = is.receiver;
+      sender = is.sender;
+      some = is.some;
+      most = is.most;
+      kept_is = is.kept_is;
+      kept_before = is.kept_before;
+      since = is.since;
+      counts = is.counts;
+      number = is.number + 1;
+      count = d;
+      reading = q;
+      chain = more;
+      low = omega (arith, is.low, i);
+      mode = deaf_mode l refl m;
+      plain = λ e. (is.plain e).1;
+    }
+
+    asked_hearing : (g.tuned ≡ false) × (g.kept ≡ x.kept) × (l.own_stamp ≡ x.own) → (k : LinkState) (qs : List Pdu) → Asked l k qs → Hearing x g ps k
+    asked_hearing m k qs a = let e = a.link in record {
+      is = asked_joined x.now l k qs is.is a;
+      first = is.first ∙ sym (ap (λ (j : LinkState). j.partner_first) e);
+      partner_first = is.partner_first ∙ sym (ap (λ (j : LinkState). j.own_first) e);
+      receiver = is.receiver ∙ sym (ap (λ (j : LinkState). j.identity.own) e);
+      sender = is.sender ∙ sym (ap (λ (j : LinkState). j.identity.partner) e);
+      some = omega (arith, is.some, ap (λ (j : LinkState). j.expected) e);
+      most = omega (arith, is.most, ap (λ (j : LinkState). j.expected) e);
+      kept_is = ap (λ (j : LinkState). j.partner_stamp) e ∙ is.kept_is;
+      kept_before = is.kept_before;
+      since = is.since;
+      counts = omega (arith, is.counts, ap (λ (j : LinkState). j.sent) e);
+      number = is.number + 1;
+      count = d;
+      reading = q;
+      chain = more;
+      low = omega (arith, is.low, i);
+      mode = deaf_mode k (ap (λ (j : LinkState). j.own_stamp) e) m;
+      plain = λ e. (is.plain e).1;
+    }
+
+    expected_of : (k : LinkState) (qs : List Pdu) → Asked l k qs → l.expected ≡ k.expected
+    expected_of k qs a = sym (ap (λ (j : LinkState). j.expected) a.link)
+
+    asked_answers : g.tuned ≡ false → (k : LinkState) (qs : List Pdu) → Asked l k qs → Answers x g l qs g k
+    asked_answers deaf k qs a = record {
+      goes = asked_goes x.now l k qs is.is a;
+      rises = omega (arith, expected_of k qs a);
+      chain = subst (λ (y : ℕ). Chain (voice_of l) l.sent (l.expected - 1) g.kept qs k.sent (y - 1) g.kept) (expected_of k qs a)
+          (asked_chain x.now g.kept l k qs is.is a is.some (omega (arith, is.most, bounds.fits)) is.kept_is);
+      stays_tuned = λ e. e;
+      plain = λ e. absurd (cc (e, deaf));
+      calm = λ e p. absurd (cc (e, deaf));
+    }
+
+    abbrev taken_next : Ghost
+    taken_next = record { kept = x.said_at; tuned = true }
+
+    module _ (k : LinkState) (qs : List Pdu) (passes : Passes p l) (t : Taken p l k qs) where
+      at_place : (l.expected ≤ is.number) × (wire l.expected (ahead p l + 1) ≡ is.number + 1)
+      at_place = placed x.voice is.number x.end p l is.first w.numbered.number before_end bounds.fits is.most passes.near
+
+      stamped : p.time_stamp ≡ stamp x.said_at
+      stamped = w.numbered.stamped ∙ bounds.stamped
+
+      answered : Chain (voice_of l) l.sent is.number x.said_at qs k.sent is.number x.said_at
+      answered = answers_chain x.now is.number x.said_at p l k qs is.is t at_place.1 (omega (arith, before_end, bounds.fits)) stamped
+
+      taken_hearing : Hearing x taken_next ps k
+      taken_hearing = record {
+        is = taken_joined x.now p l k qs is.is passes t;
+        first = is.first ∙ sym t.stays.partner_first;
+        partner_first = is.partner_first ∙ sym t.stays.own_first;
+        receiver = is.receiver ∙ sym (ap (λ (y : Identity). y.own) t.stays.identity);
+        sender = is.sender ∙ sym (ap (λ (y : Identity). y.partner) t.stays.identity);
+        some = omega (arith, t.expected, at_place.1);
+        most = omega (arith, t.expected, at_place.1, before_end);
+        kept_is = t.partner_stamp ∙ stamped;
+        kept_before = omega arith;
+        since = bounds.kept;
+        counts = omega (arith, is.counts, (chain_ends (voice_of l) l.sent is.number x.said_at k.sent is.number x.said_at qs answered).0);
+        number = is.number + 1;
+        count = d;
+        reading = q;
+        chain = more;
+        low = omega (arith, is.low, i);
+        mode = (
+          record {
+            reading = t.reading;
+            expected = t.expected ∙ at_place.1;
+            confirmed = omega (arith, t.confirmed, behind_is, d_most, is.counts);
+            own = omega (arith, t.own_stamp, age_is, is.is.clock, q_most, bounds.old);
+          },
+          inl refl,
+        );
+        plain = λ e. (is.plain e).1;
+      }
+
+      taken_answers : Answers x g l qs taken_next k
+      taken_answers = record {
+        goes = taken_goes x.now p l k qs is.is t;
+        rises = omega (arith, t.expected, at_place.0, at_place.1);
+        chain = chain_lower (voice_of l) l.sent l.sent is.number (l.expected - 1) x.said_at g.kept qs k.sent (k.expected - 1) x.said_at refl (omega (arith, at_place.0)) is.kept_before
+            (subst (λ (y : ℕ). Chain (voice_of l) l.sent is.number x.said_at qs k.sent y x.said_at) (omega (arith, t.expected, at_place.1)) answered);
+        stays_tuned = λ e. refl;
+        plain = λ e. says_plain _ _ _ qs t.answers;
+        calm = λ e pl. t.calm (is.plain pl).0;
+      }
+
+    deed_after : (k : LinkState) (qs : List Pdu) → Deed p l k qs → After k qs
+    deed_after k qs (leaves left) = inl (record { clock = left.clock ∙ is.is.clock; is_out = left.is_out; quiet = omega (arith, left.closed_at, is.is.clock); lately = omega (arith, left.closed_at, is.is.clock) })
+    deed_after k qs (keeps b same none) =
+        let m = lets_be g.tuned refl (λ t. not_blocked t b) is.mode in
+        inr (
+          g,
+          subst (Hearing x g ps) (sym same) (kept_hearing m),
+          subst (λ (j : LinkState). Answers x g l qs g j) (sym same) (subst (λ (rs : List Pdu). Answers x g l rs g l) (sym none) (answers_none x g l)),
+        )
+    deed_after k qs (asks apart a) = let m = lets_be g.tuned refl (λ t. not_apart t apart) is.mode in inr (g, asked_hearing m k qs a, asked_answers m.0 k qs a)
+    deed_after k qs (takes passes t) = inr (taken_next, taken_hearing k qs passes t, taken_answers k qs passes t)
+
+  after : (k : LinkState) (qs : List Pdu) → Deed p l k qs → After k qs
+  after k qs deed = cell is.chain
+    where
+      cell : Chain x.voice is.number is.count is.reading (p ∷ ps) x.end x.confirmed x.returned → After k qs
+      cell (d, q, h, i, w, more) = deed_after d q h i w more k qs deed
+
+tune_step : (x : Round) → Bounds x → (g : Ghost) (p : Pdu) (ps : List Pdu) (l : LinkState) → Hearing x g (p ∷ ps) l → Next Ghost x.now (Hearing x) (Answers x) g l ps (heard x.now p l)
+tune_step x bounds g p ps l is = choose (heard_case x.now p l (lively x.now l is.is))
+  where
+    next : Out x.now (heard x.now p l).link ⊎ ((h : Ghost) × Hearing x h ps (heard x.now p l).link × Answers x g l (heard x.now p l).pdus h (heard x.now p l).link) → Next Ghost x.now (Hearing x) (Answers x) g l ps (heard x.now p l)
+    next (inl left) = gone_next left
+    next (inr (h, a, b)) = stays_next h a b
+
+    choose : Out x.now (heard x.now p l).link ⊎ ((l.sent < 2147483000) × ((heard x.now p l).link ≡ (hearing p l).link) × ((heard x.now p l).pdus ≡ (hearing p l).pdus)) → Next Ghost x.now (Hearing x) (Answers x) g l ps (heard x.now p l)
+    choose (inl left) = gone_next left
+    choose (inr (room, e, f)) = next (after x bounds g p ps l is room (heard x.now p l).link (heard x.now p l).pdus
+        (two e f (hears p l is.is.connected is.is.joined (omega (arith, is.is.young, is.is.clock)))))
+      where
+        two : (heard x.now p l).link ≡ (hearing p l).link → (heard x.now p l).pdus ≡ (hearing p l).pdus → Deed p l (hearing p l).link (hearing p l).pdus → Deed p l (heard x.now p l).link (heard x.now p l).pdus
+        two e f deed = subst (λ (k : LinkState). Deed p l k (heard x.now p l).pdus) (sym e) (subst (λ (qs : List Pdu). Deed p l (hearing p l).link qs) (sym f) deed)
+
+-- all that its partner said in the last round
+pub tunes : (x : Round) → Bounds x → (g : Ghost) (ps : List Pdu) (l : LinkState) → Hearing x g ps l → Next Ghost x.now (Hearing x) (Answers x) g l [] (all_heard x.now ps l)
+tunes x bounds g ps l is = all_hear Ghost x.now (Hearing x) (Answers x) (λ h k a. answers_none x h k) (λ g h i l k j ps qs a b. answers_then x g h i l k j ps qs a b) (tune_step x bounds) ps g l is

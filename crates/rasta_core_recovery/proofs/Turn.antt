@@ -1,0 +1,415 @@
+-- A whole round at an end that has joined a connection.
+use Rattle.std.proofs.Common.{◌≡◌, ℕ, ◌∙◌, ◌+◌, ◌-◌, ◌^◌, ◌≤◌, ◌<◌, ◌⊎◌, inl, inr, Bool, true, false, List, [], ◌∷◌, ◌++◌, refl, sym, ap, subst, arith}
+use Rattle.rasta_core_run.specs.Sequence.{stamp}
+use Rattle.rasta_core_run.specs.State.{LinkState, is_up}
+use Rattle.rasta_core_run.specs.Sending.{Step, then_do, sending, header_of, pdu_of}
+use Rattle.rasta_core_run.specs.Receiving.{taking, hearing}
+use Rattle.rasta_core_run.specs.identity.Role.{Role}
+use Rattle.rasta_core_run.specs.pdu.Pdu.{Pdu}
+use Rattle.rasta_core_run.specs.body.Body.TheVariants.{RetransmissionRequest, Heartbeat}
+use Rattle.rasta_core_run.specs.Each.{Each}
+use Rattle.rasta_core_recovery.proofs.Links.{heard, all_heard, worked, end_round}
+use Rattle.rasta_core_recovery.proofs.Healthy.{beats}
+use Rattle.rasta_core_recovery.proofs.Calls.{at_reading, spoken}
+use Rattle.rasta_core_recovery.proofs.Words.{IsTalk, IsPlain, plain_talk, Row, Voice, voice_of, IsNumbered, Chain, chain_lower, chain_then, row_then, row_most, says_row, says_chain}
+use Rattle.rasta_core_recovery.proofs.Deed.{Deed, leaves, keeps, asks, takes, hears}
+use Rattle.rasta_core_recovery.proofs.Fold.{Out, heard_case, Next, gone_next, stays_next, all_hear, Work, gone_work, calm_work, beats_work, works, Begins, late, on, begins, stays_out, works_out, round_on}
+use Rattle.rasta_core_recovery.proofs.Course.{Joined, lively, Goes, goes_none, goes_then, voice_goes, taken_joined, placed, answers_chain, asked_chain, asked_joined, asked_goes, taken_goes}
+use Rattle.rasta_core_recovery.proofs.Tuning.{IsPlainPdu, each_append, Round, Bounds, Ghost, Tuned, Mode, Hearing, Answers, tunes}
+
+-- ---- its own work
+
+pub data Ended (now : ℕ) (k : LinkState) (s : Step) : Type 0 where
+  gone_end : Out now s.link → Ended now k s
+  done : (b : Bool) → s ≡ record { link = spoken b k; pdus = beats b (spoken b k) } → (is_up (spoken b k).phase ≡ true → now < (spoken b k).sent_at + 300) → Ended now k s
+
+pub ends : (now : ℕ) (who : Role) (k : LinkState) → Joined now k → Ended now k (worked now who k)
+unfolding sending header_of
+ends now who k is = choose (works now who k (lively now k is))
+  where
+    said : LinkState
+    said = record k { sent = k.sent + 1; sent_at = k.clock }
+
+    one_less : k.sent + 1 - 1 ≡ k.sent
+    one_less = omega arith
+
+    choose : Work now k (worked now who k) → Ended now k (worked now who k)
+    choose (gone_work left) = gone_end left
+    choose (calm_work e calm) = done false e calm
+    choose (beats_work up e) = done true (e ∙ ap (λ (n : ℕ). record { link = said; pdus = pdu_of (header_of said) n Heartbeat ∷ [] }) (sym one_less)) (λ u. omega (arith, is.clock))
+
+pub spoken_joined : (now : ℕ) (b : Bool) (k : LinkState) → Joined now k → Joined now (spoken b k)
+spoken_joined now false k is = is
+spoken_joined now true k is = record { clock = is.clock; connected = is.connected; joined = is.joined; young = is.young; own = is.own }
+
+spoken_goes : (now : ℕ) (b : Bool) (k : LinkState) → Joined now k → Goes now k (beats b (spoken b k)) (spoken b k)
+spoken_goes now false k is = goes_none now k
+spoken_goes now true k is = record { identity = refl; own_first = refl; partner_first = refl; clock = refl; sent_at = inr is.clock; spoken = λ e. absurd (some_said e) }
+  where
+    some_said : {q : Pdu} {qs : List Pdu} → q ∷ qs ≡ [] → ⊥
+    some_said e = cc
+
+one_less : (n : ℕ) → n + 1 - 1 ≡ n
+one_less n = omega arith
+
+spoken_chain : (now : ℕ) (b : Bool) (k : LinkState) (kept : ℕ) → Joined now k → 1 ≤ k.expected → k.expected < 2 ^ 31 → k.partner_stamp ≡ stamp kept
+    → Chain (voice_of k) k.sent (k.expected - 1) kept (beats b (spoken b k)) (spoken b k).sent (k.expected - 1) kept
+unfolding pdu_of
+spoken_chain now false k kept is some fits kept_is = (refl, omega arith, omega arith)
+spoken_chain now true k kept is some fits kept_is = says_chain IsPlain plain_talk (voice_of k) (spoken true k) k.sent (k.sent + 1) (k.expected - 1) kept (beats true (spoken true k))
+    (record { joined = is.joined; voice = refl; some = omega (arith, some); fits = omega (arith, fits); kept_is = kept_is })
+    (ap (λ (n : ℕ). pdu_of (header_of (spoken true k)) n Heartbeat) (one_less k.sent), tt, refl)
+
+spoken_row : (b : Bool) (k : LinkState) → Row (IsNumbered (voice_of k)) k.sent (beats b (spoken b k)) (spoken b k).sent
+unfolding pdu_of
+spoken_row false k = refl
+spoken_row true k = says_row IsPlain plain_talk (voice_of k) (spoken true k) k.sent (k.sent + 1) (beats true (spoken true k)) refl (ap (λ (n : ℕ). pdu_of (header_of (spoken true k)) n Heartbeat) (one_less k.sent), tt, refl)
+
+spoken_plain : (b : Bool) (k : LinkState) → Each IsPlainPdu (beats b (spoken b k))
+unfolding pdu_of
+spoken_plain false k = tt
+spoken_plain true k = (tt, tt)
+
+-- ---- a round, whatever comes
+
+pub record Numbers (now : ℕ) (l : LinkState) (s : Step) : Type 0 where
+  pub is : Joined now s.link
+  pub identity : s.link.identity ≡ l.identity
+  pub own_first : s.link.own_first ≡ l.own_first
+  pub partner_first : s.link.partner_first ≡ l.partner_first
+  pub sent_at : (s.link.sent_at ≡ l.sent_at) ⊎ (s.link.sent_at ≡ now)
+  pub row : Row (IsNumbered (voice_of s.link)) l.sent s.pdus s.link.sent
+
+-- after a round the end is outside, or this is so
+pub data Either (now : ℕ) (k : LinkState) (A : Type 0) : Type 0 where
+  gone : Out now k → Either now k A
+  so : A → Either now k A
+
+module _ (now : ℕ) where
+  record Rowed (g : ℕ) (l : LinkState) (ps : List Pdu) (h : ℕ) (k : LinkState) : Type 0 where
+    goes : Goes now l ps k
+    row : Row (IsNumbered (voice_of l)) l.sent ps k.sent
+
+  rowed_then : (g h i : ℕ) (l k j : LinkState) (ps qs : List Pdu) → Rowed g l ps h k → Rowed h k qs i j → Rowed g l (ps ++ qs) i j
+  rowed_then g h i l k j ps qs a b = record {
+    goes = goes_then now l k j ps qs a.goes b.goes;
+    row = row_then (IsNumbered (voice_of l)) l.sent k.sent j.sent ps qs a.row (subst (λ (v : Voice). Row (IsNumbered v) k.sent qs j.sent) (voice_goes now l k ps a.goes) b.row);
+  }
+
+  rows_one : (p : Pdu) (l k : LinkState) (qs : List Pdu) → Joined now l → Deed p l k qs → Out now k ⊎ (Joined now k × Rowed 0 l qs 0 k)
+  unfolding taking header_of pdu_of
+  rows_one p l k qs is (leaves left) = inl (record { clock = left.clock ∙ is.clock; is_out = left.is_out; quiet = omega (arith, left.closed_at, is.clock); lately = omega (arith, left.closed_at, is.clock) })
+  rows_one p l k qs is (keeps b same none) = inr (subst (Joined now) (sym same) is, subst (λ (j : LinkState). Rowed 0 l qs 0 j) (sym same) (subst (λ (rs : List Pdu). Rowed 0 l rs 0 l) (sym none) (record { goes = goes_none now l; row = refl })))
+  rows_one p l k qs is (asks apart a) = inr (
+    asked_joined now l k qs is a,
+    record {
+      goes = asked_goes now l k qs is a;
+      row = subst (λ (rs : List Pdu). Row (IsNumbered (voice_of l)) l.sent rs k.sent) (sym a.pdus)
+          (says_row IsTalk (λ b t. t) (voice_of l) l l.sent k.sent (pdu_of (header_of l) l.sent RetransmissionRequest ∷ []) refl (refl, tt, sym (ap (λ (j : LinkState). j.sent) a.link)));
+    },
+  )
+  rows_one p l k qs is (takes passes t) = inr (
+    taken_joined now p l k qs is passes t,
+    record {
+      goes = taken_goes now p l k qs is t;
+      row = says_row IsPlain plain_talk (voice_of l) (taking p l) l.sent k.sent qs refl t.answers;
+    },
+  )
+
+  rows_step : (g : ℕ) (p : Pdu) (ps : List Pdu) (l : LinkState) → Joined now l → Next ℕ now (λ g ps l. Joined now l) Rowed g l ps (heard now p l)
+  rows_step g p ps l is = choose (heard_case now p l (lively now l is))
+    where
+      next : Out now (heard now p l).link ⊎ (Joined now (heard now p l).link × Rowed 0 l (heard now p l).pdus 0 (heard now p l).link) → Next ℕ now (λ g ps l. Joined now l) Rowed g l ps (heard now p l)
+      next (inl left) = gone_next left
+      next (inr (a, b)) = stays_next 0 a (record { goes = b.goes; row = b.row })
+
+      choose : Out now (heard now p l).link ⊎ ((l.sent < 2147483000) × ((heard now p l).link ≡ (hearing p l).link) × ((heard now p l).pdus ≡ (hearing p l).pdus)) → Next ℕ now (λ g ps l. Joined now l) Rowed g l ps (heard now p l)
+      choose (inl left) = gone_next left
+      choose (inr (room, e, f)) = next (rows_one p l (heard now p l).link (heard now p l).pdus is
+          (subst (λ (k : LinkState). Deed p l k (heard now p l).pdus) (sym e) (subst (λ (qs : List Pdu). Deed p l (hearing p l).link qs) (sym f) (hears p l is.connected is.joined (omega (arith, is.young, is.clock))))))
+
+  rows : (ps : List Pdu) (l : LinkState) → Joined now l → Next ℕ now (λ g ps l. Joined now l) Rowed 0 l [] (all_heard now ps l)
+  rows ps l is = all_hear ℕ now (λ g ps l. Joined now l) Rowed (λ g l a. record { goes = goes_none now l; row = refl }) rowed_then rows_step ps 0 l is
+
+pub reading_joined : (now : ℕ) (l : LinkState) → Joined l.clock l → now ≡ l.clock + 10 → now < l.own_stamp + 1800 → Joined now (at_reading now l)
+reading_joined now l is at young = record { clock = refl; connected = is.connected; joined = is.joined; young = young; own = omega (arith, is.own, at) }
+
+pub numbers : (now : ℕ) (ps : List Pdu) (l : LinkState) → Joined l.clock l → now ≡ l.clock + 10 → Either now (end_round now ps l).link (Numbers now l (end_round now ps l))
+numbers now ps l is at = choose (begins now l at is.connected is.young)
+  where
+    j : LinkState
+    j = at_reading now l
+
+    Goal : Step → Type 0
+    Goal s = Either now s.link (Numbers now l s)
+
+    heard_all : Step
+    heard_all = all_heard now ps j
+
+    ended : (k : LinkState) (qs : List Pdu) → Joined now k → Rowed now 0 j qs 0 k → Ended now k (worked now l.identity.role k) → Goal (record { link = (worked now l.identity.role k).link; pdus = qs ++ (worked now l.identity.role k).pdus })
+    ended k qs in_it o (gone_end left) = gone left
+    ended k qs in_it o (done b e calm) = subst (λ (s : Step). Goal (record { link = s.link; pdus = qs ++ s.pdus })) (sym e) (so (record {
+      is = spoken_joined now b k in_it;
+      identity = all.goes.identity;
+      own_first = all.goes.own_first;
+      partner_first = all.goes.partner_first;
+      sent_at = all.goes.sent_at;
+      row = subst (λ (v : Voice). Row (IsNumbered v) l.sent (qs ++ beats b (spoken b k)) (spoken b k).sent) (sym (voice_goes now j (spoken b k) (qs ++ beats b (spoken b k)) all.goes)) all.row;
+    }))
+      where
+        all : Rowed now 0 j (qs ++ beats b (spoken b k)) 0 (spoken b k)
+        all = rowed_then now 0 0 0 j k (spoken b k) qs (beats b (spoken b k)) o (record { goes = spoken_goes now b k in_it; row = spoken_row b k })
+
+    heard_then : Next ℕ now (λ g ps l. Joined now l) (Rowed now) 0 j [] heard_all → Goal (then_do heard_all (λ k. worked now l.identity.role k))
+    heard_then (gone_next left) = gone (works_out now l.identity.role heard_all.link left)
+    heard_then (stays_next g a o) = ended heard_all.link heard_all.pdus a (record { goes = o.goes; row = o.row }) (ends now l.identity.role heard_all.link a)
+
+    choose : Begins now l → Goal (end_round now ps l)
+    choose (late left) = gone (stays_out now ps l left)
+    choose (on e young) = subst Goal (sym (round_on now ps l e)) (heard_then (rows now ps j (reading_joined now l is at young)))
+
+-- ---- a round in which the PDUs of the partner's last round come, which went on in their numbers
+
+pub record Spoke (x : Round) (l : LinkState) (s : Step) : Type 0 where
+  pub is : Joined x.now s.link
+  pub identity : s.link.identity ≡ l.identity
+  pub own_first : s.link.own_first ≡ l.own_first
+  pub partner_first : s.link.partner_first ≡ l.partner_first
+  pub sent_at : (s.link.sent_at ≡ l.sent_at) ⊎ (s.link.sent_at ≡ x.now)
+  pub spoken : s.pdus ≡ [] → s.link.sent_at ≡ l.sent_at
+  pub some : 1 ≤ s.link.expected
+  pub most : s.link.expected ≤ x.end
+  pub rises : l.expected ≤ s.link.expected
+  pub kept : ℕ
+  pub kept_is : s.link.partner_stamp ≡ stamp kept
+  pub since : x.kept ≤ kept
+  pub kept_before : kept ≤ x.said_at
+  pub chain : Chain (voice_of s.link) l.sent (l.expected - 1) x.kept s.pdus s.link.sent (s.link.expected - 1) kept
+  pub calm : is_up s.link.phase ≡ true → x.now < s.link.sent_at + 300
+
+module _ (x : Round) (bounds : Bounds x) where
+  record Loose (g : ℕ) (ps : List Pdu) (l : LinkState) : Type 0 where
+    is : Joined x.now l
+    first : x.voice.first ≡ l.partner_first
+    some : 1 ≤ l.expected
+    most : l.expected ≤ x.end
+    kept_is : l.partner_stamp ≡ stamp g
+    kept_before : g ≤ x.said_at
+    since : x.kept ≤ g
+    number : ℕ
+    row : Row (IsNumbered x.voice) number ps x.end
+
+  record Linked (g : ℕ) (l : LinkState) (ps : List Pdu) (h : ℕ) (k : LinkState) : Type 0 where
+    goes : Goes x.now l ps k
+    rises : l.expected ≤ k.expected
+    chain : Chain (voice_of l) l.sent (l.expected - 1) g ps k.sent (k.expected - 1) h
+
+  linked_none : (g : ℕ) (l : LinkState) → Linked g l [] g l
+  linked_none g l = record { goes = goes_none x.now l; rises = omega arith; chain = (refl, omega arith, omega arith) }
+
+  linked_then : (g h i : ℕ) (l k j : LinkState) (ps qs : List Pdu) → Linked g l ps h k → Linked h k qs i j → Linked g l (ps ++ qs) i j
+  linked_then g h i l k j ps qs a b = record {
+    goes = goes_then x.now l k j ps qs a.goes b.goes;
+    rises = omega (arith, a.rises, b.rises);
+    chain = chain_then (voice_of l) _ _ _ k.sent (k.expected - 1) h _ _ _ ps qs a.chain (subst (λ (v : Voice). Chain v k.sent (k.expected - 1) h qs j.sent (j.expected - 1) i) (voice_goes x.now l k ps a.goes) b.chain);
+  }
+
+  loose_one : (g : ℕ) (p : Pdu) (ps : List Pdu) (l k : LinkState) (qs : List Pdu) → Loose g (p ∷ ps) l → Deed p l k qs → Out x.now k ⊎ ((h : ℕ) × Loose h ps k × Linked g l qs h k)
+  loose_one g p ps l k qs is (leaves left) = inl (record { clock = left.clock ∙ is.is.clock; is_out = left.is_out; quiet = omega (arith, left.closed_at, is.is.clock); lately = omega (arith, left.closed_at, is.is.clock) })
+  loose_one g p ps l k qs is (keeps b same none) = inr (
+    g,
+    subst (Loose g ps) (sym same) (record { is = is.is; first = is.first; some = is.some; most = is.most; kept_is = is.kept_is; kept_before = is.kept_before; since = is.since; number = is.number + 1; row = is.row.1 }),
+    subst (λ (j : LinkState). Linked g l qs g j) (sym same) (subst (λ (rs : List Pdu). Linked g l rs g l) (sym none) (linked_none g l)),
+  )
+  loose_one g p ps l k qs is (asks apart a) = let e = a.link in let f = ap (λ (j : LinkState). j.expected) e in inr (
+    g,
+    record {
+      is = asked_joined x.now l k qs is.is a;
+      first = is.first ∙ sym (ap (λ (j : LinkState). j.partner_first) e);
+      some = omega (arith, is.some, f);
+      most = omega (arith, is.most, f);
+      kept_is = ap (λ (j : LinkState). j.partner_stamp) e ∙ is.kept_is;
+      kept_before = is.kept_before;
+      since = is.since;
+      number = is.number + 1;
+      row = is.row.1;
+    },
+    record {
+      goes = asked_goes x.now l k qs is.is a;
+      rises = omega (arith, f);
+      chain = subst (λ (y : ℕ). Chain (voice_of l) l.sent (l.expected - 1) g qs k.sent (y - 1) g) (sym f) (asked_chain x.now g l k qs is.is a is.some (omega (arith, is.most, bounds.fits)) is.kept_is);
+    },
+  )
+  loose_one g p ps l k qs is (takes passes t) =
+      let before_end : is.number < x.end = let m = row_most (IsNumbered x.voice) (is.number + 1) x.end ps is.row.1 in omega (arith, m) in
+      let at = placed x.voice is.number x.end p l is.first is.row.0.number before_end bounds.fits is.most passes.near in
+      let stamped : p.time_stamp ≡ stamp x.said_at = is.row.0.stamped ∙ bounds.stamped in
+      let answered = answers_chain x.now is.number x.said_at p l k qs is.is t at.1 (omega (arith, before_end, bounds.fits)) stamped in
+      inr (
+        x.said_at,
+        record {
+          is = taken_joined x.now p l k qs is.is passes t;
+          first = is.first ∙ sym t.stays.partner_first;
+          some = omega (arith, t.expected, at.1);
+          most = omega (arith, t.expected, at.1, before_end);
+          kept_is = t.partner_stamp ∙ stamped;
+          kept_before = omega arith;
+          since = bounds.kept;
+          number = is.number + 1;
+          row = is.row.1;
+        },
+        record {
+          goes = taken_goes x.now p l k qs is.is t;
+          rises = omega (arith, t.expected, at.0, at.1);
+          chain = chain_lower (voice_of l) l.sent l.sent is.number (l.expected - 1) x.said_at g qs k.sent (k.expected - 1) x.said_at refl (omega (arith, at.0)) is.kept_before
+              (subst (λ (y : ℕ). Chain (voice_of l) l.sent is.number x.said_at qs k.sent y x.said_at) (omega (arith, t.expected, at.1)) answered);
+        },
+      )
+
+  loose_step : (g : ℕ) (p : Pdu) (ps : List Pdu) (l : LinkState) → Loose g (p ∷ ps) l → Next ℕ x.now Loose Linked g l ps (heard x.now p l)
+  loose_step g p ps l is = choose (heard_case x.now p l (lively x.now l is.is))
+    where
+      next : Out x.now (heard x.now p l).link ⊎ ((h : ℕ) × Loose h ps (heard x.now p l).link × Linked g l (heard x.now p l).pdus h (heard x.now p l).link) → Next ℕ x.now Loose Linked g l ps (heard x.now p l)
+      next (inl left) = gone_next left
+      next (inr (h, a, b)) = stays_next h a b
+
+      choose : Out x.now (heard x.now p l).link ⊎ ((l.sent < 2147483000) × ((heard x.now p l).link ≡ (hearing p l).link) × ((heard x.now p l).pdus ≡ (hearing p l).pdus)) → Next ℕ x.now Loose Linked g l ps (heard x.now p l)
+      choose (inl left) = gone_next left
+      choose (inr (room, e, f)) = next (loose_one g p ps l (heard x.now p l).link (heard x.now p l).pdus is
+          (subst (λ (k : LinkState). Deed p l k (heard x.now p l).pdus) (sym e) (subst (λ (qs : List Pdu). Deed p l (hearing p l).link qs) (sym f) (hears p l is.is.connected is.is.joined (omega (arith, is.is.young, is.is.clock))))))
+
+  -- the end's own work after it
+  says_then : (l j k : LinkState) (qs : List Pdu) (g h : ℕ) (b : Bool) → j ≡ at_reading x.now l → g ≡ x.kept → Joined x.now k → 1 ≤ k.expected → k.expected ≤ x.end → k.partner_stamp ≡ stamp h → x.kept ≤ h → h ≤ x.said_at
+      → Linked g j qs h k → (is_up (spoken b k).phase ≡ true → x.now < (spoken b k).sent_at + 300) → Spoke x l (record { link = spoken b k; pdus = qs ++ beats b (spoken b k) })
+  says_then l j k qs g h b same start in_it some most kept_is since kept_before o calm = record {
+    is = spoken_joined x.now b k in_it;
+    identity = all.goes.identity ∙ ap (λ (y : LinkState). y.identity) same;
+    own_first = all.goes.own_first ∙ ap (λ (y : LinkState). y.own_first) same;
+    partner_first = all.goes.partner_first ∙ ap (λ (y : LinkState). y.partner_first) same;
+    sent_at = either all.goes.sent_at;
+    spoken = λ e. all.goes.spoken e ∙ ap (λ (y : LinkState). y.sent_at) same;
+    some = omega (arith, some, expected_stays b);
+    most = omega (arith, most, expected_stays b);
+    rises = omega (arith, all.rises, ap (λ (y : LinkState). y.expected) same);
+    kept = h;
+    kept_is = stamp_stays b ∙ kept_is;
+    since = since;
+    kept_before = kept_before;
+    chain = subst (λ (v : Voice). Chain v l.sent (l.expected - 1) x.kept (qs ++ beats b (spoken b k)) (spoken b k).sent ((spoken b k).expected - 1) h) (sym (voice_goes x.now j (spoken b k) (qs ++ beats b (spoken b k)) all.goes))
+        (subst (λ (y : LinkState). Chain (voice_of j) y.sent (y.expected - 1) x.kept (qs ++ beats b (spoken b k)) (spoken b k).sent ((spoken b k).expected - 1) h) same
+        (subst (λ (y : ℕ). Chain (voice_of j) j.sent (j.expected - 1) y (qs ++ beats b (spoken b k)) (spoken b k).sent ((spoken b k).expected - 1) h) start all.chain));
+    calm = calm;
+  }
+    where
+      expected_stays : (b : Bool) → (spoken b k).expected ≡ k.expected
+      expected_stays false = refl
+      expected_stays true = refl
+
+      stamp_stays : (b : Bool) → (spoken b k).partner_stamp ≡ k.partner_stamp
+      stamp_stays false = refl
+      stamp_stays true = refl
+
+      last : Linked h k (beats b (spoken b k)) h (spoken b k)
+      last = record {
+        goes = spoken_goes x.now b k in_it;
+        rises = omega (arith, expected_stays b);
+        chain = subst (λ (y : ℕ). Chain (voice_of k) k.sent (k.expected - 1) h (beats b (spoken b k)) (spoken b k).sent (y - 1) h) (sym (expected_stays b)) (spoken_chain x.now b k h in_it some (omega (arith, most, bounds.fits)) kept_is);
+      }
+
+      all : Linked g j (qs ++ beats b (spoken b k)) h (spoken b k)
+      all = linked_then g h h j k (spoken b k) qs (beats b (spoken b k)) o last
+
+      either : ((spoken b k).sent_at ≡ j.sent_at) ⊎ ((spoken b k).sent_at ≡ x.now) → ((spoken b k).sent_at ≡ l.sent_at) ⊎ ((spoken b k).sent_at ≡ x.now)
+      either (inl e) = inl (e ∙ ap (λ (y : LinkState). y.sent_at) same)
+      either (inr e) = inr e
+
+  pub loosely : (l : LinkState) → Joined l.clock l → x.now ≡ l.clock + 10 → x.voice.first ≡ l.partner_first → 1 ≤ l.expected → l.expected ≤ x.end → l.partner_stamp ≡ stamp x.kept → (n : ℕ) → Row (IsNumbered x.voice) n x.pdus x.end
+      → Either x.now (end_round x.now x.pdus l).link (Spoke x l (end_round x.now x.pdus l))
+  loosely l is at first some most kept_is n row = choose (begins x.now l at is.connected is.young)
+    where
+      j : LinkState
+      j = at_reading x.now l
+
+      Goal : Step → Type 0
+      Goal s = Either x.now s.link (Spoke x l s)
+
+      heard_all : Step
+      heard_all = all_heard x.now x.pdus j
+
+      ended : (k : LinkState) (qs : List Pdu) (h : ℕ) → Loose h [] k → Linked x.kept j qs h k → Ended x.now k (worked x.now l.identity.role k) → Goal (record { link = (worked x.now l.identity.role k).link; pdus = qs ++ (worked x.now l.identity.role k).pdus })
+      ended k qs h a o (gone_end left) = gone left
+      ended k qs h a o (done b e calm) = subst (λ (s : Step). Goal (record { link = s.link; pdus = qs ++ s.pdus })) (sym e)
+          (so (says_then l j k qs x.kept h b refl refl a.is a.some a.most a.kept_is a.since a.kept_before o calm))
+
+      heard_then : Next ℕ x.now Loose Linked x.kept j [] heard_all → Goal (then_do heard_all (λ k. worked x.now l.identity.role k))
+      heard_then (gone_next left) = gone (works_out x.now l.identity.role heard_all.link left)
+      heard_then (stays_next h a o) = ended heard_all.link heard_all.pdus h a o (ends x.now l.identity.role heard_all.link a.is)
+
+      choose : Begins x.now l → Goal (end_round x.now x.pdus l)
+      choose (late left) = gone (stays_out x.now x.pdus l left)
+      choose (on e young) = subst Goal (sym (round_on x.now x.pdus l e)) (heard_then (all_hear ℕ x.now Loose Linked (λ g l a. linked_none g l) linked_then loose_step x.pdus x.kept j
+          (record { is = reading_joined x.now l is at young; first = first; some = some; most = most; kept_is = kept_is; kept_before = bounds.kept; since = omega arith; number = n; row = row })))
+
+  -- ---- a round in which what comes may be taken
+
+  abbrev pub EndMode : Bool → ℕ → LinkState → Type 0
+  EndMode false kept k = (kept ≡ x.kept) × (k.own_stamp ≡ x.own)
+  EndMode true kept k = Tuned k x.end x.confirmed x.returned × ((kept ≡ x.said_at) ⊎ ((x.pdus ≡ []) × (kept ≡ x.kept) × (x.tuned ≡ true)))
+
+  pub record Turn (tuned : Bool) (l : LinkState) (s : Step) : Type 0 where
+    pub says : Spoke x l s
+    pub then_tuned : Bool
+    pub mode : EndMode then_tuned says.kept s.link
+    pub keeps : tuned ≡ true → then_tuned ≡ true
+    pub plain : tuned ≡ true → Each IsPlainPdu s.pdus
+    pub beating : tuned ≡ true → Each IsPlainPdu x.pdus → (b : Bool) × (s.pdus ≡ beats b s.link) × (b ≡ true → s.link.sent_at ≡ x.now)
+
+  end_mode : (tuned : Bool) (kept : ℕ) (k : LinkState) (n c r : ℕ) → Mode x tuned kept k n c r [] → (n ≡ x.end) × (c ≤ x.confirmed) × (r ≤ x.returned) → EndMode tuned kept k
+  end_mode false kept k n c r m ends_at = m
+  end_mode true kept k n c r (t, how) (i, j, h) = (record { reading = t.reading; expected = t.expected ∙ i; confirmed = omega (arith, t.confirmed, j); own = omega (arith, t.own, h) }, either how)
+    where
+      either : ((kept ≡ x.said_at) ⊎ (([] ≡ x.pdus) × (kept ≡ x.kept) × (x.tuned ≡ true))) → ((kept ≡ x.said_at) ⊎ ((x.pdus ≡ []) × (kept ≡ x.kept) × (x.tuned ≡ true)))
+      either (inl e) = inl e
+      either (inr (a, b, c)) = inr (sym a, b, c)
+
+  spoken_mode : (tuned b : Bool) (kept : ℕ) (k : LinkState) → EndMode tuned kept k → EndMode tuned kept (spoken b k)
+  spoken_mode tuned false kept k m = m
+  spoken_mode false true kept k m = m
+  spoken_mode true true kept k (t, how) = (record { reading = t.reading; expected = t.expected; confirmed = t.confirmed; own = t.own }, how)
+
+  pub turns : (g : Ghost) (l : LinkState) → g.kept ≡ x.kept → Joined l.clock l → x.now ≡ l.clock + 10 → (x.now < l.own_stamp + 1800 → Hearing x g x.pdus (at_reading x.now l))
+      → Either x.now (end_round x.now x.pdus l).link (Turn g.tuned l (end_round x.now x.pdus l))
+  unfolding says_then
+  turns g l start is at hearing_is = choose (begins x.now l at is.connected is.young)
+    where
+      j : LinkState
+      j = at_reading x.now l
+
+      Goal : Step → Type 0
+      Goal s = Either x.now s.link (Turn g.tuned l s)
+
+      heard_all : Step
+      heard_all = all_heard x.now x.pdus j
+
+      ended : (k : LinkState) (qs : List Pdu) (h : Ghost) → Hearing x h [] k → Answers x g j qs h k → Ended x.now k (worked x.now l.identity.role k) → Goal (record { link = (worked x.now l.identity.role k).link; pdus = qs ++ (worked x.now l.identity.role k).pdus })
+      ended k qs h a o (gone_end left) = gone left
+      ended k qs h a o (done b e calm) = subst (λ (s : Step). Goal (record { link = s.link; pdus = qs ++ s.pdus })) (sym e) (so (record {
+        says = says_then l j k qs g.kept h.kept b refl start a.is a.some a.most a.kept_is a.since a.kept_before (record { goes = o.goes; rises = o.rises; chain = o.chain }) calm;
+        then_tuned = h.tuned;
+        mode = spoken_mode h.tuned b h.kept k (end_mode h.tuned h.kept k a.number a.count a.reading a.mode a.chain);
+        keeps = o.stays_tuned;
+        plain = λ t. each_append IsPlainPdu qs (beats b (spoken b k)) (o.plain t) (spoken_plain b k);
+        beating = λ t p. (b, ap (λ (rs : List Pdu). rs ++ beats b (spoken b k)) (o.calm t p), said_now b);
+      }))
+        where
+          said_now : (b : Bool) → b ≡ true → (spoken b k).sent_at ≡ x.now
+          said_now true f = a.is.clock
+          said_now false f = cc
+
+      heard_then : Next Ghost x.now (Hearing x) (Answers x) g j [] heard_all → Goal (then_do heard_all (λ k. worked x.now l.identity.role k))
+      heard_then (gone_next left) = gone (works_out x.now l.identity.role heard_all.link left)
+      heard_then (stays_next h a o) = ended heard_all.link heard_all.pdus h a o (ends x.now l.identity.role heard_all.link a.is)
+
+      choose : Begins x.now l → Goal (end_round x.now x.pdus l)
+      choose (late left) = gone (stays_out x.now x.pdus l left)
+      choose (on e young) = subst Goal (sym (round_on x.now x.pdus l e)) (heard_then (tunes x bounds g x.pdus j (hearing_is young)))

@@ -1,0 +1,26 @@
+//! Recovery, for two ends that were just created and every list of events that may happen to them.
+
+ghost use Rattle.std.specs.Prelude.{ℕ, ◌≤◌, List};
+ghost use Rattle.rasta_core_run.specs.Events.{Event, MayRun, Start, started};
+ghost use Rattle.rasta_core_run.specs.Names.{AreNames, Names};
+ghost use Rattle.rasta_core_recovery.specs.Rounds.{AreUp, StayBelowLimit, flow_after, good_rounds, recovery_rounds};
+
+use rasta_core::{
+    calls_hand_out_pdus, every_event_keeps_order, every_event_keeps_time, starts_in_time,
+};
+use rasta_core_run::written_is_read;
+
+/// Two ends come up whatever has happened to them before: after each good round from the 1600th on both are up, so for
+/// good 16 s after the good rounds began. That is where no end comes to the limit of PDUs in a connection till then.
+/// What was sent before the good rounds may come in the first of them, or never.
+pub fn two_ends_come_up()
+    ensures { (names : Names) (start : Start) (events : List Event) (passed n : ℕ) → AreNames names → MayRun names events (started names start)
+        → recovery_rounds ≤ n → StayBelowLimit n (flow_after names start events passed)
+        → AreUp (good_rounds n (flow_after names start events passed)).ends }
+{
+    starts_in_time();
+    every_event_keeps_time();
+    every_event_keeps_order();
+    written_is_read();
+    calls_hand_out_pdus();
+}

@@ -1,0 +1,7 @@
+//! Recovery of a link: however two ends have been treated, they are up a bounded time after the network became good. Safety
+//! stands in `rasta_core`; it is kept by two ends that never come up, too.
+#![tactic(auto)]
+
+mod laws;
+
+pub use laws::two_ends_come_up;
