@@ -48,9 +48,9 @@ module _ {Object Contacts : Type 0} (does : Behaviour Object) (new : Beginning �
   unfolding server_after
   clock_is input connection moment server = refl
 
-  pub steps : (input : Input) (connection time link place : ℕ) (servers : List (ServerState Object)) (sent : List OnLink) (life : Life Contacts Input) → LivesAt does new servers place life
-      → LivesAt does new (stepped_at does input connection time link place (slice_get servers place) (record { servers = servers; sent = sent })).servers place (hears (Some input) life)
-  steps input connection time link place servers sent life lives =
+  pub steps : (contact : Input → Contacts → Contacts) (input : Input) (connection time link place : ℕ) (servers : List (ServerState Object)) (sent : List OnLink) (life : Life Contacts Input) → LivesAt does new servers place life
+      → LivesAt does new (stepped_at does input connection time link place (slice_get servers place) (record { servers = servers; sent = sent })).servers place (hears contact (Some input) life)
+  steps contact input connection time link place servers sent life lives =
       let next = server_after (step_of does input lives.server) connection (length sent) lives.server
       in record {
         server = next;
@@ -71,13 +71,13 @@ module _ {Object Contacts : Type 0} (does : Behaviour Object) (new : Beginning �
     cases (Some server) is = ap (λ l. slice_get l place) (after_one input connection time link at servers sent server is) ∙ get_set_other servers at place _ differ
 
   -- one of the list makes a step, be it this one or another
-  pub one_steps : (input : Input) (connection time link at place : ℕ) (servers : List (ServerState Object)) (sent : List OnLink) (life : Life Contacts Input) → LivesAt does new servers place life
-      → LivesAt does new (stepped_at does input connection time link at (slice_get servers at) (record { servers = servers; sent = sent })).servers place (hears (only place at input) life)
-  one_steps input connection time link at place servers sent life lives = cases (at == place) refl where
+  pub one_steps : (contact : Input → Contacts → Contacts) (input : Input) (connection time link at place : ℕ) (servers : List (ServerState Object)) (sent : List OnLink) (life : Life Contacts Input) → LivesAt does new servers place life
+      → LivesAt does new (stepped_at does input connection time link at (slice_get servers at) (record { servers = servers; sent = sent })).servers place (hears contact (only place at input) life)
+  one_steps contact input connection time link at place servers sent life lives = cases (at == place) refl where
     cases : (test : Bool) → (at == place) ≡ test
-        → LivesAt does new (stepped_at does input connection time link at (slice_get servers at) (record { servers = servers; sent = sent })).servers place (hears (if test then Some input else None) life)
-    cases true is = subst (λ n. LivesAt does new (stepped_at does input connection time link n (slice_get servers n) (record { servers = servers; sent = sent })).servers place (hears (Some input) life))
-        (sym (same_number at place is)) (steps input connection time link place servers sent life lives)
+        → LivesAt does new (stepped_at does input connection time link at (slice_get servers at) (record { servers = servers; sent = sent })).servers place (hears contact (if test then Some input else None) life)
+    cases true is = subst (λ n. LivesAt does new (stepped_at does input connection time link n (slice_get servers n) (record { servers = servers; sent = sent })).servers place (hears contact (Some input) life))
+        (sym (same_number at place is)) (steps contact input connection time link place servers sent life lives)
     cases false is = stays servers _ place life (other_steps input connection time link at place servers sent (λ same. other_number at place is (sym same))) lives
 
   -- ---- time

@@ -1,4 +1,4 @@
--- A world keeps as many signals and points as its layout has.
+-- A world keeps as many signals, points, detectors and sections as its layout has.
 use Rattle.std.proofs.Common.{◌≡◌, ℕ, zero, suc, List, [], ◌∷◌, length, map, Option, Some, None, slice_get, slice_set, refl, sym, ap, subst, ◌∙◌}
 use Rattle.std.specs.List.{zip}
 use Rattle.std.proofs.lemmas.Slice.Zip.{firsts-zip}
@@ -30,8 +30,9 @@ pub record IsCounted (site : Site) (world : WorldState) : Type 0 where
   pub points : length world.points ≡ length site.points
   pub positions : length world.positions ≡ length site.points
   pub detectors : length world.detectors ≡ length site.detectors
+  pub occupancies : length world.occupancies ≡ length site.sections
 
-length_set : {A : Type 0} (list : List A) (place : ℕ) (one : A) → length (slice_set list place one) ≡ length list
+pub length_set : {A : Type 0} (list : List A) (place : ℕ) (one : A) → length (slice_set list place one) ≡ length list
 length_set [] place one = refl
 length_set (first ∷ others) zero one = refl
 length_set (first ∷ others) (suc place) one = ap suc (length_set others place one)
@@ -46,7 +47,7 @@ length_later moment ticks [] = refl
 length_later moment [] (server ∷ servers) = refl
 length_later moment (tick ∷ ticks) (server ∷ servers) = ap suc (length_later moment ticks servers)
 
-length_mapped : {A B : Type 0} (f : A → B) (list : List A) → length (map f list) ≡ length list
+pub length_mapped : {A B : Type 0} (f : A → B) (list : List A) → length (map f list) ≡ length list
 length_mapped f [] = refl
 length_mapped f (first ∷ others) = ap suc (length_mapped f others)
 
@@ -60,60 +61,71 @@ module _ (site : Site) (table : Table) where
   told_counts : (connection : ℕ) (what : Told) (world : WorldState) → IsCounted site world → IsCounted site (stepped site table connection what world)
   unfolding station_stepped signal_stepped point_stepped detector_stepped
   told_counts connection Nobody world counted = counted
-  told_counts connection (ToStation input) world counted = record { signals = counted.signals; points = counted.points; positions = counted.positions; detectors = counted.detectors }
+  told_counts connection (ToStation input) world counted = record { signals = counted.signals; points = counted.points; positions = counted.positions; detectors = counted.detectors; occupancies = counted.occupancies }
   told_counts connection (ToSignal at input) world counted = record {
     signals = length_stepped signal_behaviour input connection world.time at at (slice_get world.signals at) world.signals world.sent ∙ counted.signals;
     points = counted.points;
     positions = counted.positions;
     detectors = counted.detectors;
+    occupancies = counted.occupancies;
   }
   told_counts connection (ToPoint at input) world counted = record {
     signals = counted.signals;
     points = length_stepped point_behaviour input connection world.time (point_link site at) at (slice_get world.points at) world.points world.sent ∙ counted.points;
     positions = counted.positions;
     detectors = counted.detectors;
+    occupancies = counted.occupancies;
   }
   told_counts connection (ToDetector at input) world counted = record {
     signals = counted.signals;
     points = counted.points;
     positions = counted.positions;
     detectors = length_stepped detection_behaviour input connection world.time (detector_link site at) at (slice_get world.detectors at) world.detectors world.sent ∙ counted.detectors;
+    occupancies = counted.occupancies;
   }
 
   anew_counts : (begins : Beginning) (at : Option Node) (world : WorldState) → IsCounted site world → IsCounted site (made_anew site table begins at world)
   anew_counts begins None world counted = counted
-  anew_counts begins (Some Station) world counted = record { signals = counted.signals; points = counted.points; positions = counted.positions; detectors = counted.detectors }
+  anew_counts begins (Some Station) world counted = record { signals = counted.signals; points = counted.points; positions = counted.positions; detectors = counted.detectors; occupancies = counted.occupancies }
   anew_counts begins (Some (Signal at)) world counted = of_entry (slice_get site.signals at) where
     of_entry : (entry : Option SignalEntry) → IsCounted site (signal_anew site begins at entry world)
     of_entry None = counted
-    of_entry (Some entry) = record { signals = length_changed _ at world.signals ∙ counted.signals; points = counted.points; positions = counted.positions; detectors = counted.detectors }
+    of_entry (Some entry) = record { signals = length_changed _ at world.signals ∙ counted.signals; points = counted.points; positions = counted.positions; detectors = counted.detectors; occupancies = counted.occupancies }
   anew_counts begins (Some (Point at)) world counted = of_entry (slice_get site.points at) where
     of_entry : (entry : Option PointEntry) → IsCounted site (point_anew site begins at entry world)
     of_entry None = counted
-    of_entry (Some entry) = record { signals = counted.signals; points = length_changed _ at world.points ∙ counted.points; positions = counted.positions; detectors = counted.detectors }
+    of_entry (Some entry) = record { signals = counted.signals; points = length_changed _ at world.points ∙ counted.points; positions = counted.positions; detectors = counted.detectors; occupancies = counted.occupancies }
   anew_counts begins (Some (Detector at)) world counted = of_entry (slice_get site.detectors at) where
     of_entry : (entry : Option DetectorEntry) → IsCounted site (detector_anew site begins at entry world)
     of_entry None = counted
-    of_entry (Some entry) = record { signals = counted.signals; points = counted.points; positions = counted.positions; detectors = length_changed _ at world.detectors ∙ counted.detectors }
+    of_entry (Some entry) = record { signals = counted.signals; points = counted.points; positions = counted.positions; detectors = length_changed _ at world.detectors ∙ counted.detectors; occupancies = counted.occupancies }
 
   pub around_counts : (happening : Event) (world : WorldState) → IsCounted site world → IsCounted site (around site table happening world)
   unfolding passed
   around_counts (event.Request command) world counted = counted
-  around_counts (event.Occupy section occupancy) world counted = record { signals = counted.signals; points = counted.points; positions = counted.positions; detectors = counted.detectors }
+  around_counts (event.Occupy section occupancy) world counted = record {
+    signals = counted.signals;
+    points = counted.points;
+    positions = counted.positions;
+    detectors = counted.detectors;
+    occupancies = length_set world.occupancies section.0 occupancy ∙ counted.occupancies;
+  }
   around_counts (event.Tick node) world counted = counted
   around_counts (event.Time elapsed clocks) world counted = record {
     signals = length_later _ _ world.signals ∙ counted.signals;
     points = length_later _ _ world.points ∙ counted.points;
     positions = counted.positions;
     detectors = length_later _ _ world.detectors ∙ counted.detectors;
+    occupancies = counted.occupancies;
   }
   around_counts (event.Deliver node bytes) world counted = counted
-  around_counts (event.Lose bytes) world counted = record { signals = counted.signals; points = counted.points; positions = counted.positions; detectors = counted.detectors }
+  around_counts (event.Lose bytes) world counted = record { signals = counted.signals; points = counted.points; positions = counted.positions; detectors = counted.detectors; occupancies = counted.occupancies }
   around_counts (event.Reach point position) world counted = record {
     signals = counted.signals;
     points = counted.points;
     positions = length_set world.positions point.0 position ∙ counted.positions;
     detectors = counted.detectors;
+    occupancies = counted.occupancies;
   }
   around_counts (event.Restart node clock first) world counted = anew_counts (record { clock = clock; first = first }) (node_at site node.0) world counted
 
@@ -128,6 +140,7 @@ module _ (site : Site) (table : Table) where
     points = length_mapped _ (zip site.points outset.positions) ∙ sym (length_mapped (λ (p : PointEntry × Position). p.0) (zip site.points outset.positions)) ∙ ap length (firsts-zip site.points outset.positions lies.positions);
     positions = lies.positions;
     detectors = length_mapped _ site.detectors;
+    occupancies = lies.occupancies;
   }
 
   pub counts_all : (events : List Event) (world : WorldState) → IsCounted site world → IsCounted site (after_all site table events world)

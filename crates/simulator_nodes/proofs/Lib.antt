@@ -5,6 +5,7 @@ pub mod Counts
 pub mod Controllers
 pub mod Signals
 pub mod Points
+pub mod Sections
 pub mod Detectors
 pub mod Station
 pub mod Runs

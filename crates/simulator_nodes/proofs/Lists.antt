@@ -1,5 +1,5 @@
 -- Places of lists of which one place is set.
-use Rattle.std.proofs.Common.{◌≡◌, ◌≢◌, ℕ, zero, suc, true, false, List, [], ◌∷◌, ◌++◌, Some, None, slice_get, slice_set, refl, ap, arith}
+use Rattle.std.proofs.Common.{◌≡◌, ◌≢◌, ℕ, zero, suc, true, false, List, [], ◌∷◌, ◌++◌, length, Some, None, slice_get, slice_set, refl, ap, arith}
 use Rattle.std.specs.Prelude.{◌==◌}
 use Rattle.std.proofs.lemmas.Bool.Decides.{nat_tests}
 use Rattle.std.proofs.lemmas.Option.{same_Some}
@@ -46,3 +46,11 @@ none_behind (first ∷ others) = ap (λ l. first ∷ l) (none_behind others)
 pub joined_thrice : {A : Type 0} (a b c : List A) → (a ++ b) ++ c ≡ a ++ (b ++ c)
 joined_thrice [] b c = refl
 joined_thrice (first ∷ others) b c = ap (λ l. first ∷ l) (joined_thrice others b c)
+
+pub none_there : {A B : Type 0} (list : List A) (other : List B) (place : ℕ) → length list ≡ length other → slice_get other place ≡ None → slice_get list place ≡ None
+none_there [] other place long is = refl
+none_there (one ∷ list) [] place long is = absurd (omega arith)
+none_there (one ∷ list) (first ∷ others) zero long is = absurd (none_is is) where
+  none_is : Some first ≡ None → ⊥
+  none_is e = cc (e)
+none_there (one ∷ list) (first ∷ others) (suc place) long is = none_there list others place (omega arith) is

@@ -1,5 +1,5 @@
 -- The readings of a life rise from its first.
-use Rattle.std.proofs.Common.{◌≡◌, ℕ, ◌+◌, ◌*◌, ◌≤◌, Bool, true, false, List, [], ◌∷◌, ◌++◌, Option, Some, None, refl, sym, subst, arith}
+use Rattle.std.proofs.Common.{◌≡◌, ℕ, ◌+◌, ◌≤◌, Bool, true, false, List, [], ◌∷◌, ◌++◌, Option, Some, None, refl, sym, subst, arith}
 use Rattle.std.specs.Prelude.{slice_index_or}
 use Rattle.simulator_run.specs.layout.Entries.{Site}
 use Rattle.simulator_run.specs.rasta_core.Ends.{reading_of}
@@ -30,9 +30,9 @@ module _ {Contacts Coming : Type 0} where
   unfolding RiseFrom
   born_rises begins contacts = record { rise = tt; last = omega arith }
 
-  hears_rises : (heard : Option Coming) (life : Life Contacts Coming) → Rises life → Rises (hears heard life)
-  hears_rises None life rises = rises
-  hears_rises (Some input) life rises = record {
+  hears_rises : (contact : Coming → Contacts → Contacts) (heard : Option Coming) (life : Life Contacts Coming) → Rises life → Rises (hears contact heard life)
+  hears_rises contact None life rises = rises
+  hears_rises contact (Some input) life rises = record {
     rise = one_more life.begins.clock (reading_of life.clock) life.came input rises.rise rises.last;
     last = subst (λ n. n ≤ reading_of life.clock) (sym (last_one life.begins.clock (reading_of life.clock) life.came input)) (omega arith);
   }
@@ -47,17 +47,17 @@ module _ {Contacts Coming : Type 0} where
       in let last = rises.last
       in record { rise = rises.rise; last = omega (arith, more, last) }
   turned_rises site who (event.Restart node clock first) life rises = anew_rises (who.is (node_at site node.0)) (record { clock = clock; first = first }) life rises
-  turned_rises site who (event.Request command) life rises = record { rise = rises.rise; last = rises.last }
-  turned_rises site who (event.Occupy section occupancy) life rises = record { rise = rises.rise; last = rises.last }
-  turned_rises site who (event.Tick node) life rises = record { rise = rises.rise; last = rises.last }
-  turned_rises site who (event.Deliver node bytes) life rises = record { rise = rises.rise; last = rises.last }
-  turned_rises site who (event.Lose bytes) life rises = record { rise = rises.rise; last = rises.last }
-  turned_rises site who (event.Reach point position) life rises = record { rise = rises.rise; last = rises.last }
+  turned_rises site who (event.Request command) life rises = rises
+  turned_rises site who (event.Occupy section occupancy) life rises = rises
+  turned_rises site who (event.Tick node) life rises = rises
+  turned_rises site who (event.Deliver node bytes) life rises = rises
+  turned_rises site who (event.Lose bytes) life rises = rises
+  turned_rises site who (event.Reach point position) life rises = rises
 
   rises_in : (site : Site) (table : Table) (who : Who Contacts Coming) (events : List Event) (life : Life Contacts Coming) → Rises life → Rises (life_in site table who events life)
   rises_in site table who [] life rises = rises
   rises_in site table who (first ∷ others) life rises =
-      rises_in site table who others (life_after site table who first life) (hears_rises (who.hearing (told site table first)) (turned site who first life) (turned_rises site who first life rises))
+      rises_in site table who others (life_after site table who first life) (hears_rises who.contact (who.hearing (told site table first)) (turned site who first life) (turned_rises site who first life rises))
 
   pub life_rises : (site : Site) (table : Table) (who : Who Contacts Coming) (events : List Event) (contacts : Contacts) → Rises (life_in site table who events (first_life contacts))
   life_rises site table who events contacts = rises_in site table who events (first_life contacts) (born_rises _ contacts)

@@ -6,20 +6,23 @@ use Rattle.simulator_run.specs.sci_telegram.declared.message.Occupancy.{Occupanc
 use Rattle.simulator_run.specs.sci_telegram.declared.message.Position.{Position}
 use Rattle.simulator_run.specs.sci_telegram.declared.message.Position.TheVariants as positions
 use Rattle.simulator_run.specs.layout.Entries.{DetectorEntry, Site}
+use Rattle.simulator_run.specs.layout.Station.{IsStation}
 use Rattle.simulator_run.specs.layout.declared.entries.Point.{Point as PointEntry}
 use Rattle.simulator_run.specs.layout.declared.entries.Signal.{Signal as SignalEntry}
 use Rattle.simulator_run.specs.object_host.declared.input.Input.{Input}
 use Rattle.simulator_run.specs.ixl_rules.Step as ixl
 use Rattle.simulator_run.specs.ixl_rules.Table.{Table}
 use Rattle.simulator_run.specs.simulator_event.declared.event.Event.{Event}
-use Rattle.simulator_run.specs.First.{IsOutsetOf, Outset, at_zero, first_server, new_detector, new_point, new_signal, point_standing, world_at}
+use Rattle.simulator_run.specs.First.{IsOutsetOf, Outset, at_zero, first_server, new_detector, new_signal, point_standing, world_at}
 use Rattle.simulator_run.specs.Happens.{happens}
 use Rattle.simulator_run.specs.State.{WorldState}
 use Rattle.simulator_run.specs.Run.{after_all}
-use Rattle.simulator_nodes.specs.Lives.{Life, LivesAsDetector, LivesAsPoint, LivesAsSignal, LivesAsStation, detector_at, first_life, host_after, ixl_after, life_after, life_in, point_at, position_in, signal_at, the_station}
+use Rattle.ixl_table.specs.Table.{IsTableOf}
+use Rattle.simulator_nodes.specs.Lives.{Life, LivesAsDetector, LivesAsPoint, LivesAsSignal, LivesAsStation, detector_at, detector_sensing, first_life, host_after, ixl_after, life_after, life_in, occupancies_at, own_occupancies, point_at, position_in, sections_in, signal_at, the_station}
 use Rattle.simulator_nodes.proofs.Counts.{IsCounted, counts_on, first_counts}
 use Rattle.simulator_nodes.proofs.Detectors.{lives_on as detector_lives_on}
 use Rattle.simulator_nodes.proofs.Points.{lives_on as point_lives_on}
+use Rattle.simulator_nodes.proofs.Sections.{made_of_its_own}
 use Rattle.simulator_nodes.proofs.Signals.{lives_on as signal_lives_on}
 use Rattle.simulator_nodes.proofs.Station.{lives_on as station_lives_on}
 
@@ -107,25 +110,29 @@ module _ (site : Site) (table : Table) (outset : Outset) (lies : IsOutsetOf site
       → LivesAsPoint site entry (after_all site table events (world_at site table outset)) place (life_in site table (point_at site place) events (first_life (position_in outset place)))
   points_are events place entry is = point_runs place entry is events (world_at site table outset) (first_life (position_in outset place)) (first_counts site table outset lies) (point_first place entry is)
 
-  module _ (place : ℕ) (entry : DetectorEntry) (is : slice_get site.detectors place ≡ Some entry) where
+  module _ (station : IsStation site) (is_table : IsTableOf site table) (place : ℕ) (entry : DetectorEntry) (is : slice_get site.detectors place ≡ Some entry) where
     detector_runs : (events : List Event) (world : WorldState) (life : Life (List Occupancy) Input) → IsCounted site world → LivesAsDetector site entry world place life
         → LivesAsDetector site entry (after_all site table events world) place (life_in site table (detector_at site place) events life)
     detector_runs [] world life counted lives = lives
     detector_runs (first ∷ others) world life counted lives =
-        detector_runs others (happens site table first world) (life_after site table (detector_at site place) first life) (counts_on site table first world counted) (detector_lives_on site table entry place is first world life counted lives)
+        detector_runs others (happens site table first world) (life_after site table (detector_at site place) first life) (counts_on site table first world counted)
+        (detector_lives_on site table entry place station is_table is first world life counted lives)
 
-    detector_first : LivesAsDetector site entry (world_at site table outset) place (first_life outset.occupancies)
+    sections_there : sections_in site outset place ≡ own_occupancies outset.occupancies entry.sections
+    sections_there = ap (occupancies_at outset.occupancies) is
+
+    detector_first : LivesAsDetector site entry (world_at site table outset) place (first_life (sections_in site outset place))
     unfolding world_at host_after
     detector_first = record {
       lives = record {
         server = first_server (new_detector site at_zero outset.occupancies entry);
         there = get_mapped (λ detector. first_server (new_detector site at_zero outset.occupancies detector)) site.detectors place entry is;
-        state = refl;
+        state = made_of_its_own site at_zero outset.occupancies entry ∙ ap (λ c. detector_sensing site at_zero c entry) (sym sections_there);
         clock = refl;
       };
-      occupied = refl;
+      occupied = sections_there;
     }
 
-  pub detectors_are : (events : List Event) (place : ℕ) (entry : DetectorEntry) → slice_get site.detectors place ≡ Some entry
-      → LivesAsDetector site entry (after_all site table events (world_at site table outset)) place (life_in site table (detector_at site place) events (first_life outset.occupancies))
-  detectors_are events place entry is = detector_runs place entry is events (world_at site table outset) (first_life outset.occupancies) (first_counts site table outset lies) (detector_first place entry is)
+  pub detectors_are : IsStation site → IsTableOf site table → (events : List Event) (place : ℕ) (entry : DetectorEntry) → slice_get site.detectors place ≡ Some entry
+      → LivesAsDetector site entry (after_all site table events (world_at site table outset)) place (life_in site table (detector_at site place) events (first_life (sections_in site outset place)))
+  detectors_are station is_table events place entry is = detector_runs station is_table place entry is events (world_at site table outset) (first_life (sections_in site outset place)) (first_counts site table outset lies) (detector_first station is_table place entry is)

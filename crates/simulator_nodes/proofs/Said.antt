@@ -1,8 +1,9 @@
 -- What is sent is what the nodes hand out by their lives.
-use Rattle.std.proofs.Common.{◌≡◌, ℕ, zero, suc, List, [], ◌∷◌, ◌++◌, length, Option, Some, None, slice_get, refl, sym, ap, ◌∙◌, arith}
+use Rattle.std.proofs.Common.{◌≡◌, ℕ, List, [], ◌∷◌, ◌++◌, length, Option, Some, None, slice_get, refl, sym, ap, ◌∙◌}
 use Rattle.simulator_run.specs.layout.declared.entries.Point.{Point as PointEntry}
 use Rattle.simulator_run.specs.layout.declared.entries.Signal.{Signal as SignalEntry}
 use Rattle.simulator_run.specs.layout.Entries.{DetectorEntry, Site}
+use Rattle.simulator_run.specs.layout.Station.{IsStation}
 use Rattle.simulator_run.specs.rasta_core.Ends.{reading_of}
 use Rattle.simulator_run.specs.rasta_core.Outbox.{spellings}
 use Rattle.simulator_run.specs.object_host.Behaviour.{Behaviour}
@@ -18,28 +19,21 @@ use Rattle.simulator_run.specs.ixl_rules.StepSoFar.{begun_with, empty_outbox}
 use Rattle.simulator_run.specs.ixl_rules.Step as ixl
 use Rattle.simulator_run.specs.ixl_rules.Table.{Table}
 use Rattle.simulator_run.specs.simulator_event.declared.event.Event.{Event}
-use Rattle.simulator_run.specs.First.{Beginning, IsOutsetOf, Outset, new_detector, new_point, new_signal, world_at}
+use Rattle.simulator_run.specs.First.{Beginning, IsOutsetOf, Outset, new_point, new_signal, world_at}
 use Rattle.simulator_run.specs.Happens.{happens}
 use Rattle.simulator_run.specs.Nodes.{key_of}
 use Rattle.simulator_run.specs.State.{ServerState, WorldState}
 use Rattle.simulator_run.specs.Run.{after_all}
-use Rattle.simulator_nodes.specs.Lives.{Life, LivesAsStation, LivesAt, host_after}
+use Rattle.ixl_table.specs.Table.{IsTableOf}
+use Rattle.simulator_nodes.specs.Lives.{Life, LivesAsStation, LivesAt, detector_sensing, host_after}
 use Rattle.simulator_nodes.specs.Said.{detector_life, lamp_line, last_line, lines_after, said_in, said_to, says}
 use Rattle.simulator_nodes.specs.Shown.{host_now, point_life, signal_life, station_life, station_now}
 use Rattle.simulator_nodes.specs.Split.{bytes_of, handed_by, handed_out_by}
 use Rattle.simulator_nodes.specs.Told.{Told, Nobody, ToStation, ToSignal, ToPoint, ToDetector, told}
 use Rattle.simulator_nodes.proofs.Counts.{counts_all, first_counts}
-use Rattle.simulator_nodes.proofs.Lists.{joined_thrice, none_behind}
+use Rattle.simulator_nodes.proofs.Lists.{joined_thrice, none_behind, none_there}
 use Rattle.simulator_nodes.proofs.Runs.{detectors_are, points_are, signals_are, station_is}
 use Rattle.simulator_nodes.proofs.Sent.{network_grows}
-
-none_there : {A B : Type 0} (list : List A) (other : List B) (place : ℕ) → length list ≡ length other → slice_get other place ≡ None → slice_get list place ≡ None
-none_there [] other place long is = refl
-none_there (one ∷ list) [] place long is = absurd (omega arith)
-none_there (one ∷ list) (first ∷ others) zero long is = absurd (none_is is) where
-  none_is : Some first ≡ None → ⊥
-  none_is e = cc (e)
-none_there (one ∷ list) (first ∷ others) (suc place) long is = none_there list others place (omega arith) is
 
 says_by_life : {Object Contacts Entry : Type 0} (does : Behaviour Object) (new : Entry → Beginning → Contacts → HostState Object) (input : Input) (entries : List Entry) (servers : List (ServerState Object)) (place : ℕ) (life : Life Contacts Input)
     → length servers ≡ length entries → ((entry : Entry) → slice_get entries place ≡ Some entry → LivesAt does (new entry) servers place life)
@@ -54,7 +48,7 @@ says_by_life {Object} {Contacts} {Entry} does new input entries servers place li
   cases None is = ap (handed_by does input) (none_there servers entries place long is)
   cases (Some entry) is = of_server entry (lives entry is)
 
-module _ (site : Site) (table : Table) (outset : Outset) (lies : IsOutsetOf site outset) where
+module _ (site : Site) (table : Table) (outset : Outset) (lies : IsOutsetOf site outset) (station : IsStation site) (is_table : IsTableOf site table) where
   abbrev world_after : List Event → WorldState
   world_after events = after_all site table events (world_at site table outset)
 
@@ -71,8 +65,8 @@ module _ (site : Site) (table : Table) (outset : Outset) (lies : IsOutsetOf site
       (counts_all site table events (world_at site table outset) (first_counts site table outset lies)).signals (λ entry is. signals_are site table outset lies events place entry is)
   is_said events (ToPoint place input) = says_by_life point_behaviour (λ (entry : PointEntry) begins position. new_point site begins position entry) input site.points (world_after events).points place (point_life site table outset events place)
       (counts_all site table events (world_at site table outset) (first_counts site table outset lies)).points (λ entry is. (points_are site table outset lies events place entry is).lives)
-  is_said events (ToDetector place input) = says_by_life detection_behaviour (λ (entry : DetectorEntry) begins occupied. new_detector site begins occupied entry) input site.detectors (world_after events).detectors place (detector_life site table outset events place)
-      (counts_all site table events (world_at site table outset) (first_counts site table outset lies)).detectors (λ entry is. (detectors_are site table outset lies events place entry is).lives)
+  is_said events (ToDetector place input) = says_by_life detection_behaviour (λ (entry : DetectorEntry) begins sensed. detector_sensing site begins sensed entry) input site.detectors (world_after events).detectors place (detector_life site table outset events place)
+      (counts_all site table events (world_at site table outset) (first_counts site table outset lies)).detectors (λ entry is. (detectors_are site table outset lies station is_table events place entry is).lives)
 
   goes_on : (events : List Event) (one : Event) (world : WorldState) → after_all site table (events ++ one ∷ []) world ≡ happens site table one (after_all site table events world)
   goes_on [] one world = refl

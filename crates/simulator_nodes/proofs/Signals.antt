@@ -29,12 +29,16 @@ module _ (site : Site) (table : Table) (entry : SignalEntry) (place : ℕ) where
   abbrev new : Beginning → Unit {0} → HostState SignalState
   new begins sensed = new_signal site begins entry
 
+  -- it has no contacts
+  abbrev unmoved : Input → Unit {0} → Unit {0}
+  unmoved input contacts = contacts
+
   told_on : (connection : ℕ) (what : Told) (world : WorldState) (life : SignalLife) → LivesAsSignal site entry world place life
-      → LivesAsSignal site entry (stepped site table connection what world) place (hears (signal_hears place what) life)
+      → LivesAsSignal site entry (stepped site table connection what world) place (hears unmoved (signal_hears place what) life)
   unfolding station_stepped signal_stepped point_stepped detector_stepped
   told_on connection Nobody world life lives = lives
   told_on connection (ToStation input) world life lives = lives
-  told_on connection (ToSignal at input) world life lives = one_steps signal_behaviour new input connection world.time at at place world.signals world.sent life lives
+  told_on connection (ToSignal at input) world life lives = one_steps signal_behaviour new unmoved input connection world.time at at place world.signals world.sent life lives
   told_on connection (ToPoint at input) world life lives = lives
   told_on connection (ToDetector at input) world life lives = lives
 

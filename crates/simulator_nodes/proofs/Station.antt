@@ -33,7 +33,11 @@ module _ (site : Site) (table : Table) where
   same_station : (world other : WorldState) (life : StationLife) → other.station ≡ world.station → LivesAsStation site table world life → LivesAsStation site table other life
   same_station world other life same lives = record { state = ap (λ s. s.ixl) same ∙ lives.state; clock = ap (λ s. s.clock) same ∙ lives.clock }
 
-  steps : (input : ixl.Input) (world : WorldState) (life : StationLife) → LivesAsStation site table world life → LivesAsStation site table (station_stepped site table input world) (hears (Some input) life)
+  -- it has no contacts
+  abbrev unmoved : ixl.Input → Unit {0} → Unit {0}
+  unmoved input contacts = contacts
+
+  steps : (input : ixl.Input) (world : WorldState) (life : StationLife) → LivesAsStation site table world life → LivesAsStation site table (station_stepped site table input world) (hears unmoved (Some input) life)
   unfolding station_stepped
   steps input world life lives = record {
     state = ap (λ i. (ixl.stepped (reading_of world.station.clock) table (key_of site) input (begun_with i empty_outbox)).ixl) lives.state
@@ -43,7 +47,7 @@ module _ (site : Site) (table : Table) where
   }
 
   told_on : (connection : ℕ) (what : Told) (world : WorldState) (life : StationLife) → LivesAsStation site table world life
-      → LivesAsStation site table (stepped site table connection what world) (hears (station_hears what) life)
+      → LivesAsStation site table (stepped site table connection what world) (hears unmoved (station_hears what) life)
   unfolding signal_stepped point_stepped detector_stepped
   told_on connection Nobody world life lives = lives
   told_on connection (ToStation input) world life lives = steps input world life lives

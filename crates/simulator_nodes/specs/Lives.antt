@@ -1,29 +1,34 @@
 -- The life of a node: how it was made, what its clock reads, and all that came to it since, with the reading at which it
 -- came. It follows from the events alone, whatever any node or the network does.
 use Rattle.std.specs.Prelude.{◌≡◌, ℕ, suc, ◌+◌, ◌*◌, ◌==◌, Bool, true, false, if◌then◌else◌, List, [], ◌∷◌, ◌++◌, map, Option, Some, None, slice_get, slice_set, slice_index_or}
+use Rattle.std.specs.List.{zip}
 use Rattle.simulator_run.specs.sci_telegram.declared.message.Occupancy.{Occupancy}
 use Rattle.simulator_run.specs.sci_telegram.declared.message.Occupancy.TheVariants as occupancies
 use Rattle.simulator_run.specs.sci_telegram.declared.message.Position.{Position}
 use Rattle.simulator_run.specs.sci_telegram.declared.message.Position.TheVariants as positions
 use Rattle.simulator_run.specs.layout.declared.entries.Point.{Point as PointEntry}
 use Rattle.simulator_run.specs.layout.declared.entries.Signal.{Signal as SignalEntry}
+use Rattle.simulator_run.specs.layout.declared.ids.SectionId.{SectionId}
 use Rattle.simulator_run.specs.layout.Entries.{DetectorEntry, Site}
 use Rattle.simulator_run.specs.rasta_core.Ends.{reading_of}
 use Rattle.simulator_run.specs.object_host.Behaviour.{Behaviour}
 use Rattle.simulator_run.specs.object_host.Host.{HostState}
 use Rattle.simulator_run.specs.object_host.Step.{host_step}
 use Rattle.simulator_run.specs.object_host.declared.input.Input.{Input}
+use Rattle.simulator_run.specs.object_host.declared.input.Input.TheVariants as inputs
+use Rattle.simulator_run.specs.object_host.declared.sense.Sense.TheVariants as sense
 use Rattle.simulator_run.specs.signal_ctl.Signal.{signal_behaviour}
 use Rattle.simulator_run.specs.point_ctl.Controlled.{point_behaviour}
 use Rattle.simulator_run.specs.tds_ctl.Controlled.{detection_behaviour}
+use Rattle.simulator_run.specs.tds_ctl.Sections as sections
+use Rattle.simulator_run.specs.tds_ctl.declared.section.Section.{Section}
 use Rattle.simulator_run.specs.ixl_rules.StepSoFar.{begun_with, empty_outbox}
 use Rattle.simulator_run.specs.ixl_rules.State.{IxlState}
 use Rattle.simulator_run.specs.ixl_rules.Step as ixl
 use Rattle.simulator_run.specs.ixl_rules.Table.{Table}
 use Rattle.simulator_run.specs.simulator_event.declared.event.Event.{Event}
 use Rattle.simulator_run.specs.simulator_event.declared.event.Event.TheVariants as event
-use Rattle.simulator_run.specs.First.{Beginning, Outset, at_zero, new_detector, new_ixl, new_point, new_signal}
-use Rattle.simulator_run.specs.Happens.{happens}
+use Rattle.simulator_run.specs.First.{Beginning, Outset, at_zero, host_of, new_ixl, new_point, new_signal}
 use Rattle.simulator_run.specs.Nodes.{Node, Station, Signal, Point, Detector, detector_link, key_of, node_at, point_link}
 use Rattle.simulator_run.specs.State.{ServerState, WorldState}
 use Rattle.simulator_nodes.specs.Told.{Told, ToStation, ToSignal, ToPoint, ToDetector, told}
@@ -54,33 +59,33 @@ pub record Life (Contacts Coming : Type 0) : Type 0 where
   pub came : List (ℕ × Coming)
 
 -- One node: its place among all clocks, what of that which is told comes to it, whether it is the one that is made anew, and
--- how an event changes its contacts.
+-- how its contacts are once something has come to it.
 pub record Who (Contacts Coming : Type 0) : Type 0 where
   pub number : ℕ
   pub hearing : Told → Option Coming
   pub is : Option Node → Bool
-  pub contact : Event → Contacts → Contacts
+  pub contact : Coming → Contacts → Contacts
 
 module _ {Contacts Coming : Type 0} where
   abbrev pub born : Beginning → Contacts → Life Contacts Coming
   born begins contacts = record { begins = begins; sensed = contacts; clock = begins.clock * 1000; contacts = contacts; came = [] }
 
-  abbrev pub hears : Option Coming → Life Contacts Coming → Life Contacts Coming
-  hears None life = life
-  hears (Some input) life = record life { came = life.came ++ (reading_of life.clock, input) ∷ [] }
+  abbrev pub hears : (Coming → Contacts → Contacts) → Option Coming → Life Contacts Coming → Life Contacts Coming
+  hears contact None life = life
+  hears contact (Some input) life = record life { contacts = contact input life.contacts; came = life.came ++ (reading_of life.clock, input) ∷ [] }
 
   abbrev pub anew_where : Bool → Beginning → Life Contacts Coming → Life Contacts Coming
   anew_where true begins life = born begins life.contacts
   anew_where false begins life = life
 
-  -- what an event changes of a life before anything comes to the node
+  -- what an event changes of a life before anything comes to the node: its clock goes on, or it is made anew
   abbrev pub turned : Site → Who Contacts Coming → Event → Life Contacts Coming → Life Contacts Coming
   turned site who (event.Time elapsed clocks) life = record life { clock = life.clock + slice_index_or clocks who.number 0 }
   turned site who (event.Restart node clock first) life = anew_where (who.is (node_at site node.0)) (record { clock = clock; first = first }) life
-  turned site who happening life = record life { contacts = who.contact happening life.contacts }
+  turned site who _ life = life
 
   abbrev pub life_after : Site → Table → Who Contacts Coming → Event → Life Contacts Coming → Life Contacts Coming
-  life_after site table who happening life = hears (who.hearing (told site table happening)) (turned site who happening life)
+  life_after site table who happening life = hears who.contact (who.hearing (told site table happening)) (turned site who happening life)
 
   -- after a list of events
   abbrev pub life_in : Site → Table → Who Contacts Coming → List Event → Life Contacts Coming → Life Contacts Coming
@@ -90,6 +95,19 @@ module _ {Contacts Coming : Type 0} where
 -- where a point stands when the station is started
 abbrev pub position_in : Outset → ℕ → Position
 position_in outset place = slice_index_or outset.positions place positions.NoEndPosition
+
+-- how the sections of a detector are, in its own order, where those of the station are so
+abbrev pub own_occupancies : List Occupancy → List SectionId → List Occupancy
+own_occupancies occupied own = map (λ section. slice_index_or occupied section.0 occupancies.Clear) own
+
+-- those of an entry, if it is there
+abbrev pub occupancies_at : List Occupancy → Option DetectorEntry → List Occupancy
+occupancies_at occupied None = []
+occupancies_at occupied (Some entry) = own_occupancies occupied entry.sections
+
+-- and when the station is started
+abbrev pub sections_in : Site → Outset → ℕ → List Occupancy
+sections_in site outset place = occupancies_at outset.occupancies (slice_get site.detectors place)
 
 -- the life of a node from then on
 abbrev pub first_life : {Contacts Coming : Type 0} → Contacts → Life Contacts Coming
@@ -109,7 +127,7 @@ is_station (Some Station) = true
 is_station _ = false
 
 abbrev pub the_station : Who (Unit {0}) ixl.Input
-the_station = record { number = 0; hearing = station_hears; is = is_station; contact = λ happening contacts. contacts }
+the_station = record { number = 0; hearing = station_hears; is = is_station; contact = λ input contacts. contacts }
 
 abbrev pub signal_hears : ℕ → Told → Option Input
 signal_hears place (ToSignal at input) = only place at input
@@ -120,7 +138,7 @@ is_signal place (Some (Signal at)) = at == place
 is_signal place _ = false
 
 abbrev pub signal_at : ℕ → Who (Unit {0}) Input
-signal_at place = record { number = suc place; hearing = signal_hears place; is = is_signal place; contact = λ happening contacts. contacts }
+signal_at place = record { number = suc place; hearing = signal_hears place; is = is_signal place; contact = λ input contacts. contacts }
 
 abbrev pub point_hears : ℕ → Told → Option Input
 point_hears place (ToPoint at input) = only place at input
@@ -130,13 +148,13 @@ abbrev pub is_point : ℕ → Option Node → Bool
 is_point place (Some (Point at)) = at == place
 is_point place _ = false
 
--- where a point stands
-abbrev pub position_after : ℕ → Event → Position → Position
-position_after place (event.Reach point position) old = if point.0 == place then position else old
-position_after place _ old = old
+-- where a point stands: what its contacts told last
+abbrev pub position_after : Input → Position → Position
+position_after (inputs.Sense (sense.Position position)) old = position
+position_after _ old = old
 
 abbrev pub point_at : Site → ℕ → Who Position Input
-point_at site place = record { number = suc (point_link site place); hearing = point_hears place; is = is_point place; contact = position_after place }
+point_at site place = record { number = suc (point_link site place); hearing = point_hears place; is = is_point place; contact = position_after }
 
 abbrev pub detector_hears : ℕ → Told → Option Input
 detector_hears place (ToDetector at input) = only place at input
@@ -146,13 +164,22 @@ abbrev pub is_detector : ℕ → Option Node → Bool
 is_detector place (Some (Detector at)) = at == place
 is_detector place _ = false
 
--- which sections of the station are occupied: a detector reads those of its own when it is made
-abbrev pub occupied_after : Event → List Occupancy → List Occupancy
-occupied_after (event.Occupy section occupancy) old = slice_set old section.0 occupancy
+-- which of its own sections are occupied, in its own order: what their contacts told last
+abbrev pub occupied_after : Input → List Occupancy → List Occupancy
+occupied_after (inputs.Sense (sense.Section section occupancy)) old = slice_set old section occupancy
 occupied_after _ old = old
 
 abbrev pub detector_at : Site → ℕ → Who (List Occupancy) Input
 detector_at site place = record { number = suc (detector_link site place); hearing = detector_hears place; is = is_detector place; contact = occupied_after }
+
+-- the names of a detector's own sections
+abbrev pub own_names : Site → List SectionId → List (List ℕ)
+own_names site own = map (λ section. slice_index_or site.sections section.0 []) own
+
+-- a detector that senses its own sections so, in its own order
+abbrev pub detector_sensing : Site → Beginning → List Occupancy → DetectorEntry → HostState (List Section)
+detector_sensing site begins sensed entry =
+    host_of detection_behaviour site begins entry.name entry.id (map sections.made (zip (own_names site entry.sections) sensed))
 
 -- ---- a world's node is what it has lived
 
@@ -175,6 +202,7 @@ pub record LivesAsPoint (site : Site) (entry : PointEntry) (world : WorldState) 
   pub lives : LivesAt point_behaviour (λ begins position. new_point site begins position entry) world.points place life
   pub stands : slice_get world.positions place ≡ Some life.contacts
 
+-- A detector knows of its own sections alone.
 pub record LivesAsDetector (site : Site) (entry : DetectorEntry) (world : WorldState) (place : ℕ) (life : Life (List Occupancy) Input) : Type 0 where
-  pub lives : LivesAt detection_behaviour (λ begins occupied. new_detector site begins occupied entry) world.detectors place life
-  pub occupied : world.occupancies ≡ life.contacts
+  pub lives : LivesAt detection_behaviour (λ begins sensed. detector_sensing site begins sensed entry) world.detectors place life
+  pub occupied : life.contacts ≡ own_occupancies world.occupancies entry.sections

@@ -16,14 +16,14 @@ use Rattle.simulator_run.specs.point_ctl.Controlled.{point_behaviour}
 use Rattle.simulator_run.specs.tds_ctl.Controlled.{detection_behaviour}
 use Rattle.simulator_run.specs.ixl_rules.Table.{Table}
 use Rattle.simulator_run.specs.simulator_event.declared.event.Event.{Event}
-use Rattle.simulator_run.specs.First.{Beginning, Outset, new_detector, new_point, new_signal}
+use Rattle.simulator_run.specs.First.{Beginning, Outset, new_point, new_signal}
 use Rattle.simulator_run.specs.Station.{station_step}
-use Rattle.simulator_nodes.specs.Lives.{Life, detector_at, first_life, life_in}
+use Rattle.simulator_nodes.specs.Lives.{Life, detector_at, detector_sensing, first_life, life_in, sections_in}
 use Rattle.simulator_nodes.specs.Shown.{host_now, point_life, signal_life, station_life, station_now}
 use Rattle.simulator_nodes.specs.Told.{Told, Nobody, ToStation, ToSignal, ToPoint, ToDetector, told}
 
 abbrev pub detector_life : Site → Table → Outset → List Event → ℕ → Life (List Occupancy) Input
-detector_life site table outset events place = life_in site table (detector_at site place) events (first_life outset.occupancies)
+detector_life site table outset events place = life_in site table (detector_at site place) events (first_life (sections_in site outset place))
 
 -- what a controller hands out by its life when it is told this
 abbrev pub says : {Object Contacts Entry : Type 0} → Behaviour Object → (Entry → Beginning → Contacts → HostState Object) → Input → Life Contacts Input → Option Entry → List (List ℕ)
@@ -41,7 +41,7 @@ said_to site table outset events (ToSignal place input) =
 said_to site table outset events (ToPoint place input) =
     says point_behaviour (λ (entry : PointEntry) begins position. new_point site begins position entry) input (point_life site table outset events place) (slice_get site.points place)
 said_to site table outset events (ToDetector place input) =
-    says detection_behaviour (λ (entry : DetectorEntry) begins occupied. new_detector site begins occupied entry) input (detector_life site table outset events place) (slice_get site.detectors place)
+    says detection_behaviour (λ (entry : DetectorEntry) begins sensed. detector_sensing site begins sensed entry) input (detector_life site table outset events place) (slice_get site.detectors place)
 
 -- all that the nodes handed out in these events, where others came before
 abbrev pub said_in : Site → Table → Outset → List Event → List Event → List (List ℕ)

@@ -1,7 +1,6 @@
 -- What nodes show, drive and hold by their lives alone.
 use Rattle.std.specs.Prelude.{◌≡◌, ℕ, Bool, true, false, List, [], ◌∷◌, length, Some, slice_get}
 use Rattle.simulator_run.specs.sci_telegram.declared.message.Position.{Position}
-use Rattle.simulator_run.specs.sci_telegram.declared.message.Position.TheVariants as positions
 use Rattle.simulator_run.specs.layout.declared.entries.Signal.{Signal as SignalEntry}
 use Rattle.simulator_run.specs.layout.Entries.{Site}
 use Rattle.simulator_run.specs.rasta_core.Ends.{reading_of}

@@ -24,7 +24,7 @@ ghost use Rattle.simulator_run.specs.layout.Once.{Once};
 ghost use Rattle.simulator_run.specs.layout.Station.{IsStation};
 ghost use Rattle.simulator_run.specs.simulator_snapshot.Safe.{Safe};
 ghost use Rattle.simulator_run.specs.Run.{CanHappen, after_all};
-ghost use Rattle.simulator_nodes.specs.Lives.{LivesAsDetector, LivesAsPoint, LivesAsSignal, LivesAsStation, detector_at, first_life, host_after, life_in, point_at, position_in, signal_at, the_station};
+ghost use Rattle.simulator_nodes.specs.Lives.{LivesAsDetector, LivesAsPoint, LivesAsSignal, LivesAsStation, detector_at, first_life, host_after, life_in, point_at, position_in, sections_in, signal_at, the_station};
 ghost use Rattle.simulator_nodes.specs.Readings.{Rises};
 ghost use Rattle.simulator_nodes.specs.Said.{lamp_line, last_line, lines_after, said_in, said_to};
 ghost use Rattle.simulator_nodes.specs.Shown.{IsOfNodes};
@@ -43,7 +43,8 @@ pub fn every_event_is_one_nodes()
 {}
 
 /// After every list of events each node is what came of its first state, since it was last made, by what came to it alone, each
-/// with the reading of its clock.
+/// with the reading of its clock. So is what it knows of its contacts: a detector was told how its own sections are, and of
+/// no others.
 pub fn a_station_is_its_nodes()
     ensures station { (site : Site) (table : Table) (outset : Outset) → IsOutsetOf site outset → (events : List Event)
         → LivesAsStation site table (after_all site table events (world_at site table outset)) (life_in site table the_station events (first_life tt)) }
@@ -51,8 +52,8 @@ pub fn a_station_is_its_nodes()
         → LivesAsSignal site entry (after_all site table events (world_at site table outset)) place (life_in site table (signal_at place) events (first_life tt)) }
     ensures points { (site : Site) (table : Table) (outset : Outset) → IsOutsetOf site outset → (events : List Event) (place : ℕ) (entry : Point) → slice_get site.points place ≡ Some entry
         → LivesAsPoint site entry (after_all site table events (world_at site table outset)) place (life_in site table (point_at site place) events (first_life (position_in outset place))) }
-    ensures detectors { (site : Site) (table : Table) (outset : Outset) → IsOutsetOf site outset → (events : List Event) (place : ℕ) (entry : DetectorEntry) → slice_get site.detectors place ≡ Some entry
-        → LivesAsDetector site entry (after_all site table events (world_at site table outset)) place (life_in site table (detector_at site place) events (first_life outset.occupancies)) }
+    ensures detectors { (site : Site) (table : Table) (outset : Outset) → IsOutsetOf site outset → IsStation site → IsTableOf site table → (events : List Event) (place : ℕ) (entry : DetectorEntry) → slice_get site.detectors place ≡ Some entry
+        → LivesAsDetector site entry (after_all site table events (world_at site table outset)) place (life_in site table (detector_at site place) events (first_life (sections_in site outset place))) }
 {}
 
 /// What the nodes show, drive and hold by their lives alone, with where the points stand, is a snapshot of the station.
@@ -73,9 +74,10 @@ pub fn what_the_nodes_show_is_safe()
 /// All bytes that were sent are those that the nodes handed out by their lives, in the order of the events: those of the step of
 /// one node (*steps*), one event after another (*all*).
 pub fn what_is_sent_is_what_nodes_say()
-    ensures steps { (site : Site) (table : Table) (outset : Outset) → IsOutsetOf site outset → (events : List Event) (what : Told)
+    ensures steps { (site : Site) (table : Table) (outset : Outset) → IsOutsetOf site outset → IsStation site → IsTableOf site table → (events : List Event) (what : Told)
         → handed_out_by site table what (after_all site table events (world_at site table outset)) ≡ said_to site table outset events what }
-    ensures all { (site : Site) (table : Table) (outset : Outset) → IsOutsetOf site outset → (events : List Event) → bytes_of (after_all site table events (world_at site table outset)).sent ≡ said_in site table outset [] events }
+    ensures all { (site : Site) (table : Table) (outset : Outset) → IsOutsetOf site outset → IsStation site → IsTableOf site table → (events : List Event)
+        → bytes_of (after_all site table events (world_at site table outset)).sent ≡ said_in site table outset [] events }
 {}
 
 /// The readings at which something came to a node begin at the first reading of its life, and don't fall; its clock has
