@@ -14,3 +14,9 @@ pub mod Seen
 pub mod Said
 pub mod Readings
 pub mod Lines
+pub mod Kept
+pub mod Noise
+pub mod PointsAgain
+pub mod PointsDrive
+pub mod DetectorsAgain
+pub mod Events

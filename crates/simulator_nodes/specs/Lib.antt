@@ -4,3 +4,4 @@ pub mod Split
 pub mod Shown
 pub mod Said
 pub mod Readings
+pub mod Contacts

@@ -1,8 +1,14 @@
 //! A station is its nodes. There is no code here but laws.
 #![tactic(auto)]
 
+mod contacts;
 mod laws;
 
+pub use contacts::{
+    a_detector_may_be_told_again, a_point_may_be_told_again,
+    a_point_may_be_told_while_it_is_driven, contacts_of_sections_change_no_snapshot,
+    noise_may_always_come,
+};
 pub use laws::{
     a_point_drives_as_its_last_line, a_signal_shows_its_last_line, a_station_is_its_nodes,
     every_event_is_one_nodes, the_readings_of_a_life_rise, what_is_sent_is_what_nodes_say,
