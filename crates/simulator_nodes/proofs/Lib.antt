@@ -20,3 +20,4 @@ pub mod PointsAgain
 pub mod PointsDrive
 pub mod DetectorsAgain
 pub mod Events
+pub mod WorkedLives

@@ -5,3 +5,4 @@ pub mod Shown
 pub mod Said
 pub mod Readings
 pub mod Contacts
+pub mod Worked

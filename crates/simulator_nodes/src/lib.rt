@@ -3,6 +3,7 @@
 
 mod contacts;
 mod laws;
+mod worked;
 
 pub use contacts::{
     a_detector_may_be_told_again, a_point_may_be_told_again,
@@ -14,3 +15,4 @@ pub use laws::{
     every_event_is_one_nodes, the_readings_of_a_life_rise, what_is_sent_is_what_nodes_say,
     what_the_nodes_show_is_safe, what_the_nodes_show_is_seen,
 };
+pub use worked::wrong_lives_are_refuted;
