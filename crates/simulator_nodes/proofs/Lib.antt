@@ -14,6 +14,7 @@ pub mod Seen
 pub mod Said
 pub mod Readings
 pub mod Lines
+pub mod Clocks
 pub mod Kept
 pub mod Noise
 pub mod PointsAgain

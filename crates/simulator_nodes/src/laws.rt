@@ -1,11 +1,12 @@
 //! A station is its nodes.
 
-ghost use Rattle.std.specs.Prelude.{◌≡◌, ◌++◌, [], ℕ, List, Some, slice_get};
+ghost use Rattle.std.specs.Prelude.{◌≡◌, ◌<◌, ◌+◌, ◌++◌, [], ℕ, List, Some, slice_get, true};
 ghost use Rattle.simulator_run.specs.sci_telegram.declared.message.Occupancy.{Occupancy};
 ghost use Rattle.simulator_run.specs.sci_telegram.declared.message.Position.{Position};
 ghost use Rattle.simulator_run.specs.layout.Entries.{DetectorEntry, Site};
 ghost use Rattle.simulator_run.specs.layout.declared.entries.Point.{Point};
 ghost use Rattle.simulator_run.specs.layout.declared.entries.Signal.{Signal};
+ghost use Rattle.simulator_run.specs.rasta_core.Ends.{reading_of};
 ghost use Rattle.simulator_run.specs.object_host.Host.{HostState};
 ghost use Rattle.simulator_run.specs.object_host.declared.input.Input.{Input};
 ghost use Rattle.simulator_run.specs.signal_ctl.Lamp.{aspect_shown};
@@ -16,6 +17,7 @@ ghost use Rattle.simulator_run.specs.ixl_rules.Table.{Table};
 ghost use Rattle.simulator_run.specs.simulator_event.declared.event.Event.{Event};
 ghost use Rattle.simulator_run.specs.First.{IsOutsetOf, Outset, world_at};
 ghost use Rattle.simulator_run.specs.Happens.{happens};
+ghost use Rattle.simulator_run.specs.Refusals.{keeps_time};
 ghost use Rattle.simulator_run.specs.Seen.{IsSnapshotOf};
 ghost use Rattle.simulator_run.specs.State.{WorldState};
 ghost use Rattle.simulator_run.specs.simulator_snapshot.declared.snapshot.Snapshot.{Snapshot};
@@ -102,4 +104,11 @@ pub fn a_signal_shows_its_last_line()
 pub fn a_point_drives_as_its_last_line()
     ensures { (came : List (ℕ × Input)) (host : HostState PointState) (now : ℕ)
         → drives now (host_after point_behaviour came host).object ≡ driven_by (last_line (drive_of host.object) (lines_after point_behaviour drive_of came host)) now }
+{}
+
+/// In less than 1000 microseconds of true time no clock drifts by any, since its numbers are whole (*short*). In more than 1000
+/// the reading of every clock goes on (*long*).
+pub fn drift_turns_every_reading()
+    ensures short { (elapsed of_clock : ℕ) → elapsed < 1000 → keeps_time elapsed of_clock ≡ true → of_clock ≡ elapsed }
+    ensures long { (elapsed of_clock clock : ℕ) → 1000 < elapsed → keeps_time elapsed of_clock ≡ true → reading_of clock < reading_of (clock + of_clock) }
 {}
