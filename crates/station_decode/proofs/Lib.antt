@@ -1,0 +1,4 @@
+pub mod Spacing
+pub mod SaidAgain
+pub mod Identified
+pub mod Versions

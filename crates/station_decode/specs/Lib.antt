@@ -1,0 +1,6 @@
+pub mod Words
+pub mod Telegrams
+pub mod ReadBack
+pub mod Datagrams
+pub mod Decoding
+pub mod inside

@@ -1,0 +1,2 @@
+-- What contracts inside the crate say. No promise names any of it.
+pub mod Spaced

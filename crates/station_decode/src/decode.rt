@@ -1,0 +1,70 @@
+//! A datagram that is given in hexadecimal digits, put into words.
+
+ghost use Rattle.std.specs.Prelude.{◌≡◌, ◌≤◌, IfErr, IfOk, IsErr, OnOk, option_copied};
+ghost use Rattle.station_decode.specs.Decoding.{CanDecode, Explained, Explains, IsDecoded, IsLayout, IsNoLayout, Leaves};
+
+use crate::datagram::datagram_words;
+use crate::failure::{Failure, tell_failure};
+use ixl_rules::layout::{Layout, LayoutFault};
+use replay_words::hexadecimal_or_none;
+use std::alloc::Global;
+use std::io::Write;
+
+/// Puts the bytes of a datagram into words, and writes them as one line to `out`. The bytes are given as a word of
+/// hexadecimal digits, or a hyphen for none. With the text of a layout, its key and its names are used; without one, the
+/// standard start of MD4 and identities. The status is 0 where the line was written, also where it tells by which fault
+/// the bytes are no PDU. Where the layout's text is no layout, or the word has no such digits, `out` stays as it is, `err`
+/// is told the fault, and the status is 1. It is 1 also where memory is lacking, which is told, and where the line couldn't
+/// be written, of which nothing is told.
+pub fn decode_text<W: Write, E: Write>(
+    alloc: Global,
+    layout: Option<&str>,
+    word: &str,
+    out: &mut W,
+    err: &mut E,
+) -> u8
+    ensures status { result ≤ 1 }
+    ensures done { result ≡ 0 → IsDecoded (option_copied layout.entry) word.now (W.contents out.old) (W.contents out.new) }
+    ensures faulty { (CanDecode (option_copied layout.entry) word.now → ⊥) → (result ≡ 1) × (out.new ≡ out.old) }
+    ensures silent { result ≡ 0 → err.new ≡ err.old }
+    // Only a beginning of the line was told where a write to `err` failed.
+    ensures explains { result ≡ 1 → Explained (option_copied layout.entry) word.now out.old out.new (E.contents err.old) (E.contents err.new) }
+{
+    match decode(alloc, layout, word, out) {
+        Ok(()) => 0,
+        Err(failure) => {
+            tell_failure(&failure, err);
+            1
+        }
+    }
+}
+
+/// Judges the layout and then the word, and writes the line.
+fn decode<W: Write>(
+    alloc: Global,
+    layout: Option<&str>,
+    word: &str,
+    out: &mut W,
+) -> Result<(), Failure>
+    ensures done { OnOk result (IsDecoded (option_copied layout.entry) word.now (W.contents out.old) (W.contents out.new)) }
+    ensures faulty { (CanDecode (option_copied layout.entry) word.now → ⊥) → IsErr result × (out.new ≡ out.old) }
+    ensures explains { IfErr result (λ failure. Explains (option_copied layout.entry) word.now failure × Leaves failure out.old out.new) }
+{
+    let layout = read_layout(alloc, layout)?;
+    let bytes = hexadecimal_or_none(word)?;
+    let words = datagram_words(alloc, layout.as_ref(), &bytes)?;
+    out.writeln(words.as_str())?;
+    out.flush()?;
+    Ok(())
+}
+
+/// The layout of a text, where there is a text.
+fn read_layout(alloc: Global, text: Option<&str>) -> Result<Option<Layout>, LayoutFault>
+    ensures read { IfOk result (λ layout. IsLayout (option_copied text.entry) layout) }
+    ensures fault { IfErr result (λ fault. IsNoLayout fault (option_copied text.entry)) }
+{
+    match text {
+        Some(text) => Ok(Some(Layout::read(alloc, text)?)),
+        None => Ok(None),
+    }
+}

@@ -1,0 +1,98 @@
+//! What a telegram says, in words.
+
+ghost use Rattle.std.specs.Prelude.{◌≡◌, ◌++◌, OnOk, string_bytes};
+ghost use Rattle.std.specs.List.{join_with_byte};
+ghost use Rattle.ixl_rules.specs.sci_telegram.declared.message.Message.TheVariants as says;
+ghost use Rattle.station_decode.specs.Telegrams.{message_words};
+
+use crate::word_table::{
+    agreement_word, aspect_word, occupancy_word, position_word, protocol_word, side_word,
+};
+use ixl_rules::sci_telegram::{
+    DetectionMessage, Initialisation, Message, PointMessage, Protocol, SignalMessage,
+};
+use std::alloc::AllocError;
+
+/// Adds what a telegram says.
+pub(crate) fn push_message(text: &mut String, message: &Message) -> Result<(), AllocError>
+    ensures { OnOk result (string_bytes text.new ≡ string_bytes text.old ++ join_with_byte 32 (message_words message.now)) }
+{
+    match message {
+        Message::Initialisation(protocol, message) => {
+            push_initialisation(text, *protocol, message)
+        }
+        Message::Point(message) => push_point(text, message),
+        Message::Signal(message) => push_signal(text, message),
+        Message::Detection(message) => push_detection(text, message),
+    }
+}
+
+/// Adds a telegram that every protocol has.
+fn push_initialisation(
+    text: &mut String,
+    protocol: Protocol,
+    message: &Initialisation,
+) -> Result<(), AllocError>
+    ensures { OnOk result (string_bytes text.new ≡ string_bytes text.old ++ join_with_byte 32 (message_words (says.Initialisation protocol message.now))) }
+{
+    let protocol = protocol_word(protocol);
+    match message {
+        Initialisation::InitialisationRequest => write!(text, "{protocol} initialisation request"),
+        Initialisation::StartInitialisation => write!(text, "{protocol} start initialisation"),
+        Initialisation::InitialisationCompleted => {
+            write!(text, "{protocol} initialisation completed")
+        }
+        Initialisation::VersionCheck { version } => {
+            write!(text, "{protocol} version check {version}")
+        }
+        Initialisation::VersionAnswer { agreement, version } => {
+            let agreement = agreement_word(*agreement);
+            write!(text, "{protocol} version answer {agreement} {version}")
+        }
+    }
+}
+
+/// Adds a telegram to or from a point.
+fn push_point(text: &mut String, message: &PointMessage) -> Result<(), AllocError>
+    ensures { OnOk result (string_bytes text.new ≡ string_bytes text.old ++ join_with_byte 32 (message_words (says.Point message.now))) }
+{
+    match message {
+        PointMessage::MovePoint(side) => {
+            let side = side_word(*side);
+            write!(text, "move point {side}")
+        }
+        PointMessage::PointPosition(position) => {
+            let position = position_word(*position);
+            write!(text, "point position {position}")
+        }
+        PointMessage::Timeout => write!(text, "point timeout"),
+    }
+}
+
+/// Adds a telegram to or from a signal.
+fn push_signal(text: &mut String, message: &SignalMessage) -> Result<(), AllocError>
+    ensures { OnOk result (string_bytes text.new ≡ string_bytes text.old ++ join_with_byte 32 (message_words (says.Signal message.now))) }
+{
+    match message {
+        SignalMessage::IndicateAspect(aspect) => {
+            let aspect = aspect_word(*aspect);
+            write!(text, "indicate aspect {aspect}")
+        }
+        SignalMessage::IndicatedAspect(aspect) => {
+            let aspect = aspect_word(*aspect);
+            write!(text, "indicated aspect {aspect}")
+        }
+    }
+}
+
+/// Adds a telegram of a detector.
+fn push_detection(text: &mut String, message: &DetectionMessage) -> Result<(), AllocError>
+    ensures { OnOk result (string_bytes text.new ≡ string_bytes text.old ++ join_with_byte 32 (message_words (says.Detection message.now))) }
+{
+    match message {
+        DetectionMessage::OccupancyStatus(occupancy) => {
+            let occupancy = occupancy_word(*occupancy);
+            write!(text, "occupancy status {occupancy}")
+        }
+    }
+}
