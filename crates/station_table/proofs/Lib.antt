@@ -1,0 +1,5 @@
+pub mod Joined
+pub mod ListingLaws
+pub mod ReasonLaws
+pub mod Rows
+pub mod Tables

@@ -1,0 +1,127 @@
+-- The row of a route: what each of its cells says.
+use Rattle.std.specs.Prelude.{◌≡◌, ℕ, Bool, ◌==◌, ◌&&◌, true, false, List, length, map, filter, Option, Some, None}
+use Rattle.std.specs.List.{filter_map, list_any}
+use Rattle.control_table.specs.sci_telegram.declared.message.Side.{Side}
+use Rattle.control_table.specs.sci_telegram.declared.message.Side.TheVariants as side
+use Rattle.control_table.specs.layout.declared.ids.PointId.{PointId}
+use Rattle.control_table.specs.layout.declared.ids.RouteId.{RouteId}
+use Rattle.control_table.specs.layout.declared.ids.SectionId.{SectionId}
+use Rattle.control_table.specs.layout.declared.port.Element.{Element}
+use Rattle.control_table.specs.layout.declared.port.Element.TheVariants as element
+use Rattle.control_table.specs.layout.Entries.{RouteEntry, Site}
+use Rattle.control_table.specs.Freeing.{Awaits}
+use Rattle.control_table.specs.Table.{AreSections, Conflict, RouteRequires}
+use Rattle.station_table.specs.declared.conflict_reasons.ConflictReasons.{ConflictReasons}
+use Rattle.station_table.specs.Listing.{ListsBelow}
+use Rattle.station_table.specs.Names.{aspect_word, exit_name, parted, point_name, route_name, section_name, side_word, signal_name, spaced, with_word}
+use Rattle.station_table.specs.Reasons.{AreReasons, reason_words}
+
+-- the cells of a row
+pub record Row : Type 0 where
+  pub route : List ℕ
+  pub entry : List ℕ
+  pub exit : List ℕ
+  pub aspect : List ℕ
+  pub right : List ℕ
+  pub left : List ℕ
+  pub flank : List ℕ
+  pub sections : List ℕ
+  pub let_go : List ℕ
+  pub approach : List ℕ
+  pub conflicts : List ℕ
+
+-- ---- points
+
+abbrev pub same_side : Side → Side → Bool
+same_side side.Left side.Left = true
+same_side side.Right side.Right = true
+same_side _ _ = false
+
+-- whether a point is written at a side
+abbrev pub is_written : List (PointId × Side) → Side → PointId → Bool
+is_written points side p = list_any (λ n. n.0.0 == p.0 && same_side n.1 side) points
+
+abbrev pub point_of : Element → Option PointId
+point_of (element.Point p) = Some p
+point_of _ = None
+
+-- the points on the path of a route that have to lie at a side, in the order of the path
+abbrev pub points_at : RouteEntry → Side → List PointId
+points_at r side = filter (is_written r.points side) (filter_map (λ port. point_of port.element) r.path)
+
+abbrev pub names_of_points : Site → List PointId → List (List ℕ)
+names_of_points l points = map (point_name l) points
+
+-- flank points, each with its side
+abbrev pub flank_text : Site → PointId × Side → List ℕ
+flank_text l n = with_word (point_name l n.0) (side_word n.1)
+
+abbrev pub flank_texts : Site → List (PointId × Side) → List (List ℕ)
+flank_texts l flank = map (flank_text l) flank
+
+-- ---- sections
+
+abbrev pub section_names : Site → List SectionId → List (List ℕ)
+section_names l sections = map (section_name l) sections
+
+-- a section, point or route by its place
+abbrev pub section_at : ℕ → SectionId
+section_at k = record { 0 = k }
+
+abbrev pub point_at : ℕ → PointId
+point_at k = record { 0 = k }
+
+abbrev pub route_at : ℕ → RouteId
+route_at k = record { 0 = k }
+
+-- A list names the sections that a point awaits which a route requires, in the order of the layout.
+abbrev pub NamesAwaited : Site → RouteId → PointId → List (List ℕ) → Type 0
+NamesAwaited l a p names = ListsBelow (λ k. Awaits l a p (section_at k)) (λ k text. text ≡ section_name l (section_at k)) (length l.sections) names
+
+-- ---- until when points are held, and conflicts
+
+-- A route requires a point at some side.
+abbrev pub IsRequired : Site → RouteId → PointId → Type 0
+IsRequired l a p = (s : Side) × RouteRequires l a p s
+
+-- What is told of a point that a route requires: the sections that it awaits.
+abbrev pub IsLetGoText : Site → RouteId → PointId → List ℕ → Type 0
+IsLetGoText l a p text = (names : List (List ℕ)) × NamesAwaited l a p names × (text ≡ with_word (point_name l p) (spaced names))
+
+abbrev pub TellsLetGo : Site → RouteId → List (List ℕ) → Type 0
+TellsLetGo l a texts = ListsBelow (λ k. IsRequired l a (point_at k)) (λ k. IsLetGoText l a (point_at k)) (length l.points) texts
+
+-- What is told of a route that conflicts with another: the reasons.
+abbrev pub IsConflictText : Site → RouteId → RouteId → List ℕ → Type 0
+IsConflictText l a b text = (reasons : ConflictReasons) × AreReasons l a b reasons × (text ≡ with_word (route_name l b) (spaced (reason_words reasons)))
+
+abbrev pub TellsConflicts : Site → RouteId → List (List ℕ) → Type 0
+TellsConflicts l a texts = ListsBelow (λ k. Conflict l a (route_at k)) (λ k. IsConflictText l a (route_at k)) (length l.routes) texts
+
+-- ---- the row
+
+-- A cell has the sections of a route, in the order of its path.
+abbrev pub IsSectionsCell : Site → RouteId → List ℕ → Type 0
+IsSectionsCell l a cell = (sections : List SectionId) × AreSections l a sections × (cell ≡ spaced (section_names l sections))
+
+-- A cell has each point that a route requires, in the order of the layout, with the sections at which it is let go.
+abbrev pub IsLetGoCell : Site → RouteId → List ℕ → Type 0
+IsLetGoCell l a cell = (texts : List (List ℕ)) × TellsLetGo l a texts × (cell ≡ parted texts)
+
+-- A cell has each route that conflicts with a route, in the order of the table, with the reasons.
+abbrev pub IsConflictsCell : Site → RouteId → List ℕ → Type 0
+IsConflictsCell l a cell = (texts : List (List ℕ)) × TellsConflicts l a texts × (cell ≡ parted texts)
+
+-- The row of a route of the table, of which this is the entry.
+pub record IsRowOf (l : Site) (a : RouteId) (r : RouteEntry) (row : Row) : Type 0 where
+  pub route : row.route ≡ r.name
+  pub entry : row.entry ≡ signal_name l r.entry
+  pub exit : row.exit ≡ exit_name l r.exit
+  pub aspect : row.aspect ≡ aspect_word r.aspect
+  pub right : row.right ≡ spaced (names_of_points l (points_at r side.Right))
+  pub left : row.left ≡ spaced (names_of_points l (points_at r side.Left))
+  pub flank : row.flank ≡ parted (flank_texts l r.flank)
+  pub sections : IsSectionsCell l a row.sections
+  pub let_go : IsLetGoCell l a row.let_go
+  pub approach : row.approach ≡ spaced (section_names l r.approach)
+  pub conflicts : IsConflictsCell l a row.conflicts

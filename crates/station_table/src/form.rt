@@ -1,0 +1,10 @@
+//! How a table is written.
+
+/// How a table is written.
+#[derive(Clone, Copy, Debug, PartialEq, Eq)]
+pub enum Form {
+    /// In Markdown: each line with a bar round each cell, and a rule below the heads.
+    Markdown,
+    /// As CSV: one line of heads, and a line for each route.
+    Csv,
+}

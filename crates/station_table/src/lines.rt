@@ -1,0 +1,102 @@
+//! The lines of the table, in either form.
+
+ghost use Rattle.std.specs.Prelude.{◌≡◌, ◌++◌, map, codes, IfOk, OnOk};
+ghost use Rattle.std.specs.List.{flat_map};
+ghost use Rattle.csv.specs.Writing.{default_writer, row_text};
+ghost use Rattle.station_table.specs.Lines.{barred, line_text, lines_text, rule_text};
+
+use crate::form::Form;
+use crate::row::{Row, heads};
+use csv::WriterBuilder;
+use std::alloc::{AllocError, Global};
+
+/// Adds a cell in Markdown, with the bar before it.
+#[tactic(auto, using(crate::proofs::Tables::barred_added))]
+fn add_cell(line: &mut Vec<u8>, cell: &[u8]) -> Result<(), AllocError>
+    ensures { OnOk result (line.new.items ≡ line.old.items ++ barred cell.now) }
+{
+    line.extend_from_slice(b"| ")?;
+    line.extend_from_slice(cell)?;
+    line.extend_from_slice(b" ")?;
+    Ok(())
+}
+
+/// The line of these cells in Markdown.
+fn markdown_line(alloc: Global, cells: &[&[u8]]) -> Result<Vec<u8>, AllocError>
+    ensures { IfOk result (λ line. line.items ≡ flat_map (λ cell. barred cell.now) cells.now ++ codes "|\n") }
+{
+    let mut line = Vec::new(alloc);
+    for cell in cells {
+        add_cell(&mut line, cell)?;
+    }
+    line.extend_from_slice(b"|\n")?;
+    Ok(line)
+}
+
+/// The line of these cells as CSV.
+fn csv_line(alloc: Global, cells: &[&[u8]]) -> Result<Vec<u8>, AllocError>
+    ensures { IfOk result (λ line. line.items ≡ row_text default_writer (map (λ cell. cell.now) cells.now)) }
+{
+    let mut writer = WriterBuilder::new().from_writer(Vec::new(alloc));
+    // A vector refuses bytes only where memory is lacking.
+    if writer.write_fields(cells).is_err() {
+        return Err(AllocError);
+    }
+    match writer.into_inner() {
+        Ok(line) => Ok(line),
+        Err(_) => Err(AllocError),
+    }
+}
+
+/// The line of a row.
+fn line(alloc: Global, form: Form, row: &Row) -> Result<Vec<u8>, AllocError>
+    ensures { IfOk result (λ line. line.items ≡ line_text form row.now) }
+{
+    let cells = [
+        row.route.as_bytes(),
+        row.entry.as_bytes(),
+        row.exit.as_bytes(),
+        row.aspect.as_bytes(),
+        row.right.as_bytes(),
+        row.left.as_bytes(),
+        row.flank.as_bytes(),
+        row.sections.as_bytes(),
+        row.let_go.as_bytes(),
+        row.approach.as_bytes(),
+        row.conflicts.as_bytes(),
+    ];
+    match form {
+        Form::Markdown => markdown_line(alloc, &cells),
+        Form::Csv => csv_line(alloc, &cells),
+    }
+}
+
+/// The rule below the heads.
+fn rule(form: Form) -> &'static str
+    ensures { result.now ≡ rule_text form }
+{
+    match form {
+        Form::Markdown => "| --- | --- | --- | --- | --- | --- | --- | --- | --- | --- | --- |\n",
+        Form::Csv => "",
+    }
+}
+
+/// Adds the lines of rows to a text.
+fn add_lines(alloc: Global, form: Form, rows: &[Row], text: &mut Vec<u8>) -> Result<(), AllocError>
+    ensures { OnOk result (text.new.items ≡ text.old.items ++ flat_map (line_text form) rows.now) }
+{
+    for row in rows {
+        text.extend_from_slice(&line(alloc, form, row)?)?;
+    }
+    Ok(())
+}
+
+/// The heads, and the lines of rows.
+pub(crate) fn lines(alloc: Global, form: Form, rows: &[Row]) -> Result<Vec<u8>, AllocError>
+    ensures { IfOk result (λ text. text.items ≡ lines_text form rows.now) }
+{
+    let mut text = line(alloc, form, &heads(alloc)?)?;
+    text.extend_from_slice(rule(form).as_bytes())?;
+    add_lines(alloc, form, rows, &mut text)?;
+    Ok(text)
+}
