@@ -1,0 +1,4 @@
+pub mod Reached
+pub mod Fresh
+pub mod Alike
+pub mod Recovers
