@@ -1,5 +1,5 @@
 -- Two ends are alike where they differ in nothing that an end sees: so they go on alike.
-use Rattle.std.proofs.Common.{◌≡◌, ℕ, zero, suc, ◌∙◌, ◌+◌, Bool, true, false, List, [], ◌∷◌, ◌++◌, Option, refl, sym, ap, subst}
+use Rattle.std.proofs.Common.{◌≡◌, ℕ, ◌+◌, List, [], ◌∷◌, ◌++◌, Option, refl, ap, subst}
 use Rattle.rasta_core_run.specs.State.{LinkState}
 use Rattle.rasta_core_run.specs.Clock.{settled}
 use Rattle.rasta_core_run.specs.Outbox.{spellings}
@@ -7,8 +7,8 @@ use Rattle.rasta_core_run.specs.Calls.{ticking, opening, receiving}
 use Rattle.rasta_core_run.specs.identity.Role.{Role}
 use Rattle.rasta_core_run.specs.identity.Role.TheVariants as role
 use Rattle.rasta_core_run.specs.pdu.Pdu.{Pdu}
-use Rattle.rasta_core_run.specs.Ends.{Sent, EndState, Call, Ticks, Opens, Receives, Outcome, outcome, end_after, end_later, handed_out, reading_of}
-use Rattle.rasta_core_run.specs.Run.{Ends, end_of, called, later}
+use Rattle.rasta_core_run.specs.Ends.{Sent, EndState, Call, Ticks, Opens, Receives, outcome, end_after, end_later, handed_out, reading_of}
+use Rattle.rasta_core_run.specs.Run.{Ends, called, later}
 
 -- two datagrams, but for their connections
 pub record AlikeSent (d e : Sent) : Type 0 where
@@ -79,23 +79,23 @@ pub called_alike : (who : Role) (c d : Call) (a b : Ends) → SameCall c d → A
 unfolding called end_after
 called_alike role.Client c d a b same is =
     let o = outcome_alike c d a.moment b.moment a.client b.client same is.client in record {
-  time = is.time;
-  client = record { link = o.0; clock = is.client.clock };
-  server = is.server;
-  sent = all_append a.sent b.sent _ _ is.sent (handed_alike a.time b.time role.Client (end_after (outcome c a.moment a.client) a.moment a.client).connection (end_after (outcome d b.moment b.client) b.moment b.client).connection (spellings a.client.link.identity.key (outcome c a.moment a.client).pdus) (spellings b.client.link.identity.key (outcome d b.moment b.client).pdus) is.time
-      (two is.client.link o.1));
-}
+      time = is.time;
+      client = record { link = o.0; clock = is.client.clock };
+      server = is.server;
+      sent = all_append a.sent b.sent _ _ is.sent (handed_alike a.time b.time role.Client (end_after (outcome c a.moment a.client) a.moment a.client).connection (end_after (outcome d b.moment b.client) b.moment b.client).connection (spellings a.client.link.identity.key (outcome c a.moment a.client).pdus) (spellings b.client.link.identity.key (outcome d b.moment b.client).pdus) is.time
+          (two is.client.link o.1));
+    }
   where
     two : {k l : LinkState} {ps qs : List Pdu} → k ≡ l → ps ≡ qs → spellings k.identity.key ps ≡ spellings l.identity.key qs
     two e f = cc
 called_alike role.Server c d a b same is =
     let o = outcome_alike c d a.moment b.moment a.server b.server same is.server in record {
-  time = is.time;
-  client = is.client;
-  server = record { link = o.0; clock = is.server.clock };
-  sent = all_append a.sent b.sent _ _ is.sent (handed_alike a.time b.time role.Server (end_after (outcome c a.moment a.server) a.moment a.server).connection (end_after (outcome d b.moment b.server) b.moment b.server).connection (spellings a.server.link.identity.key (outcome c a.moment a.server).pdus) (spellings b.server.link.identity.key (outcome d b.moment b.server).pdus) is.time
-      (two is.server.link o.1));
-}
+      time = is.time;
+      client = is.client;
+      server = record { link = o.0; clock = is.server.clock };
+      sent = all_append a.sent b.sent _ _ is.sent (handed_alike a.time b.time role.Server (end_after (outcome c a.moment a.server) a.moment a.server).connection (end_after (outcome d b.moment b.server) b.moment b.server).connection (spellings a.server.link.identity.key (outcome c a.moment a.server).pdus) (spellings b.server.link.identity.key (outcome d b.moment b.server).pdus) is.time
+          (two is.server.link o.1));
+    }
   where
     two : {k l : LinkState} {ps qs : List Pdu} → k ≡ l → ps ≡ qs → spellings k.identity.key ps ≡ spellings l.identity.key qs
     two e f = cc

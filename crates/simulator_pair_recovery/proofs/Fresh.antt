@@ -1,6 +1,5 @@
 -- What a round sends: datagrams of its own time, not lost, and short.
-use Rattle.std.proofs.Common.{◌≡◌, ℕ, zero, suc, ◌∙◌, ◌+◌, ◌≤◌, ◌<◌, Bool, true, false, ◌&&◌, not, nat_le, nat_lt, List, [], ◌∷◌, ◌++◌, append_assoc, append-nil, length, Option, Some, None, if◌then◌else◌, refl, sym, ap, subst, inl, inr, arith}
-use Rattle.std.specs.Prelude.{◌||◌, ◌-◌, is_none, slice_get}
+use Rattle.std.proofs.Common.{◌≡◌, ℕ, ◌∙◌, ◌≤◌, false, List, [], ◌∷◌, ◌++◌, append_assoc, append-nil, length, Option, refl, sym, ap, subst}
 use Rattle.rasta_core_run.specs.Outbox.{spellings}
 use Rattle.rasta_core_run.specs.Spelling.{writing}
 use Rattle.rasta_core_run.specs.Values.{IsPdu}
@@ -9,8 +8,8 @@ use Rattle.rasta_core_run.specs.identity.Role.TheVariants as role
 use Rattle.rasta_core_run.specs.key.Key.{Key}
 use Rattle.rasta_core_run.specs.pdu.Pdu.{Pdu}
 use Rattle.rasta_core_run.specs.Each.{Each}
-use Rattle.rasta_core_run.specs.Ends.{Sent, EndState, Call, Ticks, Opens, Receives, Outcome, outcome, end_after, handed_out}
-use Rattle.rasta_core_run.specs.Run.{Ends, end_of, with_end, called, later}
+use Rattle.rasta_core_run.specs.Ends.{Sent, Call, outcome, end_after, handed_out}
+use Rattle.rasta_core_run.specs.Run.{Ends, end_of, with_end, called}
 use Rattle.rasta_core_run.specs.Events.{MayCall}
 use Rattle.rasta_core_run.specs.Names.{Names}
 use Rattle.rasta_core.specs.Invariant.{Timely}

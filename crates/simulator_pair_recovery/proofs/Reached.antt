@@ -1,5 +1,5 @@
 -- A pair that was given events is two ends to which events happened that may happen to them.
-use Rattle.std.proofs.Common.{◌≡◌, ℕ, zero, suc, ◌∙◌, ◌+◌, ◌≤◌, Bool, true, false, ◌&&◌, not, nat_le, nat_lt, List, [], ◌∷◌, ◌++◌, length, Option, Some, None, if◌then◌else◌, refl, sym, ap, subst, inl, inr, arith, lit<}
+use Rattle.std.proofs.Common.{◌≡◌, ℕ, zero, suc, ◌∙◌, Bool, true, false, nat_lt, List, [], ◌∷◌, ◌++◌, length, Option, Some, None, if◌then◌else◌, refl, sym, ap, subst, inl, inr, arith, lit<}
 use Rattle.std.specs.Prelude.{◌↔◌, IsTrue, ◌||◌, ◌-◌, is_none, slice_get}
 use Rattle.std.proofs.lemmas.Bool.{false≢true}
 use Rattle.md4.specs.declared.message.TheConstants.{STANDARD}
@@ -10,7 +10,7 @@ use Rattle.rasta_core_run.specs.key.Key.{Key}
 use Rattle.rasta_core_run.specs.Bag.{newest_copy}
 use Rattle.rasta_core_run.specs.Each.{Each}
 use Rattle.rasta_core_run.specs.Ends.{Sent, Call, Ticks, Opens, Closes, Sends, Receives}
-use Rattle.rasta_core_run.specs.Run.{Ends, end_of, called}
+use Rattle.rasta_core_run.specs.Run.{Ends, end_of}
 use Rattle.rasta_core_run.specs.Events.{Event, Calls, Passes, Loses, Restarts, IsDelivered, IsWithinDrift, IsRun, May, MayCall, MayRun, Start, happened, run, started}
 use Rattle.rasta_core_run.specs.Names.{AreNames, Names}
 use Rattle.rasta_core_run.specs.SafetyCode.{IsIntact, intact}
@@ -20,7 +20,6 @@ use Rattle.simulator_pair.specs.Events.{connection_of, copy_of, happens, new_pai
 use Rattle.simulator_pair.specs.Theorem.{names}
 use Rattle.simulator_pair.specs.declared.event.PairEvent.{PairEvent}
 use Rattle.simulator_pair.specs.declared.event.PairEvent.TheVariants as event
-use Rattle.simulator_pair.specs.declared.event.Refused.{Refused}
 use Rattle.simulator_pair.specs.declared.event.Refused.TheVariants.{NeverSent}
 use Rattle.simulator_pair_text.specs.Flow.{Flowing, arrived, arriving, arriving_from, partner_of, round, tried}
 use Rattle.simulator_pair_recovery.specs.Recovery.{GivesItem, after_events}

@@ -1,5 +1,5 @@
 -- The rounds of a pair are, from the second on, good rounds of two ends.
-use Rattle.std.proofs.Common.{◌≡◌, ℕ, zero, suc, ◌∙◌, ◌+◌, ◌*◌, ◌≤◌, ◌<◌, Bool, true, false, ◌&&◌, not, nat_le, nat_lt, List, [], ◌∷◌, ◌++◌, append_assoc, append-nil, length, drop, Option, Some, None, if◌then◌else◌, refl, sym, ap, subst, inl, inr, arith}
+use Rattle.std.proofs.Common.{◌≡◌, ℕ, zero, suc, ◌∙◌, ◌+◌, ◌*◌, ◌≤◌, ◌<◌, Bool, true, false, ◌&&◌, not, nat_le, nat_lt, List, [], ◌∷◌, ◌++◌, append_assoc, append-nil, length, drop, Option, Some, None, if◌then◌else◌, refl, sym, ap, subst, arith}
 use Rattle.std.specs.Prelude.{◌||◌, ◌-◌, is_none, slice_get}
 use Rattle.std.specs.Str.{bytes_eq}
 use Rattle.std.proofs.lemmas.Bool.Decides.{nat_tests}
@@ -9,23 +9,23 @@ use Rattle.rasta_core_run.specs.Bag.{is_alive_copy, lifetime, newest_copy}
 use Rattle.rasta_core_run.specs.identity.Role.{Role}
 use Rattle.rasta_core_run.specs.identity.Role.TheVariants as role
 use Rattle.rasta_core_run.specs.Each.{Each}
-use Rattle.rasta_core_run.specs.Ends.{Sent, EndState, Call, Ticks, Opens, Receives, end_later}
-use Rattle.rasta_core_run.specs.Run.{Ends, end_of, called, later}
-use Rattle.rasta_core_run.specs.Events.{Event, Calls, MayCall, MayRun, IsRun, Start, happened, run, started}
+use Rattle.rasta_core_run.specs.Ends.{Sent, Call, Ticks, Opens, Receives, end_later}
+use Rattle.rasta_core_run.specs.Run.{Ends, called, later}
+use Rattle.rasta_core_run.specs.Events.{Event, Calls, MayCall, MayRun, Start, happened, run, started}
 use Rattle.rasta_core_run.specs.Names.{Names, AreNames}
 use Rattle.rasta_core_run.specs.Names as names_of
 use Rattle.rasta_core_recovery.specs.Rounds.{Flow, can_come, comings, own_work, round_events, good_round, good_rounds, AreUp, IsBelowLimit}
 use Rattle.rasta_core_recovery.specs.Rounds as ends_level
 use Rattle.simulator_pair.specs.Pair.{PairState, stepped}
-use Rattle.simulator_pair.specs.Events.{clock_limit, connection_of, copy_of, happens, refusal, refusal_of_delivery, refusal_of_time, keeps_time}
+use Rattle.simulator_pair.specs.Events.{clock_limit, connection_of, copy_of, happens, refusal, refusal_of_delivery, refusal_of_time}
 use Rattle.simulator_pair.specs.Theorem.{names}
 use Rattle.simulator_pair.specs.declared.event.PairEvent.{PairEvent}
 use Rattle.simulator_pair.specs.declared.event.PairEvent.TheVariants as event
 use Rattle.simulator_pair_text.specs.Flow.{Flowing, arrived, arriving, arriving_from, partner_of, round, rounds, tried}
 use Rattle.simulator_pair_recovery.specs.Recovery.{GivesItem, HasTime, StayBelowLimit, flow_after, recovery_rounds}
-use Rattle.simulator_pair_recovery.proofs.Reached.{Laws, Reached, start, are_names, reached_timely, reached_stepped, reached_then, tried_reached, arrived_reached, arriving_reached, arriving_from_reached, events_reached, new_reached, round_reached, may_receive, none_is}
+use Rattle.simulator_pair_recovery.proofs.Reached.{Laws, Reached, start, are_names, reached_timely, reached_stepped, reached_then, tried_reached, arriving_reached, arriving_from_reached, events_reached, new_reached, round_reached, may_receive, none_is}
 use Rattle.simulator_pair_recovery.proofs.Fresh.{HandsOut, WrittenIsShort, IsFresh, Adds, adds_none, adds_then, called_adds}
-use Rattle.simulator_pair_recovery.proofs.Alike.{AlikeSent, AllAlike, AlikeEnd, Alike, alike_same, SameCall, ticks, opens, receives, called_alike, later_alike}
+use Rattle.simulator_pair_recovery.proofs.Alike.{AlikeSent, AllAlike, Alike, alike_same, SameCall, ticks, opens, receives, called_alike, later_alike}
 
 -- ---- what is found of a datagram that is under way
 
@@ -166,7 +166,7 @@ all_arrive law time (d ∷ ds) (e ∷ es) pair b before front rest at sent fresh
     added : Adds pair.ends (arriving (Some d) pair).ends
     added = subst (Adds pair.ends) (sym ends) (called_adds law.hands law.short (partner_of d.sender) (Receives d.bytes (connection_of (copy_of d.bytes pair.ends))) pair.ends (reached_timely law.laws pair.ends both.reached)
         (may_receive law.laws (partner_of d.sender) d.bytes pair.ends (reached_timely law.laws pair.ends both.reached)
-            (none_is (refusal_of_delivery (partner_of d.sender) d.bytes pair.ends) (not_refused (partner_of d.sender) pair.ends time d front (ds ++ rest) now sent fresh.0))))
+        (none_is (refusal_of_delivery (partner_of d.sender) d.bytes pair.ends) (not_refused (partner_of d.sender) pair.ends time d front (ds ++ rest) now sent fresh.0))))
 
     then_sent : (arriving (Some d) pair).ends.sent ≡ (front ++ d ∷ []) ++ (ds ++ (rest ++ added.more))
     then_sent = added.sent ∙ ap (λ (s : List Sent). s ++ added.more) sent ∙ append_assoc front (d ∷ (ds ++ rest)) added.more
