@@ -1,0 +1,5 @@
+pub mod Checksum
+pub mod Journeys
+pub mod Internet
+pub mod Blocks
+pub mod Captures

@@ -1,0 +1,12 @@
+//! Captures of datagrams as files that Wireshark reads: the format pcapng, with raw packets of IPv4 that hold UDP.
+#![tactic(auto)]
+
+mod block;
+mod checksum;
+mod internet;
+mod journey;
+mod laws;
+
+pub use block::{begin, push_datagram};
+pub use journey::{Endpoint, Journey, MOST_BYTES};
+pub use laws::carries_go_around;
