@@ -1,0 +1,395 @@
+#!/usr/bin/env python3
+"""Has tshark read captures with the dissector `wireshark/zendurai.lua`, and compares all that it shows with what
+`station decode` says. Needs tshark (the Debian package `tshark`), and the program `station`, which `rt run` leaves in
+crates/station/out.
+
+1. Every datagram that the stored sessions, event files and lists of datagrams have, under the layout that it belongs to: the
+   line of the dissector, and the line put together from the fields that it shows one by one, are word for word the line of
+   `station decode`. The same without a layout. The checksums of IPv4 and UDP are right, and no packet is malformed.
+2. Damaged datagrams: bits turned, cut off, lengthened, two joined, fields of another value under a right code. In none does
+   the dissector run into an error, none is malformed, and the line is that of `station decode`.
+3. A station that runs on loopback sockets while tshark captures there: every datagram that came to a node, as the record of
+   the run has it, was captured, and each is read with its words. For this the user must be allowed to capture on `lo`.
+
+usage: python3 bench/wire.py [--damaged N] [--live MS] [STATION]. N is 10000 where none is told, and MS 4000; 0 leaves a part
+out. STATION is the program. The status is 1 where anything differs."""
+import argparse
+import collections
+import os
+import random
+import re
+import shutil
+import signal
+import struct
+import subprocess
+import sys
+import tempfile
+import time
+import xml.etree.ElementTree as xml
+from concurrent.futures import ThreadPoolExecutor
+from pathlib import Path
+
+TOP = Path(__file__).resolve().parent.parent
+DATA = TOP / "crates/stored_runs/data"
+DISSECTOR = TOP / "wireshark/zendurai.lua"
+PORT = 47000
+# The greatest length of a PDU.
+LONGEST = 225
+# The greatest length of a datagram in a line of events.
+MOST_BYTES = 512
+# What tshark shows where a dissector fails, or finds bytes that can't be.
+FAILED = ("_ws.lua.error", "_ws.malformed")
+
+
+# ---- captures
+
+
+def ones_sum(data):
+    data += bytes(len(data) % 2)
+    total = sum(struct.unpack(f">{len(data) // 2}H", data))
+    while total >> 16:
+        total = (total & 0xFFFF) + (total >> 16)
+    return total
+
+
+def packet(payload, port):
+    """An IPv4 packet from a port of the loopback interface to itself, as the sockets of a station send."""
+    address = bytes([127, 0, 0, 1])
+    count = 8 + len(payload)
+    udp = struct.pack(">HHHH", port, port, count, 0) + payload
+    check = 0xFFFF - ones_sum(address * 2 + struct.pack(">BBH", 0, 17, count) + udp) or 0xFFFF
+    header = struct.pack(">BBHHHBBH", 0x45, 0, 20 + count, 0, 0x4000, 64, 17, 0) + address * 2
+    check_header = struct.pack(">H", 0xFFFF - ones_sum(header))
+    return header[:10] + check_header + header[12:] + udp[:6] + struct.pack(">H", check) + udp[8:]
+
+
+def block(kind, body):
+    body += bytes(-len(body) % 4)
+    count = struct.pack("<I", len(body) + 12)
+    return struct.pack("<I", kind) + count + body + count
+
+
+def write_capture(file, datagrams):
+    """A pcapng file with these payloads, a millisecond apart."""
+    blocks = [block(0x0A0D0D0A, struct.pack("<IHHq", 0x1A2B3C4D, 1, 0, -1)), block(1, struct.pack("<HHI", 228, 0, 0))]
+    for n, payload in enumerate(datagrams):
+        whole, stamp = packet(payload, PORT), 1000 * n
+        head = struct.pack("<IIIII", 0, stamp >> 32, stamp & 0xFFFFFFFF, len(whole), len(whole))
+        blocks.append(block(6, head + whole))
+    file.write_bytes(b"".join(blocks))
+
+
+# ---- what tshark shows
+
+
+def tshark(*words):
+    return ["tshark", "-X", f"lua_script:{DISSECTOR}", "-n", *words]
+
+
+# What is shown of a packet: the tree of the protocol `rasta`, None where there is none, what failed, and the payload.
+Shown = collections.namedtuple("Shown", "tree failed payload")
+
+
+def shown(capture, layout, ports=(PORT,)):
+    """What is shown of each packet of a capture."""
+    options = [word for port in ports for word in ("-d", f"udp.port=={port},rasta")]
+    if layout:
+        options += ["-o", f"rasta.layout:{layout}"]
+    command = tshark("-r", str(capture), "-T", "pdml", "-o", "ip.check_checksum:TRUE", "-o", "udp.check_checksum:TRUE", *options)
+    with subprocess.Popen(command, stdout=subprocess.PIPE, stderr=subprocess.DEVNULL) as process:
+        for _, element in xml.iterparse(process.stdout):
+            if element.tag != "packet":
+                continue
+            names = {part.get("name", "") for part in element.iter()}
+            failed = sorted(name for name in names if name.startswith(FAILED))
+            payload = element.find(".//field[@name='udp.payload']")
+            bytes_of = b"" if payload is None else bytes.fromhex(payload.get("value"))
+            yield Shown(element.find("proto[@name='rasta']"), failed + wrong_sums(element), bytes_of)
+            element.clear()
+
+
+def wrong_sums(element):
+    """The checksums of IPv4 and UDP that tshark finds wrong. 1 is good."""
+    wanted = ("ip.checksum.status", "udp.checksum.status")
+    return [part.get("name") for part in element.iter("field") if part.get("name") in wanted and part.get("show") != "1"]
+
+
+def value(tree, name):
+    field = tree.find(f"field[@name='{name}']")
+    return None if field is None else field.get("show")
+
+
+def label(tree, name):
+    """What is shown of a field with a table of words: the word."""
+    field = tree.find(f"field[@name='{name}']")
+    return None if field is None else re.sub(r" \([^()]*\)$", "", field.get("showname").split(": ", 1)[1])
+
+
+def node(tree, name):
+    return value(tree, f"{name}.name") or "#" + value(tree, name)
+
+
+def telegram_words(tree, item, sender, receiver):
+    """A telegram, put together from its fields."""
+    fault = value(tree, "sci.fault")
+    if fault:
+        return f"no telegram: fault {fault} {item.replace(':', '')}"
+    name = value(tree, "sci.name")
+    has_protocol = re.match("initialisation|start|version", name)
+    words = [label(tree, "sci.protocol")] if has_protocol else []
+    words.append(name)
+    words += [label(tree, f"sci.{field}") for field in ("agreement", "side", "position", "aspect", "occupancy")]
+    words.append(value(tree, "sci.version"))
+    if value(tree, "sci.sender") != sender:
+        words.append("from " + value(tree, "sci.sender"))
+    if value(tree, "sci.receiver") != receiver:
+        words.append("to " + value(tree, "sci.receiver"))
+    return " ".join(word for word in words if word)
+
+
+def body_words(tree, sender, receiver):
+    items = tree.findall("field[@name='rasta.item']")
+    if items:
+        return ": " + "; ".join(telegram_words(item.find("proto"), item.get("show"), sender, receiver) for item in items)
+    if value(tree, "rasta.version"):
+        reserved = value(tree, "rasta.reserved").replace(":", "")
+        return f": version {value(tree, 'rasta.version')} window {value(tree, 'rasta.window')} reserved {reserved}"
+    if value(tree, "rasta.reason"):
+        field = label(tree, "rasta.reason").replace("Unknown", "unknown")
+        return f": reason {value(tree, 'rasta.reason')} {field}, detail {value(tree, 'rasta.detail')}"
+    return ""
+
+
+def line_of(tree):
+    """The line for a datagram, put together from the fields that are shown one by one."""
+    fault = value(tree, "rasta.fault")
+    if fault:
+        return f"no PDU: fault {fault}"
+    sender, receiver = node(tree, "rasta.sender"), node(tree, "rasta.receiver")
+    numbers = " ".join(f"{name.upper()} {value(tree, 'rasta.' + name)}" for name in ("sn", "cs", "ts", "cts"))
+    return f"{sender} > {receiver} {label(tree, 'rasta.type')} {numbers}" + body_words(tree, sender, receiver)
+
+
+# ---- what `station decode` says
+
+
+class Words:
+    """The lines of `station decode` for datagrams, asked for once each."""
+
+    def __init__(self, station):
+        self.station, self.known = station, {}
+
+    def ask(self, asked):
+        layout, datagram = asked
+        words = [self.station, "decode", "--hex", datagram.hex() or "-"]
+        words += ["--layout", str(layout)] if layout else []
+        return subprocess.run(words, capture_output=True, text=True, check=True).stdout.rstrip("\n")
+
+    def of(self, layout, datagrams):
+        new = list(dict.fromkeys((layout, datagram) for datagram in datagrams if (layout, datagram) not in self.known))
+        with ThreadPoolExecutor(os.cpu_count()) as pool:
+            self.known.update(zip(new, pool.map(self.ask, new)))
+        return [self.known[layout, datagram] for datagram in datagrams]
+
+
+# ---- the datagrams
+
+
+def stored():
+    """Each stored datagram with the layout that it belongs to, each once, and the lists that belong to none."""
+    for line in (DATA / "runs").read_text().splitlines():
+        files = [DATA / word for word in line.split()[1:]]
+        if len(files) == 2 and files[0].suffix == ".toml" and files[1].suffix in (".session", ".events"):
+            text = files[1].read_text()
+            yield files[0], re.findall(r"^(?:deliver \S+|lose) ((?:[0-9a-f]{2})+)\b", text, re.MULTILINE)
+    for file in sorted(DATA.glob("*.hex")):
+        layout = file.with_suffix(".toml")
+        words = [word for word in file.read_text().split() if re.fullmatch("(?:[0-9a-f]{2})+", word)]
+        yield layout if layout.exists() else None, words
+
+
+def stored_datagrams():
+    found = {}
+    for layout, words in stored():
+        datagrams = (bytes.fromhex(word) for word in words if len(word) <= 2 * MOST_BYTES)
+        found.setdefault(layout, {}).update(dict.fromkeys(datagrams))
+    return {layout: list(datagrams) for layout, datagrams in found.items() if datagrams}
+
+
+# ---- MD4 (RFC 1320), from the standard start
+
+ORDERS = (range(16), [i % 4 * 4 + i // 4 for i in range(16)], [0, 8, 4, 12, 2, 10, 6, 14, 1, 9, 5, 13, 3, 11, 7, 15])
+TURNS = ((3, 7, 11, 19), (3, 5, 9, 13), (3, 9, 11, 15))
+ADDED = (0, 0x5A827999, 0x6ED9EBA1)
+MIXED = (lambda x, y, z: x & y | ~x & z, lambda x, y, z: x & y | x & z | y & z, lambda x, y, z: x ^ y ^ z)
+
+
+def code(text):
+    """The safety code of a text."""
+    padded = text + b"\x80" + bytes((55 - len(text)) % 64) + struct.pack("<Q", 8 * len(text))
+    registers = [0x67452301, 0xEFCDAB89, 0x98BADCFE, 0x10325476]
+    for at in range(0, len(padded), 64):
+        words, (a, b, c, d) = struct.unpack("<16I", padded[at : at + 64]), registers
+        for order, turns, added, mixed in zip(ORDERS, TURNS, ADDED, MIXED):
+            for step, word in enumerate(order):
+                total = (a + mixed(b, c, d) + words[word] + added) & 0xFFFFFFFF
+                turn = turns[step % 4]
+                a, b, c, d = d, (total << turn | total >> 32 - turn) & 0xFFFFFFFF, b, c
+        registers = [(old + new) & 0xFFFFFFFF for old, new in zip(registers, (a, b, c, d))]
+    return struct.pack("<4I", *registers)[:8]
+
+
+def coded(text):
+    """A text with a right length field and a right code."""
+    text = struct.pack("<H", len(text) + 8) + text[2:]
+    return text + code(text)
+
+
+# ---- damage
+
+
+def turned(chance, data):
+    for _ in range(chance.choice((1, 1, 2, 8))):
+        at = chance.randrange(8 * len(data))
+        data = data[: at // 8] + bytes([data[at // 8] ^ 1 << at % 8]) + data[at // 8 + 1 :]
+    return data
+
+
+def damaged(chance, some):
+    """One of some datagrams, damaged in one of eight ways. The last four have a right length and a right code."""
+    data = chance.choice(some)
+    text, at = data[:-8], chance.randrange(28, max(29, len(data) - 8))
+    return (
+        lambda: turned(chance, data),
+        lambda: data[: chance.randrange(1, len(data))],
+        lambda: data + chance.randbytes(chance.randrange(1, MOST_BYTES - len(data))),
+        lambda: (data + chance.choice(some))[:MOST_BYTES],
+        lambda: coded(text[:2] + struct.pack("<H", chance.choice((0, 6200, 6201, 6212, 6216, 6220, 6240, 6241, 6242))) + text[4:]),
+        lambda: coded(text[:at] + chance.randbytes(chance.randrange(1, 4)) + text[at + 1 :]),
+        lambda: coded(text[:at]),
+        lambda: coded(turned(chance, text)),
+    )[chance.randrange(8)]()
+
+
+# ---- comparisons
+
+
+class Report:
+    def __init__(self):
+        self.wrong = 0
+
+    def differs(self, where, *lines):
+        self.wrong += 1
+        if self.wrong <= 20:
+            print(f"WRONG {where}", *lines, sep="\n    ")
+
+
+def compare_one(report, it, wanted):
+    """Compares what is shown of a datagram with its words: the line, and the line put together from the fields."""
+    if it.failed or it.tree is None:
+        report.differs(f"{it.payload.hex()}: {it.failed or 'not read'}")
+        return
+    for line in (value(it.tree, "rasta.words"), line_of(it.tree)):
+        if line != wanted:
+            report.differs(it.payload.hex(), line, wanted)
+
+
+def compare(report, words, layout, datagrams, folder):
+    """Compares what is shown of datagrams with their words, and counts them by the types or faults that they have."""
+    capture = folder / "some.pcapng"
+    write_capture(capture, datagrams)
+    counts = collections.Counter()
+    for datagram, wanted, it in zip(datagrams, words.of(layout, datagrams), shown(capture, layout), strict=True):
+        if it.payload != datagram:
+            report.differs(datagram.hex(), f"captured as {it.payload.hex()}")
+        compare_one(report, it, wanted)
+        if it.tree is not None:
+            counts[value(it.tree, "rasta.fault") or label(it.tree, "rasta.type")] += 1
+    return len(datagrams), counts
+
+
+def told(counts):
+    return ", ".join(f"{count} {kind}" for kind, count in sorted(counts.items()))
+
+
+def compare_stored(report, words, folder):
+    for layout, datagrams in stored_datagrams().items():
+        for used in dict.fromkeys((layout, None)):
+            read, counts = compare(report, words, used, datagrams, folder)
+            name = used.name if used else f"no layout ({layout.name if layout else 'plain'})"
+            print(f"{name}: {read} datagrams: {told(counts)}")
+
+
+def compare_damaged(report, words, folder, count):
+    chance = random.Random(39)
+    some = [datagram for datagrams in stored_datagrams().values() for datagram in datagrams if 36 <= len(datagram) <= LONGEST]
+    read, counts = compare(report, words, None, [damaged(chance, some) for _ in range(count)], folder)
+    print(f"damaged: {read} datagrams: {told(counts)}")
+
+
+# ---- a station that runs
+
+
+def started_capture(file):
+    """tshark at work on the loopback interface."""
+    process = subprocess.Popen(
+        ["tshark", "-i", "lo", "-f", "udp", "-w", str(file)], stdout=subprocess.DEVNULL, stderr=subprocess.PIPE, text=True
+    )
+    for line in process.stderr:
+        if "Capturing on" in line:
+            time.sleep(1)
+            return process
+    sys.exit("tshark doesn't capture on lo: is the user allowed to?")
+
+
+def compare_with_record(report, words, layout, capture, record):
+    """What was captured while a station ran, with what its record says came to nodes. On loopback nothing is lost, so all of it
+    was captured, and what was captured and didn't come was on its way at the end."""
+    read = [it for it in shown(capture, layout, ports=()) if it.tree is not None]
+    for it, wanted in zip(read, words.of(layout, [it.payload for it in read])):
+        # The kernel leaves the checksum of UDP undone on this interface.
+        compare_one(report, it._replace(failed=[name for name in it.failed if name != "udp.checksum.status"]), wanted)
+    came = re.findall(r"^deliver \S+ ([0-9a-f]+) = ok$", record.read_text(), re.MULTILINE)
+    sent = collections.Counter(it.payload.hex() for it in read)
+    for missing in collections.Counter(came) - sent:
+        report.differs("live: it came to a node and wasn't captured", missing)
+    print(f"live: {len(read)} datagrams, of which {len(came)} came to nodes before the end")
+
+
+def compare_live(report, words, folder, milliseconds):
+    layout, script = TOP / "examples/small.toml", TOP / "examples/proceed.script"
+    capture, record = folder / "live.pcapng", folder / "run.session"
+    process = started_capture(capture)
+    run = [words.station, "run", str(layout), "--script", str(script), "--record", str(record), "--for", str(milliseconds)]
+    subprocess.run(run, check=True, stdout=subprocess.DEVNULL)
+    time.sleep(1)
+    process.send_signal(signal.SIGINT)
+    process.wait()
+    compare_with_record(report, words, layout, capture, record)
+    print(f"live: a station that ran for {milliseconds} ms")
+
+
+def main():
+    parser = argparse.ArgumentParser(description=__doc__, formatter_class=argparse.RawDescriptionHelpFormatter)
+    parser.add_argument("--damaged", type=int, default=10_000)
+    parser.add_argument("--live", type=int, default=4_000)
+    parser.add_argument("station", nargs="?", default=str(TOP / "crates/station/out/station"))
+    asked = parser.parse_args()
+    if not shutil.which("tshark"):
+        sys.exit("tshark isn't there: it is in the Debian package `tshark` (apt-get install tshark)")
+    if not Path(asked.station).exists():
+        sys.exit(f"{asked.station} isn't there: `rt run` in crates/station leaves it there")
+    report, words = Report(), Words(asked.station)
+    with tempfile.TemporaryDirectory() as folder:
+        folder = Path(folder)
+        compare_stored(report, words, folder)
+        if asked.damaged:
+            compare_damaged(report, words, folder, asked.damaged)
+        if asked.live:
+            compare_live(report, words, folder, asked.live)
+    print("all as `station decode` says" if not report.wrong else f"{report.wrong} differ")
+    return 1 if report.wrong else 0
+
+
+if __name__ == "__main__":
+    sys.exit(main())
