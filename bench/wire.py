@@ -32,7 +32,7 @@ from pathlib import Path
 TOP = Path(__file__).resolve().parent.parent
 DATA = TOP / "crates/stored_runs/data"
 DISSECTOR = TOP / "wireshark/zendurai.lua"
-PORT = 47000
+PORT = 40100
 # The greatest length of a PDU.
 LONGEST = 225
 # The greatest length of a datagram in a line of events.
@@ -83,7 +83,7 @@ def write_capture(file, datagrams):
 
 
 def tshark(*words):
-    return ["tshark", "-X", f"lua_script:{DISSECTOR}", "-n", *words]
+    return ["tshark", "-X", f"lua_script:{DISSECTOR}", "-n", "-o", "udp.try_heuristic_first:TRUE", *words]
 
 
 # What is shown of a packet: the tree of the protocol `rasta`, None where there is none, what failed, and the payload.

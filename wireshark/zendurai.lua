@@ -138,7 +138,7 @@ local OCCUPANCIES = { [1] = "clear", [2] = "occupied" }
 local TELEGRAM_FAULTS = { "Short", "Protocol", "BadType", "Length", "Name", "Value" }
 
 -- What the telegrams of a row are called and how long their payload is; `value` names the first byte by a table, and
--- `field` is where it is shown. A row of `all` has its protocol in front.
+-- `field` is where it is shown. The words of a row of `ALL` begin with the protocol.
 local ALL = {
   [0x0021] = { name = "initialisation request", length = 0 },
   [0x0022] = { name = "start initialisation", length = 0 },
@@ -319,7 +319,8 @@ end
 local function datagram_words(names, pdu, bytes)
   if pdu.fault then return "no PDU: fault " .. pdu.fault .. " " .. PDU_FAULTS[pdu.fault] end
   local sender, receiver = node_word(names, pdu.sender), node_word(names, pdu.receiver)
-  local numbers = " SN " .. decimal(pdu.sn) .. " CS " .. decimal(pdu.cs) .. " TS " .. decimal(pdu.ts) .. " CTS " .. decimal(pdu.cts)
+  local numbers = " SN " .. decimal(pdu.sn) .. " CS " .. decimal(pdu.cs)
+  numbers = numbers .. " TS " .. decimal(pdu.ts) .. " CTS " .. decimal(pdu.cts)
   return sender .. " > " .. receiver .. " " .. TYPES[pdu.type] .. numbers .. body_words(pdu, bytes, sender, receiver)
 end
 
@@ -426,8 +427,11 @@ rasta.experts, sci.experts = e, { sci_fault }
 
 -- ---- preferences
 
-rasta.prefs.key = Pref.string("Key", STANDARD_START, "32 hexadecimal digits, as `key` of a layout has them: four registers, low-order byte first, from which the safety code starts. The default is the standard start of MD4")
-rasta.prefs.layout = Pref.string("Layout file", "", "A layout file, by which nodes are called by their names. Its key is used, where it has one")
+local KEY_HELP = "32 hexadecimal digits, as `key` of a layout has them: four registers, low-order byte first, from which "
+  .. "the safety code starts. The default is the standard start of MD4"
+local LAYOUT_HELP = "A layout file, by which nodes are called by their names. Its key is used, where it has one"
+rasta.prefs.key = Pref.string("Key", STANDARD_START, KEY_HELP)
+rasta.prefs.layout = Pref.string("Layout file", "", LAYOUT_HELP)
 
 local key = key_of(STANDARD_START)
 local names = {}
@@ -525,6 +529,10 @@ local function add_telegram_values(tree, range, telegram)
   if row.filler then tree:add(s.filler, range(44, 17)) end
 end
 
+local function row_title(row)
+  return row and " (" .. (row.title or row.name) .. ")" or ""
+end
+
 -- The fields of an item as far as they can be told apart.
 local function add_telegram(tree, range, sender, receiver)
   local item = range:bytes():raw()
@@ -533,7 +541,7 @@ local function add_telegram(tree, range, sender, receiver)
   local branch = tree:add(sci, range, "Telegram: " .. words)
   if #item >= 43 then
     branch:add(s.protocol, range(0, 1))
-    branch:add_le(s.type, range(1, 2)):append_text(telegram.row and " (" .. (telegram.row.title or telegram.row.name) .. ")" or "")
+    branch:add_le(s.type, range(1, 2)):append_text(row_title(telegram.row))
     branch:add(s.sender, range(3, 20), shown_name(item:sub(4, 23)))
     branch:add(s.receiver, range(23, 20), shown_name(item:sub(24, 43)))
   end
@@ -619,7 +627,7 @@ local function add_sequence(tree, note)
   end
   if note.late then tree:add_proto_expert_info(e.late, "sequence number behind a later one") end
   if note.same_as then
-    generated(tree:add(f.same_as, note.same_as)):add_proto_expert_info(e.repeated, "repeated: same bytes as in frame " .. note.same_as)
+    generated(tree:add(f.same_as, note.same_as)):add_proto_expert_info(e.repeated, "repeated: the same bytes were there before")
   end
   if note.confirms then
     generated(tree:add(f.confirms, note.confirms))
@@ -641,7 +649,9 @@ local function add_opened(tree, note)
   tree:add_proto_expert_info(e.opening, "connection " .. note.connection .. " of link " .. note.link .. " is asked for")
 end
 
+-- What a PDU brings about; a repeated one brings nothing about.
 local function add_remarks(tree, pdu, note)
+  if note.same_as then return end
   if pdu.type == CONNECTION_REQUEST then add_opened(tree, note) end
   if pdu.type == DISCONNECTION_REQUEST then
     tree:add_proto_expert_info(e.closing, "closing: reason " .. reason_text(pdu.reason))
