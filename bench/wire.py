@@ -379,6 +379,8 @@ def main():
         sys.exit("tshark isn't there: it is in the Debian package `tshark` (apt-get install tshark)")
     if not Path(asked.station).exists():
         sys.exit(f"{asked.station} isn't there: `rt run` in crates/station leaves it there")
+    if subprocess.run([asked.station, "decode", "--hex", "-"], capture_output=True).returncode:
+        sys.exit(f"{asked.station} has no `decode`, whose words are wanted")
     report, words = Report(), Words(asked.station)
     with tempfile.TemporaryDirectory() as folder:
         folder = Path(folder)
