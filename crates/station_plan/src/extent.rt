@@ -1,0 +1,152 @@
+//! How far marks reach.
+
+use crate::thing::Thing;
+use crate::units::{Units, count};
+use drawing::{Anchor, Frame, Mark, Shape, Spot};
+
+/// A part of the plane: empty where the right border lies left of the left one.
+#[derive(Clone, Copy)]
+pub(crate) struct Extent {
+    /// Its left border.
+    pub(crate) left: Units,
+    /// Its upper border.
+    pub(crate) top: Units,
+    /// Its right border.
+    pub(crate) right: Units,
+    /// Its lower border.
+    pub(crate) bottom: Units,
+}
+
+/// No part of the plane.
+pub(crate) const NOWHERE: Extent = Extent {
+    left: Units(1_000_000),
+    top: Units(1_000_000),
+    right: Units(-1_000_000),
+    bottom: Units(-1_000_000),
+};
+
+impl Extent {
+    /// The part around both.
+    pub(crate) fn with(self, other: Extent) -> Extent {
+        Extent {
+            left: self.left.or_less(other.left),
+            top: self.top.or_less(other.top),
+            right: self.right.or_more(other.right),
+            bottom: self.bottom.or_more(other.bottom),
+        }
+    }
+
+    /// The same with so much more at each side.
+    pub(crate) fn grown(self, by: Units) -> Extent {
+        Extent {
+            left: self.left - by,
+            top: self.top - by,
+            right: self.right + by,
+            bottom: self.bottom + by,
+        }
+    }
+
+    /// How wide it is.
+    pub(crate) fn width(self) -> Units {
+        (self.right - self.left).or_more(Units(0))
+    }
+
+    /// How high it is.
+    pub(crate) fn height(self) -> Units {
+        (self.bottom - self.top).or_more(Units(0))
+    }
+
+    /// The same as a frame.
+    pub(crate) fn frame(self) -> Frame {
+        Frame {
+            left: self.left.0,
+            top: self.top.0,
+            width: self.width().0.unsigned_abs(),
+            height: self.height().0.unsigned_abs(),
+        }
+    }
+}
+
+/// How far a spot reaches with so much around it.
+fn around(spot: Spot, by: Units) -> Extent {
+    Extent {
+        left: Units(spot.x) - by,
+        top: Units(spot.y) - by,
+        right: Units(spot.x) + by,
+        bottom: Units(spot.y) + by,
+    }
+}
+
+/// How far spots reach.
+fn all_around(spots: &[Spot], by: Units) -> Extent {
+    let mut extent = NOWHERE;
+    for spot in spots {
+        extent = extent.with(around(*spot, by));
+    }
+    extent
+}
+
+/// How far a text reaches.
+fn written(at: Spot, anchor: Anchor, letters: usize) -> Extent {
+    let width = crate::labels::LETTER.times(count(letters));
+    let x = Units(at.x);
+    let left = match anchor {
+        Anchor::Start => x,
+        Anchor::Middle => x - width.half(),
+        Anchor::End => x - width,
+    };
+    Extent {
+        left,
+        top: Units(at.y) - Units(9),
+        right: left + width,
+        bottom: Units(at.y) + Units(3),
+    }
+}
+
+/// How far a mark reaches.
+pub(crate) fn reach(mark: &Mark) -> Extent {
+    match &mark.shape {
+        Shape::Line { from, to } => around(*from, Units(3)).with(around(*to, Units(3))),
+        Shape::Polyline(spots) => all_around(spots.as_slice(), Units(3)),
+        Shape::Polygon(spots) => all_around(spots.as_slice(), Units(3)),
+        Shape::Circle { centre, radius } => {
+            let radius = i32::try_from(*radius).unwrap_or(i32::MAX);
+            around(*centre, Units(radius) + Units(1))
+        }
+        Shape::Rectangle {
+            corner,
+            width,
+            height,
+        } => {
+            let width = i32::try_from(*width).unwrap_or(i32::MAX);
+            let height = i32::try_from(*height).unwrap_or(i32::MAX);
+            let end = Spot {
+                x: corner.x.saturating_add(width),
+                y: corner.y.saturating_add(height),
+            };
+            around(*corner, Units(1)).with(around(end, Units(1)))
+        }
+        Shape::Text { at, anchor, words } => written(*at, *anchor, words.len()),
+    }
+}
+
+/// How far marks reach that touch a vertical stripe.
+pub(crate) fn reach_of_marks(marks: &[Mark], left: Units, right: Units) -> Extent {
+    let mut extent = NOWHERE;
+    for mark in marks {
+        let one = reach(mark);
+        if one.left <= right && left <= one.right {
+            extent = extent.with(one);
+        }
+    }
+    extent
+}
+
+/// How far things reach that touch a vertical stripe.
+pub(crate) fn reach_of_things(things: &[Thing], left: Units, right: Units) -> Extent {
+    let mut extent = NOWHERE;
+    for thing in things {
+        extent = extent.with(reach_of_marks(&thing.marks, left, right));
+    }
+    extent
+}

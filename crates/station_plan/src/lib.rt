@@ -1,0 +1,39 @@
+//! The track plan of a layout: what is drawn of it, where that lies, and its picture.
+#![tactic(auto)]
+
+mod chains;
+mod columns;
+mod courses;
+mod directions;
+mod drawn_plan;
+mod element_marks;
+mod extent;
+mod grid;
+mod groups;
+mod heights;
+mod labels;
+mod links;
+mod lists;
+mod main_legs;
+mod marks;
+mod notes;
+mod paper;
+mod ranks;
+mod rows;
+mod section_marks;
+mod shown;
+mod signal_marks;
+mod sketch;
+mod strands;
+mod style;
+mod subjects;
+mod thing;
+mod thing_list;
+mod units;
+mod widths;
+mod yard;
+
+pub use drawn_plan::plan;
+pub use shown::{Seen, Shown};
+pub use thing::{Subject, Thing};
+pub use thing_list::things;

@@ -1,0 +1,328 @@
+//! The leg of each point by which its row goes on.
+
+use crate::courses::Courses;
+use crate::directions::Directions;
+use crate::lists::{at, filled, put};
+use crate::ranks::Ranks;
+use crate::yard::{Kind, Place, Yard, ends};
+use control_table::layout::{End, Layout, Route};
+use control_table::sci_telegram::{Aspect, Side};
+use std::alloc::{AllocError, Global};
+
+/// More points than any way has.
+const FAR: usize = 1000;
+
+/// What a leg is joined to.
+#[derive(Clone, Copy, PartialEq, Eq, PartialOrd)]
+enum Joined {
+    /// To nothing, or where the line turns back.
+    Open,
+    /// To the leg of a point.
+    Leg,
+    /// To anything else.
+    Other,
+}
+
+/// How good a way is behind a leg; the least one is the best.
+#[derive(Clone, Copy, PartialEq, Eq, PartialOrd)]
+struct Way {
+    /// How many points it passes to a border, at best.
+    points: usize,
+    /// How much shorter it is than the longest that could be.
+    shortness: usize,
+    /// The number of the element to which the leg leads.
+    element: usize,
+}
+
+/// What is known of the layout when legs are chosen.
+#[derive(Clone, Copy)]
+struct Lines<'a> {
+    yard: &'a Yard,
+    directions: &'a Directions,
+    courses: &'a Courses,
+    ranks: &'a Ranks,
+}
+
+/// The main leg of each element; of one that is no point it means nothing.
+#[derive(Drop)]
+pub(crate) struct MainLegs {
+    /// The legs, by number.
+    legs: Vec<Option<Side>>,
+}
+
+/// How many points a way to a border passes at best, to the left and to the right.
+#[derive(Drop)]
+struct Passed {
+    left: Vec<usize>,
+    right: Vec<usize>,
+}
+
+/// The other side.
+pub(crate) fn opposite(side: Side) -> Side {
+    match side {
+        Side::Left => Side::Right,
+        Side::Right => Side::Left,
+    }
+}
+
+/// The leg of a side.
+pub(crate) fn leg(side: Side) -> End {
+    match side {
+        Side::Left => End::Left,
+        Side::Right => End::Right,
+    }
+}
+
+/// The side of a leg.
+fn side_of(end: End) -> Option<Side> {
+    match end {
+        End::Left => Some(Side::Left),
+        End::Right => Some(Side::Right),
+        End::A | End::B | End::Tip | End::End => None,
+    }
+}
+
+impl MainLegs {
+    /// The main legs, by the first rule that decides: only one leg carries a route that isn't slow; a leg that is joined
+    /// to no leg goes before one that is, and this before an open one; the better way. Where both legs are joined to
+    /// legs, the one whose peer gives up the worse row.
+    pub(crate) fn of(
+        alloc: Global,
+        layout: &Layout,
+        yard: &Yard,
+        directions: &Directions,
+        courses: &Courses,
+        ranks: &Ranks,
+    ) -> Result<MainLegs, AllocError> {
+        let ground = Lines {
+            yard,
+            directions,
+            courses,
+            ranks,
+        };
+        let fast = fast_legs(alloc, layout, yard)?;
+        let passed = points_passed(alloc, ground)?;
+        let mut main = MainLegs {
+            legs: filled(alloc, yard.size(), None)?,
+        };
+        for element in yard.point(0)..yard.border(0) {
+            let side = plain(ground, &fast, &passed, element);
+            put(&mut main.legs, element, side);
+        }
+        for element in yard.point(0)..yard.border(0) {
+            if at(&main.legs, element, None).is_none() {
+                main.settle(ground, &passed, element);
+            }
+        }
+        Ok(main)
+    }
+
+    /// The main leg of a point.
+    pub(crate) fn main(&self, element: usize) -> Side {
+        at(&self.legs, element, None).unwrap_or(Side::Left)
+    }
+
+    /// The other leg of a point.
+    pub(crate) fn minor(&self, element: usize) -> Side {
+        opposite(self.main(element))
+    }
+
+    /// Whether a port lies on the row of its element.
+    pub(crate) fn is_level(&self, place: Place) -> bool {
+        match side_of(place.end) {
+            Some(side) => side == self.main(place.element),
+            None => true,
+        }
+    }
+
+    /// Settles a point of which both legs lead to legs: the row of one peer goes on over it.
+    fn settle(&mut self, ground: Lines<'_>, passed: &Passed, element: usize) {
+        let left = self.loss(ground, passed, element, Side::Left);
+        let right = self.loss(ground, passed, element, Side::Right);
+        let side = if right < left {
+            Side::Right
+        } else {
+            Side::Left
+        };
+        put(&mut self.legs, element, Some(side));
+        let place = Place {
+            element,
+            end: leg(side),
+        };
+        if let Some(mate) = ground.courses.mate(ground.yard, place) {
+            put(&mut self.legs, mate.element, side_of(mate.end));
+        }
+    }
+
+    /// What is lost where the row goes on by a leg: whether its peer has to give up its row, and how good that is.
+    fn loss(&self, ground: Lines<'_>, passed: &Passed, element: usize, side: Side) -> (bool, Way) {
+        let place = Place {
+            element,
+            end: leg(side),
+        };
+        let Some(mate) = ground.courses.mate(ground.yard, place) else {
+            return (true, way_behind(ground, passed, place));
+        };
+        match at(&self.legs, mate.element, None) {
+            Some(given) if side_of(mate.end) != Some(given) => {
+                let lost = Place {
+                    element: mate.element,
+                    end: leg(given),
+                };
+                (true, worse_first(way_behind(ground, passed, lost)))
+            }
+            _ => (false, way_behind(ground, passed, place)),
+        }
+    }
+}
+
+/// A way by which worse ones come first.
+fn worse_first(way: Way) -> Way {
+    Way {
+        points: FAR.saturating_sub(way.points),
+        shortness: FAR.saturating_sub(way.shortness),
+        element: FAR.saturating_sub(way.element),
+    }
+}
+
+/// For each port: whether a route that isn't slow runs over this leg.
+fn fast_legs(alloc: Global, layout: &Layout, yard: &Yard) -> Result<Vec<bool>, AllocError> {
+    let mut fast = filled(alloc, yard.mates.len(), false)?;
+    for route in layout.routes() {
+        if !matches!(route.aspect(), Aspect::Slow) {
+            mark_fast(&mut fast, yard, route);
+        }
+    }
+    Ok(fast)
+}
+
+fn mark_fast(fast: &mut Vec<bool>, yard: &Yard, route: &Route) {
+    for (point, side) in route.points() {
+        let place = Place {
+            element: yard.point(point.0),
+            end: leg(*side),
+        };
+        put(fast, crate::yard::port_number(place), true);
+    }
+}
+
+/// How many points the ways to borders pass.
+fn points_passed(alloc: Global, ground: Lines<'_>) -> Result<Passed, AllocError> {
+    let mut left = filled(alloc, ground.yard.size(), FAR)?;
+    for element in ground.courses.order.iter().copied() {
+        let count = fewest(ground, &left, element, false);
+        put(&mut left, element, count);
+    }
+    let mut right = filled(alloc, ground.yard.size(), FAR)?;
+    for element in ground.courses.order.iter().rev().copied() {
+        let count = fewest(ground, &right, element, true);
+        put(&mut right, element, count);
+    }
+    Ok(Passed { left, right })
+}
+
+/// How many points the best way from an element to a side passes, if it is known of what lies there.
+fn fewest(ground: Lines<'_>, known: &Vec<usize>, element: usize, right: bool) -> usize {
+    let kind = ground.yard.kind(element);
+    if kind == Kind::Border {
+        return 0;
+    }
+    let mut best = FAR;
+    for end in ends(kind) {
+        let place = Place { element, end: *end };
+        if ground.directions.is_right(place) == right {
+            best = best.min(behind(ground, known, place));
+        }
+    }
+    if kind == Kind::Point {
+        best.saturating_add(1).min(FAR)
+    } else {
+        best
+    }
+}
+
+fn behind(ground: Lines<'_>, known: &Vec<usize>, place: Place) -> usize {
+    match ground.courses.mate(ground.yard, place) {
+        Some(mate) => at(known, mate.element, FAR),
+        None => FAR,
+    }
+}
+
+/// The way behind a leg.
+fn way_behind(ground: Lines<'_>, passed: &Passed, place: Place) -> Way {
+    let Some(mate) = ground.courses.mate(ground.yard, place) else {
+        return Way {
+            points: FAR,
+            shortness: FAR,
+            element: FAR,
+        };
+    };
+    let right = ground.directions.is_right(place);
+    let ways = if right { &passed.right } else { &passed.left };
+    let lengths = if right {
+        &ground.ranks.onward
+    } else {
+        &ground.ranks.inward
+    };
+    Way {
+        points: at(ways, mate.element, FAR),
+        shortness: FAR.saturating_sub(at(lengths, mate.element, 0)),
+        element: mate.element,
+    }
+}
+
+/// What a leg is joined to.
+fn joined_to(ground: Lines<'_>, place: Place) -> Joined {
+    match ground.courses.mate(ground.yard, place) {
+        None => Joined::Open,
+        Some(mate) => match mate.end {
+            End::Left | End::Right => Joined::Leg,
+            End::A | End::B | End::Tip | End::End => Joined::Other,
+        },
+    }
+}
+
+/// The main leg of a point, unless both lead to legs.
+fn plain(ground: Lines<'_>, fast: &Vec<bool>, passed: &Passed, element: usize) -> Option<Side> {
+    let left = Place {
+        element,
+        end: End::Left,
+    };
+    let right = Place {
+        element,
+        end: End::Right,
+    };
+    let is_left_fast = at(fast, crate::yard::port_number(left), false);
+    let is_right_fast = at(fast, crate::yard::port_number(right), false);
+    if is_left_fast != is_right_fast {
+        return Some(if is_left_fast {
+            Side::Left
+        } else {
+            Side::Right
+        });
+    }
+    let (left_joined, right_joined) = (joined_to(ground, left), joined_to(ground, right));
+    if left_joined != right_joined {
+        return Some(if left_joined < right_joined {
+            Side::Right
+        } else {
+            Side::Left
+        });
+    }
+    match left_joined {
+        Joined::Open => Some(Side::Left),
+        Joined::Leg => None,
+        Joined::Other => Some(better(
+            way_behind(ground, passed, left),
+            way_behind(ground, passed, right),
+        )),
+    }
+}
+
+fn better(left: Way, right: Way) -> Side {
+    if right < left {
+        Side::Right
+    } else {
+        Side::Left
+    }
+}

@@ -1,0 +1,95 @@
+//! How far to the right each element lies, in elements.
+
+use crate::courses::Courses;
+use crate::directions::Directions;
+use crate::lists::{at, filled, put};
+use crate::yard::{Kind, Place, Yard, ends};
+use std::alloc::{AllocError, Global};
+
+/// How many elements lie at most beside each element, on the longest ways.
+#[derive(Drop)]
+pub(crate) struct Ranks {
+    /// At its left. A border at the right has the greatest rank.
+    pub(crate) ranks: Vec<usize>,
+    /// At its left, and itself.
+    pub(crate) inward: Vec<usize>,
+    /// At its right, and itself.
+    pub(crate) onward: Vec<usize>,
+}
+
+impl Ranks {
+    /// The ranks of all elements.
+    pub(crate) fn of(
+        alloc: Global,
+        yard: &Yard,
+        directions: &Directions,
+        courses: &Courses,
+    ) -> Result<Ranks, AllocError> {
+        let mut inward = filled(alloc, yard.size(), 1)?;
+        for element in courses.order.iter().copied() {
+            lengthen(&mut inward, yard, directions, courses, element, true);
+        }
+        let mut onward = filled(alloc, yard.size(), 1)?;
+        for element in courses.order.iter().rev().copied() {
+            lengthen(&mut onward, yard, directions, courses, element, false);
+        }
+        let ranks = settled(alloc, yard, directions, &inward)?;
+        Ok(Ranks {
+            ranks,
+            inward,
+            onward,
+        })
+    }
+
+    /// The rank of an element.
+    pub(crate) fn rank(&self, element: usize) -> usize {
+        at(&self.ranks, element, 0)
+    }
+}
+
+/// Makes the ways of the elements at one side of an element at least one longer than its own.
+fn lengthen(
+    ways: &mut Vec<usize>,
+    yard: &Yard,
+    directions: &Directions,
+    courses: &Courses,
+    element: usize,
+    right: bool,
+) {
+    let longer = at(ways, element, 1).saturating_add(1);
+    for end in ends(yard.kind(element)) {
+        let place = Place { element, end: *end };
+        if directions.is_right(place) == right {
+            if let Some(mate) = courses.mate(yard, place) {
+                raise(ways, mate.element, longer);
+            }
+        }
+    }
+}
+
+fn raise(ways: &mut Vec<usize>, element: usize, least: usize) {
+    if at(ways, element, usize::MAX) < least {
+        put(ways, element, least);
+    }
+}
+
+/// The ranks by the ways from the left.
+fn settled(
+    alloc: Global,
+    yard: &Yard,
+    directions: &Directions,
+    inward: &Vec<usize>,
+) -> Result<Vec<usize>, AllocError> {
+    let longest = inward.iter().copied().max().unwrap_or(1);
+    let mut ranks = Vec::new(alloc);
+    for element in 0..yard.size() {
+        let is_last = yard.kind(element) == Kind::Border && at(&directions.flipped, element, false);
+        let way = if is_last {
+            longest
+        } else {
+            at(inward, element, 1)
+        };
+        ranks.push(way.saturating_sub(1))?;
+    }
+    Ok(ranks)
+}

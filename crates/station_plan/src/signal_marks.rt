@@ -1,0 +1,99 @@
+//! How signals are drawn: at the right hand of the trains that they rule, with a foot, a mast and two lamps.
+
+use crate::element_marks::moved;
+use crate::marks::Marks;
+use crate::sketch::{Sketch, sign};
+use crate::units::Units;
+use crate::widths::clearance;
+use crate::yard::Place;
+use control_table::sci_telegram::Name;
+use drawing::{Anchor, Spot};
+use std::alloc::AllocError;
+
+/// A spot so far along a line from another.
+fn along(from: Spot, side: i32, slope: i32, length: i32) -> Spot {
+    moved(
+        from,
+        side.saturating_mul(length),
+        slope.saturating_mul(length),
+    )
+}
+
+/// Draws a signal that stands at a port.
+pub(crate) fn draw_signal(
+    marks: &mut Marks,
+    sketch: &Sketch,
+    place: Place,
+    name: Name,
+) -> Result<(), AllocError> {
+    if sketch.grid.main.is_level(place) {
+        draw_level(marks, sketch, place, name)
+    } else {
+        draw_slanted(marks, sketch, place, name)
+    }
+}
+
+/// Draws a signal beside a row: below it for trains to the right, above it for the others.
+fn draw_level(
+    marks: &mut Marks,
+    sketch: &Sketch,
+    place: Place,
+    name: Name,
+) -> Result<(), AllocError> {
+    let right = sketch.is_right(place);
+    let side = sign(right);
+    let back = clearance(&sketch.grid, place.element, right) + Units(31);
+    let foot = moved(
+        sketch.port(place),
+        back.times(side).0.saturating_neg(),
+        side.saturating_mul(11),
+    );
+    marks.line("mast", moved(foot, 0, -4), moved(foot, 0, 4))?;
+    marks.line("mast", foot, along(foot, side, 0, 12))?;
+    marks.circle("lamp near", along(foot, side, 0, 16), 4)?;
+    marks.circle("lamp distant", along(foot, side, 0, 24), 4)?;
+    let down = if right { 14 } else { -7 };
+    let at = moved(along(foot, side, 0, 28), 0, down);
+    let anchor = if right { Anchor::End } else { Anchor::Start };
+    let x = Units(at.x);
+    marks.name("name", x, Units(at.y), anchor, Some(name), !right)
+}
+
+/// Draws a signal beside a leg that leads up or down by 45 degrees.
+fn draw_slanted(
+    marks: &mut Marks,
+    sketch: &Sketch,
+    place: Place,
+    name: Name,
+) -> Result<(), AllocError> {
+    let side = sign(sketch.is_right(place));
+    let slope = sketch.slope(place.element);
+    let start = sketch.stub(place, Units(20));
+    // The right hand of a train on the leg.
+    let foot = moved(start, slope.saturating_mul(-8), side.saturating_mul(8));
+    draw_foot(marks, foot, side, slope)?;
+    marks.line("mast", foot, along(foot, side, slope, 8))?;
+    marks.circle("lamp near", along(foot, side, slope, 11), 4)?;
+    marks.circle("lamp distant", along(foot, side, slope, 17), 4)?;
+    let at = moved(
+        along(foot, side, slope, 11),
+        slope.saturating_mul(-9),
+        side.saturating_mul(6).saturating_add(3),
+    );
+    let anchor = if slope < 0 {
+        Anchor::Start
+    } else {
+        Anchor::End
+    };
+    marks.name("name", Units(at.x), Units(at.y), anchor, Some(name), false)
+}
+
+fn draw_foot(marks: &mut Marks, foot: Spot, side: i32, slope: i32) -> Result<(), AllocError> {
+    let across = slope.saturating_mul(3);
+    let down = side.saturating_mul(3);
+    marks.line(
+        "mast",
+        moved(foot, across, down.saturating_neg()),
+        moved(foot, across.saturating_neg(), down),
+    )
+}

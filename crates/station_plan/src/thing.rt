@@ -1,0 +1,41 @@
+//! What a plan draws.
+
+use control_table::layout::End;
+use control_table::sci_telegram::Name;
+use drawing::Mark;
+
+/// What a thing in a plan stands for, with its name.
+#[derive(Clone, Copy, Debug)]
+pub enum Subject {
+    /// A detection section.
+    Section(Name),
+    /// A track.
+    Track(Name),
+    /// A point as a whole: its name.
+    Point(Name),
+    /// The tip of a point.
+    Tip(Name),
+    /// The left leg of a point.
+    Left(Name),
+    /// The right leg of a point.
+    Right(Name),
+    /// A border.
+    Border(Name),
+    /// A joint that parts two sections, by the port that is written first: its element, and which of its ports it is.
+    Joint(Name, End),
+    /// A signal.
+    Signal(Name),
+    /// A detection controller.
+    Detector(Name),
+}
+
+/// What is drawn of one subject.
+#[derive(Debug, Drop)]
+pub struct Thing {
+    /// What it stands for.
+    pub subject: Subject,
+    /// The words that stand behind its kind in its class: its state.
+    pub state: String,
+    /// How it is drawn.
+    pub marks: Vec<Mark>,
+}
