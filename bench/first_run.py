@@ -1,7 +1,7 @@
 #!/usr/bin/env python3
-"""The first `rt run` of a program, with its libraries built side by side: as many at a time as there are processors and memory, the
-longest chain of crates first. `rt run` by itself builds one after the other, and most of a crate's check is done by one processor.
-What is built is the same, and `rt run` finds it later. It tells the processor time and the time on the clock.
+"""The first `rt run` of a program, with its libraries built side by side: as many at a time as there are processors and memory. The
+longest chain of crates has all processors, and the others take what it leaves. `rt run` by itself builds one after the other. What is
+built is the same, and `rt run` finds it later. It tells the processor time and the time on the clock.
 
     python3 bench/first_run.py CRATE [WORD ..]      the words are the program's arguments
     python3 bench/first_run.py CRATE --libraries    builds the libraries alone
@@ -9,6 +9,7 @@ What is built is the same, and `rt run` finds it later. It tells the processor t
 import copy
 import os
 import pathlib
+import queue
 import subprocess
 import sys
 import tempfile
@@ -21,10 +22,10 @@ ROOT = str(pathlib.Path(__file__).resolve().parent.parent)
 printing = threading.Lock()
 
 
-def build(crate, given, jobs):
-    """Builds one library, if those below it were built, and tells what came of it."""
-    if not all(given[it.name, "proof"] for it in crate.below()):
-        return False
+def build(crate, jobs, behind):
+    """Builds one library, behind others where it may wait, and tells what came of it."""
+    if behind:
+        os.setpriority(os.PRIO_PROCESS, threading.get_native_id(), 10)
     crate = copy.copy(crate)
     with tempfile.TemporaryFile("a+", errors="replace") as crate.out:
         status = crate.build_rlib(["--jobs", str(jobs)], False)
@@ -54,14 +55,53 @@ def build_libraries(rt, name):
     rt.share_work(True)
     # its first call sets the handler of a signal, which only the main thread may
     rt.rtlib.guarded()
-    tasks = {
-        (it.name, "proof"): ([(low.name, "proof") for low in it.below()], it.count(rb"\n"), rt.need(it), lambda given, jobs, it=it: build(it, given, jobs))
-        for it in below
-    }
-    given = rt.in_lanes(tasks)
+    built = side_by_side(rt, below)
     for it in held:
         os.close(it)
-    return all(given.values())
+    return built
+
+
+def chains(crates):
+    """Of each crate the lines of the longest chain of crates that begins with it, each below the next."""
+    lines = {it.name: it.count(rb"\n") for it in crates}
+    longest = dict(lines)
+    for crate in reversed(crates):
+        for low in crate.below():
+            longest[low.name] = max(longest[low.name], lines[low.name] + longest[crate.name])
+    return longest
+
+
+def side_by_side(rt, crates):
+    """Builds each crate once those below it are built, and ends where one can't be. The crate with the longest chain behind it is
+    what all others wait for: it has all processors. The others take what it leaves."""
+    longest, processors, memory = chains(crates), rt.processors(), 0.85 * rt.free()
+    left = sorted(crates, key=lambda it: -longest[it.name])
+    running, built, ended = {}, set(), queue.SimpleQueue()
+
+    def work(crate, jobs, behind):
+        done = False
+        try:
+            done = build(crate, jobs, behind)
+        finally:
+            ended.put((crate, done))
+
+    while left or running:
+        ready = [it for it in left if all(low.name in built for low in it.below())]
+        for place, crate in enumerate(ready):
+            first = crate.name == max([*running, *(it.name for it in left)], key=longest.get)
+            jobs = processors if first else max(1, (processors - len(running)) // (len(ready) - place))
+            needs = rt.need(crate) * (1 + 0.6 * (jobs - 1))
+            if running and (len(running) == processors or sum(running.values()) + needs > memory):
+                break
+            left.remove(crate)
+            running[crate.name] = needs
+            threading.Thread(target=work, args=(crate, jobs, not first)).start()
+        crate, done = ended.get()
+        running.pop(crate.name)
+        if not done:
+            return False
+        built.add(crate.name)
+    return True
 
 
 def main(name, *words):
