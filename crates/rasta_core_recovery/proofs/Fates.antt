@@ -26,7 +26,7 @@ pub record Comes (names : Names) (most : ℕ) (p : Pair) : Type 0 where
   pub soon : rounds ≤ most
   pub healthy : Healthy names 1 (pair_rounds rounds p)
 
-comes_later : (names : Names) (m most all : ℕ) (p : Pair) → m + most ≤ all → Comes names most (pair_rounds m p) → Comes names all p
+pub comes_later : (names : Names) (m most all : ℕ) (p : Pair) → m + most ≤ all → Comes names most (pair_rounds m p) → Comes names all p
 comes_later names m most all p le c = record { rounds = c.rounds + m; soon = omega (arith, le, c.soon); healthy = subst (Healthy names 1) (rounds_add c.rounds m p) c.healthy }
 
 -- ---- the client is outside, quiet no longer in the next round, and nothing is under way
@@ -148,11 +148,11 @@ ready_comes names p facts past client_out over = subst (Comes names 784) (sym sa
     same = four (out_is names role.Client p.client facts.client client_out) (out_is names role.Server p.server facts.server waited.0) waited.1 waited.2
 
 -- an end outside that is quiet stays so in a round
-client_quiet : (p : Pair) → is_open p.client.phase ≡ false → p.client.clock + 10 < p.client.closed_at + 6000 → (pair_round p).client ≡ record p.client { clock = p.client.clock + 10 }
+pub client_quiet : (p : Pair) → is_open p.client.phase ≡ false → p.client.clock + 10 < p.client.closed_at + 6000 → (pair_round p).client ≡ record p.client { clock = p.client.clock + 10 }
 unfolding pair_round
 client_quiet p shut quiet = ap (λ (s : Step). s.link) (quiet_stays (p.client.clock + 10) p.to_client p.client shut quiet)
 
-server_quiet : (p : Pair) → is_open p.server.phase ≡ false → p.server.clock + 10 < p.server.closed_at + 6000 → (pair_round p).server ≡ record p.server { clock = p.server.clock + 10 }
+pub server_quiet : (p : Pair) → is_open p.server.phase ≡ false → p.server.clock + 10 < p.server.closed_at + 6000 → (pair_round p).server ≡ record p.server { clock = p.server.clock + 10 }
 unfolding pair_round
 server_quiet p shut quiet = ap (λ (s : Step). s.link) (quiet_stays (p.server.clock + 10) p.to_server p.server shut quiet)
 
@@ -301,7 +301,7 @@ unfolding pair_round
 server_round p none = ap (λ (ps : List Pdu). (end_round (p.server.clock + 10) ps p.server).link) none
 
 -- the client is ready, and so is the server
-quick : (names : Names) (p : Pair) → Facts names p → is_open p.client.phase ≡ false → p.client.closed_at + 6000 ≤ p.client.clock + 10 → p.server.closed_at + 6000 ≤ p.server.clock + 20 → Comes names 4 p
+pub quick : (names : Names) (p : Pair) → Facts names p → is_open p.client.phase ≡ false → p.client.closed_at + 6000 ≤ p.client.clock + 10 → p.server.closed_at + 6000 ≤ p.server.clock + 20 → Comes names 4 p
 quick names p facts client_out over server_over = subst (Comes names 4) (sym same)
     (record { rounds = 4; soon = omega arith; healthy = new_is_healthy names 1 p.client.clock p.server.clock p.client.closed_at p.server.closed_at (left_of p.client) (left_of p.server) over server_over (omega arith) })
   where
@@ -311,7 +311,7 @@ quick names p facts client_out over server_over = subst (Comes names 4) (sym sam
     same : p ≡ both_down names p.client.clock p.server.clock p.client.closed_at p.server.closed_at (left_of p.client) (left_of p.server)
     same = four (out_is names role.Client p.client facts.client client_out) (out_is names role.Server p.server facts.server waited.0) waited.1 waited.2
 
-server_stays : (names : Names) (p : Pair) → Facts names p → is_open p.server.phase ≡ false → (p.to_server ≡ []) ⊎ (p.server.clock + 10 < p.server.closed_at + 6000) → (pair_round p).server ≡ record p.server { clock = p.server.clock + 10 }
+pub server_stays : (names : Names) (p : Pair) → Facts names p → is_open p.server.phase ≡ false → (p.to_server ≡ []) ⊎ (p.server.clock + 10 < p.server.closed_at + 6000) → (pair_round p).server ≡ record p.server { clock = p.server.clock + 10 }
 server_stays names p facts shut (inr quiet) = server_quiet p shut quiet
 server_stays names p facts shut (inl none) = server_round p none ∙ rests_then
   where
@@ -326,7 +326,7 @@ server_stays names p facts shut (inl none) = server_round p none ∙ rests_then
         ∙ ap (λ (s : Step). s.link) (server_rests names p.server.clock p.server.closed_at (left_of p.server))
         ∙ sym (ap (λ (l : LinkState). record l { clock = p.server.clock + 10 }) same)
 
-mute_quiet : (p : Pair) → is_open p.client.phase ≡ false → p.client.clock + 10 < p.client.closed_at + 6000 → (pair_round p).to_server ≡ []
+pub mute_quiet : (p : Pair) → is_open p.client.phase ≡ false → p.client.clock + 10 < p.client.closed_at + 6000 → (pair_round p).to_server ≡ []
 unfolding pair_round
 mute_quiet p shut quiet = ap (λ (s : Step). s.pdus) (quiet_stays (p.client.clock + 10) p.to_client p.client shut quiet)
 

@@ -1,5 +1,5 @@
 -- What comes to an end in a round, one PDU after another, and then its own work.
-use Rattle.std.proofs.Common.{◌≡◌, ℕ, ◌∙◌, ◌+◌, ◌-◌, ◌≤◌, ◌<◌, ◌⊎◌, inl, inr, Bool, true, false, ◌&&◌, nat_le, List, [], ◌∷◌, ◌++◌, refl, sym, ap, subst, arith, leb-false}
+use Rattle.std.proofs.Common.{◌≡◌, ℕ, ◌∙◌, ◌+◌, ◌-◌, ◌<◌, ◌⊎◌, inl, inr, Bool, true, false, ◌&&◌, nat_le, List, [], ◌∷◌, ◌++◌, refl, sym, ap, subst, arith, leb-false}
 use Rattle.std.proofs.lemmas.Bool.Decides.{nat_tests}
 use Rattle.rasta_core_run.specs.State.{LinkState, is_open, is_up}
 use Rattle.rasta_core_run.specs.Clock.{settled, deadline}
@@ -16,12 +16,12 @@ use Rattle.rasta_core_recovery.proofs.Links.{heard, all_heard, worked, end_round
 use Rattle.rasta_core_recovery.proofs.Calls.{Lives, at_reading, ticking_calm, ticking_beats, opening_lives, heard_lives}
 use Rattle.rasta_core_recovery.proofs.Stays.{quiet_hearing, quiet_hears_all, quiet_works, quiet_opening, quiet_may_not}
 
--- an end that is outside since now, or not long before
+-- an end that is outside since now, or since its time was over in this round
 pub record Out (now : ℕ) (k : LinkState) : Type 0 where
   pub clock : k.clock ≡ now
   pub is_out : is_open k.phase ≡ false
   pub quiet : now < k.closed_at + 6000
-  pub lately : now ≤ k.closed_at + 10
+  pub lately : now < k.closed_at + 10
 
 -- an end inside at a reading
 pub record Lively (now : ℕ) (l : LinkState) : Type 0 where
@@ -29,10 +29,10 @@ pub record Lively (now : ℕ) (l : LinkState) : Type 0 where
   pub connected : is_open l.phase ≡ true
   pub young : now < l.own_stamp + 1800
 
-same_clock : (now : ℕ) (l : LinkState) → l.clock ≡ now → at_reading now l ≡ l
+pub same_clock : (now : ℕ) (l : LinkState) → l.clock ≡ now → at_reading now l ≡ l
 same_clock now l at = ap (λ (c : ℕ). record l { clock = c }) (sym at)
 
-settled_in : (now : ℕ) (l : LinkState) → is_open l.phase ≡ true → now < l.own_stamp + 1800 → settled now l ≡ at_reading now l
+pub settled_in : (now : ℕ) (l : LinkState) → is_open l.phase ≡ true → now < l.own_stamp + 1800 → settled now l ≡ at_reading now l
 unfolding settled deadline
 settled_in now l is_in young = rw (is_in, late) refl
   where
@@ -111,7 +111,7 @@ not_up phase.Up o = cc
 not_up phase.RetransmissionRequested o = cc
 not_up phase.RetransmissionRunning o = cc
 
-beats_not : (j : LinkState) → is_open j.phase ≡ false → beating j ≡ silent j
+pub beats_not : (j : LinkState) → is_open j.phase ≡ false → beating j ≡ silent j
 unfolding beating
 beats_not j shut = rw (not_up j.phase shut) refl
 

@@ -56,6 +56,22 @@ pub record Hears (rest : ℕ) (flies : Bool) (l m : LinkState) : Type 0 where
   pub recent : IsRecent flies m reading
   pub own_before : l.own_stamp ≤ l.clock
 
+-- the same, whatever room there is below the limit of PDUs
+pub record Follows (flies : Bool) (l m : LinkState) : Type 0 where
+  pub reads : is_reading l.phase ≡ true
+  pub first : l.partner_first ≡ m.own_first
+  pub some : 1 ≤ l.expected
+  pub expected : l.expected + count flies ≡ m.sent
+  pub confirmed : m.confirmed < l.expected
+  pub reading : ℕ
+  pub kept : l.partner_stamp ≡ stamp reading
+  pub since : m.own_stamp ≤ reading
+  pub before : reading ≤ m.clock
+  pub sent_before : m.sent_at ≤ m.clock
+  pub calm : m.clock < m.sent_at + 300
+  pub recent : IsRecent flies m reading
+  pub own_before : l.own_stamp ≤ l.clock
+
 -- and it has been heard lately, and needs no items again
 pub record IsSteady (flies : Bool) (l m : LinkState) : Type 0 where
   pub up : l.phase ≡ phase.Up
@@ -69,6 +85,15 @@ pub record Near (names : Names) (rest : ℕ) (of_client of_server : Bool) (p : P
   pub to_server : p.to_server ≡ beats of_client p.client
   pub hears_server : Hears rest of_server p.client p.server
   pub hears_client : Hears rest of_client p.server p.client
+
+-- the same, whatever room there is
+pub record Beside (names : Names) (of_client of_server : Bool) (p : Pair) : Type 0 where
+  pub client : p.client.identity ≡ identity_of role.Client names
+  pub server : p.server.identity ≡ identity_of role.Server names
+  pub to_client : p.to_client ≡ beats of_server p.server
+  pub to_server : p.to_server ≡ beats of_client p.client
+  pub hears_server : Follows of_server p.client p.server
+  pub hears_client : Follows of_client p.server p.client
 
 pub record Healthy (names : Names) (rest : ℕ) (p : Pair) : Type 0 where
   pub of_client : Bool

@@ -23,4 +23,6 @@ pub mod Converse
 pub mod Facts
 pub mod Seen
 pub mod Fates
+pub mod Limit
+pub mod Gaps
 pub mod Recovers

@@ -12,7 +12,7 @@ use Rattle.rasta_core.specs.Ordered.{Ordered}
 use Rattle.rasta_core_recovery.proofs.Links.{Pair, pair_rounds}
 use Rattle.rasta_core_recovery.proofs.Healthy.{Healthy}
 use Rattle.rasta_core_recovery.proofs.Mirror.{Mirrors}
-use Rattle.rasta_core_recovery.specs.Rounds.{Flow, round_events, good_round, good_rounds, AreUp, IsBelowLimit, StayBelowLimit, flow_after, recovery_rounds}
+use Rattle.rasta_core_recovery.specs.Rounds.{Flow, round_events, good_round, good_rounds, AreUp, IsBelowLimit, StayBelowLimit, flow_after, gap_rounds, recovery_rounds}
 use Rattle.rasta_core_recovery.proofs.Bridge.{KeepsTime, WrittenIsRead, HandsOut, mirror_of, mirrors_on}
 use Rattle.rasta_core_recovery.proofs.Ages.{rounds_clock}
 use Rattle.rasta_core_recovery.proofs.Facts.{facts}
@@ -20,6 +20,7 @@ use Rattle.rasta_core_recovery.proofs.Happen.{may_happen}
 use Rattle.rasta_core_recovery.proofs.Pasts.{Past, Pasts, OwnBefore, run_past, starts_past}
 use Rattle.rasta_core_recovery.proofs.Seen.{Rooms, Seen, rounds_add, seen_later, healthy_for}
 use Rattle.rasta_core_recovery.proofs.Fates.{Comes, all_comes}
+use Rattle.rasta_core_recovery.proofs.Gaps.{Lasts, lasts_later, Goes, up_now, up_later, up_of, goes_for}
 
 abbrev pub KeepsOrder : Type 0
 KeepsOrder = (names : Names) (event : Event) (ends : Ends) → AreNames names → Timely names ends → Ordered names ends → May names event ends → Ordered names (happened event ends)
@@ -94,8 +95,9 @@ module _ (laws : Laws) (names : Names) (are : AreNames names) (f : Flow) (start 
       room = λ k most. rooms_of (good_rounds k f).ends (pair_rounds k p) (mirrors k).client (mirrors k).server (room k most);
     }
 
-    up_then : (n : ℕ) → recovery_rounds ≤ n → StayBelowLimit n f → AreUp (good_rounds n f).ends
-    up_then n long room = (is_up_then _ _ (mirrors n).client healthy.steady_client.up, is_up_then _ _ (mirrors n).server healthy.steady_server.up)
+    healthy_then : (n : ℕ) → recovery_rounds ≤ n → StayBelowLimit n f → Healthy names 1 (pair_rounds n p)
+    healthy_then n long room = subst (Healthy names 1) (rounds_add (n - comes.rounds) comes.rounds p ∙ ap (λ (k : ℕ). pair_rounds k p) (omega (arith, whole)))
+        (healthy_for names (n - comes.rounds) (n - comes.rounds) (pair_rounds comes.rounds p) (seen_later names comes.rounds (n - comes.rounds) p (subst (λ (k : ℕ). Seen names k p) (sym whole) all)) (omega arith) comes.healthy)
       where
         all : Seen names n p
         all = seen n room
@@ -106,21 +108,51 @@ module _ (laws : Laws) (names : Names) (are : AreNames names) (f : Flow) (start 
         whole : comes.rounds + (n - comes.rounds) ≡ n
         whole = omega (arith, long, comes.soon)
 
-        healthy : Healthy names 1 (pair_rounds n p)
-        healthy = subst (Healthy names 1) (rounds_add (n - comes.rounds) comes.rounds p ∙ ap (λ (k : ℕ). pair_rounds k p) (omega (arith, whole)))
-            (healthy_for names (n - comes.rounds) (n - comes.rounds) (pair_rounds comes.rounds p) (seen_later names comes.rounds (n - comes.rounds) p (subst (λ (k : ℕ). Seen names k p) (sym whole) all)) (omega arith) comes.healthy)
+    is_up_then : (l k : LinkState) → l ≡ k → k.phase ≡ phase.Up → is_up l.phase ≡ true
+    is_up_then l k e up = ap (λ (j : LinkState). is_up j.phase) e ∙ ap is_up up
 
-        is_up_then : (l k : LinkState) → l ≡ k → k.phase ≡ phase.Up → is_up l.phase ≡ true
-        is_up_then l k e up = ap (λ (j : LinkState). is_up j.phase) e ∙ ap is_up up
+    up_at : (n : ℕ) → (pair_rounds n p).client.phase ≡ phase.Up → (pair_rounds n p).server.phase ≡ phase.Up → AreUp (good_rounds n f).ends
+    up_at n client server = (is_up_then _ _ (mirrors n).client client, is_up_then _ _ (mirrors n).server server)
+
+    up_then : (n : ℕ) → recovery_rounds ≤ n → StayBelowLimit n f → AreUp (good_rounds n f).ends
+    up_then n long room = let healthy = healthy_then n long room in up_at n healthy.steady_client.up healthy.steady_server.up
+
+    lasts : Lasts names p
+    lasts = record {
+      facts = λ k. facts names (good_rounds k f) (pair_rounds k p) (mirrors k) (holds k).ordered;
+      client_past = λ k. subst Past (mirrors k).client (holds k).pasts.client;
+      server_past = λ k. subst Past (mirrors k).server (holds k).pasts.server;
+    }
+
+    again : (m n : ℕ) → recovery_rounds ≤ m → StayBelowLimit m f → m ≤ n → (k : ℕ) × (k ≤ gap_rounds) × AreUp (good_rounds (k + n) f).ends
+    again m n long room later = choose (subst (Goes names) (rounds_add (n - m) m p ∙ ap (λ (k : ℕ). pair_rounds k p) (omega (arith, later)))
+        (goes_for names (n - m) (pair_rounds m p) (lasts_later names m p lasts) (up_now (up_of names (pair_rounds m p) (healthy_then m long room)))))
+      where
+        choose : Goes names (pair_rounds n p) → (k : ℕ) × (k ≤ gap_rounds) × AreUp (good_rounds (k + n) f).ends
+        choose (up_now u) = (0, omega arith, subst (λ (k : ℕ). AreUp (good_rounds k f).ends) (omega arith) (up_at n u.steady_client.up u.steady_server.up))
+        choose (up_later c) = let h : Healthy names 1 (pair_rounds (c.rounds + n) p) = subst (Healthy names 1) (rounds_add c.rounds n p) c.healthy in
+            (c.rounds, c.soon, up_at (c.rounds + n) h.steady_client.up h.steady_server.up)
+
+-- two fresh ends to which these events happened
+holds_after : Laws → (names : Names) (start : Start) (events : List Event) → AreNames names → MayRun names events (started names start) → Holds names (run events (started names start))
+holds_after laws names start events are may = holds_run laws names are events (started names start) (record {
+  timely = laws.starts_timely names start are;
+  ordered = laws.starts_ordered names start;
+  pasts = starts_past names start;
+}) may
 
 pub recovers : Laws → (names : Names) (start : Start) (events : List Event) (passed n : ℕ) → AreNames names → MayRun names events (started names start) → recovery_rounds ≤ n
     → StayBelowLimit n (flow_after names start events passed) → AreUp (good_rounds n (flow_after names start events passed)).ends
 recovers laws names start events passed n are may long room =
-    let first : Holds names (run events (started names start)) = holds_run laws names are events (started names start) (record {
-      timely = laws.starts_timely names start are;
-      ordered = laws.starts_ordered names start;
-      pasts = starts_past names start;
-    }) may in
+    let first = holds_after laws names start events are may in
     let f : Flow = flow_after names start events passed in
     let m = mirror_of names f first.timely in
     up_then laws names are f first m.0 m.1 n long room
+
+pub recovers_again : Laws → (names : Names) (start : Start) (events : List Event) (passed m n : ℕ) → AreNames names → MayRun names events (started names start) → recovery_rounds ≤ m
+    → StayBelowLimit m (flow_after names start events passed) → m ≤ n → (k : ℕ) × (k ≤ gap_rounds) × AreUp (good_rounds (k + n) (flow_after names start events passed)).ends
+recovers_again laws names start events passed m n are may long room later =
+    let first = holds_after laws names start events are may in
+    let f : Flow = flow_after names start events passed in
+    let mirror = mirror_of names f first.timely in
+    again laws names are f first mirror.0 mirror.1 m n long room later

@@ -59,3 +59,7 @@ flow_after names start events passed = record { ends = run events (started names
 -- from this good round on both ends are up: 16,000 ms after the good rounds began
 abbrev pub recovery_rounds : ℕ
 recovery_rounds = 1600
+
+-- from then on, wherever an end comes to the limit of PDUs, both are up again so many rounds later at the latest: 6040 ms
+abbrev pub gap_rounds : ℕ
+gap_rounds = 604

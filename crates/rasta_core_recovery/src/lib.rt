@@ -4,4 +4,4 @@
 
 mod laws;
 
-pub use laws::two_ends_come_up;
+pub use laws::{gaps_are_short, two_ends_come_up};
