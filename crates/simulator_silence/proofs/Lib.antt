@@ -1,0 +1,7 @@
+mod Stamps
+mod Fresh
+mod Ends
+mod Network
+mod World
+mod Spent
+mod Shown
