@@ -1,7 +1,7 @@
 //! Which way each element lies.
 
 use crate::lists::{at, filled, put};
-use crate::yard::{Place, Yard, ends};
+use crate::yard::{Kind, Place, Yard, ends};
 use control_table::layout::End;
 use std::alloc::{AllocError, Global};
 
@@ -45,6 +45,30 @@ impl Directions {
     /// Whether a port lies at the right of its element.
     pub(crate) fn is_right(&self, place: Place) -> bool {
         is_natural_right(place.end) != at(&self.flipped, place.element, false)
+    }
+
+    /// Whether an element is part of a piece.
+    pub(crate) fn is_in(&self, element: usize, piece: usize) -> bool {
+        at(&self.pieces, element, None) == Some(piece)
+    }
+
+    /// Whether a piece is a line by itself: it has no point, and ends at no border at the right of the plan.
+    pub(crate) fn is_line(&self, yard: &Yard, piece: usize) -> bool {
+        for element in 0..yard.size() {
+            if self.is_in(element, piece) && self.parts(yard, element) {
+                return false;
+            }
+        }
+        true
+    }
+
+    /// Whether an element is a point, or a border at the right of the plan.
+    fn parts(&self, yard: &Yard, element: usize) -> bool {
+        match yard.kind(element) {
+            Kind::Track => false,
+            Kind::Point => true,
+            Kind::Border => at(&self.flipped, element, false),
+        }
     }
 
     fn is_found(&self, element: usize) -> bool {

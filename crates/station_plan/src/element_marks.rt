@@ -39,7 +39,7 @@ pub(crate) fn draw_track(
     let room = signal_room(sketch, element, false);
     let name = sketch.labels.name(element);
     let middle = (left + room + right).half();
-    marks.name("name", middle, y - Units(6), Anchor::Middle, name, true)
+    marks.name("name", middle, y - Units(8), Anchor::Middle, name, true)
 }
 
 /// How much room the signal at a side of an element takes.
@@ -161,7 +161,7 @@ pub(crate) fn draw_point(
     let x = sketch.x(element);
     let y = sketch.y(element);
     let up = sketch.grid.is_drawn_up(element);
-    let down = if up { Units(14) } else { Units(-6) };
+    let down = if up { Units(16) } else { Units(-8) };
     let name = sketch.labels.name(element);
     marks.name("name", x, y + down, Anchor::Middle, name, !up)?;
     if up == sketch.grid.leads_up(element) {
@@ -214,8 +214,9 @@ pub(crate) fn draw_border(
     marks.line("rail", tip, sketch.port(place))?;
     draw_end(marks, sketch, element, right)?;
     let name = sketch.labels.name(element);
-    let x = sketch.x(element);
-    marks.name("name", x, y - Units(8), Anchor::Middle, name, true)
+    let anchor = if right { Anchor::Start } else { Anchor::End };
+    let x = Units(outer.x);
+    marks.name("name", x, y - Units(8), anchor, name, true)
 }
 
 /// Draws a joint across the line.

@@ -129,13 +129,13 @@ fn texts(grid: &Grid, labels: &Labels, element: usize) -> (Units, Units) {
     let name = lines(labels.name(element));
     let section = lines(labels.section(element));
     match grid.yard.kind(element) {
-        Kind::Track => (Units(14) + more(name), Units(16) + more(section)),
+        Kind::Track => (Units(16) + more(name), Units(17) + more(section)),
         Kind::Point => {
             let all = more(name.saturating_add(section));
             if grid.is_drawn_up(element) {
-                (Units(8), Units(16) + all)
+                (Units(8), Units(18) + all)
             } else {
-                (Units(14) + all, Units(8))
+                (Units(16) + all, Units(8))
             }
         }
         Kind::Border => (Units(16) + more(name), Units(8)),

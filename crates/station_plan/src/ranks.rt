@@ -33,7 +33,8 @@ impl Ranks {
         for element in courses.order.iter().rev().copied() {
             lengthen(&mut onward, yard, directions, courses, element, false);
         }
-        let ranks = settled(alloc, yard, directions, &inward)?;
+        let mut ranks = settled(alloc, yard, directions, &inward)?;
+        lay_beside(&mut ranks, yard, directions);
         Ok(Ranks {
             ranks,
             inward,
@@ -92,4 +93,42 @@ fn settled(
         ranks.push(way.saturating_sub(1))?;
     }
     Ok(ranks)
+}
+
+/// Lays lines that hang at nothing behind one another, as long as they are together no longer than the longest way: so
+/// they can share a row.
+fn lay_beside(ranks: &mut Vec<usize>, yard: &Yard, directions: &Directions) {
+    let longest = ranks.iter().copied().max().unwrap_or(0).saturating_add(1);
+    let mut begin: usize = 0;
+    for piece in 0..directions.count {
+        if directions.is_line(yard, piece) {
+            let length = length_of(ranks, directions, piece);
+            if longest < begin.saturating_add(length) {
+                begin = 0;
+            }
+            shift(ranks, directions, piece, begin);
+            begin = begin.saturating_add(length);
+        }
+    }
+}
+
+/// How many ranks a piece has.
+fn length_of(ranks: &Vec<usize>, directions: &Directions, piece: usize) -> usize {
+    let mut length = 0;
+    for element in 0..ranks.len() {
+        if directions.is_in(element, piece) {
+            length = length.max(ranks[element].saturating_add(1));
+        }
+    }
+    length
+}
+
+/// Moves a piece to the right.
+fn shift(ranks: &mut Vec<usize>, directions: &Directions, piece: usize, by: usize) {
+    for element in 0..ranks.len() {
+        if directions.is_in(element, piece) {
+            let rank = at(ranks, element, 0).saturating_add(by);
+            put(ranks, element, rank);
+        }
+    }
 }

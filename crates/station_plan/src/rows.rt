@@ -16,7 +16,7 @@ const CROSSING: usize = 100;
 /// What each half row between costs.
 const HALF_ROW: usize = 4;
 /// What a new row costs.
-const NEW_ROW: usize = 5;
+const NEW_ROW: usize = 10;
 
 /// Where a chain may come to lie.
 #[derive(Clone, Copy)]
@@ -49,6 +49,8 @@ pub(crate) struct Rows {
     pub(crate) count: usize,
     /// The first row of the piece that is placed now.
     base: usize,
+    /// The first row of lines that hang at nothing, once there is one.
+    lines: Option<usize>,
 }
 
 /// What rows are found from.
@@ -97,12 +99,24 @@ impl Rows {
             rows: filled(alloc, hanging.strands.len(), None)?,
             count: 0,
             base: 0,
+            lines: None,
         };
         for piece in 0..hanging.ground.directions.count {
-            rows.base = rows.count;
+            rows.base = rows.first_for(hanging, piece);
             rows.fill(hanging, piece);
         }
         Ok(rows)
+    }
+
+    /// The first row on which a piece may lie: below all that is placed, but for a line that hangs at nothing, which may
+    /// share a row with others.
+    fn first_for(&mut self, hanging: Hanging<'_>, piece: usize) -> usize {
+        if !is_line(hanging, piece) {
+            return self.count;
+        }
+        let first = self.lines.unwrap_or(self.count);
+        self.lines = Some(first);
+        first
     }
 
     /// Places all chains of a piece.
@@ -221,10 +235,11 @@ impl Rows {
         cost
     }
 
-    /// Whether no chain of a row reaches as far as this one.
+    /// Whether no chain of a row reaches as far as this one, and all may lie beside it.
     fn is_free(&self, hanging: Hanging<'_>, mine: Strand, row: usize) -> bool {
         for (chain, strand) in hanging.strands.iter().enumerate() {
-            if self.row(chain) == Some(row) && strand.overlaps(mine) {
+            let is_there = self.row(chain) == Some(row);
+            if is_there && (strand.overlaps(mine) || !may_share(hanging, *strand, mine)) {
                 return false;
             }
         }
@@ -323,6 +338,19 @@ impl Rows {
         }
         count
     }
+}
+
+/// Whether a piece is a line that hangs at nothing.
+fn is_line(hanging: Hanging<'_>, piece: usize) -> bool {
+    hanging
+        .ground
+        .directions
+        .is_line(hanging.ground.yard, piece)
+}
+
+/// Whether two chains may lie on one row: they are of one piece, or both of lines that hang at nothing.
+fn may_share(hanging: Hanging<'_>, one: Strand, other: Strand) -> bool {
+    one.piece == other.piece || (is_line(hanging, one.piece) && is_line(hanging, other.piece))
 }
 
 /// Whether a leg leads up.

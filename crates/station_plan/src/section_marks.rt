@@ -70,7 +70,7 @@ fn draw_track_label(marks: &mut Marks, sketch: &Sketch, element: usize) -> Resul
     let left = sketch.edge(element, false);
     let right = sketch.edge(element, true);
     let x = (left + right - signal_room(sketch, element, true)).half();
-    let y = sketch.y(element) + Units(14);
+    let y = sketch.y(element) + Units(15);
     let name = sketch.labels.section(element);
     marks.name("label", x, y, Anchor::Middle, name, false)
 }
@@ -80,9 +80,9 @@ fn draw_point_label(marks: &mut Marks, sketch: &Sketch, element: usize) -> Resul
     let up = sketch.grid.is_drawn_up(element);
     let beyond = LINE.times(count(lines(sketch.labels.name(element))));
     let y = if up {
-        sketch.y(element) + Units(14) + beyond
+        sketch.y(element) + Units(16) + beyond
     } else {
-        sketch.y(element) - Units(6) - beyond
+        sketch.y(element) - Units(8) - beyond
     };
     let x = sketch.x(element);
     let name = sketch.labels.section(element);
