@@ -1,0 +1,94 @@
+-- Which text gives each node of a station an address of its own, and what is wrong with another.
+use Rattle.std.specs.Prelude.{◌≡◌, ◌≢◌, ℕ, if◌then◌else◌, List, length, Option, Some, None, slice_get, Result, Ok, Err}
+use Rattle.std.specs.List.{Contains}
+use Rattle.std.specs.Net.Grammar.{IsSocketText}
+use Rattle.std.specs.Net.Socket.{socket_port}
+use Rattle.std.specs.declared.net.socket_addr.SocketAddr.{SocketAddr}
+use Rattle.toml.specs.Data.{Data, Members, no_members, member, get_member, as_str}
+use Rattle.toml.specs.Parse.{parse_document}
+use Rattle.replay_words.specs.declared.fault.Fault.{Fault}
+use Rattle.ixl_rules.specs.layout.Entries.{Site}
+use Rattle.ixl_rules.specs.layout.Once.{Distinct}
+use Rattle.simulator_event.specs.declared.event.NodeId.{NodeId}
+use Rattle.replay_lines.specs.Names.{node_named, node_names}
+use Rattle.node_addresses.specs.Keys.{is_name}
+use Rattle.node_addresses.specs.declared.fault.AddressesFault.{AddressesFault}
+use Rattle.node_addresses.specs.declared.fault.AddressesFault.TheVariants.{Toml, MissingNode, WrongAddress, DoubleAddress, UnknownNode, WrongName, OutOfMemory}
+
+-- ---- one address
+
+-- a text writes an address: an IP address and a port from 1 on
+abbrev pub WritesAddress : List ℕ → SocketAddr → Type 0
+WritesAddress text address = IsSocketText text address × (socket_port address ≢ 0)
+
+-- a value is such a text
+abbrev pub GivesAddress : Data → SocketAddr → Type 0
+GivesAddress value address = (text : List ℕ) × (as_str value ≡ Some text) × WritesAddress text address
+
+-- it stands under this key
+abbrev pub StandsUnder : Members → List ℕ → SocketAddr → Type 0
+StandsUnder document key address = (value : Data) × (get_member key document ≡ Some value) × GivesAddress value address
+
+-- ---- all of them
+
+-- each address stands under the name at its place
+abbrev pub StandUnder : Members → List (List ℕ) → List SocketAddr → Type 0
+StandUnder document names addresses = (place : ℕ) (address : SocketAddr) → slice_get addresses place ≡ Some address
+    → (name : List ℕ) × (slice_get names place ≡ Some name) × StandsUnder document name address
+
+-- Each node has its address, in the order of the layout's nodes, and no two have the same.
+pub record AreOfNodes (site : Site) (document : Members) (addresses : List SocketAddr) : Type 0 where
+  pub count : length addresses ≡ length (node_names site)
+  pub each : StandUnder document (node_names site) addresses
+  pub once : Distinct addresses
+
+-- a key that hasn't the form of a name isn't told
+abbrev pub unknown : List ℕ → AddressesFault
+unknown key = if is_name key then UnknownNode key else WrongName
+
+abbrev pub unless_node : Result NodeId Fault → List ℕ → Option AddressesFault → Option AddressesFault
+unless_node (Ok node) key behind = behind
+unless_node (Err fault) key behind = Some (unknown key)
+
+-- the fault of the first key that names no node
+abbrev pub unknown_key : Site → Members → Option AddressesFault
+unknown_key site no_members = None
+unknown_key site (member key value behind) = unless_node (node_named site key) key (unknown_key site behind)
+
+-- A text is an addresses file, and these are its addresses.
+pub record IsSound (site : Site) (text : List ℕ) (addresses : List SocketAddr) : Type 0 where
+  pub document : Members
+  pub is_toml : parse_document text ≡ Some document
+  pub of_nodes : AreOfNodes site document addresses
+  pub no_others : unknown_key site document ≡ None
+
+-- ---- faults
+
+-- why a node has no address of its own, where those before it have these
+abbrev pub HasNone : Members → List ℕ → List SocketAddr → AddressesFault → Type 0
+HasNone document name before (MissingNode told) = (told ≡ name) × (get_member name document ≡ None)
+HasNone document name before (WrongAddress told) =
+    (told ≡ name) × (value : Data) × (get_member name document ≡ Some value) × ((address : SocketAddr) → ¬ (GivesAddress value address))
+HasNone document name before (DoubleAddress told) = (told ≡ name) × (address : SocketAddr) × StandsUnder document name address × Contains before address
+HasNone document name before _ = ⊥
+
+-- The first node in the order of the layout that has no address of its own.
+pub record StopsAtNode (site : Site) (document : Members) (fault : AddressesFault) : Type 0 where
+  pub before : List SocketAddr
+  pub each : StandUnder document (node_names site) before
+  pub once : Distinct before
+  pub name : List ℕ
+  pub is_next : slice_get (node_names site) (length before) ≡ Some name
+  pub why : HasNone document name before fault
+
+-- which fault a text has, where it is no addresses file
+pub data IsFault (site : Site) (text : List ℕ) : AddressesFault → Type 0 where
+  no_toml : parse_document text ≡ None → IsFault site text Toml
+  at_node : {document : Members} {fault : AddressesFault} → parse_document text ≡ Some document → StopsAtNode site document fault → IsFault site text fault
+  at_key : {document : Members} {fault : AddressesFault} {addresses : List SocketAddr} → parse_document text ≡ Some document → AreOfNodes site document addresses
+      → unknown_key site document ≡ Some fault → IsFault site text fault
+
+-- want of memory is told in place of all else
+abbrev pub UnlessMemory : AddressesFault → Type 0 → Type 0
+UnlessMemory OutOfMemory said = Unit {0}
+UnlessMemory fault said = said

@@ -1,0 +1,10 @@
+//! The addresses file of a station: an IP address and a port for each of its nodes.
+#![tactic(auto)]
+
+mod address_read;
+mod fault;
+mod keys;
+mod text;
+
+pub use fault::AddressesFault;
+pub use text::read_addresses;

@@ -1,0 +1,63 @@
+//! The text of an addresses file.
+
+ghost use Rattle.std.specs.Prelude.{◌≡◌, IfErr, IfOk, List, None, Some};
+ghost use Rattle.std.specs.declared.net.socket_addr.SocketAddr.{SocketAddr as Address};
+ghost use Rattle.toml.specs.Parse.{parse_document};
+ghost use Rattle.toml.specs.View.{table_view};
+ghost use Rattle.node_addresses.specs.Addresses.{AreOfNodes, IsFault, IsSound, StopsAtNode, UnlessMemory};
+ghost use Rattle.node_addresses.specs.declared.fault.AddressesFault.TheVariants.{Toml};
+
+use crate::address_read::next_address;
+use crate::fault::AddressesFault;
+use crate::keys::check_keys;
+use ixl_rules::layout::Layout;
+use replay_lines::{node_count, node_name};
+use simulator_event::NodeId;
+use std::alloc::Global;
+use std::net::SocketAddr;
+use toml::Table;
+
+/// The addresses of a station's nodes, in their order: the station, the signals, the points and the detectors, each in the order
+/// of the layout. The text is TOML with one key for each node, as `IXL1 = "10.0.0.1:5001"`. The first fault is told where the
+/// text is none. `OutOfMemory` comes only where memory was refused.
+pub fn read_addresses(
+    alloc: Global,
+    layout: &Layout,
+    text: &str,
+) -> Result<Vec<SocketAddr>, AddressesFault>
+    ensures sound { IfOk result (λ addresses. IsSound layout.now text.now addresses.items) }
+    ensures fault { IfErr result (λ fault. UnlessMemory fault (IsFault layout.now text.now fault)) }
+    ensures only { IfErr result (λ fault. UnlessMemory fault ((addresses : List Address) → ¬ (IsSound layout.now text.now addresses))) }
+{
+    let document = document(alloc, text)?;
+    let addresses = addresses_of(alloc, layout, &document)?;
+    check_keys(layout, &document)?;
+    Ok(addresses)
+}
+
+fn document(alloc: Global, text: &str) -> Result<Table, AddressesFault>
+    ensures read { IfOk result (λ document. parse_document text.now ≡ Some (table_view document)) }
+    ensures fault { IfErr result (λ fault. UnlessMemory fault ((fault ≡ Toml) × (parse_document text.now ≡ None))) }
+{
+    match toml::table_from_str(alloc, text) {
+        Ok(document) => Ok(document),
+        Err(fault) if fault.is_memory() => Err(AddressesFault::OutOfMemory),
+        Err(_) => Err(AddressesFault::Toml),
+    }
+}
+
+fn addresses_of(
+    alloc: Global,
+    layout: &Layout,
+    document: &Table,
+) -> Result<Vec<SocketAddr>, AddressesFault>
+    ensures found { IfOk result (λ addresses. AreOfNodes layout.now (table_view document.now) addresses.items) }
+    ensures fault { IfErr result (λ fault. UnlessMemory fault (StopsAtNode layout.now (table_view document.now) fault)) }
+{
+    let mut addresses = Vec::new(alloc);
+    while let Some(name) = node_name(layout, NodeId(addresses.len())) {
+        let address = next_address(document, &name, &addresses)?;
+        addresses.push(address)?;
+    }
+    Ok(addresses)
+}
