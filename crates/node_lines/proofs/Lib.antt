@@ -1,0 +1,2 @@
+pub mod ReadAgain
+pub mod WorkedLines

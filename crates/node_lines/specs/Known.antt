@@ -1,0 +1,89 @@
+-- What an interlocking tells its operator, a line each:
+--
+--     accepted                          it took the command
+--     refused N                         it refused the command, by number; 5 with the route, 6 with the section, 7 with the point
+--     link NODE ready|lost
+--     section S clear|occupied|unknown
+--     point P left|right|unknown
+--     signal S ASPECT R                 the authority given, and the route into which it leads
+--     signal S stop -                   no authority
+--     indicates S ASPECT                what its controller reports that it shows
+--     route R set|free
+--     holding
+--     waiting for resume
+use Rattle.std.specs.Prelude.{ℕ, Bool, true, false, List, ◌∷◌, ◌++◌, codes, Option, Some, None, slice_get}
+use Rattle.std.specs.Option.{option_map_or}
+use Rattle.ixl_rules.specs.layout.Entries.{Site}
+use Rattle.ixl_rules.specs.layout.declared.ids.SignalId.{SignalId}
+use Rattle.ixl_rules.specs.sci_telegram.declared.message.Aspect.{Aspect}
+use Rattle.ixl_rules.specs.sci_telegram.declared.message.Aspect.TheVariants.{Stop, Proceed, Slow}
+use Rattle.ixl_rules.specs.sci_telegram.declared.message.Occupancy.{Occupancy}
+use Rattle.ixl_rules.specs.sci_telegram.declared.message.Occupancy.TheVariants.{Clear, Occupied}
+use Rattle.ixl_rules.specs.sci_telegram.declared.message.Side.{Side}
+use Rattle.simulator_event.specs.declared.event.NodeId.{NodeId}
+use Rattle.replay_lines.specs.Answers.{refusal_text}
+use Rattle.replay_lines.specs.Names.{node_names, point_word, route_word, section_word}
+use Rattle.node_lines.specs.Orders.{side_word}
+use Rattle.node_lines.specs.declared.operator_line.Authority.{Authority}
+use Rattle.node_lines.specs.declared.operator_line.Known.{Known as KnownThing}
+use Rattle.node_lines.specs.declared.operator_line.Known.TheVariants.{Link, Section, Point, Signal, Indicates, Route, Holding, WaitingForResume}
+use Rattle.node_lines.specs.declared.operator_line.LinkState.{LinkState}
+use Rattle.node_lines.specs.declared.operator_line.LinkState.TheVariants.{Ready, Lost}
+use Rattle.node_lines.specs.declared.operator_line.OperatorLine.{OperatorLine}
+use Rattle.node_lines.specs.declared.operator_line.OperatorLine.TheVariants.{Accepted, Refused, Known}
+
+-- ---- words
+
+-- the word that stands for a node or a signal: its name, or `_` where the layout lacks it
+abbrev pub node_word : Site → NodeId → List ℕ
+node_word site node = option_map_or (λ name. name) (slice_get (node_names site) node.0) (codes "_")
+
+abbrev pub signal_word : Site → SignalId → List ℕ
+signal_word site signal = option_map_or (λ s. s.name) (slice_get site.signals signal.0) (codes "_")
+
+abbrev pub aspect_word : Aspect → List ℕ
+aspect_word Stop = codes "stop"
+aspect_word Proceed = codes "proceed"
+aspect_word Slow = codes "slow"
+
+abbrev pub link_word : LinkState → List ℕ
+link_word Ready = codes "ready"
+link_word Lost = codes "lost"
+
+abbrev pub known_occupancy_word : Option Occupancy → List ℕ
+known_occupancy_word (Some Clear) = codes "clear"
+known_occupancy_word (Some Occupied) = codes "occupied"
+known_occupancy_word None = codes "unknown"
+
+abbrev pub known_side_word : Option Side → List ℕ
+known_side_word (Some side) = side_word side
+known_side_word None = codes "unknown"
+
+abbrev pub route_state_word : Bool → List ℕ
+route_state_word true = codes "set"
+route_state_word false = codes "free"
+
+-- ---- lines
+
+abbrev pub link_text : Site → NodeId → LinkState → List ℕ
+link_text site node state = codes "link " ++ (node_word site node ++ 32 ∷ link_word state)
+
+abbrev pub signal_text : Site → SignalId → Option Authority → List ℕ
+signal_text site signal (Some authority) =
+    codes "signal " ++ (signal_word site signal ++ 32 ∷ (aspect_word authority.aspect ++ 32 ∷ route_word site authority.route))
+signal_text site signal None = codes "signal " ++ (signal_word site signal ++ codes " stop -")
+
+abbrev pub known_text : Site → KnownThing → List ℕ
+known_text site (Link node state) = link_text site node state
+known_text site (Section section occupancy) = codes "section " ++ (section_word site section ++ 32 ∷ known_occupancy_word occupancy)
+known_text site (Point point side) = codes "point " ++ (point_word site point ++ 32 ∷ known_side_word side)
+known_text site (Signal signal authority) = signal_text site signal authority
+known_text site (Indicates signal aspect) = codes "indicates " ++ (signal_word site signal ++ 32 ∷ aspect_word aspect)
+known_text site (Route route is_set) = codes "route " ++ (route_word site route ++ 32 ∷ route_state_word is_set)
+known_text site Holding = codes "holding"
+known_text site WaitingForResume = codes "waiting for resume"
+
+abbrev pub operator_text : Site → OperatorLine → List ℕ
+operator_text site Accepted = codes "accepted"
+operator_text site (Refused refusal) = refusal_text site refusal
+operator_text site (Known known) = known_text site known

@@ -1,0 +1,51 @@
+//! What is written in a line is read again.
+
+ghost use Rattle.std.specs.Prelude.{◌≡◌, Ok};
+ghost use Rattle.replay_words.specs.Cut.{words};
+ghost use Rattle.ixl_rules.specs.layout.Entries.{Site};
+ghost use Rattle.ixl_rules.specs.layout.Once.{Once};
+ghost use Rattle.ixl_rules.specs.layout.Station.{IsStation};
+ghost use Rattle.node_lines.specs.Commands.{command_said, command_text, operator_read};
+ghost use Rattle.node_lines.specs.Orders.{order_line_said, order_text};
+ghost use Rattle.node_lines.specs.ReadAgain.{IsOrderLine, IsReport};
+ghost use Rattle.node_lines.specs.Reports.{report_said, report_text};
+ghost use Rattle.node_lines.specs.Worked.{Worked};
+ghost use Rattle.node_lines.specs.declared.operator_command.OperatorCommand.{OperatorCommand as Asked};
+ghost use Rattle.node_lines.specs.declared.order.OrderLine.{OrderLine as Line};
+ghost use Rattle.node_lines.specs.declared.report.FieldReport.{FieldReport as Told};
+
+use replay_lines::{names_are_read_again, names_are_words};
+use replay_words::{a_number_is_read_again, joined_words_are_read_again};
+
+/// The line of an order is read as this order.
+pub fn orders_are_read_again()
+    ensures { (line : Line) → IsOrderLine line → order_line_said (words (order_text line)) ≡ Ok line }
+{
+    a_number_is_read_again();
+    joined_words_are_read_again();
+}
+
+/// The line of what field equipment tells is read as this.
+pub fn reports_are_read_again()
+    ensures { (site : Site) → Once site → IsStation site → (report : Told) → IsReport site report → report_said site (words (report_text site report)) ≡ Ok report }
+{
+    a_number_is_read_again();
+    joined_words_are_read_again();
+    names_are_read_again();
+    names_are_words();
+}
+
+/// The line of a command is read as this command. One on a route that the table lacks is read as one on the route behind its
+/// last, and a cancel of a route that is called `all` as one of each route.
+pub fn commands_are_read_again()
+    ensures { (site : Site) → Once site → IsStation site → (asked : Asked) → command_said site (words (command_text site asked)) ≡ Ok (operator_read site asked) }
+{
+    joined_words_are_read_again();
+    names_are_read_again();
+    names_are_words();
+}
+
+/// Lines worked by hand.
+pub fn lines_are_as_worked_by_hand()
+    ensures { (site : Site) → Worked site }
+{}

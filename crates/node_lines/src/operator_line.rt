@@ -1,0 +1,234 @@
+//! What an interlocking tells its operator.
+
+ghost use Rattle.std.specs.Prelude.{◌≡◌};
+ghost use Rattle.node_lines.specs.Known.{signal_word};
+
+use crate::word_table::{
+    aspect_word, known_occupancy_word, known_side_word, link_word, route_state_word,
+};
+use ixl_rules::Refusal;
+use ixl_rules::layout::{Layout, PointId, RouteId, SectionId, SignalId};
+use ixl_rules::sci_telegram::{Aspect, Occupancy, Side};
+use replay_lines::{AnswerText, node_name, point_word, route_word, section_word};
+use simulator_event::{Answer, NodeId};
+use std::fmt;
+
+/// Whether the link to a controller carries commands and reports.
+#[derive(Clone, Copy, Debug, PartialEq, Eq)]
+pub enum LinkState {
+    /// It is up, and the initialisation is completed.
+    Ready,
+    Lost,
+}
+
+/// The authority that was given at a signal.
+#[derive(Clone, Copy, Debug, PartialEq, Eq)]
+pub struct Authority {
+    /// The aspect that the signal was told to show.
+    pub aspect: Aspect,
+    /// The route into which it leads.
+    pub route: RouteId,
+}
+
+/// What an interlocking knows of one thing.
+#[derive(Clone, Copy, Debug, PartialEq, Eq)]
+pub enum Known {
+    /// The link of a controller.
+    Link {
+        node: NodeId,
+        state: LinkState,
+    },
+    /// What is known of a section, if anything is.
+    Section {
+        section: SectionId,
+        occupancy: Option<Occupancy>,
+    },
+    /// At which side a point lies, if that is known.
+    Point {
+        point: PointId,
+        side: Option<Side>,
+    },
+    /// The authority given at a signal, if there is one.
+    Signal {
+        signal: SignalId,
+        authority: Option<Authority>,
+    },
+    /// What a signal's controller reports that it shows.
+    Indicates {
+        signal: SignalId,
+        aspect: Aspect,
+    },
+    /// Whether a route is set.
+    Route {
+        route: RouteId,
+        is_set: bool,
+    },
+    /// It takes no request yet: less than 6000 ms have passed since it was made.
+    Holding,
+    /// The hold is over, and it wasn't told to resume yet.
+    WaitingForResume,
+}
+
+/// A line to the operator.
+#[derive(Clone, Copy, Debug, PartialEq, Eq)]
+pub enum OperatorLine {
+    /// The interlocking took the command.
+    Accepted,
+    /// It refused the command.
+    Refused(Refusal),
+    /// What it knows now.
+    Known(Known),
+}
+
+/// A line to the operator of a station with this layout.
+#[derive(Clone, Copy)]
+pub struct OperatorText<'a> {
+    pub layout: &'a Layout,
+    pub line: OperatorLine,
+}
+
+impl<'a> fmt::Display for OperatorText<'a> {
+    ghost use Rattle.std.specs.Prelude.{Some};
+    ghost use Rattle.node_lines.specs.Known.{operator_text};
+
+    ghost output = { λ text. Some (operator_text text.layout.now text.line) };
+
+    fn fmt<W: fmt::Write>(&self, f: &mut fmt::Formatter<W>) -> fmt::Result {
+        let layout = self.layout;
+        match self.line {
+            OperatorLine::Accepted => write!(f, "accepted"),
+            OperatorLine::Refused(refusal) => {
+                let answer = AnswerText {
+                    layout,
+                    answer: Ok(Answer::Refused(refusal)),
+                };
+                write!(f, "{answer}")
+            }
+            OperatorLine::Known(known) => {
+                let known = KnownText { layout, known };
+                write!(f, "{known}")
+            }
+        }
+    }
+}
+
+/// What is known of one thing, as its line tells it.
+#[derive(Clone, Copy)]
+struct KnownText<'a> {
+    layout: &'a Layout,
+    known: Known,
+}
+
+impl<'a> fmt::Display for KnownText<'a> {
+    ghost use Rattle.std.specs.Prelude.{Some};
+    ghost use Rattle.node_lines.specs.Known.{known_text};
+
+    ghost output = { λ text. Some (known_text text.layout.now text.known) };
+
+    fn fmt<W: fmt::Write>(&self, f: &mut fmt::Formatter<W>) -> fmt::Result {
+        let layout = self.layout;
+        match self.known {
+            Known::Link { node, state } => {
+                let link = LinkText {
+                    layout,
+                    node,
+                    state,
+                };
+                write!(f, "{link}")
+            }
+            Known::Section { section, occupancy } => {
+                let section = section_word(layout, section);
+                let word = known_occupancy_word(occupancy);
+                write!(f, "section {section} {word}")
+            }
+            Known::Point { point, side } => {
+                let point = point_word(layout, point);
+                let word = known_side_word(side);
+                write!(f, "point {point} {word}")
+            }
+            Known::Signal { signal, authority } => {
+                let signal = SignalText {
+                    layout,
+                    signal,
+                    authority,
+                };
+                write!(f, "{signal}")
+            }
+            Known::Indicates { signal, aspect } => {
+                let signal = signal_word(layout, signal);
+                let word = aspect_word(aspect);
+                write!(f, "indicates {signal} {word}")
+            }
+            Known::Route { route, is_set } => {
+                let route = route_word(layout, route);
+                let word = route_state_word(is_set);
+                write!(f, "route {route} {word}")
+            }
+            Known::Holding => write!(f, "holding"),
+            Known::WaitingForResume => write!(f, "waiting for resume"),
+        }
+    }
+}
+
+/// The state of a link, as its line tells it.
+#[derive(Clone, Copy)]
+struct LinkText<'a> {
+    layout: &'a Layout,
+    node: NodeId,
+    state: LinkState,
+}
+
+impl<'a> fmt::Display for LinkText<'a> {
+    ghost use Rattle.std.specs.Prelude.{Some};
+    ghost use Rattle.node_lines.specs.Known.{link_text};
+
+    ghost output = { λ text. Some (link_text text.layout.now text.node text.state) };
+
+    fn fmt<W: fmt::Write>(&self, f: &mut fmt::Formatter<W>) -> fmt::Result {
+        let word = link_word(self.state);
+        match node_name(self.layout, self.node) {
+            Some(name) => {
+                let name = name.as_str();
+                write!(f, "link {name} {word}")
+            }
+            None => write!(f, "link _ {word}"),
+        }
+    }
+}
+
+/// The authority given at a signal, as its line tells it.
+#[derive(Clone, Copy)]
+struct SignalText<'a> {
+    layout: &'a Layout,
+    signal: SignalId,
+    authority: Option<Authority>,
+}
+
+impl<'a> fmt::Display for SignalText<'a> {
+    ghost use Rattle.std.specs.Prelude.{Some};
+    ghost use Rattle.node_lines.specs.Known.{signal_text};
+
+    ghost output = { λ text. Some (signal_text text.layout.now text.signal text.authority) };
+
+    fn fmt<W: fmt::Write>(&self, f: &mut fmt::Formatter<W>) -> fmt::Result {
+        let signal = signal_word(self.layout, self.signal);
+        match self.authority {
+            Some(authority) => {
+                let word = aspect_word(authority.aspect);
+                let route = route_word(self.layout, authority.route);
+                write!(f, "signal {signal} {word} {route}")
+            }
+            None => write!(f, "signal {signal} stop -"),
+        }
+    }
+}
+
+/// The word that stands for a signal: its name, or `_` where the layout lacks it.
+fn signal_word(layout: &Layout, signal: SignalId) -> &str
+    ensures { result.now ≡ signal_word layout.now signal }
+{
+    match layout.signals().get(signal.0) {
+        Some(signal) => signal.name.as_str(),
+        None => "_",
+    }
+}

@@ -1,0 +1,128 @@
+//! What field equipment tells its controller.
+
+ghost use Rattle.std.specs.Prelude.{◌≡◌};
+ghost use Rattle.replay_lines.specs.Events.{position_named};
+ghost use Rattle.replay_words.specs.Cut.{words};
+ghost use Rattle.node_lines.specs.Reports.{clear, done, occupy, reach, report_said};
+
+use crate::word_table::{occupancy_word, position_word};
+use ixl_rules::layout::{Layout, SectionId};
+use ixl_rules::sci_telegram::{Occupancy, Position};
+use replay_lines::{section_named, section_word};
+use replay_words::{Fault, Words, decimal};
+use std::fmt;
+
+/// What field equipment tells.
+#[derive(Clone, Copy, Debug, PartialEq, Eq)]
+pub enum FieldReport {
+    /// The order of this number is in force.
+    Done {
+        number: u64,
+    },
+    /// The contact of a section.
+    Section {
+        section: SectionId,
+        occupancy: Occupancy,
+    },
+    /// The contacts of the point.
+    Point(Position),
+}
+
+/// What field equipment tells, as its line tells it.
+#[derive(Clone, Copy)]
+pub struct ReportText<'a> {
+    pub layout: &'a Layout,
+    pub report: FieldReport,
+}
+
+impl<'a> fmt::Display for ReportText<'a> {
+    ghost use Rattle.std.specs.Prelude.{Some};
+    ghost use Rattle.node_lines.specs.Reports.{report_text};
+
+    ghost output = { λ text. Some (report_text text.layout.now text.report) };
+
+    fn fmt<W: fmt::Write>(&self, f: &mut fmt::Formatter<W>) -> fmt::Result {
+        match self.report {
+            FieldReport::Done { number } => write!(f, "done {number}"),
+            FieldReport::Section { section, occupancy } => {
+                let word = occupancy_word(occupancy);
+                let section = section_word(self.layout, section);
+                write!(f, "{word} {section}")
+            }
+            FieldReport::Point(position) => {
+                let position = position_word(position);
+                write!(f, "reach {position}")
+            }
+        }
+    }
+}
+
+/// What a line of field equipment tells, or the lowest fault of its words.
+pub fn read_report(layout: &Layout, line: &str) -> Result<FieldReport, Fault>
+    ensures { result ≡ report_said layout.now (words line.now) }
+{
+    let mut words = Words::of(line);
+    match words.next() {
+        Some("done") => done(words),
+        Some("occupy") => occupy(layout, words),
+        Some("clear") => clear(layout, words),
+        Some("reach") => reach(words),
+        _ => Err(Fault::Words),
+    }
+}
+
+fn done(mut words: Words<'_>) -> Result<FieldReport, Fault>
+    ensures { result ≡ done words.entry }
+{
+    let (Some(number), None) = (words.next(), words.next()) else {
+        return Err(Fault::Words);
+    };
+    Ok(FieldReport::Done {
+        number: decimal(number)?,
+    })
+}
+
+fn occupy(layout: &Layout, mut words: Words<'_>) -> Result<FieldReport, Fault>
+    ensures { result ≡ occupy layout.now words.entry }
+{
+    let (Some(section), None) = (words.next(), words.next()) else {
+        return Err(Fault::Words);
+    };
+    Ok(FieldReport::Section {
+        section: section_named(layout, section)?,
+        occupancy: Occupancy::Occupied,
+    })
+}
+
+fn clear(layout: &Layout, mut words: Words<'_>) -> Result<FieldReport, Fault>
+    ensures { result ≡ clear layout.now words.entry }
+{
+    let (Some(section), None) = (words.next(), words.next()) else {
+        return Err(Fault::Words);
+    };
+    Ok(FieldReport::Section {
+        section: section_named(layout, section)?,
+        occupancy: Occupancy::Clear,
+    })
+}
+
+fn reach(mut words: Words<'_>) -> Result<FieldReport, Fault>
+    ensures { result ≡ reach words.entry }
+{
+    let (Some(position), None) = (words.next(), words.next()) else {
+        return Err(Fault::Words);
+    };
+    Ok(FieldReport::Point(position_named(position)?))
+}
+
+// Where a point lies.
+fn position_named(word: &str) -> Result<Position, Fault>
+    ensures { result ≡ position_named word.now }
+{
+    match word {
+        "left" => Ok(Position::Left),
+        "right" => Ok(Position::Right),
+        "none" => Ok(Position::NoEndPosition),
+        _ => Err(Fault::Words),
+    }
+}
