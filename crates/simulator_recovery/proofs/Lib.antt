@@ -1,0 +1,4 @@
+mod Created
+mod Clocks
+mod Rounds
+mod Sends

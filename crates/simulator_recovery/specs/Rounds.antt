@@ -1,0 +1,57 @@
+-- Good rounds of a station, with requests and occupancies between them.
+use Rattle.std.specs.Prelude.{◌≡◌, ℕ, ◌+◌, ◌*◌, ◌≤◌, false, List, [], ◌∷◌, ◌++◌, length, map}
+use Rattle.simulator_run.specs.rasta_core.Each.{Each}
+use Rattle.simulator_run.specs.rasta_core.Links.{OnLink}
+use Rattle.simulator_run.specs.simulator_event.declared.event.Event.{Event}
+use Rattle.simulator_run.specs.simulator_event.declared.event.Event.TheVariants as event
+use Rattle.simulator_run.specs.Flow.{Flowing, round, stations}
+use Rattle.simulator_run.specs.Refusals.{clock_limit}
+use Rattle.simulator_run.specs.State.{ServerState, WorldState}
+use Rattle.simulator_run.specs.Tried.{Played, after}
+
+-- what may come between rounds: requests and occupancies
+abbrev pub IsWork : Event → Type 0
+IsWork (event.Request command) = Unit {0}
+IsWork (event.Occupy section occupancy) = Unit {0}
+IsWork _ = ⊥
+
+-- events are tried one after another, and no round with them
+abbrev pub all_tried : List Event → Flowing Played → Flowing Played
+all_tried [] flowing = flowing
+all_tried (first ∷ others) flowing = all_tried others (record flowing { picture = after flowing.picture first })
+
+-- good rounds, one for each list; its events are tried behind it
+abbrev pub good_rounds : List (List Event) → Flowing Played → Flowing Played
+good_rounds [] flowing = flowing
+good_rounds (between ∷ later) flowing = good_rounds later (all_tried between (round stations flowing))
+
+-- true time and the clocks of all nodes, in microseconds
+abbrev pub clock_of : {Object : Type 0} → ServerState Object → ℕ
+clock_of controller = controller.clock
+
+abbrev pub clocks_of : WorldState → List ℕ
+clocks_of world = world.time ∷ world.station.clock ∷ (map clock_of world.signals ++ (map clock_of world.points ++ map clock_of world.detectors))
+
+-- each of them so many rounds later: 10 ms each
+abbrev pub rounds_later : ℕ → List ℕ → List ℕ
+rounds_later n clocks = map (λ clock. clock + 10000 * n) clocks
+
+-- each of them can go on for so many rounds
+abbrev pub HasTime : ℕ → WorldState → Type 0
+HasTime n world = Each (λ clock. clock + 10000 * n ≤ clock_limit) (clocks_of world)
+
+-- from this good round on an interlocking takes requests, however late it was made anew: 6000 ms
+abbrev pub hold_rounds : ℕ
+hold_rounds = 600
+
+-- a datagram was sent at this true time, and isn't lost
+abbrev pub IsFresh : ℕ → OnLink → Type 0
+IsFresh time one = (one.datagram.at ≡ time) × (one.datagram.is_lost ≡ false)
+
+-- A flow has gone past all datagrams that were sent before, and each later one was sent at the true time of this moment, and
+-- isn't lost.
+pub record LeavesFresh (old new : Flowing Played) : Type 0 where
+  pub passed : new.passed ≡ length old.picture.run.sent
+  pub more : List OnLink
+  pub sent : new.picture.run.sent ≡ old.picture.run.sent ++ more
+  pub fresh : Each (IsFresh new.picture.run.time) more

@@ -1,0 +1,10 @@
+//! Recovery of a station: what good rounds come to, whatever requests and occupancies come between them. There is no code here
+//! but laws.
+#![tactic(auto)]
+
+mod laws;
+
+pub use laws::{
+    good_rounds_are_events, good_rounds_leave_fresh_datagrams, good_rounds_take_their_time,
+    requests_are_taken_behind_the_hold,
+};
