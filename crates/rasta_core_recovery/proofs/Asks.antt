@@ -40,7 +40,7 @@ IsTalkPdu p = IsTalk p.body
 pub data AskDeed (p : Pdu) (l k : LinkState) (ps : List Pdu) : Type 0 where
   ask_leaves : Leaves l k → AskDeed p l k ps
   ask_keeps : k ≡ l → ps ≡ [] → AskDeed p l k ps
-  ask_joins : (IsTalk p.body → ⊥) → k.clock ≡ l.clock → is_open k.phase ≡ true → is_asking k ≡ false → k.own_stamp ≡ l.own_stamp → k.sent_at ≡ l.clock → AskDeed p l k ps
+  ask_joins : (IsTalk p.body → ⊥) → k.clock ≡ l.clock → is_open k.phase ≡ true → is_asking k ≡ false → k.own_stamp ≡ l.own_stamp → k.sent_at ≡ l.clock → k.confirmed ≡ l.confirmed → k.sent ≡ l.sent + 1 → AskDeed p l k ps
 
 asks_violating : (p : Pdu) (l : LinkState) → AskDeed p l (violating l).link (violating l).pdus
 unfolding telling sending
@@ -54,7 +54,7 @@ asks_joining p o l opens = choose (pointwise nat_eq o.version own_version) (o.wi
     met = record (meeting p l) { phase = phase.Up }
 
     choose : (a b : Bool) → let s = (if a then (if b then sending Heartbeat met else telling reason.Window met) else telling reason.Version met) in AskDeed p l s.link s.pdus
-    choose true true = ask_joins opens refl refl refl refl refl
+    choose true true = ask_joins opens refl refl refl refl refl refl refl
     choose true false = ask_leaves (record { clock = refl; is_out = refl; closed_at = refl })
     choose false b = ask_leaves (record { clock = refl; is_out = refl; closed_at = refl })
 
@@ -163,13 +163,13 @@ module _ (now : ℕ) where
   in_deed : (p : Pdu) (l k : LinkState) (qs : List Pdu) → Joined now l → Deed p l k qs → Out now k ⊎ (InIt now k × Mute 0 l qs 0 k)
   in_deed p l k qs is (leaves left) = inl (record { clock = left.clock ∙ is.clock; is_out = left.is_out; quiet = omega (arith, left.closed_at, is.clock); lately = omega (arith, left.closed_at, is.clock) })
   in_deed p l k qs is (keeps b same none) = inr (inl (subst (Joined now) (sym same) is), λ e. absurd (cc (e, ap (λ (j : LinkState). is_asking j) same, is.joined)))
-  in_deed p l k qs is (asks apart a) = let j = asked_joined now l k qs is a in inr (inl j, λ e. absurd (cc (e, j.joined)))
+  in_deed p l k qs is (asks passes apart a) = let j = asked_joined now l k qs is a in inr (inl j, λ e. absurd (cc (e, j.joined)))
   in_deed p l k qs is (takes passes t) = let j = taken_joined now p l k qs is passes t in inr (inl j, λ e. absurd (cc (e, j.joined)))
 
   ask_deed : (p : Pdu) (l k : LinkState) (qs : List Pdu) → Asks now l → AskDeed p l k qs → Out now k ⊎ (InIt now k × Mute 0 l qs 0 k)
   ask_deed p l k qs is (ask_leaves left) = inl (record { clock = left.clock ∙ is.clock; is_out = left.is_out; quiet = omega (arith, left.closed_at, is.clock); lately = omega (arith, left.closed_at, is.clock) })
   ask_deed p l k qs is (ask_keeps same none) = inr (inr (subst (Asks now) (sym same) is), λ e. (asks_asking now l is, ap (λ (j : LinkState). j.own_stamp) same, none))
-  ask_deed p l k qs is (ask_joins opens clock in_it joined own said) = inr (inl (record { clock = clock ∙ is.clock; connected = in_it; joined = joined; young = omega (arith, is.young, own); own = omega (arith, is.own, own) }), λ e. absurd (cc (e, joined)))
+  ask_deed p l k qs is (ask_joins opens clock in_it joined own said confirmed sent) = inr (inl (record { clock = clock ∙ is.clock; connected = in_it; joined = joined; young = omega (arith, is.young, own); own = omega (arith, is.own, own) }), λ e. absurd (cc (e, joined)))
 
   in_step : (g : ℕ) (p : Pdu) (ps : List Pdu) (l : LinkState) → InIt now l → Next ℕ now (λ g ps l. InIt now l) Mute g l ps (heard now p l)
   in_step g p ps l is = choose (heard_case now p l (in_lively l is))
@@ -221,7 +221,7 @@ in_round now ps l is at = choose (begins now l at (open_is is) (young_is is))
 
     joined_ended : (k : LinkState) (qs : List Pdu) → Joined now k → Ended now k (worked now l.identity.role k) → Goal (record { link = (worked now l.identity.role k).link; pdus = qs ++ (worked now l.identity.role k).pdus })
     joined_ended k qs in_it (gone_end left) = gone left
-    joined_ended k qs in_it (done b e calm) = subst (λ (s : Step). Goal (record { link = s.link; pdus = qs ++ s.pdus })) (sym e) (so (inl (spoken_joined now b k in_it)))
+    joined_ended k qs in_it (done b e calm up) = subst (λ (s : Step). Goal (record { link = s.link; pdus = qs ++ s.pdus })) (sym e) (so (inl (spoken_joined now b k in_it)))
 
     asks_worked : (k : LinkState) (qs : List Pdu) → Asks now k → Mute now 0 j qs 0 k → Work now k (worked now l.identity.role k) → Goal (record { link = (worked now l.identity.role k).link; pdus = qs ++ (worked now l.identity.role k).pdus })
     asks_worked k qs in_it mute (gone_work left) = gone left
@@ -260,7 +260,7 @@ module _ (now : ℕ) where
   alone_deed : (p : Pdu) (ps : List Pdu) (l k : LinkState) (qs : List Pdu) → Asks now l → Each IsTalkPdu (p ∷ ps) → AskDeed p l k qs → Out now k ⊎ (Alone 0 ps k × Same 0 l qs 0 k)
   alone_deed p ps l k qs is talk (ask_leaves left) = inl (record { clock = left.clock ∙ is.clock; is_out = left.is_out; quiet = omega (arith, left.closed_at, is.clock); lately = omega (arith, left.closed_at, is.clock) })
   alone_deed p ps l k qs is talk (ask_keeps same none) = inr ((subst (Asks now) (sym same) is, talk.1), (ap (λ (j : LinkState). j.own_stamp) same, none))
-  alone_deed p ps l k qs is talk (ask_joins opens clock in_it joined own said) = absurd (opens talk.0)
+  alone_deed p ps l k qs is talk (ask_joins opens clock in_it joined own said confirmed sent) = absurd (opens talk.0)
 
   alone_step : (g : ℕ) (p : Pdu) (ps : List Pdu) (l : LinkState) → Alone g (p ∷ ps) l → Next ℕ now Alone Same g l ps (heard now p l)
   alone_step g p ps l (is, talk) = choose (heard_case now p l (asks_lively now l is))

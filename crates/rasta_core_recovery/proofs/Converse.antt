@@ -10,12 +10,12 @@ use Rattle.rasta_core_run.specs.pdu.Pdu.{Pdu}
 use Rattle.rasta_core_run.specs.Each.{Each}
 use Rattle.rasta_core_run.specs.Names.{Names, identity_of, partner_of}
 use Rattle.rasta_core_recovery.proofs.Links.{Pair, end_round, pair_round}
-use Rattle.rasta_core_recovery.proofs.Healthy.{beats}
+use Rattle.rasta_core_recovery.proofs.Healthy.{beats, waits}
 use Rattle.rasta_core_recovery.proofs.Calls.{at_reading}
 use Rattle.rasta_core_recovery.proofs.Words.{voice_of, Chain, chain_ends}
 use Rattle.rasta_core_recovery.proofs.Course.{Joined}
-use Rattle.rasta_core_recovery.proofs.Tuning.{IsPlainPdu, Round, Bounds, Ghost, Tuned, Mode, Hearing}
-use Rattle.rasta_core_recovery.proofs.Turn.{Either, gone, so, Turn, EndMode, turns}
+use Rattle.rasta_core_recovery.proofs.Tuning.{IsPlainPdu, not_before, Shut, far_off, outdated, missed, stuck, nothing, unheard, Round, Bounds, Ghost, Tuned, Mode, Hearing}
+use Rattle.rasta_core_recovery.proofs.Turn.{Either, gone, so, Notes, Turn, EndMode, turns}
 
 -- a tuned end takes what is under way to it, and has heard the last but that; one that isn't has heard nothing that was
 -- said since a reading of its partner's clock, which therefore knows no younger stamp of its own
@@ -39,13 +39,18 @@ pub record Way (partner_start own_start : ℕ) (tuned : Bool) (kept other_kept :
   pub chain : Chain (voice_of m) number count reading ps m.sent (m.expected - 1) other_kept
   pub since : own_start ≤ reading + 5000
   pub mode : WayMode tuned partner_start kept l m number count reading ps
+  pub later : partner_start ≤ m.clock
+  -- a tuned end has heard something that was said since that reading; one that isn't has missed nothing yet that it expects, or
+  -- more, and knows an own stamp of before that reading
+  pub young : tuned ≡ true → partner_start ≤ kept
+  pub deaf : tuned ≡ false → (l.expected ≤ number) × (l.own_stamp ≤ own_start)
 
 pub record Are (names : Names) (who : Role) (l m : LinkState) : Type 0 where
   pub own : l.identity ≡ identity_of who names
   pub other : m.identity ≡ identity_of (partner_of who) names
 
-abbrev pub round_of : Bool → ℕ → ℕ → LinkState → LinkState → List Pdu → Round
-round_of tuned kept other_kept l m ps = record {
+abbrev pub round_of : Bool → ℕ → ℕ → LinkState → LinkState → List Pdu → ℕ → ℕ → ℕ → Round
+round_of tuned kept other_kept l m ps n c r = record {
   now = l.clock + 10;
   said_at = m.clock;
   end = m.sent;
@@ -55,6 +60,10 @@ round_of tuned kept other_kept l m ps = record {
   kept = kept;
   own = l.own_stamp;
   tuned = tuned;
+  before = l;
+  number = n;
+  count = c;
+  reading = r;
   pdus = ps;
 }
 
@@ -70,10 +79,22 @@ module _ (names : Names) (who : Role) (start own_start : ℕ) (tuned other_tuned
     (are : Are names who l m) (there : Way start own_start tuned kept other_kept l m ps) (back : Way own_start start other_tuned other_kept kept m l qs)
     (fits : m.sent < 2 ^ 31) (short : l.clock ≤ own_start + 100000) where
   abbrev x : Round
-  x = round_of tuned kept other_kept l m ps
+  x = round_of tuned kept other_kept l m ps there.number there.count there.reading
+
+  level_of : (b : Bool) → tuned ≡ b → WayMode b start kept l m there.number there.count there.reading ps → l.expected ≤ there.number
+  level_of true e mode = omega (arith, mode.0.expected)
+  level_of false e mode = (there.deaf e).0
+
+  shut_at : (k : LinkState) → k.expected ≡ l.expected → k.own_stamp ≡ l.own_stamp → k.confirmed ≡ l.confirmed → k.phase ≡ l.phase → (n : ℕ) (qs : List Pdu) → Shut x l n qs → Shut x k n qs
+  shut_at k e o c f n qs (far_off u) = far_off (omega (arith, e, u))
+  shut_at k e o c f n qs (outdated (inl u)) = outdated (inl (omega (arith, o, u)))
+  shut_at k e o c f n qs (outdated (inr u)) = outdated (inr (omega (arith, c, u)))
+  shut_at k e o c f n qs (missed u none) = missed (omega (arith, e, u)) none
+  shut_at k e o c f n qs (stuck u none) = stuck (ap waits f ∙ u) none
+  shut_at k e o c f n qs (nothing u) = nothing u
 
   bounds : Bounds x
-  bounds = record { fits = fits; old = omega (arith, back.before); stamped = refl; kept = there.before }
+  bounds = record { level = level_of tuned refl there.mode; fits = fits; old = omega (arith, back.before); stamped = refl; kept = there.before }
 
   abbrev ghost_now : Ghost
   ghost_now = record { kept = kept; tuned = tuned }
@@ -102,11 +123,17 @@ module _ (names : Names) (who : Role) (start own_start : ℕ) (tuned other_tuned
     low = omega (arith, there.since, short);
     mode = start_mode tuned refl there.mode;
     plain = λ e. e;
+    from_number = omega arith;
+    from_count = omega arith;
+    from_reading = omega arith;
+    deaf = λ e. record { expected = refl; confirmed = refl; phase = inl refl; reached = unheard refl };
+    outdated_on = λ f o. (f, o, refl);
+    shut = λ s. (s.0, shut_at (at_reading (l.clock + 10) l) refl refl refl refl there.number ps s.1);
   }
 
   -- what the round makes of this end, where it stays
   turn : is_open (end_round (l.clock + 10) ps l).link.phase ≡ true → Turn x bounds tuned l (end_round (l.clock + 10) ps l)
-  turn is_in = choose (turns x bounds ghost_now l refl there.is refl hearing_now)
+  turn is_in = choose (turns x bounds ghost_now l refl refl there.is refl hearing_now)
     where
       choose : Either (l.clock + 10) (end_round (l.clock + 10) ps l).link (Turn x bounds tuned l (end_round (l.clock + 10) ps l)) → Turn x bounds tuned l (end_round (l.clock + 10) ps l)
       choose (gone left) = absurd (cc (left.is_out, is_in))
@@ -115,8 +142,8 @@ module _ (names : Names) (who : Role) (start own_start : ℕ) (tuned other_tuned
 -- the direction after a round, from the rounds of both its ends
 pub way_goes : (start own_start : ℕ) (tuned other_tuned : Bool) (kept other_kept : ℕ) (l m : LinkState) (ps qs : List Pdu) (s r : Step)
     → (there : Way start own_start tuned kept other_kept l m ps) → (back : Way own_start start other_tuned other_kept kept m l qs)
-    → (b : Bounds (round_of tuned kept other_kept l m ps)) → (c : Bounds (round_of other_tuned other_kept kept m l qs))
-    → (t : Turn (round_of tuned kept other_kept l m ps) b tuned l s) → (u : Turn (round_of other_tuned other_kept kept m l qs) c other_tuned m r)
+    → (b : Bounds (round_of tuned kept other_kept l m ps there.number there.count there.reading)) → (c : Bounds (round_of other_tuned other_kept kept m l qs back.number back.count back.reading))
+    → (t : Turn (round_of tuned kept other_kept l m ps there.number there.count there.reading) b tuned l s) → (u : Turn (round_of other_tuned other_kept kept m l qs back.number back.count back.reading) c other_tuned m r)
     → Way start own_start t.then_tuned t.says.kept u.says.kept s.link r.link r.pdus
 way_goes start own_start tuned other_tuned kept other_kept l m ps qs s r there back b c t u = record {
   is = record { clock = refl; connected = t.says.is.connected; joined = t.says.is.joined; young = omega (arith, t.says.is.young, t.says.is.clock); own = omega (arith, t.says.is.own, t.says.is.clock) };
@@ -133,6 +160,9 @@ way_goes start own_start tuned other_tuned kept other_kept l m ps qs s r there b
   chain = u.says.chain;
   since = back.low;
   mode = choose t.then_tuned refl t.mode;
+  later = omega (arith, there.later, u.says.is.clock);
+  young = λ e. young_then t.then_tuned e t.mode;
+  deaf = λ e. (omega (arith, (t.notes.deaf e).expected, there.most), own_then t.then_tuned e t.mode refl);
 }
   where
     sent_rises : m.sent ≤ r.link.sent
@@ -149,20 +179,24 @@ way_goes start own_start tuned other_tuned kept other_kept l m ps qs s r there b
         before : tuned ≡ true → WayMode tuned start kept l m there.number there.count there.reading ps → ps ≡ [] → m.sent_at ≤ kept
         before g mode e = (subst (λ (y : Bool). WayMode y start kept l m there.number there.count there.reading ps) g mode).1 e
 
-    -- an end that isn't tuned wasn't before
-    not_before : (y z : Bool) → y ≡ false → (z ≡ true → y ≡ true) → z ≡ false
-    not_before y true e f = absurd (cc (e, f refl))
-    not_before y false e f = refl
+    young_then : (y : Bool) → y ≡ true → EndMode (round_of tuned kept other_kept l m ps there.number there.count there.reading) b y t.says.kept s.link → start ≤ t.says.kept
+    young_then true e (v, inl f) = omega (arith, f, there.later)
+    young_then true e (v, inr (f, g, h)) = omega (arith, g, there.young h)
+    young_then false e mode = absurd (cc e)
+
+    own_then : (y : Bool) → t.then_tuned ≡ false → EndMode (round_of tuned kept other_kept l m ps there.number there.count there.reading) b y t.says.kept s.link → y ≡ t.then_tuned → s.link.own_stamp ≤ own_start
+    own_then true e mode same = absurd (cc (e, same))
+    own_then false e mode same = omega (arith, mode.1, (there.deaf (not_before t.then_tuned tuned e t.keeps)).1)
 
     was_deaf : (z : Bool) → z ≡ false → WayMode z start kept l m there.number there.count there.reading ps → (kept ≤ start) × (m.own_stamp ≤ start)
     was_deaf true e mode = absurd (cc e)
     was_deaf false e mode = mode
 
-    own_old : (z : Bool) → EndMode (round_of other_tuned other_kept kept m l qs) c z u.says.kept r.link → (kept ≤ start) × (m.own_stamp ≤ start) → r.link.own_stamp ≤ start
+    own_old : (z : Bool) → EndMode (round_of other_tuned other_kept kept m l qs back.number back.count back.reading) c z u.says.kept r.link → (kept ≤ start) × (m.own_stamp ≤ start) → r.link.own_stamp ≤ start
     own_old true (v, how) h = omega (arith, v.own, h.0)
     own_old false (e, f) h = omega (arith, f, h.1)
 
-    choose : (y : Bool) → t.then_tuned ≡ y → EndMode (round_of tuned kept other_kept l m ps) b y t.says.kept s.link → WayMode y start t.says.kept s.link r.link m.sent (m.expected - 1) other_kept r.pdus
+    choose : (y : Bool) → t.then_tuned ≡ y → EndMode (round_of tuned kept other_kept l m ps there.number there.count there.reading) b y t.says.kept s.link → WayMode y start t.says.kept s.link r.link m.sent (m.expected - 1) other_kept r.pdus
     choose true same (v, how) = (v, recent how)
     choose false same (e, f) = let deaf = was_deaf tuned (not_before t.then_tuned tuned same t.keeps) there.mode in (omega (arith, e, deaf.0), own_old u.then_tuned u.mode deaf)
 
@@ -176,9 +210,18 @@ pub record Talk (names : Names) (of_client of_server : ℕ) (client_tuned server
   pub to_client : Way of_server of_client client_tuned client_kept server_kept p.client p.server p.to_client
   pub to_server : Way of_client of_server server_tuned server_kept client_kept p.server p.client p.to_server
 
+-- the rounds of both
+abbrev pub client_round : (names : Names) (of_client of_server : ℕ) (client_tuned server_tuned : Bool) (p : Pair) → Talk names of_client of_server client_tuned server_tuned p → Round
+client_round names of_client of_server client_tuned server_tuned p talk =
+    round_of client_tuned talk.client_kept talk.server_kept p.client p.server p.to_client talk.to_client.number talk.to_client.count talk.to_client.reading
+
+abbrev pub server_round : (names : Names) (of_client of_server : ℕ) (client_tuned server_tuned : Bool) (p : Pair) → Talk names of_client of_server client_tuned server_tuned p → Round
+server_round names of_client of_server client_tuned server_tuned p talk =
+    round_of server_tuned talk.server_kept talk.client_kept p.server p.client p.to_server talk.to_server.number talk.to_server.count talk.to_server.reading
+
 -- what a round makes of both: a tuned end says nothing that asks; and where what came to it didn't ask either, it says a heartbeat
 -- at most; and it has heard its partner lately, where this wasn't silent for long
-pub record Goes (names : Names) (of_client of_server : ℕ) (client_tuned server_tuned : Bool) (p : Pair) : Type 0 where
+pub record Goes (names : Names) (of_client of_server : ℕ) (client_tuned server_tuned : Bool) (p : Pair) (before : Talk names of_client of_server client_tuned server_tuned p) : Type 0 where
   pub then_client : Bool
   pub then_server : Bool
   pub client_keeps : client_tuned ≡ true → then_client ≡ true
@@ -192,11 +235,19 @@ pub record Goes (names : Names) (of_client of_server : ℕ) (client_tuned server
   pub server_calm : is_up (pair_round p).server.phase ≡ true → (pair_round p).server.clock < (pair_round p).server.sent_at + 300
   pub client_near : client_tuned ≡ true → p.server.clock < p.server.sent_at + 300 → (pair_round p).server.clock ≤ talk.client_kept + 309
   pub server_near : server_tuned ≡ true → p.client.clock < p.client.sent_at + 300 → (pair_round p).client.clock ≤ talk.server_kept + 309
+  pub client_notes : Notes (client_round names of_client of_server client_tuned server_tuned p before) then_client (record { link = (pair_round p).client; pdus = (pair_round p).to_server })
+  pub server_notes : Notes (server_round names of_client of_server client_tuned server_tuned p before) then_server (record { link = (pair_round p).server; pdus = (pair_round p).to_client })
+  pub client_still : then_client ≡ false → (talk.client_kept ≡ before.client_kept) × ((pair_round p).client.own_stamp ≡ p.client.own_stamp)
+  pub server_still : then_server ≡ false → (talk.server_kept ≡ before.server_kept) × ((pair_round p).server.own_stamp ≡ p.server.own_stamp)
+  pub client_spoken : (pair_round p).to_server ≡ [] → (pair_round p).client.sent_at ≡ p.client.sent_at
+  pub server_spoken : (pair_round p).to_client ≡ [] → (pair_round p).server.sent_at ≡ p.server.sent_at
+  pub client_way : (talk.to_client.number ≡ p.server.sent) × (talk.to_client.count ≡ p.server.expected - 1) × (talk.to_client.reading ≡ before.server_kept)
+  pub server_way : (talk.to_server.number ≡ p.client.sent) × (talk.to_server.count ≡ p.client.expected - 1) × (talk.to_server.reading ≡ before.client_kept)
   pub client_clock : (pair_round p).client.clock ≡ p.client.clock + 10
   pub server_clock : (pair_round p).server.clock ≡ p.server.clock + 10
 
 near_after : (start own_start : ℕ) (tuned : Bool) (kept other_kept : ℕ) (l m : LinkState) (ps : List Pdu) (s : Step) (there : Way start own_start tuned kept other_kept l m ps)
-    → (b : Bounds (round_of tuned kept other_kept l m ps)) (t : Turn (round_of tuned kept other_kept l m ps) b tuned l s)
+    → (b : Bounds (round_of tuned kept other_kept l m ps there.number there.count there.reading)) (t : Turn (round_of tuned kept other_kept l m ps there.number there.count there.reading) b tuned l s)
     → tuned ≡ true → m.clock < m.sent_at + 300 → m.clock + 10 ≤ t.says.kept + 309
 near_after start own_start tuned kept other_kept l m ps s there b t is calm = choose t.then_tuned (t.keeps is) t.mode
   where
@@ -204,15 +255,19 @@ near_after start own_start tuned kept other_kept l m ps s there b t is calm = ch
     recent true e mode none = mode.1 none
     recent false e mode none = absurd (cc e)
 
-    choose : (y : Bool) → y ≡ true → EndMode (round_of tuned kept other_kept l m ps) b y t.says.kept s.link → m.clock + 10 ≤ t.says.kept + 309
+    choose : (y : Bool) → y ≡ true → EndMode (round_of tuned kept other_kept l m ps there.number there.count there.reading) b y t.says.kept s.link → m.clock + 10 ≤ t.says.kept + 309
     choose true e (v, inl f) = omega (arith, f)
     choose true e (v, inr (f, g, h)) = omega (arith, g, calm, recent tuned is there.mode f)
     choose false e mode = absurd (cc e)
 
-pub talks_on : (names : Names) (of_client of_server : ℕ) (client_tuned server_tuned : Bool) (p : Pair) → Talk names of_client of_server client_tuned server_tuned p
+still : (x : Round) (b : Bounds x) (kept : ℕ) (k : LinkState) (y : Bool) → y ≡ false → EndMode x b y kept k → (kept ≡ x.kept) × (k.own_stamp ≡ x.own)
+still x b kept k true e mode = absurd (cc e)
+still x b kept k false e mode = mode
+
+pub talks_on : (names : Names) (of_client of_server : ℕ) (client_tuned server_tuned : Bool) (p : Pair) → (talk : Talk names of_client of_server client_tuned server_tuned p)
     → p.client.sent < 2 ^ 31 → p.server.sent < 2 ^ 31 → p.client.clock ≤ of_client + 100000 → p.server.clock ≤ of_server + 100000
-    → is_open (pair_round p).client.phase ≡ true → is_open (pair_round p).server.phase ≡ true → Goes names of_client of_server client_tuned server_tuned p
-unfolding pair_round
+    → is_open (pair_round p).client.phase ≡ true → is_open (pair_round p).server.phase ≡ true → Goes names of_client of_server client_tuned server_tuned p talk
+unfolding pair_round way_goes
 talks_on names of_client of_server client_tuned server_tuned p talk client_fits server_fits client_short server_short client_in server_in = record {
   then_client = t.then_tuned;
   then_server = u.then_tuned;
@@ -234,6 +289,14 @@ talks_on names of_client of_server client_tuned server_tuned p talk client_fits 
   server_calm = λ e. omega (arith, u.says.calm e, u.says.is.clock);
   client_near = λ e f. omega (arith, near_after of_server of_client client_tuned talk.client_kept talk.server_kept p.client p.server p.to_client c talk.to_client bc t e f, u.says.is.clock);
   server_near = λ e f. omega (arith, near_after of_client of_server server_tuned talk.server_kept talk.client_kept p.server p.client p.to_server s talk.to_server bs u e f, t.says.is.clock);
+  client_notes = t.notes;
+  server_notes = u.notes;
+  client_still = λ e. still _ bc t.says.kept c.link t.then_tuned e t.mode;
+  server_still = λ e. still _ bs u.says.kept s.link u.then_tuned e u.mode;
+  client_spoken = t.says.spoken;
+  server_spoken = u.says.spoken;
+  client_way = (refl, refl, refl);
+  server_way = (refl, refl, refl);
   client_clock = t.says.is.clock;
   server_clock = u.says.is.clock;
 }
@@ -244,16 +307,16 @@ talks_on names of_client of_server client_tuned server_tuned p talk client_fits 
     s : Step
     s = end_round (p.server.clock + 10) p.to_server p.server
 
-    bc : Bounds (round_of client_tuned talk.client_kept talk.server_kept p.client p.server p.to_client)
+    bc : Bounds (client_round names of_client of_server client_tuned server_tuned p talk)
     bc = bounds names role.Client of_server of_client client_tuned server_tuned talk.client_kept talk.server_kept p.client p.server p.to_client p.to_server (record { own = talk.client; other = talk.server }) talk.to_client talk.to_server server_fits client_short
 
-    bs : Bounds (round_of server_tuned talk.server_kept talk.client_kept p.server p.client p.to_server)
+    bs : Bounds (server_round names of_client of_server client_tuned server_tuned p talk)
     bs = bounds names role.Server of_client of_server server_tuned client_tuned talk.server_kept talk.client_kept p.server p.client p.to_server p.to_client (record { own = talk.server; other = talk.client }) talk.to_server talk.to_client client_fits server_short
 
-    t : Turn (round_of client_tuned talk.client_kept talk.server_kept p.client p.server p.to_client) bc client_tuned p.client c
+    t : Turn (client_round names of_client of_server client_tuned server_tuned p talk) bc client_tuned p.client c
     t = turn names role.Client of_server of_client client_tuned server_tuned talk.client_kept talk.server_kept p.client p.server p.to_client p.to_server (record { own = talk.client; other = talk.server }) talk.to_client talk.to_server server_fits client_short client_in
 
-    u : Turn (round_of server_tuned talk.server_kept talk.client_kept p.server p.client p.to_server) bs server_tuned p.server s
+    u : Turn (server_round names of_client of_server client_tuned server_tuned p talk) bs server_tuned p.server s
     u = turn names role.Server of_client of_server server_tuned client_tuned talk.server_kept talk.client_kept p.server p.client p.to_server p.to_client (record { own = talk.server; other = talk.client }) talk.to_server talk.to_client client_fits server_short server_in
 
 -- an end that wasn't tuned for 1800 ms has a partner that is outside

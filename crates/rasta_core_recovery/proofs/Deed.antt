@@ -15,7 +15,7 @@ use Rattle.rasta_core_run.specs.phase.State.{State}
 use Rattle.rasta_core_run.specs.pdu.Pdu.{Pdu}
 use Rattle.rasta_core_run.specs.body.Body.{Body}
 use Rattle.rasta_core_run.specs.body.Body.TheVariants.{ConnectionRequest, ConnectionResponse, RetransmissionRequest, RetransmissionResponse, DisconnectionRequest, Heartbeat, Data, RetransmittedData}
-use Rattle.rasta_core_recovery.proofs.Healthy.{is_reading}
+use Rattle.rasta_core_recovery.proofs.Healthy.{is_reading, waits}
 use Rattle.rasta_core_recovery.proofs.Words.{IsTalk, IsPlain, Says, says_then, says_again}
 
 -- an end stays in its connection
@@ -41,12 +41,16 @@ pub data Blocked (p : Pdu) (l : LinkState) : Type 0 where
   far : nat_lt sequence_range (ahead p l) ≡ true → Blocked p l
   stale : is_stale p l ≡ true → Blocked p l
   unconfirming : confirms p l ≡ false → Blocked p l
-  discarded : is_reading l.phase ≡ false → Blocked p l
+  discarded : waits l.phase ≡ true → Blocked p l
 
 pub record Passes (p : Pdu) (l : LinkState) : Type 0 where
   pub near : nat_lt sequence_range (ahead p l) ≡ false
   pub fresh : is_stale p l ≡ false
   pub counts : confirms p l ≡ true
+
+-- the expected PDU, at an end that doesn't wait for a retransmission
+abbrev pub InTurn : Pdu → LinkState → Type 0
+InTurn p l = ((ahead p l == 0) ≡ true) × (waits l.phase ≡ false)
 
 -- a PDU is taken, and answered by these
 pub record Taken (p : Pdu) (l k : LinkState) (ps : List Pdu) : Type 0 where
@@ -59,16 +63,18 @@ pub record Taken (p : Pdu) (l k : LinkState) (ps : List Pdu) : Type 0 where
   pub answers : Says IsPlain (header_of (taking p l)) l.sent ps k.sent
   pub sent_at : ((ps ≡ []) × (k.sent_at ≡ l.sent_at)) ⊎ ((k.sent_at ≡ l.clock) × (ps ≡ [] → ⊥))
   pub calm : IsPlain p.body → ps ≡ []
+  pub turn : (p.body ≡ RetransmissionResponse) ⊎ InTurn p l
 
 -- a PDU is missing, and is asked for
 pub record Asked (l k : LinkState) (ps : List Pdu) : Type 0 where
   pub link : k ≡ record l { sent = l.sent + 1; sent_at = l.clock; phase = phase.RetransmissionRequested }
   pub pdus : ps ≡ pdu_of (header_of l) l.sent RetransmissionRequest ∷ []
+  pub free : waits l.phase ≡ false
 
 pub data Deed (p : Pdu) (l k : LinkState) (ps : List Pdu) : Type 0 where
   leaves : Leaves l k → Deed p l k ps
   keeps : Blocked p l → k ≡ l → ps ≡ [] → Deed p l k ps
-  asks : (ahead p l == 0) ≡ false → Asked l k ps → Deed p l k ps
+  asks : Passes p l → (ahead p l == 0) ≡ false → Asked l k ps → Deed p l k ps
   takes : Passes p l → Taken p l k ps → Deed p l k ps
 
 -- ---- its answer
@@ -78,9 +84,9 @@ unfolding pdu_of
 says_one h body plain n = (refl, plain, refl)
 
 module _ (l : LinkState) (p : Pdu) (connected_is : is_open l.phase ≡ true) (joined : is_asking l ≡ false) (passes : Passes p l) where
-  answers_it : is_reading l.phase ≡ true → p.body ≡ RetransmissionRequest → Deed p l (answering (taking p l)).link (answering (taking p l)).pdus
+  answers_it : is_reading l.phase ≡ true → p.body ≡ RetransmissionRequest → InTurn p l → Deed p l (answering (taking p l)).link (answering (taking p l)).pdus
   unfolding answering repeating sending taking retagged header_of pdu_of repeated
-  answers_it reading is = takes passes (record {
+  answers_it reading is turn = takes passes (record {
     stays = record { identity = refl; clock = refl; own_first = refl; partner_first = refl; connected = connected_is; joined = joined };
     reading = reading;
     expected = refl;
@@ -93,6 +99,7 @@ module _ (l : LinkState) (p : Pdu) (connected_is : is_open l.phase ≡ true) (jo
         (one Heartbeat tt (l.sent + 1 + length t.waiting));
     sent_at = inr (refl, λ e. absurd (some_said e));
     calm = λ plain. absurd (subst IsPlain is plain);
+    turn = inr turn;
   })
     where
       t : LinkState
@@ -107,9 +114,9 @@ module _ (l : LinkState) (p : Pdu) (connected_is : is_open l.phase ≡ true) (jo
       one : (body : Body) → IsPlain body → (n : ℕ) → Says IsPlain h n (pdu_of h n body ∷ []) (n + 1)
       one body plain n = says_one h body plain n
 
-  handed : (items : List (List ℕ)) → IsPlain p.body → Deed p l (handing items (record (taking p l) { phase = phase.Up })).link []
+  handed : (items : List (List ℕ)) → IsPlain p.body → InTurn p l → Deed p l (handing items (record (taking p l) { phase = phase.Up })).link []
   unfolding handing taking
-  handed items plain = takes passes (record {
+  handed items plain turn = takes passes (record {
     stays = record { identity = refl; clock = refl; own_first = refl; partner_first = refl; connected = refl; joined = refl };
     reading = refl;
     expected = refl;
@@ -119,11 +126,12 @@ module _ (l : LinkState) (p : Pdu) (connected_is : is_open l.phase ≡ true) (jo
     answers = refl;
     sent_at = inl (refl, refl);
     calm = λ is. refl;
+    turn = inr turn;
   })
 
-  handed_again : (items : List (List ℕ)) → is_reading l.phase ≡ true → Deed p l (handing items (taking p l)).link []
+  handed_again : (items : List (List ℕ)) → is_reading l.phase ≡ true → InTurn p l → Deed p l (handing items (taking p l)).link []
   unfolding handing taking
-  handed_again items reading = takes passes (record {
+  handed_again items reading turn = takes passes (record {
     stays = record { identity = refl; clock = refl; own_first = refl; partner_first = refl; connected = connected_is; joined = joined };
     reading = reading;
     expected = refl;
@@ -133,11 +141,12 @@ module _ (l : LinkState) (p : Pdu) (connected_is : is_open l.phase ≡ true) (jo
     answers = refl;
     sent_at = inl (refl, refl);
     calm = λ is. refl;
+    turn = inr turn;
   })
 
-  comes_up : Deed p l (record (taking p l) { phase = phase.Up }) []
+  comes_up : InTurn p l → Deed p l (record (taking p l) { phase = phase.Up }) []
   unfolding taking
-  comes_up = takes passes (record {
+  comes_up turn = takes passes (record {
     stays = record { identity = refl; clock = refl; own_first = refl; partner_first = refl; connected = refl; joined = refl };
     reading = refl;
     expected = refl;
@@ -147,11 +156,12 @@ module _ (l : LinkState) (p : Pdu) (connected_is : is_open l.phase ≡ true) (jo
     answers = refl;
     sent_at = inl (refl, refl);
     calm = λ is. refl;
+    turn = inr turn;
   })
 
-  resumes : Deed p l (record (taking p l) { phase = phase.RetransmissionRunning }) []
+  resumes : p.body ≡ RetransmissionResponse → Deed p l (record (taking p l) { phase = phase.RetransmissionRunning }) []
   unfolding taking
-  resumes = takes passes (record {
+  resumes is = takes passes (record {
     stays = record { identity = refl; clock = refl; own_first = refl; partner_first = refl; connected = refl; joined = refl };
     reading = refl;
     expected = refl;
@@ -160,7 +170,8 @@ module _ (l : LinkState) (p : Pdu) (connected_is : is_open l.phase ≡ true) (jo
     confirmed = refl;
     answers = refl;
     sent_at = inl (refl, refl);
-    calm = λ is. refl;
+    calm = λ plain. refl;
+    turn = inl is;
   })
 
   closes_by : Deed p l (record (taking p l) { phase = phase.Closed; closed_at = l.clock }) []
@@ -171,35 +182,35 @@ module _ (l : LinkState) (p : Pdu) (connected_is : is_open l.phase ≡ true) (jo
   unfolding telling sending
   violated = leaves (record { clock = refl; is_out = refl; closed_at = refl })
 
-  asked : (ahead p l == 0) ≡ false → Deed p l (missing l).link (missing l).pdus
+  asked : (ahead p l == 0) ≡ false → waits l.phase ≡ false → Deed p l (missing l).link (missing l).pdus
   unfolding missing sending
-  asked apart = asks apart (record { link = refl; pdus = refl })
+  asked apart free = asks passes apart (record { link = refl; pdus = refl; free = free })
 
   -- what an admission by the body and the phase comes to
   abbrev Does : Receipt → Type 0
   Does r = Deed p l r.link r.pdus
 
-  brings : (body : Body) → p.body ≡ body → (IsTalk p.body) → (body ≡ RetransmissionRequest → is_reading l.phase ≡ true) → ((items : List (List ℕ)) → body ≡ RetransmittedData items → is_reading l.phase ≡ true) → Does (bringing body (taking p l))
+  brings : (body : Body) → p.body ≡ body → (IsTalk p.body) → (body ≡ RetransmissionRequest → is_reading l.phase ≡ true) → ((items : List (List ℕ)) → body ≡ RetransmittedData items → is_reading l.phase ≡ true) → InTurn p l → Does (bringing body (taking p l))
   unfolding bringing handing
-  brings (ConnectionRequest o) e talk asks_in again_in = absurd (subst IsTalk e talk)
-  brings (ConnectionResponse o) e talk asks_in again_in = absurd (subst IsTalk e talk)
-  brings RetransmissionRequest e talk asks_in again_in = answers_it (asks_in refl) e
-  brings RetransmissionResponse e talk asks_in again_in = comes_up
-  brings (DisconnectionRequest d r) e talk asks_in again_in = comes_up
-  brings Heartbeat e talk asks_in again_in = comes_up
-  brings (Data items) e talk asks_in again_in = handed items (subst IsPlain (sym e) tt)
-  brings (RetransmittedData items) e talk asks_in again_in = handed_again items (again_in items refl)
+  brings (ConnectionRequest o) e talk asks_in again_in turn = absurd (subst IsTalk e talk)
+  brings (ConnectionResponse o) e talk asks_in again_in turn = absurd (subst IsTalk e talk)
+  brings RetransmissionRequest e talk asks_in again_in turn = answers_it (asks_in refl) e turn
+  brings RetransmissionResponse e talk asks_in again_in turn = comes_up turn
+  brings (DisconnectionRequest d r) e talk asks_in again_in turn = comes_up turn
+  brings Heartbeat e talk asks_in again_in turn = comes_up turn
+  brings (Data items) e talk asks_in again_in turn = handed items (subst IsPlain (sym e) tt) turn
+  brings (RetransmittedData items) e talk asks_in again_in turn = handed_again items (again_in items refl) turn
 
-  turns : (body : Body) → p.body ≡ body → (IsTalk p.body) → (body ≡ RetransmissionRequest → is_reading l.phase ≡ true) → ((items : List (List ℕ)) → body ≡ RetransmittedData items → is_reading l.phase ≡ true) → Does (in_turn p l)
+  turns : (body : Body) → p.body ≡ body → (IsTalk p.body) → (body ≡ RetransmissionRequest → is_reading l.phase ≡ true) → ((items : List (List ℕ)) → body ≡ RetransmittedData items → is_reading l.phase ≡ true) → waits l.phase ≡ false → Does (in_turn p l)
   unfolding in_turn
-  turns body e talk asks_in again_in = choose (ahead p l == 0) refl
+  turns body e talk asks_in again_in free = choose (ahead p l == 0) refl
     where
       choose : (b : Bool) → (ahead p l == 0) ≡ b → Does (if b then bringing p.body (taking p l) else missing l)
-      choose true at = subst (λ (x : Body). Does (bringing x (taking p l))) (sym e) (brings body e talk asks_in again_in)
-      choose false at = asked at
+      choose true at = subst (λ (x : Body). Does (bringing x (taking p l))) (sym e) (brings body e talk asks_in again_in (at, free))
+      choose false at = asked at free
 
-  discards_it : is_reading l.phase ≡ false → Does (refusing verdict.Discarded l)
-  discards_it not_reading = keeps (discarded not_reading) refl refl
+  discards_it : waits l.phase ≡ true → Does (refusing verdict.Discarded l)
+  discards_it waiting = keeps (discarded waiting) refl refl
 
   no_phase : l.phase ≡ phase.Closed → {A : Type 0} → A
   no_phase e {A} = absurd (cc (e, connected_is, ap is_open e))
@@ -210,30 +221,30 @@ module _ (l : LinkState) (p : Pdu) (connected_is : is_open l.phase ≡ true) (jo
   admits (ConnectionResponse o) e at f = violated
   admits RetransmissionRequest e phase.Closed f = no_phase f
   admits RetransmissionRequest e phase.Start f = violated
-  admits RetransmissionRequest e phase.Up f = turns RetransmissionRequest e (subst IsTalk (sym e) tt) (λ is. ap is_reading f) (λ items is. ap is_reading f)
-  admits RetransmissionRequest e phase.RetransmissionRequested f = discards_it (ap is_reading f)
-  admits RetransmissionRequest e phase.RetransmissionRunning f = turns RetransmissionRequest e (subst IsTalk (sym e) tt) (λ is. ap is_reading f) (λ items is. ap is_reading f)
+  admits RetransmissionRequest e phase.Up f = turns RetransmissionRequest e (subst IsTalk (sym e) tt) (λ is. ap is_reading f) (λ items is. ap is_reading f) (ap waits f)
+  admits RetransmissionRequest e phase.RetransmissionRequested f = discards_it (ap waits f)
+  admits RetransmissionRequest e phase.RetransmissionRunning f = turns RetransmissionRequest e (subst IsTalk (sym e) tt) (λ is. ap is_reading f) (λ items is. ap is_reading f) (ap waits f)
   admits RetransmissionResponse e phase.Closed f = no_phase f
   admits RetransmissionResponse e phase.Start f = violated
   admits RetransmissionResponse e phase.Up f = violated
-  admits RetransmissionResponse e phase.RetransmissionRequested f = resumes
+  admits RetransmissionResponse e phase.RetransmissionRequested f = resumes e
   admits RetransmissionResponse e phase.RetransmissionRunning f = violated
   admits (DisconnectionRequest d r) e at f = closes_by
   admits Heartbeat e phase.Closed f = no_phase f
-  admits Heartbeat e phase.Start f = turns Heartbeat e (subst IsTalk (sym e) tt) (λ is. absurd (cc is)) (λ items is. absurd (cc is))
-  admits Heartbeat e phase.Up f = turns Heartbeat e (subst IsTalk (sym e) tt) (λ is. absurd (cc is)) (λ items is. absurd (cc is))
-  admits Heartbeat e phase.RetransmissionRequested f = discards_it (ap is_reading f)
-  admits Heartbeat e phase.RetransmissionRunning f = turns Heartbeat e (subst IsTalk (sym e) tt) (λ is. absurd (cc is)) (λ items is. absurd (cc is))
+  admits Heartbeat e phase.Start f = turns Heartbeat e (subst IsTalk (sym e) tt) (λ is. absurd (cc is)) (λ items is. absurd (cc is)) (ap waits f)
+  admits Heartbeat e phase.Up f = turns Heartbeat e (subst IsTalk (sym e) tt) (λ is. absurd (cc is)) (λ items is. absurd (cc is)) (ap waits f)
+  admits Heartbeat e phase.RetransmissionRequested f = discards_it (ap waits f)
+  admits Heartbeat e phase.RetransmissionRunning f = turns Heartbeat e (subst IsTalk (sym e) tt) (λ is. absurd (cc is)) (λ items is. absurd (cc is)) (ap waits f)
   admits (Data x) e phase.Closed f = no_phase f
-  admits (Data x) e phase.Start f = turns (Data x) e (subst IsTalk (sym e) tt) (λ is. absurd (cc is)) (λ items is. absurd (cc is))
-  admits (Data x) e phase.Up f = turns (Data x) e (subst IsTalk (sym e) tt) (λ is. absurd (cc is)) (λ items is. absurd (cc is))
-  admits (Data x) e phase.RetransmissionRequested f = discards_it (ap is_reading f)
-  admits (Data x) e phase.RetransmissionRunning f = turns (Data x) e (subst IsTalk (sym e) tt) (λ is. absurd (cc is)) (λ items is. absurd (cc is))
+  admits (Data x) e phase.Start f = turns (Data x) e (subst IsTalk (sym e) tt) (λ is. absurd (cc is)) (λ items is. absurd (cc is)) (ap waits f)
+  admits (Data x) e phase.Up f = turns (Data x) e (subst IsTalk (sym e) tt) (λ is. absurd (cc is)) (λ items is. absurd (cc is)) (ap waits f)
+  admits (Data x) e phase.RetransmissionRequested f = discards_it (ap waits f)
+  admits (Data x) e phase.RetransmissionRunning f = turns (Data x) e (subst IsTalk (sym e) tt) (λ is. absurd (cc is)) (λ items is. absurd (cc is)) (ap waits f)
   admits (RetransmittedData x) e phase.Closed f = no_phase f
   admits (RetransmittedData x) e phase.Start f = violated
   admits (RetransmittedData x) e phase.Up f = violated
-  admits (RetransmittedData x) e phase.RetransmissionRequested f = discards_it (ap is_reading f)
-  admits (RetransmittedData x) e phase.RetransmissionRunning f = turns (RetransmittedData x) e (subst IsTalk (sym e) tt) (λ is. ap is_reading f) (λ items is. ap is_reading f)
+  admits (RetransmittedData x) e phase.RetransmissionRequested f = discards_it (ap waits f)
+  admits (RetransmittedData x) e phase.RetransmissionRunning f = turns (RetransmittedData x) e (subst IsTalk (sym e) tt) (λ is. ap is_reading f) (λ items is. ap is_reading f) (ap waits f)
 
 -- ---- the tests
 

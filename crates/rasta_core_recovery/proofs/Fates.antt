@@ -18,7 +18,8 @@ use Rattle.rasta_core_recovery.proofs.Turn.{Either, gone, so}
 use Rattle.rasta_core_recovery.proofs.Asks.{Asks, AsksOn, InIt, IsTalkPdu, asking_is, in_round, alone_round, server_talks}
 use Rattle.rasta_core_recovery.proofs.Facts.{Young, Facts}
 use Rattle.rasta_core_recovery.proofs.Pasts.{Past}
-use Rattle.rasta_core_recovery.proofs.Seen.{Seen, BothIn, Stay, round_first, rounds_add, seen_on, seen_later, joined_of, stays_healthy}
+use Rattle.rasta_core_recovery.proofs.Seen.{Seen, BothIn, Stay, round_first, rounds_add, seen_on, seen_later, joined_of}
+use Rattle.rasta_core_recovery.proofs.Early.{early_healthy}
 
 -- healthy after so many rounds at most
 pub record Comes (names : Names) (most : ℕ) (p : Pair) : Type 0 where
@@ -423,17 +424,17 @@ alone_comes names n p long seen joined shut =
     seen_q : Seen names (n - o.rounds) q
     seen_q = seen_later names o.rounds (n - o.rounds) p (subst (λ (k : ℕ). Seen names k p) (omega (arith, long, o.soon)) seen)
 
-joined_comes : (names : Names) (n : ℕ) (p : Pair) → 1000 ≤ n → Seen names n p → Joined p.client.clock p.client → Comes names 1598 p
-joined_comes names n p long seen joined = choose (search 215 p joined)
+joined_comes : (names : Names) (n : ℕ) (p : Pair) → 1000 ≤ n → Seen names n p → Joined p.client.clock p.client → Comes names 1565 p
+joined_comes names n p long seen joined = choose (search 182 p joined)
   where
-    choose : Leaves 215 p ⊎ Stays 215 p → Comes names 1598 p
-    choose (inr s) = record { rounds = 215; soon = omega arith; healthy = stays_healthy names 215 p (omega arith) (seen_narrow s.stay) s.stay joined.joined }
-      where
-        seen_narrow : Stay 215 p → Seen names 215 p
-        seen_narrow stay = record { facts = seen.facts; client_clock = seen.client_clock; server_clock = seen.server_clock; client_past = seen.client_past; server_past = seen.server_past; room = λ k most. seen.room k (omega (arith, most, long)) }
-    choose (inl (client_leaves o)) = out_at_comes names 215 n p (omega (arith, long)) seen o
+    seen_narrow : Seen names 182 p
+    seen_narrow = record { facts = seen.facts; client_clock = seen.client_clock; server_clock = seen.server_clock; client_past = seen.client_past; server_past = seen.server_past; room = λ k most. seen.room k (omega (arith, most, long)) }
+
+    choose : Leaves 182 p ⊎ Stays 182 p → Comes names 1565 p
+    choose (inr s) = let r = early_healthy names p seen_narrow s.stay joined.joined in record { rounds = r.0; soon = omega (arith, r.1); healthy = r.2 }
+    choose (inl (client_leaves o)) = out_at_comes names 182 n p (omega (arith, long)) seen o
     choose (inl (server_leaves k most j shut)) =
-        comes_later names k 784 1598 p (omega (arith, most))
+        comes_later names k 784 1565 p (omega (arith, most))
         (alone_comes names (n - k) (pair_rounds k p) (omega (arith, long, most)) (seen_later names k (n - k) p (subst (λ (i : ℕ). Seen names i p) (omega (arith, long, most)) seen)) j shut)
 
 -- an end inside has joined, or asks
@@ -467,39 +468,39 @@ unfolding pair_round
 no_opening names p facts none = subst (λ (ps : List Pdu). Each IsTalkPdu (end_round (p.server.clock + 10) ps p.server).pdus) (sym none) (server_talks (p.server.clock + 10) p.server (to_role names p.server facts.server))
 
 -- a client that asks, and said nothing in the last round
-asks_twice : (names : Names) (n : ℕ) (p : Pair) → 1500 ≤ n → Seen names n p → Asks p.client.clock p.client → p.to_server ≡ [] → Comes names 1599 p
+asks_twice : (names : Names) (n : ℕ) (p : Pair) → 1500 ≤ n → Seen names n p → Asks p.client.clock p.client → p.to_server ≡ [] → Comes names 1566 p
 asks_twice names n p long seen is none = choose (asking_step p is)
   where
     seen1 : Seen names (n - 1) (pair_round p)
     seen1 = seen_on names (n - 1) p (subst (λ (k : ℕ). Seen names k p) (omega (arith, long)) seen)
 
-    choose : Asking p → Comes names 1599 p
-    choose (goes_out shut) = comes_later names 1 1383 1599 p (omega arith) (out_comes names (n - 1) (pair_round p) (omega (arith, long)) seen1 shut)
-    choose (joins j) = comes_later names 1 1598 1599 p (omega arith) (joined_comes names (n - 1) (pair_round p) (omega (arith, long)) seen1 j)
-    choose (asks_on a mute) = comes_later names 1 1563 1599 p (omega arith)
+    choose : Asking p → Comes names 1566 p
+    choose (goes_out shut) = comes_later names 1 1383 1566 p (omega arith) (out_comes names (n - 1) (pair_round p) (omega (arith, long)) seen1 shut)
+    choose (joins j) = comes_later names 1 1565 1566 p (omega arith) (joined_comes names (n - 1) (pair_round p) (omega (arith, long)) seen1 j)
+    choose (asks_on a mute) = comes_later names 1 1563 1566 p (omega arith)
         (out_at_comes names 180 (n - 1) (pair_round p) (omega (arith, long)) seen1
         (stuck_out names 180 (n - 181) (pair_round p) (subst (λ (k : ℕ). Seen names k (pair_round p)) (omega (arith, long)) seen1)
         (record { asks = a; mute = mute; talk = no_opening names p (seen.facts 0) none }) (omega (arith, a.own))))
 
 -- two ends, whatever has happened before
-pub all_comes : (names : Names) (n : ℕ) (p : Pair) → 1600 ≤ n → Seen names n p → Comes names 1600 p
+pub all_comes : (names : Names) (n : ℕ) (p : Pair) → 1567 ≤ n → Seen names n p → Comes names 1567 p
 all_comes names n p long seen = by_phase (is_open p.client.phase) refl
   where
     seen1 : Seen names (n - 1) (pair_round p)
     seen1 = seen_on names (n - 1) p (subst (λ (k : ℕ). Seen names k p) (omega (arith, long)) seen)
 
-    wide : (most : ℕ) → most ≤ 1600 → Comes names most p → Comes names 1600 p
+    wide : (most : ℕ) → most ≤ 1567 → Comes names most p → Comes names 1567 p
     wide most le c = record { rounds = c.rounds; soon = omega (arith, le, c.soon); healthy = c.healthy }
 
-    asked : Asking p → Comes names 1600 p
-    asked (goes_out shut) = comes_later names 1 1383 1600 p (omega arith) (out_comes names (n - 1) (pair_round p) (omega (arith, long)) seen1 shut)
-    asked (joins j) = comes_later names 1 1598 1600 p (omega arith) (joined_comes names (n - 1) (pair_round p) (omega (arith, long)) seen1 j)
-    asked (asks_on a mute) = comes_later names 1 1599 1600 p (omega arith) (asks_twice names (n - 1) (pair_round p) (omega (arith, long)) seen1 a mute)
+    asked : Asking p → Comes names 1567 p
+    asked (goes_out shut) = comes_later names 1 1383 1567 p (omega arith) (out_comes names (n - 1) (pair_round p) (omega (arith, long)) seen1 shut)
+    asked (joins j) = comes_later names 1 1565 1567 p (omega arith) (joined_comes names (n - 1) (pair_round p) (omega (arith, long)) seen1 j)
+    asked (asks_on a mute) = comes_later names 1 1566 1567 p (omega arith) (asks_twice names (n - 1) (pair_round p) (omega (arith, long)) seen1 a mute)
 
-    inside : InIt p.client.clock p.client → Comes names 1600 p
-    inside (inl j) = wide 1598 (omega arith) (joined_comes names n p (omega (arith, long)) seen j)
+    inside : InIt p.client.clock p.client → Comes names 1567 p
+    inside (inl j) = wide 1565 (omega arith) (joined_comes names n p (omega (arith, long)) seen j)
     inside (inr a) = asked (asking_step p a)
 
-    by_phase : (b : Bool) → is_open p.client.phase ≡ b → Comes names 1600 p
+    by_phase : (b : Bool) → is_open p.client.phase ≡ b → Comes names 1567 p
     by_phase false e = wide 1383 (omega arith) (out_comes names n p (omega (arith, long)) seen e)
     by_phase true e = inside (in_it_of p.client e ((seen.facts 0).client_young e))

@@ -38,6 +38,14 @@ is_reading phase.Up = true
 is_reading phase.RetransmissionRequested = false
 is_reading phase.RetransmissionRunning = true
 
+-- an end that waits for a retransmission
+abbrev pub waits : Phase → Bool
+waits phase.Closed = false
+waits phase.Start = false
+waits phase.Up = false
+waits phase.RetransmissionRequested = true
+waits phase.RetransmissionRunning = false
+
 -- One direction: what an end has of its partner, whose heartbeat may be under way, for so many rounds more.
 pub record Hears (rest : ℕ) (flies : Bool) (l m : LinkState) : Type 0 where
   pub reads : is_reading l.phase ≡ true

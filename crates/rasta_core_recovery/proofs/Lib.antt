@@ -22,6 +22,8 @@ pub mod Ages
 pub mod Converse
 pub mod Facts
 pub mod Seen
+pub mod Sealed
+pub mod Early
 pub mod Fates
 pub mod Limit
 pub mod Gaps

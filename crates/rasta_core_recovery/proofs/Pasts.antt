@@ -28,12 +28,15 @@ use Rattle.rasta_core_run.specs.Events.{Event, Calls, Passes, Loses, Restarts, E
 use Rattle.rasta_core_run.specs.Names.{Names, AreNames}
 use Rattle.rasta_core.specs.Invariant.{Timely}
 use Rattle.rasta_core_recovery.proofs.Deed.{Deed, Leaves, leaves, keeps, asks, takes, hears}
+use Rattle.rasta_core_recovery.proofs.Words.{says_most}
 use Rattle.rasta_core_recovery.proofs.Course.{fresh_age}
 use Rattle.rasta_core_recovery.proofs.Asks.{AskDeed, ask_leaves, ask_keeps, ask_joins, asking_is, asks_hears}
 
 pub record Past (l : LinkState) : Type 0 where
   pub closed : is_open l.phase ≡ false → l.closed_at ≤ l.clock
   pub said : is_open l.phase ≡ true → l.sent_at ≤ l.clock
+  -- its partner confirmed no more than it sent
+  pub counts : is_open l.phase ≡ true → l.confirmed < l.sent
 
 -- and an end inside is within its time
 record Ready (l : LinkState) : Type 0 where
@@ -50,9 +53,9 @@ settled_past now l later past = choose (is_open l.phase) (nat_le (l.own_stamp + 
 
     choose : (a b : Bool) → is_open l.phase ≡ a → nat_le (l.own_stamp + 1800) now ≡ b
         → Past (if is_open l.phase && nat_le (if is_open l.phase then l.own_stamp + 1800 else l.closed_at) now then record l { phase = phase.Closed; closed_at = (if is_open l.phase then l.own_stamp + 1800 else l.closed_at); clock = now } else record l { clock = now })
-    choose true true e f = rw (e, f) (record { closed = λ is. leb-true _ _ f; said = λ is. absurd (cc is) })
-    choose true false e f = rw (e, f) (record { closed = λ is. absurd (cc (e, is)); said = λ is. omega (arith, past.said e, later) })
-    choose false b e f = rw e (record { closed = λ is. omega (arith, past.closed e, later); said = λ is. absurd (cc (e, is)) })
+    choose true true e f = rw (e, f) (record { closed = λ is. leb-true _ _ f; said = λ is. absurd (cc is); counts = λ is. absurd (cc is) })
+    choose true false e f = rw (e, f) (record { closed = λ is. absurd (cc (e, is)); said = λ is. omega (arith, past.said e, later); counts = λ is. past.counts e })
+    choose false b e f = rw e (record { closed = λ is. omega (arith, past.closed e, later); said = λ is. absurd (cc (e, is)); counts = λ is. absurd (cc (e, is)) })
 
 young_then : (now : ℕ) (l : LinkState) → is_open (settled now l).phase ≡ true → (settled now l).clock < (settled now l).own_stamp + 1800
 unfolding settled deadline
@@ -81,7 +84,7 @@ settled_ready now l later past own = record { past = settled_past now l later pa
 
 left_ready : (l k : LinkState) → Leaves l k → Ready k
 left_ready l k left = record {
-  past = record { closed = λ e. omega (arith, left.closed_at, left.clock); said = λ e. absurd (cc (e, left.is_out)) };
+  past = record { closed = λ e. omega (arith, left.closed_at, left.clock); said = λ e. absurd (cc (e, left.is_out)); counts = λ e. absurd (cc (e, left.is_out)) };
   young = λ e. absurd (cc (e, left.is_out));
   own = λ e. absurd (cc (e, left.is_out));
 }
@@ -92,7 +95,7 @@ telling_ready why l = left_ready l (telling why l).link (record { clock = refl; 
 
 sending_ready : (body : Body) (l : LinkState) → Ready l → Ready (sending body l).link
 unfolding sending
-sending_ready body l is = record { past = record { closed = is.past.closed; said = λ e. omega arith }; young = is.young; own = is.own }
+sending_ready body l is = record { past = record { closed = is.past.closed; said = λ e. omega arith; counts = λ e. omega (arith, is.past.counts e) }; young = is.young; own = is.own }
 
 by_test : (test : Bool) (one other : LinkState) → Ready one → Ready other → Ready (if test then one else other)
 by_test true one other a b = a
@@ -116,7 +119,7 @@ beating_ready l is = by_steps (is_up l.phase && nat_le 300 (l.clock - l.sent_at)
 
 begun_ready : (l : LinkState) → Ready (requesting l).link
 unfolding requesting sending beginning
-begun_ready l = record { past = record { closed = λ e. absurd (cc e); said = λ e. omega arith }; young = λ e. omega arith; own = λ e. omega arith }
+begun_ready l = record { past = record { closed = λ e. absurd (cc e); said = λ e. omega arith; counts = λ e. omega arith }; young = λ e. omega arith; own = λ e. omega arith }
 
 may_request : (l : LinkState) → Ready l → Ready (if may_open l then requesting l else silent l).link
 may_request l is = by_steps (may_open l) (requesting l) (silent l) (begun_ready l) is
@@ -130,13 +133,13 @@ closing_ready why l = by_steps (is_told why) (telling why l) (silent (closed l))
 
 giving_ready : (item : List ℕ) (l : LinkState) → Ready l → Ready (giving item l).link
 unfolding giving sending
-giving_ready item l is = record { past = record { closed = is.past.closed; said = λ e. omega arith }; young = is.young; own = is.own }
+giving_ready item l is = record { past = record { closed = is.past.closed; said = λ e. omega arith; counts = λ e. omega (arith, is.past.counts e) }; young = is.young; own = is.own }
 
 -- ---- what comes
 
 begins_ready : (p : Pdu) (l : LinkState) → Ready (sending (ConnectionResponse own_opening) (meeting p (beginning l))).link
 unfolding sending meeting beginning
-begins_ready p l = record { past = record { closed = λ e. absurd (cc e); said = λ e. omega arith }; young = λ e. omega arith; own = λ e. omega arith }
+begins_ready p l = record { past = record { closed = λ e. absurd (cc e); said = λ e. omega arith; counts = λ e. omega arith }; young = λ e. omega arith; own = λ e. omega arith }
 
 granting_ready : (p : Pdu) (o : Opening) (l : LinkState) → Ready (granting p o l).link
 unfolding granting judging
@@ -168,10 +171,10 @@ resting_ready p l (RetransmittedData x) is = is
 deed_ready : (p : Pdu) (l k : LinkState) (qs : List Pdu) → Ready l → is_open l.phase ≡ true → is_asking l ≡ false → Deed p l k qs → Ready k
 deed_ready p l k qs is in_it joined (leaves left) = left_ready l k left
 deed_ready p l k qs is in_it joined (keeps b same none) = subst Ready (sym same) is
-deed_ready p l k qs is in_it joined (asks apart a) = subst Ready (sym a.link) (record { past = record { closed = λ e. absurd (cc e); said = λ e. omega arith }; young = λ e. is.young in_it; own = λ e. is.own in_it })
+deed_ready p l k qs is in_it joined (asks passes apart a) = subst Ready (sym a.link) (record { past = record { closed = λ e. absurd (cc e); said = λ e. omega arith; counts = λ e. omega (arith, is.past.counts in_it) }; young = λ e. is.young in_it; own = λ e. is.own in_it })
 deed_ready p l k qs is in_it joined (takes passes t) =
     let f = fresh_age p l passes.fresh in record {
-      past = record { closed = λ e. absurd (cc (e, t.stays.connected)); said = λ e. said t.sent_at };
+      past = record { closed = λ e. absurd (cc (e, t.stays.connected)); said = λ e. said t.sent_at; counts = λ e. omega (arith, t.confirmed, says_most _ _ l.sent qs k.sent t.answers, is.past.counts in_it) };
       young = λ e. omega (arith, f, is.young in_it, is.own in_it, t.own_stamp, t.stays.clock);
       own = λ e. omega (arith, t.own_stamp, t.stays.clock);
     }
@@ -183,8 +186,8 @@ deed_ready p l k qs is in_it joined (takes passes t) =
 ask_ready : (p : Pdu) (l k : LinkState) (qs : List Pdu) → Ready l → is_open l.phase ≡ true → AskDeed p l k qs → Ready k
 ask_ready p l k qs is in_it (ask_leaves left) = left_ready l k left
 ask_ready p l k qs is in_it (ask_keeps same none) = subst Ready (sym same) is
-ask_ready p l k qs is in_it (ask_joins opens clock then_in joined own said) = record {
-  past = record { closed = λ e. absurd (cc (e, then_in)); said = λ e. omega (arith, said, clock) };
+ask_ready p l k qs is in_it (ask_joins opens clock then_in joined own said confirmed sent) = record {
+  past = record { closed = λ e. absurd (cc (e, then_in)); said = λ e. omega (arith, said, clock); counts = λ e. omega (arith, confirmed, sent, is.past.counts in_it) };
   young = λ e. omega (arith, is.young in_it, own, clock);
   own = λ e. omega (arith, is.own in_it, own, clock);
 }
@@ -254,7 +257,7 @@ later_past elapsed of_client of_server ends c s are = record {
 
 created_past : (l : LinkState) (first clock : ℕ) → Past (created l.identity first clock)
 unfolding created
-created_past l first clock = record { closed = λ e. omega arith; said = λ e. absurd (cc e) }
+created_past l first clock = record { closed = λ e. omega arith; said = λ e. absurd (cc e); counts = λ e. absurd (cc e) }
 
 restarted_past : (who : Role) (clock first : ℕ) (ends : Ends) → Pasts ends → Pasts (restarted who clock first ends)
 unfolding restarted end_restarted
@@ -283,4 +286,4 @@ run_past time names are own (e ∷ events) ends is pasts may =
 
 pub starts_past : (names : Names) (start : Start) → Pasts (started names start)
 unfolding created
-starts_past names start = record { client = record { closed = λ e. omega arith; said = λ e. absurd (cc e) }; server = record { closed = λ e. omega arith; said = λ e. absurd (cc e) } }
+starts_past names start = record { client = record { closed = λ e. omega arith; said = λ e. absurd (cc e); counts = λ e. absurd (cc e) }; server = record { closed = λ e. omega arith; said = λ e. absurd (cc e); counts = λ e. absurd (cc e) } }

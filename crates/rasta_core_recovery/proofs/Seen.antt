@@ -12,7 +12,7 @@ use Rattle.rasta_core_recovery.proofs.Course.{Joined}
 use Rattle.rasta_core_recovery.proofs.Fold.{Begins, late, on, begins, stays_out}
 use Rattle.rasta_core_recovery.proofs.Tuning.{Round}
 use Rattle.rasta_core_recovery.proofs.Turn.{Either, gone, so, Numbers, numbers, Spoke, loosely}
-use Rattle.rasta_core_recovery.proofs.Converse.{Way, Talk, Goes, talks_on, tuned_by_then}
+use Rattle.rasta_core_recovery.proofs.Converse.{Way, Talk, Goes, talks_on}
 use Rattle.rasta_core_recovery.proofs.Facts.{Young, Kept, Shares, Facts}
 use Rattle.rasta_core_recovery.proofs.Pasts.{Past}
 use Rattle.rasta_core_recovery.proofs.Health.{reading_up, near_kept, client_due, server_due, client_steady, server_steady, client_said, server_said, health_kept}
@@ -97,11 +97,11 @@ rows_after p c s then_in = record { joined = x.is.joined; client = x.row; server
 
 -- a round in which the numbers of what comes go on
 abbrev loose_round : ℕ → LinkState → LinkState → List Pdu → Round
-loose_round kept l m ps = record { now = l.clock + 10; said_at = m.clock; end = m.sent; confirmed = 0; returned = 0; voice = voice_of m; kept = kept; own = l.own_stamp; tuned = false; pdus = ps }
+loose_round kept l m ps = record { now = l.clock + 10; said_at = m.clock; end = m.sent; confirmed = 0; returned = 0; voice = voice_of m; kept = kept; own = l.own_stamp; tuned = false; before = l; number = l.expected; count = 0; reading = 0; pdus = ps }
 
 loose_says : (l m : LinkState) (n : ℕ) (ps : List Pdu) (k : Kept l m) → Joined l.clock l → Shares l m → m.sent < 2 ^ 31 → Row (IsNumbered (voice_of m)) n ps m.sent
     → is_open (end_round (l.clock + 10) ps l).link.phase ≡ true → Spoke (loose_round k.reading l m ps) l (end_round (l.clock + 10) ps l)
-loose_says l m n ps k is shares fits row then_in = choose (loosely (loose_round k.reading l m ps) (record { fits = fits; old = omega arith; stamped = refl; kept = k.before }) l is refl (sym shares.first) shares.some shares.most k.kept_is n row)
+loose_says l m n ps k is shares fits row then_in = choose (loosely (loose_round k.reading l m ps) (record { level = omega arith; fits = fits; old = omega arith; stamped = refl; kept = k.before }) l is refl (sym shares.first) shares.some shares.most k.kept_is n row)
   where
     choose : Either (l.clock + 10) (end_round (l.clock + 10) ps l).link (Spoke (loose_round k.reading l m ps) l (end_round (l.clock + 10) ps l)) → Spoke (loose_round k.reading l m ps) l (end_round (l.clock + 10) ps l)
     choose (gone left) = absurd (cc (left.is_out, then_in))
@@ -124,6 +124,9 @@ first_way l m ps qs s r k j a b t u shares young past partner_in = record {
   chain = u.chain;
   since = omega (arith, t.is.clock, j.recent);
   mode = (omega (arith, t.kept_before, u.is.clock), young.own);
+  later = omega arith;
+  young = λ e. absurd (cc e);
+  deaf = λ e. (t.most, omega (arith, t.is.own, t.is.clock));
 }
 
 pub talk_begins : (names : Names) (p : Pair) (n m : ℕ) → Facts names p → Facts names (pair_round p) → Past (pair_round p).client → Past (pair_round p).server → BothIn p → is_asking p.client ≡ false → BothIn (pair_round p)
@@ -163,13 +166,6 @@ talk_begins names p n m facts then_facts client_past server_past now_in joined t
     later : Shares c.link s.link × Shares s.link c.link
     later = then_facts.shares then_in.client x.is.joined then_in.server
 
--- ---- each end comes to take what the other says
-
-pub record TalkAt (names : Names) (of_client of_server : ℕ) (p : Pair) : Type 0 where
-  pub client_tuned : Bool
-  pub server_tuned : Bool
-  pub talk : Talk names of_client of_server client_tuned server_tuned p
-
 -- while both stay
 pub record Stay (n : ℕ) (p : Pair) : Type 0 where
   pub both : (k : ℕ) → k ≤ n → BothIn (pair_rounds k p)
@@ -181,30 +177,15 @@ pub stay_later : (m n : ℕ) (p : Pair) → Stay (m + n) p → Stay n (pair_roun
 stay_later zero n p stay = subst (λ (k : ℕ). Stay k p) (omega arith) stay
 stay_later (suc m) n p stay = stay_on n (pair_rounds m p) (stay_later m (suc n) p (subst (λ (k : ℕ). Stay k p) (omega arith) stay))
 
-talk_step : (names : Names) (of_client of_server : ℕ) (client_tuned server_tuned : Bool) (p : Pair) → Talk names of_client of_server client_tuned server_tuned p → Rooms p → BothIn p → BothIn (pair_round p)
-    → p.client.clock ≤ of_client + 100000 → p.server.clock ≤ of_server + 100000 → Goes names of_client of_server client_tuned server_tuned p
+pub talk_step : (names : Names) (of_client of_server : ℕ) (client_tuned server_tuned : Bool) (p : Pair) → (talk : Talk names of_client of_server client_tuned server_tuned p) → Rooms p → BothIn p → BothIn (pair_round p)
+    → p.client.clock ≤ of_client + 100000 → p.server.clock ≤ of_server + 100000 → Goes names of_client of_server client_tuned server_tuned p talk
 talk_step names of_client of_server client_tuned server_tuned p talk rooms now_in then_in client_short server_short =
     let c = rooms.client now_in.client in let s = rooms.server now_in.server in
     talks_on names of_client of_server client_tuned server_tuned p talk (omega (arith, c)) (omega (arith, s)) client_short server_short then_in.client then_in.server
 
-talk_at : (names : Names) (j n : ℕ) (p : Pair) → Seen names n p → Stay n p → j ≤ n → j ≤ 9000 → Talk names p.client.clock p.server.clock false false p → TalkAt names p.client.clock p.server.clock (pair_rounds j p)
-talk_at names zero n p seen stay most short talk = record { client_tuned = false; server_tuned = false; talk = talk }
-talk_at names (suc j) n p seen stay most short talk =
-    let t = talk_at names j n p seen stay (omega (arith, most)) (omega (arith, short)) talk in
-    let g = talk_step names p.client.clock p.server.clock t.client_tuned t.server_tuned (pair_rounds j p) t.talk (seen.room j (omega (arith, most))) (stay.both j (omega (arith, most))) (stay.both (suc j) most)
-    (omega (arith, seen.client_clock j, short)) (omega (arith, seen.server_clock j, short)) in
-    record { client_tuned = g.then_client; server_tuned = g.then_server; talk = g.talk }
-
-both_tuned : (names : Names) (of_client of_server : ℕ) (p : Pair) → TalkAt names of_client of_server p → of_client + 1800 ≤ p.client.clock → of_server + 1800 ≤ p.server.clock → Talk names of_client of_server true true p
-both_tuned names of_client of_server p t client_long server_long =
-    let w = t.talk.to_client in let v = t.talk.to_server in
-    let c = tuned_by_then of_server of_client t.client_tuned t.talk.client_kept t.talk.server_kept p.client p.server p.to_client w v.is.young server_long in
-    let s = tuned_by_then of_client of_server t.server_tuned t.talk.server_kept t.talk.client_kept p.server p.client p.to_server v w.is.young client_long in
-    subst (λ (b : Bool). Talk names of_client of_server true b p) s (subst (λ (b : Bool). Talk names of_client of_server b t.server_tuned p) c t.talk)
-
 -- ---- two rounds later there are heartbeats alone
 
-tuned_up : (partner_start own_start kept other_kept : ℕ) (l m : LinkState) (ps : List Pdu) → Way partner_start own_start true kept other_kept l m ps → is_up l.phase ≡ true
+pub tuned_up : (partner_start own_start kept other_kept : ℕ) (l m : LinkState) (ps : List Pdu) → Way partner_start own_start true kept other_kept l m ps → is_up l.phase ≡ true
 tuned_up partner_start own_start kept other_kept l m ps w = reading_up l.phase w.mode.0.reading
 
 level : (v : Voice) (n c r end d q : ℕ) (f : Bool) (m : LinkState) → Chain v n c r (beats f m) end d q → n + count f ≡ end
@@ -269,20 +250,20 @@ near_from names of_client of_server p true true e f talk client_near server_near
   };
 }
 
-near_by : (names : Names) (n of_client of_server : ℕ) (p : Pair) → 2 ≤ n → Seen names n p → Stay n p → Talk names of_client of_server true true p → p.client.clock + 10 ≤ of_client + 100000 → p.server.clock + 10 ≤ of_server + 100000
+pub near_by : (names : Names) (n of_client of_server : ℕ) (p : Pair) → 2 ≤ n → Seen names n p → Stay n p → Talk names of_client of_server true true p → p.client.clock + 10 ≤ of_client + 100000 → p.server.clock + 10 ≤ of_server + 100000
     → NearBy names (pair_rounds 2 p)
 near_by names n of_client of_server p long seen stay talk client_short server_short =
     near_from names of_client of_server (pair_rounds 2 p) g2.then_client g2.then_server (g2.client_keeps refl) (g2.server_keeps refl) g2.talk (g2.client_near refl server_calm) (g2.server_near refl client_calm)
     (record { client_beats = g2.client_beats refl (g1.server_plain refl); server_beats = g2.server_beats refl (g1.client_plain refl); client_calm = g2.client_calm; server_calm = g2.server_calm })
     (seen.room 2 long) (stay.both 2 long)
   where
-    g1 : Goes names of_client of_server true true p
+    g1 : Goes names of_client of_server true true p talk
     g1 = talk_step names of_client of_server true true p talk (seen.room 0 (omega arith)) (stay.both 0 (omega arith)) (stay.both 1 (omega (arith, long))) (omega (arith, client_short)) (omega (arith, server_short))
 
     mid_talk : Talk names of_client of_server true true (pair_round p)
     mid_talk = subst (λ (b : Bool). Talk names of_client of_server true b (pair_round p)) (g1.server_keeps refl) (subst (λ (b : Bool). Talk names of_client of_server b g1.then_server (pair_round p)) (g1.client_keeps refl) g1.talk)
 
-    g2 : Goes names of_client of_server true true (pair_round p)
+    g2 : Goes names of_client of_server true true (pair_round p) mid_talk
     g2 = talk_step names of_client of_server true true (pair_round p) mid_talk (seen.room 1 (omega (arith, long))) (stay.both 1 (omega (arith, long))) (stay.both 2 long)
         (omega (arith, client_short, g1.client_clock)) (omega (arith, server_short, g1.server_clock))
 
@@ -372,7 +353,7 @@ not_due_then start f l m (steady s) calm long = λ e. s
 not_due_then start f l m (under_way e) calm long = λ h. absurd (cc (e, h))
 not_due_then start f l m (due e old) calm long = absurd (omega (arith, old, calm, long))
 
-healthy_after : (names : Names) (n : ℕ) (p : Pair) → Seen names n p → Stay n p → 31 ≤ n → NearBy names p → Healthy names 1 (pair_rounds 31 p)
+pub healthy_after : (names : Names) (n : ℕ) (p : Pair) → Seen names n p → Stay n p → 31 ≤ n → NearBy names p → Healthy names 1 (pair_rounds 31 p)
 healthy_after names n p seen stay long by = record {
   of_client = client_due names 0 at.of_client at.of_server q at.near cy sy;
   of_server = server_due names 0 at.of_client at.of_server q at.near cy sy;
@@ -405,67 +386,7 @@ healthy_after names n p seen stay long by = record {
     sy : q.server.clock + 10 < q.server.own_stamp + 1800
     sy = server_lives q ((seen.facts 30).server_young in_it.server) in_it then_in
 
--- ---- a connection that both stay in
-
--- both are inside, the client having joined, and stay for so long: they are healthy then
-pub stays_healthy : (names : Names) (n : ℕ) (p : Pair) → 215 ≤ n → Seen names n p → Stay n p → is_asking p.client ≡ false → Healthy names 1 (pair_rounds 215 p)
-stays_healthy names n p long seen stay joined = subst (Healthy names 1) (there 31 2 180 2) (healthy_after names (n - 184) (pair_rounds 2 (pair_rounds 180 (pair_rounds 2 p))) seen4 stay4 (omega (arith, long)) by)
-  where
-    p2 : Pair
-    p2 = pair_rounds 2 p
-
-    p182 : Pair
-    p182 = pair_rounds 180 p2
-
-    seen1 : Seen names (n - 1) (pair_round p)
-    seen1 = seen_later names 1 (n - 1) p (subst (λ (k : ℕ). Seen names k p) (omega (arith, long)) seen)
-
-    seen2 : Seen names (n - 2) p2
-    seen2 = seen_later names 2 (n - 2) p (subst (λ (k : ℕ). Seen names k p) (omega (arith, long)) seen)
-
-    stay2 : Stay (n - 2) p2
-    stay2 = stay_later 2 (n - 2) p (subst (λ (k : ℕ). Stay k p) (omega (arith, long)) stay)
-
-    seen3 : Seen names (n - 182) p182
-    seen3 = seen_later names 180 (n - 182) p2 (subst (λ (k : ℕ). Seen names k p2) (omega (arith, long)) seen2)
-
-    stay3 : Stay (n - 182) p182
-    stay3 = stay_later 180 (n - 182) p2 (subst (λ (k : ℕ). Stay k p2) (omega (arith, long)) stay2)
-
-    seen4 : Seen names (n - 184) (pair_rounds 2 p182)
-    seen4 = seen_later names 2 (n - 184) p182 (subst (λ (k : ℕ). Seen names k p182) (omega (arith, long)) seen3)
-
-    stay4 : Stay (n - 184) (pair_rounds 2 p182)
-    stay4 = stay_later 2 (n - 184) p182 (subst (λ (k : ℕ). Stay k p182) (omega (arith, long)) stay3)
-
-    in0 : BothIn p
-    in0 = stay.both 0 (omega arith)
-
-    in1 : BothIn (pair_round p)
-    in1 = stay.both 1 (omega (arith, long))
-
-    rows : Rows p (pair_round p)
-    rows = rows_after p (joined_of p.client in0.client joined ((seen.facts 0).client_young in0.client))
-        (joined_of p.server in0.server (server_not_asking names p.server (seen.facts 0).server) ((seen.facts 0).server_young in0.server)) in1
-
-    rooms1 : Rooms (pair_round p)
-    rooms1 = seen.room 1 (omega (arith, long))
-
-    talk : Talk names p2.client.clock p2.server.clock false false p2
-    talk = talk_begins names (pair_round p) p.client.sent p.server.sent (seen.facts 1) (seen.facts 2) (seen.client_past 2) (seen.server_past 2) in1 rows.joined (stay.both 2 (omega (arith, long)))
-        (omega (arith, rooms1.client in1.client)) (omega (arith, rooms1.server in1.server)) rows.client rows.server
-
-    at : TalkAt names p2.client.clock p2.server.clock p182
-    at = talk_at names 180 (n - 2) p2 seen2 stay2 (omega (arith, long)) (omega arith) talk
-
-    tuned : Talk names p2.client.clock p2.server.clock true true p182
-    tuned = both_tuned names p2.client.clock p2.server.clock p182 at (omega (arith, seen2.client_clock 180)) (omega (arith, seen2.server_clock 180))
-
-    by : NearBy names (pair_rounds 2 p182)
-    by = near_by names (n - 182) p2.client.clock p2.server.clock p182 (omega (arith, long)) seen3 stay3 tuned (omega (arith, seen2.client_clock 180)) (omega (arith, seen2.server_clock 180))
-
-    there : (a b c d : ℕ) → pair_rounds a (pair_rounds b (pair_rounds c (pair_rounds d p))) ≡ pair_rounds (a + (b + (c + d))) p
-    there a b c d = ap (λ (q : Pair). pair_rounds a (pair_rounds b q)) (rounds_add c d p) ∙ ap (pair_rounds a) (rounds_add b (c + d) p) ∙ rounds_add a (b + (c + d)) p
+-- ---- and stay so
 
 -- health is kept as long as there is room
 pub healthy_for : (names : Names) (j n : ℕ) (p : Pair) → Seen names n p → j ≤ n → Healthy names 1 p → Healthy names 1 (pair_rounds j p)

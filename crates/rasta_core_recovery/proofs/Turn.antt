@@ -5,23 +5,25 @@ use Rattle.rasta_core_run.specs.State.{LinkState, is_up}
 use Rattle.rasta_core_run.specs.Sending.{Step, then_do, sending, header_of, pdu_of}
 use Rattle.rasta_core_run.specs.Receiving.{taking, hearing}
 use Rattle.rasta_core_run.specs.identity.Role.{Role}
+use Rattle.rasta_core_run.specs.phase.Phase.{Phase}
+use Rattle.rasta_core_run.specs.phase.Phase.TheVariants as phase
 use Rattle.rasta_core_run.specs.pdu.Pdu.{Pdu}
 use Rattle.rasta_core_run.specs.body.Body.TheVariants.{RetransmissionRequest, Heartbeat}
 use Rattle.rasta_core_run.specs.Each.{Each}
 use Rattle.rasta_core_recovery.proofs.Links.{heard, all_heard, worked, end_round}
-use Rattle.rasta_core_recovery.proofs.Healthy.{beats}
+use Rattle.rasta_core_recovery.proofs.Healthy.{beats, waits}
 use Rattle.rasta_core_recovery.proofs.Calls.{at_reading, spoken}
 use Rattle.rasta_core_recovery.proofs.Words.{IsTalk, IsPlain, plain_talk, Row, Voice, voice_of, IsNumbered, Chain, chain_lower, chain_then, row_then, row_most, says_row, says_chain}
 use Rattle.rasta_core_recovery.proofs.Deed.{Deed, leaves, keeps, asks, takes, hears}
 use Rattle.rasta_core_recovery.proofs.Fold.{Out, heard_case, Next, gone_next, stays_next, all_hear, Work, gone_work, calm_work, beats_work, works, Begins, late, on, begins, stays_out, works_out, round_on}
 use Rattle.rasta_core_recovery.proofs.Course.{Joined, lively, Goes, goes_none, goes_then, voice_goes, taken_joined, placed, answers_chain, asked_chain, asked_joined, asked_goes, taken_goes}
-use Rattle.rasta_core_recovery.proofs.Tuning.{IsPlainPdu, each_append, Round, Bounds, Ghost, Tuned, Mode, Hearing, Answers, tunes}
+use Rattle.rasta_core_recovery.proofs.Tuning.{IsPlainPdu, IsNoAnswerPdu, not_before, IsShut, IsOutdated, Reached, unheard, waiting, off, low, Deaf, each_append, Round, Bounds, Ghost, Tuned, Mode, Hearing, Answers, tunes}
 
 -- ---- its own work
 
 pub data Ended (now : ℕ) (k : LinkState) (s : Step) : Type 0 where
   gone_end : Out now s.link → Ended now k s
-  done : (b : Bool) → s ≡ record { link = spoken b k; pdus = beats b (spoken b k) } → (is_up (spoken b k).phase ≡ true → now < (spoken b k).sent_at + 300) → Ended now k s
+  done : (b : Bool) → s ≡ record { link = spoken b k; pdus = beats b (spoken b k) } → (is_up (spoken b k).phase ≡ true → now < (spoken b k).sent_at + 300) → (b ≡ true → is_up k.phase ≡ true) → Ended now k s
 
 pub ends : (now : ℕ) (who : Role) (k : LinkState) → Joined now k → Ended now k (worked now who k)
 unfolding sending header_of
@@ -35,8 +37,8 @@ ends now who k is = choose (works now who k (lively now k is))
 
     choose : Work now k (worked now who k) → Ended now k (worked now who k)
     choose (gone_work left) = gone_end left
-    choose (calm_work e calm) = done false e calm
-    choose (beats_work up e) = done true (e ∙ ap (λ (n : ℕ). record { link = said; pdus = pdu_of (header_of said) n Heartbeat ∷ [] }) (sym one_less)) (λ u. omega (arith, is.clock))
+    choose (calm_work e calm) = done false e calm (λ f. absurd (cc f))
+    choose (beats_work up e) = done true (e ∙ ap (λ (n : ℕ). record { link = said; pdus = pdu_of (header_of said) n Heartbeat ∷ [] }) (sym one_less)) (λ u. omega (arith, is.clock)) (λ f. up)
 
 pub spoken_joined : (now : ℕ) (b : Bool) (k : LinkState) → Joined now k → Joined now (spoken b k)
 spoken_joined now false k is = is
@@ -70,6 +72,11 @@ unfolding pdu_of
 spoken_plain false k = tt
 spoken_plain true k = (tt, tt)
 
+spoken_no_answer : (b : Bool) (k : LinkState) → Each IsNoAnswerPdu (beats b (spoken b k))
+unfolding pdu_of
+spoken_no_answer false k = tt
+spoken_no_answer true k = (tt, tt)
+
 -- ---- a round, whatever comes
 
 pub record Numbers (now : ℕ) (l : LinkState) (s : Step) : Type 0 where
@@ -100,7 +107,7 @@ module _ (now : ℕ) where
   unfolding taking header_of pdu_of
   rows_one p l k qs is (leaves left) = inl (record { clock = left.clock ∙ is.clock; is_out = left.is_out; quiet = omega (arith, left.closed_at, is.clock); lately = omega (arith, left.closed_at, is.clock) })
   rows_one p l k qs is (keeps b same none) = inr (subst (Joined now) (sym same) is, subst (λ (j : LinkState). Rowed 0 l qs 0 j) (sym same) (subst (λ (rs : List Pdu). Rowed 0 l rs 0 l) (sym none) (record { goes = goes_none now l; row = refl })))
-  rows_one p l k qs is (asks apart a) = inr (
+  rows_one p l k qs is (asks passes apart a) = inr (
     asked_joined now l k qs is a,
     record {
       goes = asked_goes now l k qs is a;
@@ -148,7 +155,7 @@ numbers now ps l is at = choose (begins now l at is.connected is.young)
 
     ended : (k : LinkState) (qs : List Pdu) → Joined now k → Rowed now 0 j qs 0 k → Ended now k (worked now l.identity.role k) → Goal (record { link = (worked now l.identity.role k).link; pdus = qs ++ (worked now l.identity.role k).pdus })
     ended k qs in_it o (gone_end left) = gone left
-    ended k qs in_it o (done b e calm) = subst (λ (s : Step). Goal (record { link = s.link; pdus = qs ++ s.pdus })) (sym e) (so (record {
+    ended k qs in_it o (done b e calm up) = subst (λ (s : Step). Goal (record { link = s.link; pdus = qs ++ s.pdus })) (sym e) (so (record {
       is = spoken_joined now b k in_it;
       identity = all.goes.identity;
       own_first = all.goes.own_first;
@@ -187,6 +194,16 @@ pub record Spoke (x : Round) (l : LinkState) (s : Step) : Type 0 where
   pub chain : Chain (voice_of s.link) l.sent (l.expected - 1) x.kept s.pdus s.link.sent (s.link.expected - 1) kept
   pub calm : is_up s.link.phase ≡ true → x.now < s.link.sent_at + 300
 
+-- what an end may not say and take in a round
+pub record Notes (x : Round) (then_tuned : Bool) (s : Step) : Type 0 where
+  pub shut : IsShut x → then_tuned ≡ false
+  pub hush : then_tuned ≡ false → Each IsNoAnswerPdu s.pdus
+  pub hush_plain : Each IsPlainPdu x.pdus → Each IsNoAnswerPdu s.pdus
+  pub waits_on : waits x.before.phase ≡ true → then_tuned ≡ false → (waits s.link.phase ≡ true) × Each IsPlainPdu s.pdus
+  pub mute : then_tuned ≡ false → is_up s.link.phase ≡ false → s.pdus ≡ []
+  pub deaf : then_tuned ≡ false → Deaf x s.link x.end []
+  pub outdated_on : x.tuned ≡ false → IsOutdated x x.before → (then_tuned ≡ false) × (s.link.phase ≡ x.before.phase)
+
 module _ (x : Round) (bounds : Bounds x) where
   record Loose (g : ℕ) (ps : List Pdu) (l : LinkState) : Type 0 where
     is : Joined x.now l
@@ -221,7 +238,7 @@ module _ (x : Round) (bounds : Bounds x) where
     subst (Loose g ps) (sym same) (record { is = is.is; first = is.first; some = is.some; most = is.most; kept_is = is.kept_is; kept_before = is.kept_before; since = is.since; number = is.number + 1; row = is.row.1 }),
     subst (λ (j : LinkState). Linked g l qs g j) (sym same) (subst (λ (rs : List Pdu). Linked g l rs g l) (sym none) (linked_none g l)),
   )
-  loose_one g p ps l k qs is (asks apart a) = let e = a.link in let f = ap (λ (j : LinkState). j.expected) e in inr (
+  loose_one g p ps l k qs is (asks passes apart a) = let e = a.link in let f = ap (λ (j : LinkState). j.expected) e in inr (
     g,
     record {
       is = asked_joined x.now l k qs is.is a;
@@ -338,7 +355,7 @@ module _ (x : Round) (bounds : Bounds x) where
 
       ended : (k : LinkState) (qs : List Pdu) (h : ℕ) → Loose h [] k → Linked x.kept j qs h k → Ended x.now k (worked x.now l.identity.role k) → Goal (record { link = (worked x.now l.identity.role k).link; pdus = qs ++ (worked x.now l.identity.role k).pdus })
       ended k qs h a o (gone_end left) = gone left
-      ended k qs h a o (done b e calm) = subst (λ (s : Step). Goal (record { link = s.link; pdus = qs ++ s.pdus })) (sym e)
+      ended k qs h a o (done b e calm up) = subst (λ (s : Step). Goal (record { link = s.link; pdus = qs ++ s.pdus })) (sym e)
           (so (says_then l j k qs x.kept h b refl refl a.is a.some a.most a.kept_is a.since a.kept_before o calm))
 
       heard_then : Next ℕ x.now Loose Linked x.kept j [] heard_all → Goal (then_do heard_all (λ k. worked x.now l.identity.role k))
@@ -356,6 +373,35 @@ module _ (x : Round) (bounds : Bounds x) where
   EndMode false kept k = (kept ≡ x.kept) × (k.own_stamp ≡ x.own)
   EndMode true kept k = Tuned k x.end x.confirmed x.returned × ((kept ≡ x.said_at) ⊎ ((x.pdus ≡ []) × (kept ≡ x.kept) × (x.tuned ≡ true)))
 
+  reached_as : (j k : LinkState) (n : ℕ) → j.expected ≡ k.expected → j.own_stamp ≡ k.own_stamp → j.confirmed ≡ k.confirmed → j.phase ≡ k.phase → n ≡ x.end → Reached x k n [] → Reached x j x.end []
+  reached_as j k n e o c f at (unheard u) = unheard u
+  reached_as j k n e o c f at (waiting u) = waiting (ap waits f ∙ u)
+  reached_as j k n e o c f at (off u) = off (omega (arith, e, at, u))
+  reached_as j k n e o c f at (low (inl u)) = low (inl (omega (arith, o, u)))
+  reached_as j k n e o c f at (low (inr u)) = low (inr (omega (arith, c, u)))
+
+  deaf_spoken : (b : Bool) (k : LinkState) (n : ℕ) → n ≡ x.end → Deaf x k n [] → Deaf x (spoken b k) x.end []
+  deaf_spoken false k n at d = record { expected = d.expected; confirmed = d.confirmed; phase = d.phase; reached = reached_as k k n refl refl refl refl at d.reached }
+  deaf_spoken true k n at d = record { expected = d.expected; confirmed = d.confirmed; phase = d.phase; reached = reached_as (spoken true k) k n refl refl refl refl at d.reached }
+
+  phase_stays : (b : Bool) (k : LinkState) → (spoken b k).phase ≡ k.phase
+  phase_stays false k = refl
+  phase_stays true k = refl
+
+  waits_up : (at : Phase) → waits at ≡ true → is_up at ≡ true
+  waits_up phase.Closed e = cc
+  waits_up phase.Start e = cc
+  waits_up phase.Up e = refl
+  waits_up phase.RetransmissionRequested e = refl
+  waits_up phase.RetransmissionRunning e = refl
+
+  no_beat : (b : Bool) (k : LinkState) → (b ≡ true → is_up k.phase ≡ true) → is_up k.phase ≡ false → beats b (spoken b k) ≡ []
+  no_beat false k up e = refl
+  no_beat true k up e = absurd (cc (up refl, e))
+
+  both_none : (ps qs : List Pdu) → ps ≡ [] → qs ≡ [] → ps ++ qs ≡ []
+  both_none ps qs e f = cc
+
   pub record Turn (tuned : Bool) (l : LinkState) (s : Step) : Type 0 where
     pub says : Spoke x l s
     pub then_tuned : Bool
@@ -363,6 +409,7 @@ module _ (x : Round) (bounds : Bounds x) where
     pub keeps : tuned ≡ true → then_tuned ≡ true
     pub plain : tuned ≡ true → Each IsPlainPdu s.pdus
     pub beating : tuned ≡ true → Each IsPlainPdu x.pdus → (b : Bool) × (s.pdus ≡ beats b s.link) × (b ≡ true → s.link.sent_at ≡ x.now)
+    pub notes : Notes x then_tuned s
 
   end_mode : (tuned : Bool) (kept : ℕ) (k : LinkState) (n c r : ℕ) → Mode x tuned kept k n c r [] → (n ≡ x.end) × (c ≤ x.confirmed) × (r ≤ x.returned) → EndMode tuned kept k
   end_mode false kept k n c r m ends_at = m
@@ -377,10 +424,10 @@ module _ (x : Round) (bounds : Bounds x) where
   spoken_mode false true kept k m = m
   spoken_mode true true kept k (t, how) = (record { reading = t.reading; expected = t.expected; confirmed = t.confirmed; own = t.own }, how)
 
-  pub turns : (g : Ghost) (l : LinkState) → g.kept ≡ x.kept → Joined l.clock l → x.now ≡ l.clock + 10 → (x.now < l.own_stamp + 1800 → Hearing x g x.pdus (at_reading x.now l))
+  pub turns : (g : Ghost) (l : LinkState) → x.before ≡ l → g.kept ≡ x.kept → Joined l.clock l → x.now ≡ l.clock + 10 → (x.now < l.own_stamp + 1800 → Hearing x g x.pdus (at_reading x.now l))
       → Either x.now (end_round x.now x.pdus l).link (Turn g.tuned l (end_round x.now x.pdus l))
   unfolding says_then
-  turns g l start is at hearing_is = choose (begins x.now l at is.connected is.young)
+  turns g l same start is at hearing_is = choose (begins x.now l at is.connected is.young)
     where
       j : LinkState
       j = at_reading x.now l
@@ -393,13 +440,24 @@ module _ (x : Round) (bounds : Bounds x) where
 
       ended : (k : LinkState) (qs : List Pdu) (h : Ghost) → Hearing x h [] k → Answers x g j qs h k → Ended x.now k (worked x.now l.identity.role k) → Goal (record { link = (worked x.now l.identity.role k).link; pdus = qs ++ (worked x.now l.identity.role k).pdus })
       ended k qs h a o (gone_end left) = gone left
-      ended k qs h a o (done b e calm) = subst (λ (s : Step). Goal (record { link = s.link; pdus = qs ++ s.pdus })) (sym e) (so (record {
+      ended k qs h a o (done b e calm up) = subst (λ (s : Step). Goal (record { link = s.link; pdus = qs ++ s.pdus })) (sym e) (so (record {
         says = says_then l j k qs g.kept h.kept b refl start a.is a.some a.most a.kept_is a.since a.kept_before (record { goes = o.goes; rises = o.rises; chain = o.chain }) calm;
         then_tuned = h.tuned;
         mode = spoken_mode h.tuned b h.kept k (end_mode h.tuned h.kept k a.number a.count a.reading a.mode a.chain);
         keeps = o.stays_tuned;
         plain = λ t. each_append IsPlainPdu qs (beats b (spoken b k)) (o.plain t) (spoken_plain b k);
         beating = λ t p. (b, ap (λ (rs : List Pdu). rs ++ beats b (spoken b k)) (o.calm t p), said_now b);
+        notes = record {
+          shut = λ s. (a.shut s).0;
+          hush = λ f. each_append IsNoAnswerPdu qs (beats b (spoken b k)) (o.hush f) (spoken_no_answer b k);
+          hush_plain = λ p. each_append IsNoAnswerPdu qs (beats b (spoken b k)) (o.hush_plain p) (spoken_no_answer b k);
+          waits_on = λ w f. let y = o.waits_on (ap (λ (j : LinkState). waits j.phase) (sym same) ∙ w) f in
+              (ap waits (phase_stays b k) ∙ y.0, each_append IsPlainPdu qs (beats b (spoken b k)) (subst (Each IsPlainPdu) (sym y.1) tt) (spoken_plain b k));
+          mute = λ f u. let v = sym (ap is_up (phase_stays b k)) ∙ u in
+              both_none qs (beats b (spoken b k)) (o.mute f (not_before (is_up k.phase) (waits k.phase) v (waits_up k.phase))) (no_beat b k up v);
+          deaf = λ f. deaf_spoken b k a.number a.chain.0 (a.deaf f);
+          outdated_on = λ f d. let y = a.outdated_on f d in (y.0, phase_stays b k ∙ y.2);
+        };
       }))
         where
           said_now : (b : Bool) → b ≡ true → (spoken b k).sent_at ≡ x.now

@@ -8,7 +8,7 @@ use Rattle.rasta_core_run.specs.header.Header.{Header}
 use Rattle.rasta_core_run.specs.window.Unconfirmed.{Unconfirmed}
 use Rattle.rasta_core_run.specs.pdu.Pdu.{Pdu}
 use Rattle.rasta_core_run.specs.body.Body.{Body}
-use Rattle.rasta_core_run.specs.body.Body.TheVariants.{ConnectionRequest, ConnectionResponse, RetransmissionRequest}
+use Rattle.rasta_core_run.specs.body.Body.TheVariants.{ConnectionRequest, ConnectionResponse, RetransmissionRequest, RetransmissionResponse}
 
 -- what an end inside may say: nothing that opens
 abbrev pub IsTalk : Body → Type 0
@@ -29,6 +29,11 @@ plain_talk (ConnectionResponse opening) is = is
 plain_talk RetransmissionRequest is = tt
 plain_talk _ is = tt
 
+-- anything but the answer to one that asks
+abbrev pub IsNoAnswer : Body → Type 0
+IsNoAnswer RetransmissionResponse = ⊥
+IsNoAnswer _ = Unit {0}
+
 -- ---- PDUs of one header
 
 abbrev pub Says : (Body → Type 0) → Header → ℕ → List Pdu → ℕ → Type 0
@@ -37,6 +42,10 @@ Says P h n (p ∷ ps) end = (p ≡ pdu_of h n p.body) × P p.body × Says P h (n
 
 pub says_to : (P : Body → Type 0) (h : Header) (n : ℕ) (ps : List Pdu) (end other : ℕ) → end ≡ other → Says P h n ps end → Says P h n ps other
 says_to P h n ps end other e s = subst (λ (k : ℕ). Says P h n ps k) e s
+
+pub says_most : (P : Body → Type 0) (h : Header) (n : ℕ) (ps : List Pdu) (end : ℕ) → Says P h n ps end → n ≤ end
+says_most P h n [] end s = omega (arith, s)
+says_most P h n (p ∷ ps) end s = let t = says_most P h (n + 1) ps end s.2 in omega (arith, t)
 
 pub says_then : (P : Body → Type 0) (h : Header) (n m end : ℕ) (ps qs : List Pdu) → Says P h n ps m → Says P h m qs end → Says P h n (ps ++ qs) end
 says_then P h n m end [] qs s t = subst (λ (k : ℕ). Says P h k qs end) (sym s) t

@@ -10,8 +10,8 @@ use rasta_core::{
 };
 use rasta_core_run::written_is_read;
 
-/// Two ends come up whatever has happened to them before: after each good round from the 1600th on both are up, so for
-/// good 16 s after the good rounds began. That is where no end comes to the limit of PDUs in a connection till then.
+/// Two ends come up whatever has happened to them before: after each good round from the 1567th on both are up, so for
+/// good 15.67 s after the good rounds began. That is where no end comes to the limit of PDUs in a connection till then.
 /// What was sent before the good rounds may come in the first of them, or never.
 pub fn two_ends_come_up()
     ensures { (names : Names) (start : Start) (events : List Event) (passed n : ℕ) → AreNames names → MayRun names events (started names start)
@@ -26,7 +26,7 @@ pub fn two_ends_come_up()
 }
 
 /// Two ends that have come up are up again 6040 ms later at the latest, whenever one of them comes to the limit of PDUs in a
-/// connection: so from a good round from the 1600th on, till which no end came to it, each good round is one of two that are up,
+/// connection: so from a good round from the 1567th on, till which no end came to it, each good round is one of two that are up,
 /// or has such a one at most 604 rounds behind it.
 pub fn gaps_are_short()
     ensures { (names : Names) (start : Start) (events : List Event) (passed m n : ℕ) → AreNames names → MayRun names events (started names start)
