@@ -2,3 +2,4 @@ mod Created
 mod Clocks
 mod Rounds
 mod Sends
+mod Arrives

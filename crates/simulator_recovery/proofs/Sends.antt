@@ -36,13 +36,13 @@ use Rattle.simulator_recovery.proofs.Clocks.{IsCalm}
 use Rattle.simulator_recovery.proofs.Rounds.{behind_calm, behind_time, calm_keeps, round_picture, time_happens, tried_keeps, work_calm}
 
 -- Datagrams were sent now, behind those that were sent before.
-record Adds (old new : WorldState) : Type 0 where
-  time : new.time ≡ old.time
-  more : List OnLink
-  sent : new.sent ≡ old.sent ++ more
-  fresh : Each (IsFresh old.time) more
+pub record Adds (old new : WorldState) : Type 0 where
+  pub time : new.time ≡ old.time
+  pub more : List OnLink
+  pub sent : new.sent ≡ old.sent ++ more
+  pub fresh : Each (IsFresh old.time) more
 
-adds_none : (world : WorldState) → Adds world world
+pub adds_none : (world : WorldState) → Adds world world
 adds_none world = record { time = refl; more = []; sent = sym (append-nil world.sent); fresh = tt }
 
 each_joined : (P : OnLink → Type 0) (one other : List OnLink) → Each P one → Each P other → Each P (one ++ other)
@@ -177,10 +177,10 @@ module _ (site : Site) (table : Table) where
 
 -- ---- a round
 
-record HasAdded (old : WorldState) (world : Played) : Type 0 where
-  is : Adds old world.run
+pub record HasAdded (old : WorldState) (world : Played) : Type 0 where
+  pub is : Adds old world.run
 
-tried_adds : (old : WorldState) (world : Played) (one : Event) → IsCalm one → HasAdded old world → HasAdded old (after world one)
+pub tried_adds : (old : WorldState) (world : Played) (one : Event) → IsCalm one → HasAdded old world → HasAdded old (after world one)
 tried_adds old world one calm is = tried_keeps (HasAdded old) world one is (λ none. record { is = adds_then old world.run _ is.is (calm_adds world.sited.site world.sited.table one world.run calm) })
 
 work_adds : (old : WorldState) (between : List Event) (flowing : Flowing Played) → Each IsWork between → HasAdded old flowing.picture → HasAdded old (all_tried between flowing).picture
@@ -188,14 +188,14 @@ work_adds old [] flowing work is = is
 work_adds old (first ∷ others) flowing work is = work_adds old others (record flowing { picture = after flowing.picture first }) work.1 (tried_adds old flowing.picture first (work_calm first work.0) is)
 
 -- by the time of a round nothing is sent
-record SameSent (old : WorldState) (world : Played) : Type 0 where
-  sent : world.run.sent ≡ old.sent
+pub record SameSent (old : WorldState) (world : Played) : Type 0 where
+  pub sent : world.run.sent ≡ old.sent
 
 passed_sent : (elapsed : ℕ) (clocks : List ℕ) (world : WorldState) → (passed elapsed clocks world).sent ≡ world.sent
 unfolding passed
 passed_sent elapsed clocks world = refl
 
-time_sends_none : (world : Played) → SameSent world.run (after world (round_of_time world.sited.site))
+pub time_sends_none : (world : Played) → SameSent world.run (after world (round_of_time world.sited.site))
 time_sends_none world = tried_keeps (SameSent world.run) world (round_of_time world.sited.site) (record { sent = refl })
     (λ none. record { sent = ap (λ (w : WorldState). w.sent) (time_happens world.sited.site world.sited.table world.run) ∙ passed_sent 10000 _ world.run })
 

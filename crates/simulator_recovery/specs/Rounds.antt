@@ -1,13 +1,14 @@
 -- Good rounds of a station, with requests and occupancies between them.
-use Rattle.std.specs.Prelude.{◌≡◌, ℕ, ◌+◌, ◌*◌, ◌≤◌, false, List, [], ◌∷◌, ◌++◌, length, map}
+use Rattle.std.specs.Prelude.{◌≡◌, ℕ, suc, ◌+◌, ◌-◌, ◌*◌, ◌≤◌, false, List, [], ◌∷◌, ◌++◌, length, map, None}
 use Rattle.simulator_run.specs.rasta_core.Each.{Each}
 use Rattle.simulator_run.specs.rasta_core.Links.{OnLink}
 use Rattle.simulator_run.specs.simulator_event.declared.event.Event.{Event}
 use Rattle.simulator_run.specs.simulator_event.declared.event.Event.TheVariants as event
-use Rattle.simulator_run.specs.Flow.{Flowing, round, stations}
+use Rattle.simulator_run.specs.declared.round.RoundEvent.{RoundEvent}
+use Rattle.simulator_run.specs.Flow.{Flowing, deliveries, round, round_of_time, stations}
 use Rattle.simulator_run.specs.Refusals.{clock_limit}
 use Rattle.simulator_run.specs.State.{ServerState, WorldState}
-use Rattle.simulator_run.specs.Tried.{Played, after}
+use Rattle.simulator_run.specs.Tried.{Played, after, receiver, refusal_of}
 
 -- what may come between rounds: requests and occupancies
 abbrev pub IsWork : Event → Type 0
@@ -55,3 +56,19 @@ pub record LeavesFresh (old new : Flowing Played) : Type 0 where
   pub more : List OnLink
   pub sent : new.picture.run.sent ≡ old.picture.run.sent ++ more
   pub fresh : Each (IsFresh new.picture.run.time) more
+
+-- the deliveries of these datagrams, each to the node at the other end of its link, where the first stands at this place
+abbrev pub arrivals : ℕ → List OnLink → List RoundEvent
+arrivals place [] = []
+arrivals place (first ∷ others) =
+    record { event = event.Deliver (receiver first.datagram.sender first.link) first.datagram.bytes; passed = suc place } ∷ arrivals (suc place) others
+
+-- none of these events is refused as it is tried, one after another
+abbrev pub NoneRefused : List RoundEvent → Played → Type 0
+NoneRefused [] world = Unit {0}
+NoneRefused (first ∷ others) world = (refusal_of first.event world ≡ None) × NoneRefused others (after world first.event)
+
+-- What a round leaves comes in the next one: these are its deliveries, in the order of sending, and none is refused.
+pub record AllCome (old new : Flowing Played) (leaves : LeavesFresh old new) : Type 0 where
+  pub due : deliveries (stations.arrival new.picture) new.passed (length new.picture.run.sent - new.passed) ≡ arrivals new.passed leaves.more
+  pub none : NoneRefused (arrivals new.passed leaves.more) (after new.picture (round_of_time new.picture.sited.site))

@@ -10,10 +10,11 @@ ghost use Rattle.simulator_run.specs.simulator_event.declared.event.Event.{Event
 ghost use Rattle.simulator_run.specs.Flow.{Flowing, round, stations};
 ghost use Rattle.simulator_run.specs.Tried.{Played};
 ghost use Rattle.simulator_headline.specs.Reached.{IsReached};
-ghost use Rattle.simulator_recovery.specs.Rounds.{HasTime, IsWork, LeavesFresh, all_tried, clocks_of, good_rounds, hold_rounds, rounds_later};
+ghost use Rattle.simulator_recovery.specs.Rounds.{AllCome, HasTime, IsWork, LeavesFresh, all_tried, clocks_of, good_rounds, hold_rounds, rounds_later};
 
 use simulator_headline::reached_worlds_are_safe;
-use simulator_run_links::stations_have_links;
+use simulator_run::rasta_core::links_keep_time;
+use simulator_run_links::{layouts_name_their_links, stations_have_links};
 
 /// Good rounds, and what comes between them, are events that can happen: they lead from a world that is reached to one that is.
 /// So whatever is true after every list of events is true behind good rounds.
@@ -40,6 +41,17 @@ pub fn good_rounds_take_their_time()
 pub fn good_rounds_leave_fresh_datagrams()
     ensures { (between : List Event) (flowing : Flowing Played) → Each IsWork between → LeavesFresh flowing (all_tried between (round stations flowing)) }
 {}
+
+/// What was sent since a good round began comes in the next one, in the order of sending: each datagram to the node at the other
+/// end of its link, and none of these deliveries is refused.
+pub fn each_round_delivers_what_the_last_one_left()
+    ensures { (old new : Flowing Played) (leaves : LeavesFresh old new) → Once new.picture.sited.site → IsStation new.picture.sited.site
+        → IsReached new.picture.sited.site new.picture.sited.table new.picture.run → AllCome old new leaves }
+{
+    layouts_name_their_links();
+    links_keep_time();
+    stations_have_links();
+}
 
 /// After any list of events, and behind each good round from the 600th on, an interlocking doesn't hold: no request is refused
 /// any more since it was made anew. That is whatever requests and occupancies come between the rounds.
