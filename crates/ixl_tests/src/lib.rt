@@ -10,6 +10,8 @@ mod changes;
 #[cfg(test)]
 mod commands;
 #[cfg(test)]
+mod indications;
+#[cfg(test)]
 mod initialisation;
 #[cfg(test)]
 mod interlockings_made;

@@ -1,4 +1,4 @@
 pub mod World
--- what callers need of the crates below
+-- what crates above need of the crates below
 pub use Rattle.replay_lines.specs as replay_lines
 pub use Rattle.simulator.specs as simulator

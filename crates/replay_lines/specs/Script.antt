@@ -5,12 +5,12 @@ use Rattle.std.specs.List.{enumerate_from}
 use Rattle.std.specs.Str.{bytes_eq}
 use Rattle.replay_words.specs.declared.fault.Fault.{Fault}
 use Rattle.replay_words.specs.declared.fault.Fault.TheVariants.{Words, Order}
-use Rattle.replay_words.specs.Fault.{both, ◌>>=◌}
+use Rattle.replay_words.specs.Fault.{both, number_of, ◌>>=◌}
 use Rattle.replay_words.specs.Cut.{lines, words}
 use Rattle.replay_words.specs.Read.{decimal}
 use Rattle.ixl_rules.specs.layout.Entries.{Site}
 use Rattle.simulator_event.specs.declared.event.Event.{Event}
-use Rattle.replay_lines.specs.declared.text.LineFault.{LineFault}
+use Rattle.replay_lines.specs.declared.text.SessionFault.{SessionFault}
 use Rattle.replay_lines.specs.Scripted.{script_event}
 use Rattle.replay_lines.specs.Text.{at_line}
 
@@ -30,15 +30,15 @@ timed_line site latest line = do
   in_order latest this
 
 -- what a line says before those behind it, or its fault
-abbrev pub before : ℕ → Result (ℕ × Event) Fault → (ℕ → Result (List (ℕ × Event)) LineFault) → Result (List (ℕ × Event)) LineFault
+abbrev pub before : ℕ → Result (ℕ × Event) Fault → (ℕ → Result (List (ℕ × Event)) SessionFault) → Result (List (ℕ × Event)) SessionFault
 before number (Ok this) more = at_line number (Ok this) (more this.0)
-before number (Err fault) more = Err (record { line = number; fault = fault })
+before number (Err fault) more = Err (record { line = number; number = number_of fault })
 
 -- the events of numbered lines behind one of this time, or the fault of the first faulty line
-abbrev pub script_from : Site → ℕ → List (ℕ × List ℕ) → Result (List (ℕ × Event)) LineFault
+abbrev pub script_from : Site → ℕ → List (ℕ × List ℕ) → Result (List (ℕ × Event)) SessionFault
 script_from site latest [] = Ok []
 script_from site latest (l ∷ more) = before l.0 (timed_line site latest l.1) (λ time. script_from site time more)
 
 -- the events of a text
-abbrev pub script : Site → List ℕ → Result (List (ℕ × Event)) LineFault
+abbrev pub script : Site → List ℕ → Result (List (ℕ × Event)) SessionFault
 script site text = script_from site 0 (enumerate_from 1 (lines text))

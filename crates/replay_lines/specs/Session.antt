@@ -5,7 +5,7 @@ use Rattle.replay_words.specs.declared.fault.Fault.{Fault}
 use Rattle.replay_words.specs.Fault.{◌>>=◌}
 use Rattle.replay_words.specs.Cut.{event_and_answer, lines, words}
 use Rattle.ixl_rules.specs.layout.Entries.{Site}
-use Rattle.replay_lines.specs.declared.text.LineFault.{LineFault}
+use Rattle.replay_lines.specs.declared.text.SessionFault.{SessionFault}
 use Rattle.replay_lines.specs.Events.{event}
 use Rattle.replay_lines.specs.Text.{at_line}
 use Rattle.replay_lines.specs.Reading.{answer}
@@ -20,10 +20,10 @@ entry site line = do
   Ok (record { event = happened; answer = answered })
 
 -- the entries of numbered lines, or the fault of the first faulty one
-abbrev pub entries : Site → List (ℕ × List ℕ) → Result (List Entry) LineFault
+abbrev pub entries : Site → List (ℕ × List ℕ) → Result (List Entry) SessionFault
 entries site [] = Ok []
 entries site (l ∷ more) = at_line l.0 (entry site l.1) (entries site more)
 
 -- the entries of a text
-abbrev pub session : Site → List ℕ → Result (List Entry) LineFault
+abbrev pub session : Site → List ℕ → Result (List Entry) SessionFault
 session site text = entries site (enumerate_from 1 (lines text))

@@ -30,5 +30,5 @@ pub use reply::recorded;
 pub use round_trip::written_events_are_read_again;
 pub use script::read_script;
 pub use session::{Entry, read_session};
-pub use text::{LineFault, read_lines};
+pub use text::{SessionFault, read_lines};
 pub use words::{read_event, read_script_event};

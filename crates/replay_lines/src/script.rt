@@ -6,7 +6,7 @@ ghost use Rattle.replay_lines.specs.Given.{Fails};
 ghost use Rattle.replay_lines.specs.Text.{Tells};
 ghost use Rattle.replay_lines.specs.Script.{script, timed, timed_line};
 
-use crate::{LineFault, read_script_event};
+use crate::{SessionFault, read_script_event};
 use ixl_rules::control_table::Checked;
 use ixl_rules::layout::Layout;
 use replay_words::{Fault, Lines, Words, both, decimal};
@@ -19,7 +19,7 @@ pub fn read_script(
     alloc: Global,
     table: &Checked,
     text: &str,
-) -> Result<Vec<(u64, Event)>, LineFault>
+) -> Result<Vec<(u64, Event)>, SessionFault>
     ensures { Tells (λ events. events.items) (script table.now text.now) result }
 {
     let mut latest = 0;
@@ -28,9 +28,9 @@ pub fn read_script(
         match keep_event(table, line, latest, &mut events) {
             Ok(time) => latest = time,
             Err(fault) => {
-                return Err(LineFault {
+                return Err(SessionFault {
                     line: number,
-                    fault,
+                    number: fault.number(),
                 });
             }
         }

@@ -5,7 +5,7 @@ ghost use Rattle.replay_lines.specs.Given.{Fails, Gives};
 ghost use Rattle.replay_lines.specs.Text.{Tells};
 ghost use Rattle.replay_lines.specs.Session.{entry, session};
 
-use crate::{LineFault, read_answer, read_event};
+use crate::{SessionFault, read_answer, read_event};
 use ixl_rules::control_table::Checked;
 use ixl_rules::layout::Layout;
 use replay_words::{Fault, Lines, event_and_answer};
@@ -21,16 +21,16 @@ pub struct Entry {
 
 /// The entries of a session, one a line, or where its first faulty line is. Fault 7 comes only where memory
 /// was refused, at the line that was being read.
-pub fn read_session(alloc: Global, table: &Checked, text: &str) -> Result<Vec<Entry>, LineFault>
+pub fn read_session(alloc: Global, table: &Checked, text: &str) -> Result<Vec<Entry>, SessionFault>
     ensures { Tells (λ entries. entries.items) (session table.now text.now) result }
 {
     let mut entries = Vec::new(alloc);
     for (number, line) in Lines::of(text) {
         let kept = keep_entry(alloc, table, line, &mut entries);
         if let Err(fault) = kept {
-            return Err(LineFault {
+            return Err(SessionFault {
                 line: number,
-                fault,
+                number: fault.number(),
             });
         }
     }

@@ -14,31 +14,31 @@ use std::fmt;
 
 /// Where a text is faulty, and how.
 #[derive(Clone, Copy, Debug, PartialEq, Eq)]
-pub struct LineFault {
+pub struct SessionFault {
     /// The number of the first faulty line, from 1.
     pub line: u64,
-    /// The lowest fault of that line.
-    pub fault: Fault,
+    /// The number of the lowest fault of that line, 1 to 7.
+    pub number: u8,
 }
 
-impl fmt::Display for LineFault {
+impl fmt::Display for SessionFault {
     ghost use Rattle.std.specs.Prelude.{Some};
     ghost use Rattle.replay_lines.specs.Text.{fault_text};
 
     ghost output = { λ fault. Some (fault_text fault) };
 
     fn fmt<W: fmt::Write>(&self, f: &mut fmt::Formatter<W>) -> fmt::Result {
-        let number = self.fault.number();
+        let number = self.number;
         let line = self.line;
         write!(f, "session fault {number} at line {line}")
     }
 }
 
-impl Error for LineFault {}
+impl Error for SessionFault {}
 
 /// What the lines of a text say that aren't passed over, or where the first faulty one is. Fault 7 comes
 /// only where memory was refused, at the line that was being read.
-pub fn read_lines(alloc: Global, table: &Checked, text: &str) -> Result<Vec<SimLine>, LineFault>
+pub fn read_lines(alloc: Global, table: &Checked, text: &str) -> Result<Vec<SimLine>, SessionFault>
     ensures { Tells (λ lines. lines.items) (lines_said table.now text.now) result }
 {
     let mut said = Vec::new(alloc);
@@ -48,9 +48,9 @@ pub fn read_lines(alloc: Global, table: &Checked, text: &str) -> Result<Vec<SimL
         }
         let kept = keep_line(alloc, table, line, &mut said);
         if let Err(fault) = kept {
-            return Err(LineFault {
+            return Err(SessionFault {
                 line: number,
-                fault,
+                number: fault.number(),
             });
         }
     }

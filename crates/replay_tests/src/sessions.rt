@@ -2,7 +2,7 @@
 
 use crate::bench::{expect, small};
 use control_table::Checked;
-use replay_lines::{Apply, LineFault, Replayed, read_script, read_session, replay};
+use replay_lines::{Apply, Replayed, SessionFault, read_script, read_session, replay};
 use replay_words::Fault;
 use simulator_event::{Answer, Event, Refused, Reply};
 use std::alloc::Global;
@@ -62,8 +62,8 @@ const SCRIPTS: [(&str, Verdict); 15] = [
 ];
 
 /// What is told of a fault.
-fn place(fault: LineFault) -> Verdict {
-    (0, fault.line, fault.fault.number())
+fn place(fault: SessionFault) -> Verdict {
+    (0, fault.line, fault.number)
 }
 
 /// What comes of a session.
@@ -167,18 +167,16 @@ const REPLAYED: [(&str, Replayed); 5] = [
 ];
 
 /// What comes of a session at a station that answers `ok` to everything.
-fn replayed(alloc: Global, table: &Checked, text: &str) -> Result<Replayed, Fault> {
-    match read_session(alloc, table, text) {
-        Ok(entries) => Ok(replay(&mut Obliging, &entries)?),
-        Err(fault) => Err(fault.fault),
-    }
+fn replayed(alloc: Global, table: &Checked, text: &str) -> Option<Replayed> {
+    let entries = read_session(alloc, table, text).ok()?;
+    replay(&mut Obliging, &entries).ok()
 }
 
 /// The same; where memory is lacking it is replayed once more.
 fn verdict(rt: &impl Abort, alloc: Global, table: &Checked, text: &str) -> Replayed {
     match replayed(alloc, table, text) {
-        Ok(verdict) => verdict,
-        Err(_) => replayed(alloc, table, text).expect(rt, "no fault"),
+        Some(verdict) => verdict,
+        None => replayed(alloc, table, text).expect(rt, "no fault"),
     }
 }
 

@@ -6,7 +6,7 @@ ghost use Rattle.station_check.specs.Failures.{Tells, told_line};
 use arrayvec::ArrayString;
 use control_table::TableFault;
 use control_table::layout::LayoutFault;
-use replay_lines::LineFault;
+use replay_lines::SessionFault;
 use replay_words::write_as_taken;
 use std::alloc::AllocError;
 use std::io::Write;
@@ -23,7 +23,7 @@ pub enum Failure {
     /// The table isn't sound.
     Table(TableFault),
     /// A line is faulty.
-    Line(LineFault),
+    Line(SessionFault),
     /// Memory is lacking elsewhere.
     OutOfMemory,
     /// What there is to tell couldn't be written.
@@ -50,12 +50,12 @@ impl From<TableFault> for Failure {
     }
 }
 
-impl From<LineFault> for Failure {
+impl From<SessionFault> for Failure {
     ghost use Rattle.station_check.specs.declared.failure.Failure.TheVariants.{Line};
 
     ghost from_gives = { λ fault failure. failure ≡ Line fault };
 
-    fn from(fault: LineFault) -> Failure {
+    fn from(fault: SessionFault) -> Failure {
         Failure::Line(fault)
     }
 }

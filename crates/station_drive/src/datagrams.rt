@@ -2,13 +2,15 @@
 
 use arrayvec::ArrayVec;
 use simulator_event::NodeId;
+use thiserror::Error;
 
 /// The bytes that a node receives at once; longer datagrams are cut.
 pub type Received = ArrayVec<u8, 512>;
 
 /// A call of a network failed.
-#[derive(Clone, Copy, Debug, PartialEq, Eq)]
+#[derive(Clone, Copy, Debug, PartialEq, Eq, Error)]
 pub enum NetFault {
+    #[error("a call of the network failed")]
     Failed,
 }
 

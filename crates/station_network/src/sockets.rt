@@ -10,12 +10,15 @@ use station_drive::{Datagrams, NetFault, Received};
 use std::alloc::Global;
 use std::io;
 use std::net::Net;
+use thiserror::Error;
 
 /// Why sockets can't be opened.
-#[derive(Clone, Copy, Debug, PartialEq, Eq)]
+#[derive(Clone, Copy, Debug, PartialEq, Eq, Error)]
 pub enum OpenFault {
+    #[error("out of memory")]
     OutOfMemory,
     /// The system gives no more of them.
+    #[error("no socket can be opened")]
     NoSocket,
 }
 

@@ -4,7 +4,7 @@ use crate::fault::Fault;
 use crate::trials::{List, events_of};
 use replay_words::{Words, decimal};
 use station_sim::control_table::Checked;
-use station_sim::replay_lines::{SimLine, node_named, read_lines};
+use station_sim::replay::{SimLine, node_named, read_lines};
 use station_sim::station_check::table_of;
 use std::fs;
 

@@ -7,7 +7,7 @@ use crate::tally::{Tally, count};
 use crate::watch::Watch;
 use crate::worlds::{answer, delivery, is_open, new_world, nodes, sent};
 use station_sim::control_table::Checked;
-use station_sim::replay_lines::SimLine;
+use station_sim::replay::SimLine;
 use station_sim::simulator::World;
 use station_sim::simulator_event::{Event, NodeId};
 use std::alloc::{AllocError, Global};

@@ -7,7 +7,7 @@ use crate::tally::Tally;
 use crate::watch::STATION;
 use station_sim::control_table::Checked;
 use station_sim::ixl_rules::Command;
-use station_sim::replay_lines::SimLine;
+use station_sim::replay::SimLine;
 use station_sim::simulator_event::{Event, NodeId};
 use std::alloc::Global;
 

@@ -4,7 +4,7 @@ use crate::fault::Fault;
 use station_sim::control_table::Checked;
 use station_sim::layout::{PointId, SignalId};
 use station_sim::receiver;
-use station_sim::replay_lines::node_count;
+use station_sim::replay::node_count;
 use station_sim::sci_telegram::{Aspect, Side};
 use station_sim::simulator::World;
 use station_sim::simulator_event::{Answer, Event, RawDatagram, Refused};

@@ -39,7 +39,7 @@ pub record CanRun (layout text : List ℕ) : Type 0 where
 -- Why a station isn't prepared: the layout gives no table; or a line of the script is faulty, the first; or neither, but memory
 -- is lacking, or the picture couldn't be written.
 abbrev pub ExplainsTexts : List ℕ → List ℕ → Failure → Type 0
-ExplainsTexts layout text (why.Line fault) = (site : Site) × IsSound layout site × FailsAt fault.line fault.fault (script site text)
+ExplainsTexts layout text (why.Line fault) = (site : Site) × IsSound layout site × FailsAt fault.line fault.number (script site text)
 ExplainsTexts layout text why.OutOfMemory = CanRun layout text
 ExplainsTexts layout text why.NotWritten = CanRun layout text
 ExplainsTexts layout text failure = ExplainsTable layout failure

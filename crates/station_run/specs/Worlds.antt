@@ -2,14 +2,9 @@
 use Rattle.std.specs.Prelude.{ℕ, List, map}
 use Rattle.station_sim.specs.rasta_core.Links.{OnLink}
 use Rattle.station_sim.specs.simulator_event.declared.event.NodeId.{NodeId}
-use Rattle.station_sim.specs.simulator.World.{View}
 use Rattle.station_sim.specs.simulator_run.Refusals.{driven_at}
 use Rattle.station_drive.specs.Doings.{Behaviour}
-use Rattle.station_sim.specs.World.{Played, after, answer, receiver}
-
--- a world as it is played: how much room it has doesn't matter
-abbrev pub played : View → Played
-played world = record { sited = world.sited; run = world.run }
+pub use Rattle.station_sim.specs.World.{Played, after, answer, played, receiver}
 
 -- a datagram, with the node at the other end of its link
 abbrev pub addressed : OnLink → NodeId × List ℕ

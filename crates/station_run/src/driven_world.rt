@@ -1,12 +1,19 @@
 //! A world as a station that is driven.
 
-use station_drive::{Outgoing, Station};
+ghost use Rattle.std.specs.Prelude.{◌≡◌, ◌⊎◌, OnErr, OnOk};
+ghost use Rattle.station_drive.specs.Drives.{CutOff, Driven};
+ghost use Rattle.station_run.specs.Worlds.{driven_worlds, played};
+
+use station_drive::{Clock, Datagrams, DriveFault, Outgoing, Station};
 use station_sim::control_table::Checked;
 use station_sim::layout::PointId;
 use station_sim::receiver;
 use station_sim::sci_telegram::Side;
 use station_sim::simulator::World;
 use station_sim::simulator_event::{Event, Refused, Reply};
+use std::alloc::Global;
+use std::io::Write;
+use std::mem;
 
 /// A world as a station that is driven.
 #[derive(Drop)]
@@ -47,4 +54,29 @@ impl Station for Running {
     fn driven(&self, point: PointId) -> Option<Side> {
         self.0.driven(point)
     }
+}
+
+/// Drives a world for so many milliseconds by a clock, over a network, and records its events. The script's times are
+/// milliseconds since the first reading of the clock. The only faults are want of memory and a record that
+/// can't be written; after either the world stands as the events applied so far left it.
+pub fn drive<N: Datagrams, C: Clock, W: Write>(
+    alloc: Global,
+    world: &mut World,
+    net: &mut N,
+    clock: &mut C,
+    script: &[(u64, Event)],
+    for_ms: u64,
+    recorder: &mut W,
+) -> Result<(), DriveFault>
+    ensures done { OnOk result (Driven driven_worlds world.old.sited.site script.now for_ms (played world.old) (played world.new) (C.readings clock.old) (C.readings clock.new) (N.calls net.old) (N.calls net.new) (W.contents recorder.old) (W.contents recorder.new)) }
+    // It was never begun, or it is a drive that was cut off: the world is as the events applied so far left it.
+    ensures stopped { OnErr result (((world.new ≡ world.old) × (net.new ≡ net.old) × (recorder.new ≡ recorder.old)) ⊎ CutOff driven_worlds world.old.sited.site script.now for_ms (played world.old) (played world.new) (C.readings clock.old) (C.readings clock.new) (N.calls net.old) (N.calls net.new) (W.contents recorder.old) (W.contents recorder.new)) }
+{
+    // A station is driven as a whole, and a world is lent here: while it is driven another one stands in its place.
+    let spare = World::new(alloc, world.table().copy(alloc)?)?;
+    let mut station = Running(mem::replace(world, spare));
+    let ended = station_drive::drive(alloc, &mut station, net, clock, script, for_ms, recorder);
+    let Running(driven) = station;
+    *world = driven;
+    ended
 }

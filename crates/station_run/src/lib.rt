@@ -8,6 +8,7 @@ mod machine;
 mod prepared;
 mod watched;
 
+pub use driven_world::drive;
 pub use failure::RunFailure;
 pub use machine::{Asked, run};
 pub use prepared::{Prepared, prepare};

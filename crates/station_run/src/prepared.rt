@@ -14,7 +14,7 @@ use crate::driven_world::Running;
 use crate::failure::{RunFailure, tell_run};
 use station_drive::{Clock, Datagrams, Station, drive};
 use station_sim::played_worlds_are_safe;
-use station_sim::replay_lines::{node_count, read_script};
+use station_sim::replay::{node_count, read_script};
 use station_sim::simulator::World;
 use station_sim::simulator_event::Event;
 use station_sim::station_check::{Failure, table_of};

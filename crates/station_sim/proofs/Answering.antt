@@ -1,14 +1,14 @@
 -- What a station says to an event is an answer of it.
 use Rattle.std.proofs.Common.{ℕ, List, Option, Result, Ok, Err, inl, inr, sym, subst}
 use Rattle.std.specs.Prelude.{OnErr}
-use Rattle.simulator.specs.simulator_event.declared.event.Event.{Event}
-use Rattle.simulator.specs.simulator_event.declared.refused.Refused.{Refused}
-use Rattle.simulator.specs.simulator_event.declared.refused.Refused.TheVariants.{OutOfMemory}
-use Rattle.simulator.specs.simulator_event.declared.reply.Answer.{Answer}
-use Rattle.simulator.specs.simulator_event.declared.reply.Reply.{Reply}
-use Rattle.replay_lines.specs.Answers.{recorded}
-use Rattle.simulator.specs.simulator_run.declared.round.FoundDriven.{FoundDriven}
-use Rattle.simulator.specs.simulator_run.Flow.{Flowing}
+use Rattle.replay.specs.simulator.simulator_event.declared.event.Event.{Event}
+use Rattle.replay.specs.simulator.simulator_event.declared.refused.Refused.{Refused}
+use Rattle.replay.specs.simulator.simulator_event.declared.refused.Refused.TheVariants.{OutOfMemory}
+use Rattle.replay.specs.simulator.simulator_event.declared.reply.Answer.{Answer}
+use Rattle.replay.specs.simulator.simulator_event.declared.reply.Reply.{Reply}
+use Rattle.replay.specs.replay_lines.Answers.{recorded}
+use Rattle.replay.specs.simulator.simulator_run.declared.round.FoundDriven.{FoundDriven}
+use Rattle.replay.specs.simulator.simulator_run.Flow.{Flowing}
 use Rattle.station_sim.specs.Sight.{Applies, Sight}
 use Rattle.station_sim.specs.Transcript.{Answers, answers_so, lacks_memory}
 

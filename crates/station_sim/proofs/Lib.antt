@@ -2,5 +2,4 @@ pub mod Answering
 pub mod Noted
 pub mod Rounds
 pub mod Transcripts
-pub mod Applying
 pub mod Safety

@@ -1,13 +1,13 @@
 -- What the code of a flow does, one part after the other, is the definition's.
 use Rattle.std.proofs.Common.{◌≡◌, ◌<◌, ◌≤◌, ◌-◌, ◌+◌, ℕ, suc, List, [], ◌∷◌, ◌++◌, length, take, drop, get_or, Option, Ok, Err, refl, ap, sym, ◌∙◌, subst, arith, append-nil, append_assoc}
 use Rattle.std.proofs.lemmas.List.{drop_more, drop_all, take_more}
-use Rattle.simulator.specs.simulator_event.declared.event.Event.TheVariants as event
-use Rattle.simulator.specs.simulator_event.declared.event.NodeId.{NodeId}
-use Rattle.simulator.specs.simulator_event.declared.refused.Refused.TheVariants.{OutOfMemory}
-use Rattle.simulator.specs.simulator_event.declared.reply.Answer.TheVariants.{Done}
-use Rattle.simulator.specs.simulator_run.declared.round.FoundDriven.{FoundDriven}
-use Rattle.simulator.specs.simulator_run.declared.round.RoundEvent.{RoundEvent}
-use Rattle.simulator.specs.simulator_run.Flow.{Flowable, Flowing, Flows, StopsIn, all_did, deliveries, delivery, did, goes, reach, reaches, round, rounds, stops, ticks}
+use Rattle.replay.specs.simulator.simulator_event.declared.event.Event.TheVariants as event
+use Rattle.replay.specs.simulator.simulator_event.declared.event.NodeId.{NodeId}
+use Rattle.replay.specs.simulator.simulator_event.declared.refused.Refused.TheVariants.{OutOfMemory}
+use Rattle.replay.specs.simulator.simulator_event.declared.reply.Answer.TheVariants.{Done}
+use Rattle.replay.specs.simulator.simulator_run.declared.round.FoundDriven.{FoundDriven}
+use Rattle.replay.specs.simulator.simulator_run.declared.round.RoundEvent.{RoundEvent}
+use Rattle.replay.specs.simulator.simulator_run.Flow.{Flowable, Flowing, Flows, StopsIn, all_did, deliveries, delivery, did, goes, reach, reaches, round, rounds, stops, ticks}
 
 one_less : (index end : ℕ) → index < end → end - index ≡ suc (end - (index + 1))
 one_less index end h = omega arith

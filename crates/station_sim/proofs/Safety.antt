@@ -1,19 +1,19 @@
 -- Every world that comes from a first one is reached by events that could happen.
 use Rattle.std.proofs.Common.{◌≡◌, refl, sym, subst, Option, Some, None}
-use Rattle.simulator.specs.layout.Entries.{Site}
-use Rattle.simulator.specs.ixl_rules.Table.{Table}
-use Rattle.simulator.specs.ixl_table.Table.{IsTableOf, SitedTable}
-use Rattle.simulator.specs.layout.Once.{Once}
-use Rattle.simulator.specs.layout.Station.{IsStation}
-use Rattle.simulator.specs.simulator_event.declared.event.Event.{Event}
-use Rattle.simulator.specs.simulator_headline.Reached.{IsReached}
-use Rattle.simulator.specs.simulator_run.First.{first_world}
-use Rattle.simulator.specs.simulator_run.Happens.{happens}
-use Rattle.simulator.specs.simulator_run.Refusals.{refusal}
-use Rattle.simulator.specs.simulator_run.Seen.{IsSnapshotOf}
-use Rattle.simulator.specs.simulator_run.State.{WorldState}
-use Rattle.simulator.specs.simulator_snapshot.Safe.{Safe}
-use Rattle.simulator.specs.simulator_snapshot.declared.snapshot.Snapshot.{Snapshot}
+use Rattle.replay.specs.simulator.layout.Entries.{Site}
+use Rattle.replay.specs.simulator.ixl_rules.Table.{Table}
+use Rattle.replay.specs.simulator.ixl_table.Table.{IsTableOf, SitedTable}
+use Rattle.replay.specs.simulator.layout.Once.{Once}
+use Rattle.replay.specs.simulator.layout.Station.{IsStation}
+use Rattle.replay.specs.simulator.simulator_event.declared.event.Event.{Event}
+use Rattle.replay.specs.simulator.simulator_headline.Reached.{IsReached}
+use Rattle.replay.specs.simulator.simulator_run.First.{first_world}
+use Rattle.replay.specs.simulator.simulator_run.Happens.{happens}
+use Rattle.replay.specs.simulator.simulator_run.Refusals.{refusal}
+use Rattle.replay.specs.simulator.simulator_run.Seen.{IsSnapshotOf}
+use Rattle.replay.specs.simulator.simulator_run.State.{WorldState}
+use Rattle.replay.specs.simulator.simulator_snapshot.Safe.{Safe}
+use Rattle.replay.specs.simulator.simulator_snapshot.declared.snapshot.Snapshot.{Snapshot}
 use Rattle.station_sim.specs.World.{begins, ComesFrom, goes_on, IsFirst, IsSafe, Played, refusal_of, world_where}
 
 -- a world has the data of the first one, and events have led to it

@@ -4,10 +4,10 @@ use Rattle.std.proofs.KnownBytes.{Appends-nil, Appends-trans, Appends-kept}
 use Rattle.std.proofs.lemmas.List.{drop_more, drop_all}
 use Rattle.std.specs.Prelude.{OnOk}
 use Rattle.std.specs.Io.KnownBytes.{Appends, Keeps}
-use Rattle.simulator.specs.layout.Entries.{Site}
-use Rattle.replay_lines.specs.declared.line.SimLine.{SimLine}
-use Rattle.replay_lines.specs.declared.line.SimLine.TheVariants as said
-use Rattle.simulator.specs.simulator_run.Flow.{Flowing}
+use Rattle.replay.specs.simulator.layout.Entries.{Site}
+use Rattle.replay.specs.replay_lines.declared.line.SimLine.{SimLine}
+use Rattle.replay.specs.replay_lines.declared.line.SimLine.TheVariants as said
+use Rattle.replay.specs.simulator.simulator_run.Flow.{Flowing}
 use Rattle.station_sim.specs.Sight.{Sight}
 use Rattle.station_sim.specs.Transcript.{IsBeginning, IsTold, Transcript, Writes, feed, line, nothing, picture}
 

@@ -2,13 +2,13 @@
 use Rattle.std.specs.Prelude.{◌≡◌, ℕ, codes, List, ◌++◌, Option, Ok, IsOk}
 use Rattle.std.specs.Fmt.{decimal}
 use Rattle.std.specs.Io.KnownBytes.{Appends}
-use Rattle.simulator.specs.layout.Entries.{Site}
-use Rattle.replay_lines.specs.Text.{FailsAt}
-use Rattle.replay_lines.specs.Replay.{Judges}
-use Rattle.replay_lines.specs.Session.{session}
-use Rattle.replay_lines.specs.declared.agreement.Replayed.{Replayed}
-use Rattle.replay_lines.specs.declared.agreement.Replayed.TheVariants.{Same, Differs}
-use Rattle.replay_lines.specs.declared.session.Entry.{Entry}
+use Rattle.replay.specs.simulator.layout.Entries.{Site}
+use Rattle.replay.specs.replay_lines.Text.{FailsAt}
+use Rattle.replay.specs.replay_lines.Replay.{Judges}
+use Rattle.replay.specs.replay_lines.Session.{session}
+use Rattle.replay.specs.replay_lines.declared.agreement.Replayed.{Replayed}
+use Rattle.replay.specs.replay_lines.declared.agreement.Replayed.TheVariants.{Same, Differs}
+use Rattle.replay.specs.replay_lines.declared.session.Entry.{Entry}
 use Rattle.station_check.specs.Report.{IsSound}
 use Rattle.station_check.specs.Failures.{ExplainsTable, Leaves, Tells}
 use Rattle.station_check.specs.declared.failure.Failure.{Failure}
@@ -45,7 +45,7 @@ pub record CanReplay (layout text : List ℕ) : Type 0 where
 -- Why a record isn't replayed: the layout gives no table; or a line is faulty, the first; or neither, but memory is
 -- lacking, or the verdict couldn't be written.
 abbrev pub Explains : List ℕ → List ℕ → Failure → Type 0
-Explains layout text (failure.Line fault) = (site : Site) × IsSound layout site × FailsAt fault.line fault.fault (session site text)
+Explains layout text (failure.Line fault) = (site : Site) × IsSound layout site × FailsAt fault.line fault.number (session site text)
 Explains layout text failure.OutOfMemory = CanReplay layout text
 Explains layout text failure.NotWritten = CanReplay layout text
 Explains layout text why = ExplainsTable layout why

@@ -1,12 +1,12 @@
 -- What is seen of a station that can be played.
 use Rattle.std.specs.Prelude.{ℕ, List, Result}
-use Rattle.simulator.specs.layout.Entries.{Site}
-use Rattle.simulator.specs.simulator_event.declared.event.Event.{Event}
-use Rattle.simulator.specs.simulator_event.declared.refused.Refused.{Refused}
-use Rattle.simulator.specs.simulator_event.declared.reply.Answer.{Answer}
-use Rattle.simulator.specs.simulator_event.declared.reply.Reply.{Reply}
-use Rattle.simulator.specs.simulator_run.Flow.{Flowable}
-use Rattle.replay_lines.specs.Replay as replaying
+use Rattle.replay.specs.simulator.layout.Entries.{Site}
+use Rattle.replay.specs.simulator.simulator_event.declared.event.Event.{Event}
+use Rattle.replay.specs.simulator.simulator_event.declared.refused.Refused.{Refused}
+use Rattle.replay.specs.simulator.simulator_event.declared.reply.Answer.{Answer}
+use Rattle.replay.specs.simulator.simulator_event.declared.reply.Reply.{Reply}
+use Rattle.replay.specs.simulator.simulator_run.Flow.{Flowable}
+use Rattle.replay.specs.replay_lines.Replay as replaying
 
 pub record Sight (Picture : Type 0) : Type 1 where
   -- a picture is that of a new station of this table

@@ -1,6 +1,6 @@
 -- What is told of lines that are applied to a new world, and of a recorded session.
 use Rattle.std.specs.Prelude.{List, ℕ, Option}
-use Rattle.replay_lines.specs.declared.agreement.Replayed.{Replayed}
+use Rattle.replay.specs.replay_lines.declared.agreement.Replayed.{Replayed}
 use Rattle.station_sim.specs.Replaying.{IsReplayed as IsReplayedBy}
 use Rattle.station_sim.specs.Transcript.{IsPlayed}
 use Rattle.station_sim.specs.World.{ComesFrom, IsSafe, Played, sight_of_worlds}

@@ -1,20 +1,20 @@
 -- What the lines of a file do to a station, and what is written as they are carried out.
 use Rattle.std.specs.Prelude.{◌≡◌, ℕ, ◌/◌, codes, List, [], ◌∷◌, ◌++◌, length, replicate, Option, None, Result, Ok, Err, IsOk}
 use Rattle.std.specs.Io.KnownBytes.{Appends}
-use Rattle.simulator.specs.layout.Entries.{Site}
-use Rattle.simulator.specs.simulator_event.declared.event.Event.{Event}
-use Rattle.simulator.specs.simulator_event.declared.refused.Refused.{Refused}
-use Rattle.simulator.specs.simulator_event.declared.refused.Refused.TheVariants.{OutOfMemory}
-use Rattle.simulator.specs.simulator_event.declared.reply.Answer.{Answer}
-use Rattle.replay_lines.specs.Answers.{answer_text}
-use Rattle.replay_lines.specs.Text.{FailsAt, lines_said}
-use Rattle.replay_lines.specs.declared.line.SimLine.{SimLine}
-use Rattle.replay_lines.specs.declared.line.SimLine.TheVariants as said
+use Rattle.replay.specs.simulator.layout.Entries.{Site}
+use Rattle.replay.specs.simulator.simulator_event.declared.event.Event.{Event}
+use Rattle.replay.specs.simulator.simulator_event.declared.refused.Refused.{Refused}
+use Rattle.replay.specs.simulator.simulator_event.declared.refused.Refused.TheVariants.{OutOfMemory}
+use Rattle.replay.specs.simulator.simulator_event.declared.reply.Answer.{Answer}
+use Rattle.replay.specs.replay_lines.Answers.{answer_text}
+use Rattle.replay.specs.replay_lines.Text.{FailsAt, lines_said}
+use Rattle.replay.specs.replay_lines.declared.line.SimLine.{SimLine}
+use Rattle.replay.specs.replay_lines.declared.line.SimLine.TheVariants as said
 use Rattle.station_check.specs.Report.{IsSound}
 use Rattle.station_check.specs.Failures.{ExplainsTable, Leaves, Tells}
 use Rattle.station_check.specs.declared.failure.Failure.{Failure}
 use Rattle.station_check.specs.declared.failure.Failure.TheVariants as failure
-use Rattle.simulator.specs.simulator_run.Flow.{Flowing, Flows}
+use Rattle.replay.specs.simulator.simulator_run.Flow.{Flowing, Flows}
 use Rattle.station_sim.specs.Sight.{Sight}
 
 -- a text, and a line feed
@@ -73,7 +73,7 @@ pub record CanPlay (layout events : List ℕ) : Type 0 where
 -- Why lines aren't played to their end: the layout gives no table; or a line is faulty, the first; or neither, but memory
 -- is lacking, or an answer couldn't be written.
 abbrev pub Explains : List ℕ → List ℕ → Failure → Type 0
-Explains layout events (failure.Line fault) = (site : Site) × IsSound layout site × FailsAt fault.line fault.fault (lines_said site events)
+Explains layout events (failure.Line fault) = (site : Site) × IsSound layout site × FailsAt fault.line fault.number (lines_said site events)
 Explains layout events failure.OutOfMemory = CanPlay layout events
 Explains layout events failure.NotWritten = CanPlay layout events
 Explains layout events why = ExplainsTable layout why

@@ -1,39 +1,13 @@
 -- A world as lines play it.
-use Rattle.std.specs.Prelude.{◌≡◌, Option, Some, None, Result, Ok, Err}
-use Rattle.simulator.specs.layout.Entries.{Site}
-use Rattle.simulator.specs.layout.Once.{Once}
-use Rattle.simulator.specs.layout.Station.{IsStation}
-use Rattle.simulator.specs.ixl_table.Table.{IsTableOf}
-use Rattle.simulator.specs.simulator_event.declared.event.Event.{Event}
-use Rattle.simulator.specs.simulator_event.declared.refused.Refused.{Refused}
-use Rattle.simulator.specs.simulator_event.declared.reply.Answer.{Answer}
-use Rattle.simulator.specs.World.{IsPicture}
-use Rattle.simulator.specs.simulator_run.First.{first_world}
-use Rattle.simulator.specs.simulator_run.Happens.{answered}
-use Rattle.simulator.specs.simulator_run.Flow.{stations}
-use Rattle.simulator.specs.simulator_run.Seen.{IsSnapshotOf}
-pub use Rattle.simulator.specs.simulator_run.Tried.{Played, after, receiver, refusal_of, world_where}
-use Rattle.simulator.specs.simulator_snapshot.Safe.{Safe}
-use Rattle.simulator.specs.simulator_snapshot.declared.snapshot.Snapshot.{Snapshot}
+use Rattle.replay.specs.simulator.simulator_event.declared.event.Event.{Event}
+use Rattle.replay.specs.simulator.World.{IsPicture}
+use Rattle.replay.specs.simulator.simulator_run.Flow.{stations}
+use Rattle.replay.specs.simulator.simulator_run.Seen.{IsSnapshotOf}
+pub use Rattle.replay.specs.simulator.simulator_run.Tried.{Played, after, receiver, refusal_of, world_where}
+use Rattle.replay.specs.simulator.simulator_snapshot.Safe.{Safe}
+use Rattle.replay.specs.simulator.simulator_snapshot.declared.snapshot.Snapshot.{Snapshot}
+pub use Rattle.replay.specs.World.{IsFirst, answer, answer_where, played}
 use Rattle.station_sim.specs.Sight.{Sight}
-
--- The first world of a layout, which is a station in which no name stands twice, and of the layout's own table.
-pub record IsFirst (site : Site) (first : Played) : Type 0 where
-  pub site_is : first.sited.site ≡ site
-  pub once : Once site
-  pub station : IsStation site
-  pub table : IsTableOf first.sited.site first.sited.table
-  pub run_is : first.run ≡ first_world first.sited.site first.sited.table
-
--- ---- events
-
--- what is answered: why an event can't happen, or the answer where it happens
-abbrev pub answer_where : Option Refused → Answer → Result Answer Refused
-answer_where (Some why) answer = Err why
-answer_where None answer = Ok answer
-
-abbrev pub answer : Played → Event → Result Answer Refused
-answer world event = answer_where (refusal_of event world) (answered world.sited.site world.sited.table event world.run)
 
 -- ---- what is seen
 

@@ -1,12 +1,12 @@
 //! For how long a point was found driven.
 
 ghost use Rattle.std.specs.Prelude.{◌≡◌};
-ghost use Rattle.simulator.specs.simulator_run.Flow.{next_drive, next_drives, position_of};
+ghost use Rattle.replay.specs.simulator.simulator_run.Flow.{next_drive, next_drives, position_of};
 
 use crate::playable::Playable;
-use simulator::layout::PointId;
-use simulator::sci_telegram::{Position, Side};
-use simulator::simulator_run::FoundDriven;
+use replay::simulator::layout::PointId;
+use replay::simulator::sci_telegram::{Position, Side};
+use replay::simulator::simulator_run::FoundDriven;
 
 /// At the ends of how many rounds one after the other a point is found driven before it comes to lie.
 pub(crate) const ROUNDS_DRIVEN: u8 = 50;

@@ -1,13 +1,13 @@
 //! The events of a round of a flow.
 
 ghost use Rattle.std.specs.Prelude.{◌≡◌, ◌++◌, ◌-◌, ◌+◌, ◌^◌, ◌<◌, IfOk, OnOk};
-ghost use Rattle.simulator.specs.simulator_run.Flow.{delivery, deliveries, reach, reaches, round_of_time, ticks};
+ghost use Rattle.replay.specs.simulator.simulator_run.Flow.{delivery, deliveries, reach, reaches, round_of_time, ticks};
 
 use crate::drive::{ROUNDS_DRIVEN, position_of};
 use crate::playable::Playable;
-use simulator::layout::{Layout, PointId};
-use simulator::simulator_event::{ClockSteps, Event, NodeId, RawDatagram};
-use simulator::simulator_run::{FoundDriven, RoundEvent, nodes};
+use replay::simulator::layout::{Layout, PointId};
+use replay::simulator::simulator_event::{ClockSteps, Event, NodeId, RawDatagram};
+use replay::simulator::simulator_run::{FoundDriven, RoundEvent, nodes};
 use std::alloc::{AllocError, Global};
 
 /// How many microseconds a round has.

@@ -1,10 +1,10 @@
 //! Whatever is seen of a world that is played is safe.
 
-ghost use Rattle.simulator.specs.layout.Entries.{Site};
+ghost use Rattle.replay.specs.simulator.layout.Entries.{Site};
 ghost use Rattle.station_sim.specs.Simulated.{AllSafe};
 ghost use Rattle.station_sim.specs.World.{ComesFrom, IsFirst, IsSafe, Played};
 
-use simulator::simulator_headline::reached_worlds_are_safe;
+use replay::simulator::simulator_headline::reached_worlds_are_safe;
 
 /// Whatever is seen of a world is safe, if events lead to it from the first world of a checked layout.
 pub fn worlds_are_safe()

@@ -21,9 +21,9 @@ pub use sim::{replay_text, sim_text};
 pub use simulated::{Simulated, receiver};
 
 // What crates above need of the crates below.
-pub use replay_lines;
-pub use simulator;
-pub use simulator::{
+pub use replay;
+pub use replay::simulator;
+pub use replay::simulator::{
     control_table, ixl_rules, ixl_table, layout, rasta_core, sci_telegram, simulator_event,
     simulator_run,
 };

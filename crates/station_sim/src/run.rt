@@ -6,10 +6,10 @@ ghost use Rattle.station_sim.specs.inside.Runs.{flowing_of};
 use crate::drive::note_drives;
 use crate::due::{add_deliveries, add_reaches, add_ticks, round_of_time};
 use crate::playable::Playable;
-use replay_lines::{ROUND, recorded};
-use simulator::control_table::Checked;
-use simulator::simulator_event::{Answer, Event, Refused};
-use simulator::simulator_run::{FoundDriven, RoundEvent, nodes};
+use replay::simulator::control_table::Checked;
+use replay::simulator::simulator_event::{Answer, Event, Refused};
+use replay::simulator::simulator_run::{FoundDriven, RoundEvent, nodes};
+use replay::{ROUND, recorded};
 use std::alloc::{AllocError, Global};
 
 /// A station, and how far the flows of time have come on it.
@@ -23,7 +23,7 @@ pub(crate) struct Run<S> {
 }
 
 impl<S: Playable> Run<S> {
-    ghost use Rattle.simulator.specs.simulator_run.Flow.{Flows, StopsIn, all_did, did, due, rested, round};
+    ghost use Rattle.replay.specs.simulator.simulator_run.Flow.{Flows, StopsIn, all_did, did, due, rested, round};
     ghost use Rattle.station_sim.specs.Transcript.{Answers, IsBeginning};
 
     /// A new station, on which nothing has flowed.

@@ -2,13 +2,14 @@
 
 ghost use Rattle.std.specs.Prelude.{◌≡◌, ◌⊎◌, ℕ, IsErr, IfErr, IfOk, OnOk, Some};
 ghost use Rattle.std.specs.Io.KnownBytes.{Appends};
-ghost use Rattle.replay_lines.specs.declared.agreement.Replayed.TheVariants.{Same, Differs as DiffersAt};
+ghost use Rattle.replay.specs.replay_lines.declared.agreement.Replayed.TheVariants.{Same, Differs as DiffersAt};
 ghost use Rattle.station_check.specs.Failures.{Leaves};
 ghost use Rattle.station_sim.specs.Replaying.{CanReplay, Explained, Explains, IsReplayed, verdict_line, verdict_text};
 
 use crate::playable::Playable;
-use replay_lines::{Apply, Replayed, read_session, replay};
-use simulator::simulator_event::{Event, Refused, Reply};
+use replay::replay_lines::Apply;
+use replay::simulator::simulator_event::{Event, Refused, Reply};
+use replay::{Replayed, read_session, replay_lines};
 use station_check::{Failure, table_of, tell};
 use std::alloc::Global;
 use std::io::Write;
@@ -57,7 +58,7 @@ fn verdict<S: Playable, W: Write>(
     let table = table_of(alloc, layout)?;
     let entries = read_session(alloc, &table, recording)?;
     let mut station = Applied(S::new(alloc, table)?);
-    let verdict = replay(&mut station, &entries)?;
+    let verdict = replay_lines::replay(&mut station, &entries)?;
     write_verdict(verdict, out)?;
     Ok(verdict)
 }

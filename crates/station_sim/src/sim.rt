@@ -1,7 +1,7 @@
 //! Lines of events and recorded sessions, applied to a new world.
 
 ghost use Rattle.std.specs.Prelude.{◌≡◌, ◌≤◌, ◌⊎◌, ℕ};
-ghost use Rattle.replay_lines.specs.declared.agreement.Replayed.TheVariants.{Same, Differs};
+ghost use Rattle.replay.specs.replay_lines.declared.agreement.Replayed.TheVariants.{Same, Differs};
 ghost use Rattle.station_sim.specs.Transcript.{CanPlay, Explained as LinesExplained};
 ghost use Rattle.station_sim.specs.Replaying.{CanReplay, Explained};
 ghost use Rattle.station_sim.specs.Simulated.{IsReplayed, IsSimulated};

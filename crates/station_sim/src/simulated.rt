@@ -2,16 +2,17 @@
 
 ghost use Rattle.std.specs.Prelude.{◌≡◌, None, slice_get};
 ghost use Rattle.std.specs.Option.{option_map};
-ghost use Rattle.simulator.specs.simulator_field.declared.sent_on.SentOn.{SentOn};
-ghost use Rattle.simulator.specs.simulator_run.Tried.{receiver};
+ghost use Rattle.replay.specs.simulator.simulator_field.declared.sent_on.SentOn.{SentOn};
+ghost use Rattle.replay.specs.simulator.simulator_run.Tried.{receiver};
 
 use crate::Playable;
-use simulator::World;
-use simulator::control_table::Checked;
-use simulator::layout::{Layout, PointId};
-use simulator::rasta_core::Role;
-use simulator::sci_telegram::Side;
-use simulator::simulator_event::{Event, NodeId, Refused, Reply};
+use replay::simulator::World;
+use replay::simulator::control_table::Checked;
+use replay::simulator::layout::{Layout, PointId};
+use replay::simulator::rasta_core::Role;
+use replay::simulator::sci_telegram::Side;
+use replay::simulator::simulator_event::{Event, NodeId, Refused, Reply};
+use replay::try_event;
 use std::alloc::{AllocError, Global};
 
 /// A world as lines play it.
@@ -29,11 +30,11 @@ pub fn receiver(sender: Role, link: usize) -> NodeId
 }
 
 impl Playable for Simulated {
-    ghost use Rattle.station_sim.specs.World.{Played, sight_of_worlds};
+    ghost use Rattle.station_sim.specs.World.{Played, played, sight_of_worlds};
 
     ghost Picture = { Played };
 
-    ghost picture = { λ s. record { sited = s.0.sited; run = s.0.run } };
+    ghost picture = { λ s. played s.0 };
 
     ghost sight = { sight_of_worlds };
 
@@ -44,7 +45,7 @@ impl Playable for Simulated {
     }
 
     fn apply(&mut self, event: &Event) -> Result<Reply, Refused> {
-        self.0.apply(event)
+        try_event(&mut self.0, event)
     }
 
     fn layout(&self) -> &Layout {

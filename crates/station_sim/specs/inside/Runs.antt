@@ -1,6 +1,6 @@
 -- How a run stands.
 use Rattle.station_sim.specs.declared.run.Run.{Run}
-use Rattle.simulator.specs.simulator_run.Flow.{Flowing}
+use Rattle.replay.specs.simulator.simulator_run.Flow.{Flowing}
 
 -- the picture of its station, how many datagrams its flows have gone past, and its drives
 abbrev pub flowing_of : {S Picture : Type 0} → (S → Picture) → Run S → Flowing Picture

@@ -1,5 +1,5 @@
 use Rattle.std.proofs.Common.{◌≡◌, ◌++◌, ◌-◌}
-use Rattle.simulator.specs.simulator_run.Flow.{deliveries}
+use Rattle.replay.specs.simulator.simulator_run.Flow.{deliveries}
 use Rattle.station_sim.proofs.due.add_deliveries.Given as goal
 
 -- what was added so far, and behind it the deliveries that are left

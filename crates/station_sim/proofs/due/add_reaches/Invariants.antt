@@ -1,5 +1,5 @@
 use Rattle.std.proofs.Common.{◌≡◌, ◌++◌, drop}
-use Rattle.simulator.specs.simulator_run.Flow.{reaches}
+use Rattle.replay.specs.simulator.simulator_run.Flow.{reaches}
 use Rattle.station_sim.proofs.due.add_reaches.Given as goal
 
 -- what was added so far, and behind it what is left

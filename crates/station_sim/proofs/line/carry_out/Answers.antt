@@ -1,5 +1,5 @@
 use Rattle.std.proofs.Common.{sym, subst}
-use Rattle.replay_lines.specs.declared.line.SimLine.{SimLine}
+use Rattle.replay.specs.replay_lines.declared.line.SimLine.{SimLine}
 use Rattle.station_sim.specs.Transcript.{Writes, answer_line, event, flow}
 use Rattle.station_sim.specs.inside.Runs.{flowing_of}
 use Rattle.station_sim.proofs.Transcripts.{wrote, wrote_picture}

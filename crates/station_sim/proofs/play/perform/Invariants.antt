@@ -1,4 +1,4 @@
-use Rattle.simulator.specs.simulator_run.Flow.{Flowing}
+use Rattle.replay.specs.simulator.simulator_run.Flow.{Flowing}
 use Rattle.station_sim.specs.Transcript.{IsBeginning}
 use Rattle.station_sim.specs.inside.Runs.{flowing_of}
 use Rattle.station_sim.proofs.Transcripts.{GoesOn}

@@ -1,5 +1,5 @@
 use Rattle.std.proofs.Common.{◌≡◌, take}
-use Rattle.simulator.specs.simulator_run.Flow.{all_did}
+use Rattle.replay.specs.simulator.simulator_run.Flow.{all_did}
 use Rattle.station_sim.specs.inside.Runs.{flowing_of}
 use Rattle.station_sim.proofs.run.Run.apply_all.Given as goal
 

@@ -1,5 +1,5 @@
 use Rattle.std.proofs.Common.{◌/◌, ◌∙◌, ap, arith}
-use Rattle.simulator.specs.simulator_run.Flow.{round}
+use Rattle.replay.specs.simulator.simulator_run.Flow.{round}
 use Rattle.station_sim.specs.inside.Runs.{flowing_of}
 use Rattle.station_sim.proofs.Rounds.{rounds-none, rounds-next, flow-goes, flow-stops}
 use Rattle.station_sim.proofs.run.Run.flow.Goals as goal

@@ -1,5 +1,5 @@
 use Rattle.std.proofs.Common.{◌≡◌}
-use Rattle.simulator.specs.simulator_run.Flow.{rounds}
+use Rattle.replay.specs.simulator.simulator_run.Flow.{rounds}
 use Rattle.station_sim.specs.inside.Runs.{flowing_of}
 use Rattle.station_sim.proofs.run.Run.flow.Given as goal
 
