@@ -16,8 +16,7 @@ use Rattle.station_run.specs.Failures.{Leaves, Tells}
 use Rattle.station_run.specs.Worlds.{driven_worlds}
 use Rattle.station_run.specs.declared.failure.RunFailure.{RunFailure}
 use Rattle.station_run.specs.declared.failure.RunFailure.TheVariants.{Failed, CannotRun}
-use Rattle.station_sim.specs.Simulated.{AllSafe}
-use Rattle.station_sim.specs.World.{IsFirst, Played}
+use Rattle.station_sim.specs.World.{AllSafe, IsFirst, Played}
 
 -- ---- the texts
 

@@ -72,8 +72,24 @@ pub fn drive<N: Datagrams, C: Clock, W: Write>(
     // It was never begun, or it is a drive that was cut off: the world is as the events applied so far left it.
     ensures stopped { OnErr result (((world.new ≡ world.old) × (net.new ≡ net.old) × (recorder.new ≡ recorder.old)) ⊎ CutOff driven_worlds world.old.sited.site script.now for_ms (played world.old) (played world.new) (C.readings clock.old) (C.readings clock.new) (N.calls net.old) (N.calls net.new) (W.contents recorder.old) (W.contents recorder.new)) }
 {
-    // A station is driven as a whole, and a world is lent here: while it is driven another one stands in its place.
     let spare = World::new(alloc, world.table().copy(alloc)?)?;
+    drive_behind(alloc, world, spare, net, clock, script, for_ms, recorder)
+}
+
+/// Drives a world, while a spare one stands in its place: a station is driven as a whole, and this world is lent.
+fn drive_behind<N: Datagrams, C: Clock, W: Write>(
+    alloc: Global,
+    world: &mut World,
+    spare: World,
+    net: &mut N,
+    clock: &mut C,
+    script: &[(u64, Event)],
+    for_ms: u64,
+    recorder: &mut W,
+) -> Result<(), DriveFault>
+    ensures done { OnOk result (Driven driven_worlds world.old.sited.site script.now for_ms (played world.old) (played world.new) (C.readings clock.old) (C.readings clock.new) (N.calls net.old) (N.calls net.new) (W.contents recorder.old) (W.contents recorder.new)) }
+    ensures stopped { OnErr result (CutOff driven_worlds world.old.sited.site script.now for_ms (played world.old) (played world.new) (C.readings clock.old) (C.readings clock.new) (N.calls net.old) (N.calls net.new) (W.contents recorder.old) (W.contents recorder.new)) }
+{
     let mut station = Running(mem::replace(world, spare));
     let ended = station_drive::drive(alloc, &mut station, net, clock, script, for_ms, recorder);
     let Running(driven) = station;

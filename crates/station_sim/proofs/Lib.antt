@@ -3,3 +3,4 @@ pub mod Noted
 pub mod Rounds
 pub mod Transcripts
 pub mod Safety
+pub mod Verdicts

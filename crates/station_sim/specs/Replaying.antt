@@ -1,4 +1,4 @@
--- What is told of a recorded session that is applied again to a new station.
+-- What is told of a recorded session that is applied again to a new world.
 use Rattle.std.specs.Prelude.{◌≡◌, ℕ, codes, List, ◌++◌, Option, Ok, IsOk}
 use Rattle.std.specs.Fmt.{decimal}
 use Rattle.std.specs.Io.KnownBytes.{Appends}
@@ -13,7 +13,7 @@ use Rattle.station_check.specs.Report.{IsSound}
 use Rattle.station_check.specs.Failures.{ExplainsTable, Leaves, Tells}
 use Rattle.station_check.specs.declared.failure.Failure.{Failure}
 use Rattle.station_check.specs.declared.failure.Failure.TheVariants as failure
-use Rattle.station_sim.specs.Sight.{Sight}
+use Rattle.station_sim.specs.World.{AllSafe, IsFirst, Played, after, answer}
 
 -- how a verdict is told
 abbrev pub verdict_text : Replayed → List ℕ
@@ -23,18 +23,18 @@ verdict_text (Differs line) = codes "differs at line " ++ decimal line
 abbrev pub verdict_line : Replayed → List ℕ
 verdict_line verdict = verdict_text verdict ++ codes "\n"
 
-module _ {Picture : Type 0} (sight : Sight Picture) where
-  -- The layout is sound, no line of the record is faulty, a new station answers as the verdict says, and where what was
-  -- written before is known, the verdict stands behind it.
-  pub record IsReplayed (layout text : List ℕ) (verdict : Replayed) (before now : Option (List ℕ)) : Type 0 where
-    pub site : Site
-    pub sound : IsSound layout site
-    pub entries : List Entry
-    pub says : session site text ≡ Ok entries
-    pub first : Picture
-    pub begins : sight.IsFirst site first
-    pub judged : Judges sight.answer sight.station.after first entries verdict
-    pub appended : Appends before now (verdict_line verdict)
+-- The layout is sound, no line of the record is faulty, a first world of the layout answers as the verdict says, and where
+-- what was written before is known, the verdict stands behind it. Whatever is seen of any world that comes from it is safe.
+pub record IsReplayed (layout text : List ℕ) (verdict : Replayed) (before now : Option (List ℕ)) : Type 0 where
+  pub site : Site
+  pub sound : IsSound layout site
+  pub entries : List Entry
+  pub says : session site text ≡ Ok entries
+  pub first : Played
+  pub begins : IsFirst site first
+  pub judged : Judges answer after first entries verdict
+  pub appended : Appends before now (verdict_line verdict)
+  pub safe : AllSafe first
 
 -- a layout is sound, and a record is one of a session on it
 pub record CanReplay (layout text : List ℕ) : Type 0 where

@@ -29,3 +29,7 @@ sight_of_worlds = record {
 pub data ComesFrom (first : Played) : Played → Type 0 where
   begins : ComesFrom first first
   goes_on : {now : Played} → ComesFrom first now → (event : Event) → ComesFrom first (after now event)
+
+-- Whatever is seen of any world to which events lead from this one is safe.
+abbrev pub AllSafe : Played → Type 0
+AllSafe first = (now : Played) → ComesFrom first now → IsSafe now

@@ -1,8 +1,7 @@
 //! Whatever is seen of a world that is played is safe.
 
 ghost use Rattle.replay.specs.simulator.layout.Entries.{Site};
-ghost use Rattle.station_sim.specs.Simulated.{AllSafe};
-ghost use Rattle.station_sim.specs.World.{ComesFrom, IsFirst, IsSafe, Played};
+ghost use Rattle.station_sim.specs.World.{AllSafe, ComesFrom, IsFirst, IsSafe, Played};
 
 use replay::simulator::simulator_headline::reached_worlds_are_safe;
 

@@ -16,8 +16,8 @@ mod simulated;
 pub use laws::{played_worlds_are_safe, worlds_are_safe};
 pub use play::play_text;
 pub use playable::Playable;
-pub use session::replay_on;
-pub use sim::{replay_text, sim_text};
+pub use session::replay_text;
+pub use sim::sim_text;
 pub use simulated::{Simulated, receiver};
 
 // What crates above need of the crates below.

@@ -1,4 +1,4 @@
-//! A recorded session, applied again to a new station.
+//! A recorded session, applied again to a new world.
 
 ghost use Rattle.std.specs.Prelude.{◌≡◌, ◌⊎◌, ℕ, IsErr, IfErr, IfOk, OnOk, Some};
 ghost use Rattle.std.specs.Io.KnownBytes.{Appends};
@@ -6,20 +6,18 @@ ghost use Rattle.replay.specs.replay_lines.declared.agreement.Replayed.TheVarian
 ghost use Rattle.station_check.specs.Failures.{Leaves};
 ghost use Rattle.station_sim.specs.Replaying.{CanReplay, Explained, Explains, IsReplayed, verdict_line, verdict_text};
 
-use crate::playable::Playable;
-use replay::replay_lines::Apply;
-use replay::simulator::simulator_event::{Event, Refused, Reply};
-use replay::{Replayed, read_session, replay_lines};
+use crate::laws::played_worlds_are_safe;
+use replay::{Replayed, read_session};
 use station_check::{Failure, table_of, tell};
 use std::alloc::Global;
 use std::io::Write;
 use std::{fmt, io};
 
-/// Applies a recorded session again to a new station of this layout, and writes to `out` whether each event answers as
-/// it was recorded. Both texts are judged before the first event, the layout first: where one is faulty, `out` stays as
-/// it is. The status is 0 where all answers are the same, 3 where one differs, and 1 where anything failed; `err` is
-/// then told why, unless the verdict couldn't be written.
-pub fn replay_on<S: Playable, W: Write, E: Write>(
+/// Applies a recorded session again to a new world of this layout, and writes to `out` whether each event answers as it
+/// was recorded. Both texts are judged before the first event, the layout first: where one is faulty, `out` stays as it
+/// is. The status is 0 where all answers are the same, 3 where one differs, and 1 where anything failed; `err` is then
+/// told why, unless the verdict couldn't be written.
+pub fn replay_text<W: Write, E: Write>(
     alloc: Global,
     layout: &str,
     recording: &str,
@@ -27,14 +25,14 @@ pub fn replay_on<S: Playable, W: Write, E: Write>(
     err: &mut E,
 ) -> u8
     ensures status { (result ≡ 0) ⊎ ((result ≡ 1) ⊎ (result ≡ 3)) }
-    ensures same { result ≡ 0 → IsReplayed S.sight layout.now recording.now Same (W.contents out.old) (W.contents out.new) }
-    ensures differs { result ≡ 3 → (line : ℕ) × IsReplayed S.sight layout.now recording.now (DiffersAt line) (W.contents out.old) (W.contents out.new) }
+    ensures same { result ≡ 0 → IsReplayed layout.now recording.now Same (W.contents out.old) (W.contents out.new) }
+    ensures differs { result ≡ 3 → (line : ℕ) × IsReplayed layout.now recording.now (DiffersAt line) (W.contents out.old) (W.contents out.new) }
     ensures faulty { (CanReplay layout.now recording.now → ⊥) → (result ≡ 1) × (out.new ≡ out.old) }
     ensures silent { (result ≡ 1 → ⊥) → err.new ≡ err.old }
     // Only a beginning of the line was told where a write to `err` failed.
     ensures explains { result ≡ 1 → Explained layout.now recording.now out.old out.new (E.contents err.old) (E.contents err.new) }
 {
-    match verdict::<S, W>(alloc, layout, recording, out) {
+    match verdict(alloc, layout, recording, out) {
         Ok(Replayed::Same) => 0,
         Ok(Replayed::Differs { .. }) => 3,
         Err(failure) => {
@@ -45,20 +43,20 @@ pub fn replay_on<S: Playable, W: Write, E: Write>(
 }
 
 /// Judges the texts, applies the session, and writes the verdict.
-fn verdict<S: Playable, W: Write>(
+fn verdict<W: Write>(
     alloc: Global,
     layout: &str,
     recording: &str,
     out: &mut W,
 ) -> Result<Replayed, Failure>
-    ensures done { IfOk result (λ verdict. IsReplayed S.sight layout.now recording.now verdict (W.contents out.old) (W.contents out.new)) }
+    ensures done { IfOk result (λ verdict. IsReplayed layout.now recording.now verdict (W.contents out.old) (W.contents out.new)) }
     ensures faulty { (CanReplay layout.now recording.now → ⊥) → IsErr result × (out.new ≡ out.old) }
     ensures explains { IfErr result (λ failure. Explains layout.now recording.now failure × Leaves failure out.old out.new) }
 {
+    played_worlds_are_safe();
     let table = table_of(alloc, layout)?;
     let entries = read_session(alloc, &table, recording)?;
-    let mut station = Applied(S::new(alloc, table)?);
-    let verdict = replay_lines::replay(&mut station, &entries)?;
+    let verdict = replay::replay(alloc, table, &entries)?;
     write_verdict(verdict, out)?;
     Ok(verdict)
 }
@@ -84,23 +82,5 @@ impl fmt::Display for VerdictText {
             Replayed::Same => write!(f, "same"),
             Replayed::Differs { line } => write!(f, "differs at line {line}"),
         }
-    }
-}
-
-/// A station that can be played, as a replay applies events to it.
-#[derive(Drop)]
-struct Applied<S>(S);
-
-impl<S: Playable> Apply for Applied<S> {
-    ghost Picture = { S.Picture };
-
-    ghost picture = { λ applied. S.picture applied.0 };
-
-    ghost answer = { S.sight.answer };
-
-    ghost after = { S.sight.station.after };
-
-    fn apply(&mut self, event: &Event) -> Result<Reply, Refused> {
-        self.0.apply(event)
     }
 }

@@ -1,0 +1,18 @@
+use Rattle.station_sim.proofs.Verdicts.{judged}
+use Rattle.station_sim.proofs.session.verdict.Goals as goal
+
+pub returns-clause-done : goal.returns-clause-done
+returns-clause-done g c =
+    let site = c.in_ok-table.table
+    in let found = judged c.in_ok-verdict.verdict c.in_ok-verdict.ensures.same c.in_ok-verdict.ensures.differs
+    in record {
+      site = site;
+      sound = c.in_ok-table.ensures.sound;
+      entries = c.in_ok-entries.entries.items;
+      says = c.in_ok-entries.ensures;
+      first = found.0;
+      begins = found.1;
+      judged = found.2;
+      appended = c.in_ok-write_verdict.ensures;
+      safe = c.played_worlds_are_safe.ensures site found.0 found.1;
+    }
