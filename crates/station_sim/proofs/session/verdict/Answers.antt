@@ -1,10 +1,15 @@
+use Rattle.std.proofs.Common.{List, subst}
+use Rattle.replay.specs.replay_lines.Replay.{Judges}
+use Rattle.replay.specs.replay_lines.declared.session.Entry.{Entry}
 use Rattle.station_sim.proofs.Verdicts.{judged}
+use Rattle.station_sim.specs.World.{after, answer}
 use Rattle.station_sim.proofs.session.verdict.Goals as goal
 
 pub returns-clause-done : goal.returns-clause-done
 returns-clause-done g c =
     let site = c.in_ok-table.table
-    in let found = judged c.in_ok-verdict.verdict c.in_ok-verdict.ensures.same c.in_ok-verdict.ensures.differs
+    in let verdict = c.in_ok-verdict.verdict
+    in let found = judged verdict c.in_ok-verdict.ensures.same c.in_ok-verdict.ensures.differs
     in record {
       site = site;
       sound = c.in_ok-table.ensures.sound;
@@ -12,7 +17,7 @@ returns-clause-done g c =
       says = c.in_ok-entries.ensures;
       first = found.0;
       begins = found.1;
-      judged = found.2;
+      judged = subst (λ (entries : List Entry). Judges answer after found.0 entries verdict) c.deref.ensures.value found.2;
       appended = c.in_ok-write_verdict.ensures;
       safe = c.played_worlds_are_safe.ensures site found.0 found.1;
     }
