@@ -1,13 +1,16 @@
-//! The program `station`. `station check FILE` tells whether the layout in FILE is sound; `station sim FILE EVENTS` applies
-//! lines of events to a station of it, `station run FILE --script S --record R --for MS` runs one over sockets, and
-//! `station replay FILE RECORD` applies a recorded session. The status is 0 where this was done, 1 at a fault, 2 where the
-//! command line is wrong, and 3 where a session answers otherwise than it was recorded.
+//! The program `station`. `station check FILE` tells whether the layout in FILE is sound, and `station table FILE` prints its
+//! control table; `station sim FILE EVENTS` applies lines of events to a station of it, `station run FILE --script S
+//! --record R --for MS` runs one over sockets, and `station replay FILE RECORD` applies a recorded session; `station decode
+//! --hex HEX` puts a datagram into words. The status is 0 where this was done, 1 at a fault, 2 where the command line is
+//! wrong, and 3 where a session answers otherwise than it was recorded.
 #![tactic(auto)]
 
 use station_command::{Asked, Error, Failure, is_memory, read_words, text_of, texts_of, words};
+use station_decode::decode_text;
 use station_run::Asked as Run;
 use station_sim::station_check::check_text;
 use station_sim::{replay_text, sim_text};
+use station_table::{Form, table_text};
 use std::io::{BufWriter, IsTerminal};
 use std::process::ExitCode;
 
@@ -15,8 +18,8 @@ fn main(rt: HostRuntime) -> ExitCode {
     let status = match words(&rt, rt.alloc()) {
         Ok(words) => match read_words(rt.alloc(), words.as_slice()) {
             Ok(Asked::Check(file)) => check_file(&rt, file),
+            Ok(Asked::Table { layout, csv }) => table_file(&rt, layout, csv),
             Ok(Asked::Sim { layout, events }) => sim_files(&rt, layout, events),
-            Ok(Asked::Replay { layout, recording }) => replay_files(&rt, layout, recording),
             Ok(
                 Asked::Run {
                     layout,
@@ -25,6 +28,8 @@ fn main(rt: HostRuntime) -> ExitCode {
                     for_ms,
                 },
             ) => run_files(&rt, layout, script, record, for_ms),
+            Ok(Asked::Replay { layout, recording }) => replay_files(&rt, layout, recording),
+            Ok(Asked::Decode { word, layout }) => decode_word(&rt, layout, word),
             Err(error) => refuse(&rt, &error),
         },
         Err(failure) => fail(&rt, &failure),
@@ -58,18 +63,19 @@ fn check_file(rt: &HostRuntime, file: &str) -> u8 {
     }
 }
 
-/// `sim FILE EVENTS`.
-fn sim_files(rt: &HostRuntime, layout: &str, events: &str) -> u8 {
-    match texts_of(rt, layout, events) {
-        Ok((layout, events)) => sim(rt, layout.as_str(), events.as_str()),
+/// `table FILE [--csv]`.
+fn table_file(rt: &HostRuntime, file: &str, csv: bool) -> u8 {
+    let form = if csv { Form::Csv } else { Form::Markdown };
+    match text_of(rt, file) {
+        Ok(text) => table(rt, text.as_str(), form),
         Err(failure) => fail(rt, &failure),
     }
 }
 
-/// `replay FILE RECORD`.
-fn replay_files(rt: &HostRuntime, layout: &str, record: &str) -> u8 {
-    match texts_of(rt, layout, record) {
-        Ok((layout, record)) => replay(rt, layout.as_str(), record.as_str()),
+/// `sim FILE EVENTS`.
+fn sim_files(rt: &HostRuntime, layout: &str, events: &str) -> u8 {
+    match texts_of(rt, layout, events) {
+        Ok((layout, events)) => sim(rt, layout.as_str(), events.as_str()),
         Err(failure) => fail(rt, &failure),
     }
 }
@@ -91,10 +97,37 @@ fn run_files(rt: &HostRuntime, layout: &str, script: &str, record: &str, for_ms:
     }
 }
 
+/// `replay FILE RECORD`.
+fn replay_files(rt: &HostRuntime, layout: &str, record: &str) -> u8 {
+    match texts_of(rt, layout, record) {
+        Ok((layout, record)) => replay(rt, layout.as_str(), record.as_str()),
+        Err(failure) => fail(rt, &failure),
+    }
+}
+
+/// `decode --hex HEX [--layout FILE]`.
+fn decode_word(rt: &HostRuntime, layout: Option<&str>, word: &str) -> u8 {
+    match layout {
+        Some(file) => match text_of(rt, file) {
+            Ok(text) => decode(rt, Some(text.as_str()), word),
+            Err(failure) => fail(rt, &failure),
+        },
+        None => decode(rt, None, word),
+    }
+}
+
 /// Checks a text, and writes the report at once to standard output.
 fn check(rt: &HostRuntime, text: &str) -> u8 {
     match BufWriter::new(rt.alloc(), rt.stdout()) {
         Ok(mut out) => check_text(rt.alloc(), text, &mut out, &mut rt.stderr()),
+        Err(_) => fail(rt, &Failure::OutOfMemory),
+    }
+}
+
+/// Writes the control table of a text at once to standard output.
+fn table(rt: &HostRuntime, text: &str, form: Form) -> u8 {
+    match BufWriter::new(rt.alloc(), rt.stdout()) {
+        Ok(mut out) => table_text(rt.alloc(), text, form, &mut out, &mut rt.stderr()),
         Err(_) => fail(rt, &Failure::OutOfMemory),
     }
 }
@@ -107,6 +140,16 @@ fn sim(rt: &HostRuntime, layout: &str, events: &str) -> u8 {
     }
 }
 
+/// Runs a station over sockets, and writes to standard output what is seen of it at the end. How far it has come is shown
+/// where standard error is a terminal.
+fn run(rt: &HostRuntime, asked: &Run<'_>) -> u8 {
+    let progress = rt.stderr().is_terminal();
+    match BufWriter::new(rt.alloc(), rt.stdout()) {
+        Ok(mut out) => station_run::run(rt, asked, &mut out, &mut rt.stderr(), progress),
+        Err(_) => fail(rt, &Failure::OutOfMemory),
+    }
+}
+
 /// Applies a recorded session, and writes to standard output whether it answers the same.
 fn replay(rt: &HostRuntime, layout: &str, record: &str) -> u8 {
     match BufWriter::new(rt.alloc(), rt.stdout()) {
@@ -115,12 +158,10 @@ fn replay(rt: &HostRuntime, layout: &str, record: &str) -> u8 {
     }
 }
 
-/// Runs a station over sockets, and writes to standard output what is seen of it at the end. How far it has come is shown
-/// where standard error is a terminal.
-fn run(rt: &HostRuntime, asked: &Run<'_>) -> u8 {
-    let progress = rt.stderr().is_terminal();
+/// Writes the words of a datagram to standard output.
+fn decode(rt: &HostRuntime, layout: Option<&str>, word: &str) -> u8 {
     match BufWriter::new(rt.alloc(), rt.stdout()) {
-        Ok(mut out) => station_run::run(rt, asked, &mut out, &mut rt.stderr(), progress),
+        Ok(mut out) => decode_text(rt.alloc(), layout, word, &mut out, &mut rt.stderr()),
         Err(_) => fail(rt, &Failure::OutOfMemory),
     }
 }

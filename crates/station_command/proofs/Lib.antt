@@ -1,5 +1,10 @@
+pub mod Commands
+pub mod Defaults
+pub mod Found
 pub mod Given
+pub mod LineRead
+pub mod Lines
 pub mod Numbers
 pub mod Reading
-pub mod Run
+pub mod Rules
 pub mod WordsRead

@@ -1,5 +1,6 @@
 -- What the words of a command line ask for.
-use Rattle.std.specs.Prelude.{◌≡◌, ◌==◌, ◌&&◌, ◌||◌, not, false, true, is_some, Bool, ℕ, List, [], ◌∷◌, ◌++◌, Option, Some, None, if◌then◌else◌, length, codes, option_and_then}
+use Rattle.std.specs.Prelude.{◌≡◌, ◌==◌, ◌&&◌, not, false, true, is_some, Bool, ℕ, List, [], ◌∷◌, ◌++◌, Option, Some, None, if◌then◌else◌, length, codes, option_and_then, option_copied}
+use Rattle.std.specs.List.{list_any}
 use Rattle.std.specs.Option.{option_map}
 use Rattle.std.specs.Str.{bytes_eq, chars}
 use Rattle.std.specs.Str.Parse.{digits_value, without_leading_plus}
@@ -7,6 +8,8 @@ use Rattle.clap.specs.Lexer.{long_of}
 use Rattle.clap.specs.ValueTests.{is_unsigned_in}
 use Rattle.station_command.specs.declared.command.Asked.{Asked}
 use Rattle.station_command.specs.declared.command.Asked.TheVariants as asked
+
+-- ---- the words behind a command
 
 -- A flag: a hyphen with a character behind it.
 abbrev pub is_flag : List ℕ → Bool
@@ -17,35 +20,16 @@ is_flag (byte ∷ rest) = byte == 45 && not (length (chars rest) == 0)
 abbrev pub ends_flags : List ℕ → Bool
 ends_flags word = bytes_eq word (codes "--")
 
--- The file among the words behind `check`: the only word, if it is no flag, with or without `--` behind it; or any one
--- word behind `--`.
-abbrev pub file_in : List (List ℕ) → Option (List ℕ)
-file_in (word ∷ []) = if is_flag word then None else Some word
-file_in (word ∷ other ∷ []) =
-    if ends_flags word then Some other
-    else (if is_flag word then None else (if ends_flags other then Some word else None))
-file_in _ = None
+-- What a command takes: files in this order, options with a value each, and switches, which are on where they stand.
+pub record Usage : Type 0 where
+  pub files : List (List ℕ)
+  pub options : List (List ℕ)
+  pub switches : List (List ℕ)
 
--- The two files among the words behind `sim` or `replay`: the only two words, if neither is a flag, with or without `--`
--- behind them. Between them or before them `--` may stand as well, and a word behind it may be any.
-abbrev pub files_in : List (List ℕ) → Option (List ℕ × List ℕ)
-files_in (first ∷ second ∷ []) = if is_flag first then None else (if is_flag second then None else Some (first, second))
-files_in (first ∷ second ∷ third ∷ []) =
-    if ends_flags first then Some (second, third)
-    else (if is_flag first then None
-    else (if ends_flags second then Some (first, third)
-    else (if is_flag second then None
-    else (if ends_flags third then Some (first, second) else None))))
-files_in _ = None
+abbrev pub is_among : List (List ℕ) → List ℕ → Bool
+is_among names name = list_any (λ known. bytes_eq known name) names
 
--- What is asked for, with the words for the files, and for how many milliseconds.
-pub data Request : Type 0 where
-  Check : List ℕ → Request
-  Sim : List ℕ → List ℕ → Request
-  Replay : List ℕ → List ℕ → Request
-  Run : List ℕ → List ℕ → List ℕ → ℕ → Request
-
--- The file or an option of `run`, by its name, with its value.
+-- A file, an option or a switch, by its name, with its value.
 abbrev pub Given : Type 0
 Given = List ℕ × List ℕ
 
@@ -54,10 +38,7 @@ abbrev pub value_of : List ℕ → List Given → Option (List ℕ)
 value_of name [] = None
 value_of name (one ∷ given) = if bytes_eq one.0 name then Some one.1 else value_of name given
 
-abbrev pub is_option : List ℕ → Bool
-is_option name = bytes_eq (codes "script") name || bytes_eq (codes "record") name || bytes_eq (codes "for") name
-
--- A time is a number from 1000 to 600000, in decimal digits, with or without a plus before them. Anything names a file.
+-- A time is a number from 1000 to 600000, in decimal digits, with or without a plus before them. All else takes any word.
 abbrev pub takes : List ℕ → List ℕ → Bool
 takes name value = if bytes_eq (codes "for") name then is_unsigned_in 1000 600000 value else true
 
@@ -66,64 +47,151 @@ abbrev pub with_value : List Given → List ℕ → List ℕ → Option (List Gi
 with_value given name value =
     if not (is_some (value_of name given)) && takes name value then Some (given ++ (name, value) ∷ []) else None
 
--- How far the words behind `run` are read: between two of them, before the value of an option, or behind `--`.
+-- How far the words behind a command are read, with the files that are still to come: between two words, before the value of
+-- an option, or behind `--`.
 pub data Place : Type 0 where
-  Between : List Given → Place
-  Before : List Given → List ℕ → Place
-  Behind : List Given → Place
+  Between : List Given → List (List ℕ) → Place
+  Before : List Given → List (List ℕ) → List ℕ → Place
+  Behind : List Given → List (List ℕ) → Place
+
+-- one more file, where one is still to come
+abbrev pub file_read : List Given → List (List ℕ) → List ℕ → Option (List Given × List (List ℕ))
+file_read given [] word = None
+file_read given (file ∷ files) word = option_map (λ more. (more, files)) (with_value given file word)
 
 -- a long flag, `--NAME` or `--NAME=VALUE`
-abbrev pub flag_read : List Given → List ℕ → Option (List ℕ) → Option Place
-flag_read given name None = if is_option name then Some (Before given name) else None
-flag_read given name (Some value) = if is_option name then option_map Between (with_value given name value) else None
+abbrev pub flag_read : Usage → List Given → List (List ℕ) → List ℕ → Option (List ℕ) → Option Place
+flag_read usage given files name None =
+    if is_among usage.options name then Some (Before given files name)
+    else (if is_among usage.switches name then option_map (λ more. Between more files) (with_value given name (codes "true")) else None)
+flag_read usage given files name (Some value) =
+    if is_among usage.options name then option_map (λ more. Between more files) (with_value given name value) else None
 
--- One more word. Where no value is due, a word that is no flag is the file. Behind `--` no word is a flag.
-abbrev pub word_read : Place → List ℕ → Option Place
-word_read (Between given) word =
-    if ends_flags word then Some (Behind given)
-    else (if is_flag word then option_and_then (λ flag. flag_read given flag.0 flag.1) (long_of word)
-    else option_map Between (with_value given (codes "FILE") word))
-word_read (Before given name) word = if is_flag word then None else option_map Between (with_value given name word)
-word_read (Behind given) word = option_map Behind (with_value given (codes "FILE") word)
+-- One more word. Where no value is due, a word that is no flag is the next file. Behind `--` no word is a flag.
+abbrev pub word_read : Usage → Place → List ℕ → Option Place
+word_read usage (Between given files) word =
+    if ends_flags word then Some (Behind given files)
+    else (if is_flag word then option_and_then (λ flag. flag_read usage given files flag.0 flag.1) (long_of word)
+    else option_map (λ more. Between more.0 more.1) (file_read given files word))
+word_read usage (Before given files name) word = if is_flag word then None else option_map (λ more. Between more files) (with_value given name word)
+word_read usage (Behind given files) word = option_map (λ more. Behind more.0 more.1) (file_read given files word)
 
-abbrev pub words_read : Place → List (List ℕ) → Option Place
-words_read place [] = Some place
-words_read place (word ∷ words) = option_and_then (λ next. words_read next words) (word_read place word)
+abbrev pub words_read : Usage → Place → List (List ℕ) → Option Place
+words_read usage place [] = Some place
+words_read usage place (word ∷ words) = option_and_then (λ next. words_read usage next words) (word_read usage place word)
 
 -- all that was given, where no value is due
 abbrev pub given_at : Place → Option (List Given)
-given_at (Between given) = Some given
-given_at (Before given name) = None
-given_at (Behind given) = Some given
+given_at (Between given files) = Some given
+given_at (Before given files name) = None
+given_at (Behind given files) = Some given
+
+-- What is given by the words behind a command: the files in their order, and each option with its value and each switch once
+-- at most, anywhere.
+abbrev pub given_in : Usage → List (List ℕ) → Option (List Given)
+given_in usage words = option_and_then given_at (words_read usage (Between [] usage.files) words)
+
+-- ---- the commands
+
+-- What is asked for, with the words for files and values, and for how many milliseconds.
+pub data Request : Type 0 where
+  Check : List ℕ → Request
+  Table : List ℕ → Bool → Request
+  Sim : List ℕ → List ℕ → Request
+  Run : List ℕ → List ℕ → List ℕ → ℕ → Request
+  Replay : List ℕ → List ℕ → Request
+  Decode : List ℕ → Option (List ℕ) → Request
+
+-- a switch is on
+abbrev pub is_on : Option (List ℕ) → Bool
+is_on None = false
+is_on (Some value) = bytes_eq value (codes "true")
+
+-- `check FILE`
+abbrev pub check_usage : Usage
+check_usage = record { files = codes "FILE" ∷ []; options = []; switches = [] }
+
+abbrev pub check_of : Option (List ℕ) → Option Request
+check_of file = option_map Check file
+
+-- `table FILE [--csv]`
+abbrev pub table_usage : Usage
+table_usage = record { files = codes "FILE" ∷ []; options = []; switches = codes "csv" ∷ [] }
+
+abbrev pub table_of : Option (List ℕ) → Bool → Option Request
+table_of file csv = option_map (λ file. Table file csv) file
+
+-- `sim FILE EVENTS` and `replay FILE RECORD`
+abbrev pub two_files_usage : Usage
+two_files_usage = record { files = codes "FILE" ∷ codes "SECOND" ∷ []; options = []; switches = [] }
+
+abbrev pub both_of : Option (List ℕ) → Option (List ℕ) → Option (List ℕ × List ℕ)
+both_of (Some first) (Some second) = Some (first, second)
+both_of _ _ = None
+
+abbrev pub sim_of : Option (List ℕ) → Option (List ℕ) → Option Request
+sim_of layout events = option_map (λ files. Sim files.0 files.1) (both_of layout events)
+
+abbrev pub replay_of : Option (List ℕ) → Option (List ℕ) → Option Request
+replay_of layout recording = option_map (λ files. Replay files.0 files.1) (both_of layout recording)
+
+-- `run FILE --script S --record R --for MS`
+abbrev pub run_usage : Usage
+run_usage = record { files = codes "FILE" ∷ []; options = codes "script" ∷ codes "record" ∷ codes "for" ∷ []; switches = [] }
 
 abbrev pub run_of : Option (List ℕ) → Option (List ℕ) → Option (List ℕ) → Option ℕ → Option Request
 run_of (Some file) (Some script) (Some recording) (Some time) = Some (Run file script recording time)
 run_of _ _ _ _ = None
 
--- the run that all four together ask for
-abbrev pub run_by : List Given → Option Request
-run_by given = run_of (value_of (codes "FILE") given) (value_of (codes "script") given) (value_of (codes "record") given)
-    (option_map (λ time. digits_value 10 (without_leading_plus time)) (value_of (codes "for") given))
+-- the number that a time writes
+abbrev pub time_of : List ℕ → ℕ
+time_of time = digits_value 10 (without_leading_plus time)
 
--- The run that is asked for by the words behind `run`: a file, and each option once with its value, in any order.
-abbrev pub run_in : List (List ℕ) → Option Request
-run_in words = option_and_then run_by (option_and_then given_at (words_read (Between []) words))
+-- `decode --hex HEX [--layout FILE]`
+abbrev pub decode_usage : Usage
+decode_usage = record { files = []; options = codes "hex" ∷ codes "layout" ∷ []; switches = [] }
+
+abbrev pub decode_of : Option (List ℕ) → Option (List ℕ) → Option Request
+decode_of hex layout = option_map (λ hex. Decode hex layout) hex
+
+-- what each command asks for by what it was given
+abbrev pub check_by : List Given → Option Request
+check_by given = check_of (value_of (codes "FILE") given)
+
+abbrev pub table_by : List Given → Option Request
+table_by given = table_of (value_of (codes "FILE") given) (is_on (value_of (codes "csv") given))
+
+abbrev pub sim_by : List Given → Option Request
+sim_by given = sim_of (value_of (codes "FILE") given) (value_of (codes "SECOND") given)
+
+abbrev pub run_by : List Given → Option Request
+run_by given = run_of (value_of (codes "FILE") given) (value_of (codes "script") given) (value_of (codes "record") given) (option_map time_of (value_of (codes "for") given))
+
+abbrev pub replay_by : List Given → Option Request
+replay_by given = replay_of (value_of (codes "FILE") given) (value_of (codes "SECOND") given)
+
+abbrev pub decode_by : List Given → Option Request
+decode_by given = decode_of (value_of (codes "hex") given) (value_of (codes "layout") given)
 
 -- What a command line asks for, the first word of which is the program's name.
 abbrev pub request_in : List (List ℕ) → Option Request
 request_in (program ∷ command ∷ words) =
-    if bytes_eq (codes "check") command then option_map Check (file_in words) else
-    (if bytes_eq (codes "sim") command then option_map (λ files. Sim files.0 files.1) (files_in words) else
-    (if bytes_eq (codes "replay") command then option_map (λ files. Replay files.0 files.1) (files_in words) else
-    (if bytes_eq (codes "run") command then run_in words else None)))
+    if bytes_eq (codes "check") command then option_and_then check_by (given_in check_usage words) else
+    (if bytes_eq (codes "table") command then option_and_then table_by (given_in table_usage words) else
+    (if bytes_eq (codes "sim") command then option_and_then sim_by (given_in two_files_usage words) else
+    (if bytes_eq (codes "run") command then option_and_then run_by (given_in run_usage words) else
+    (if bytes_eq (codes "replay") command then option_and_then replay_by (given_in two_files_usage words) else
+    (if bytes_eq (codes "decode") command then option_and_then decode_by (given_in decode_usage words) else None)))))
 request_in _ = None
 
 -- an answer as a request
 abbrev pub request_of : Asked → Request
 request_of (asked.Check file) = Check file.now
+request_of (asked.Table layout csv) = Table layout.now csv
 request_of (asked.Sim layout events) = Sim layout.now events.now
-request_of (asked.Replay layout recording) = Replay layout.now recording.now
 request_of (asked.Run layout script recording for_ms) = Run layout.now script.now recording.now for_ms
+request_of (asked.Replay layout recording) = Replay layout.now recording.now
+request_of (asked.Decode word layout) = Decode word.now (option_copied layout)
 
 -- What is asked is what the words say.
 abbrev pub Asks : List (List ℕ) → Asked → Type 0

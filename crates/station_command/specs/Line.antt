@@ -1,6 +1,7 @@
 -- The command line of `station`, as it is read.
 use Rattle.std.specs.Prelude.{List, ℕ, Some, true, codes}
 use Rattle.clap.specs.Words.{App, Rule, new_app, new_rule, with_rule, with_subcommand}
+use Rattle.clap.specs.declared.builder.action.ArgAction.TheVariants as action
 use Rattle.clap.specs.declared.builder.value_parser.ValueParser.TheVariants as value
 
 -- the file of a layout
@@ -11,33 +12,49 @@ file_rule = record (new_rule (codes "FILE")) { required = true }
 abbrev pub second_rule : Rule
 second_rule = record (new_rule (codes "SECOND")) { required = true; value_names = 1 }
 
+-- an option with one value, which has a name of its own in the help
+abbrev pub option_rule : List ℕ → Rule
+option_rule name = record (new_rule name) { long = Some name; value_names = 1 }
+
+-- an option that is required
+abbrev pub needed_rule : List ℕ → Rule
+needed_rule name = record (option_rule name) { required = true }
+
+-- a switch
+abbrev pub switch_rule : List ℕ → Rule
+switch_rule name = record (new_rule name) { long = Some name; action = Some action.SetTrue }
+
 -- `check FILE`
 abbrev pub check_line : App
 check_line = with_rule (new_app (codes "check")) file_rule
+
+-- `table FILE [--csv]`
+abbrev pub table_line : App
+table_line = with_rule (with_rule (new_app (codes "table")) file_rule) (switch_rule (codes "csv"))
 
 -- `sim FILE EVENTS`
 abbrev pub sim_line : App
 sim_line = with_rule (with_rule (new_app (codes "sim")) file_rule) second_rule
 
+-- the milliseconds that a run takes, in their range
+abbrev pub time_rule : Rule
+time_rule = record (needed_rule (codes "for")) { parser = Some (value.Unsigned 1000 600000) }
+
+-- `run`, with the files that it reads
+abbrev pub reading_line : App
+reading_line = with_rule (with_rule (new_app (codes "run")) file_rule) (needed_rule (codes "script"))
+
+-- `run FILE --script S --record R --for MS`
+abbrev pub run_line : App
+run_line = with_rule (with_rule reading_line (needed_rule (codes "record"))) time_rule
+
 -- `replay FILE RECORD`
 abbrev pub replay_line : App
 replay_line = with_rule (with_rule (new_app (codes "replay")) file_rule) second_rule
 
--- an option that is required, with one value, which has a name of its own in the help
-abbrev pub option_rule : List ℕ → Rule
-option_rule name = record (new_rule name) { long = Some name; required = true; value_names = 1 }
-
--- the milliseconds that a run takes, in their range
-abbrev pub time_rule : Rule
-time_rule = record (option_rule (codes "for")) { parser = Some (value.Unsigned 1000 600000) }
-
--- `run`, with the files that it reads
-abbrev pub reading_line : App
-reading_line = with_rule (with_rule (new_app (codes "run")) file_rule) (option_rule (codes "script"))
-
--- `run FILE --script S --record R --for MS`
-abbrev pub run_line : App
-run_line = with_rule (with_rule reading_line (option_rule (codes "record"))) time_rule
+-- `decode --hex HEX [--layout FILE]`
+abbrev pub decode_line : App
+decode_line = with_rule (with_rule (new_app (codes "decode")) (needed_rule (codes "hex"))) (option_rule (codes "layout"))
 
 -- `station`, which has a version, and tells its help where no word is given
 abbrev pub alone_line : App
@@ -45,10 +62,14 @@ alone_line =
     let plain = new_app (codes "station")
     in record plain { top = record plain.top { has_version = true; subcommand_required = true; arg_required_else_help = true } }
 
--- `station COMMAND`, where the command only reads files
-abbrev pub files_line : App
-files_line = with_subcommand (with_subcommand (with_subcommand alone_line check_line.top) sim_line.top) replay_line.top
+-- `station COMMAND`, where the command tells of a layout
+abbrev pub layout_line : App
+layout_line = with_subcommand (with_subcommand alone_line check_line.top) table_line.top
+
+-- `station COMMAND`, where the command tells of a layout, or has a station of it do something
+abbrev pub doing_line : App
+doing_line = with_subcommand (with_subcommand (with_subcommand layout_line sim_line.top) run_line.top) replay_line.top
 
 -- `station COMMAND`
 abbrev pub station_line : App
-station_line = with_subcommand files_line run_line.top
+station_line = with_subcommand doing_line decode_line.top

@@ -4,6 +4,7 @@
 mod command;
 mod failure;
 mod files;
+mod line;
 mod line_words;
 mod texts;
 

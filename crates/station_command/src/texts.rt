@@ -4,9 +4,21 @@ pub(crate) const ABOUT: &str = "The interlocking of a railway station";
 
 pub(crate) const FILE: &str = "The layout, a TOML file";
 
+pub(crate) const CSV: &str = "Prints it as CSV, with the heads in the first line";
+
 pub(crate) const EVENTS: &str = "The lines of events";
 
+pub(crate) const SCRIPT: &str = "The lines that are applied, each at its time";
+
+pub(crate) const RECORD_OF_RUN: &str = "The file to which the session is written";
+
+pub(crate) const FOR: &str = "How long the station runs, from 1000 to 600000 milliseconds";
+
 pub(crate) const RECORD: &str = "The recorded session";
+
+pub(crate) const HEX: &str = "The bytes of the datagram in hexadecimal digits, a hyphen for none";
+
+pub(crate) const LAYOUT: &str = "The layout whose key and names are used, a TOML file";
 
 pub(crate) const CHECK: &str = "Checks the layout of a station and its table of routes";
 
@@ -21,6 +33,17 @@ pair of routes that can't be set at the same time. Otherwise it prints the first
 status 1. docs/INTERLOCKING.md has the keys of the file and all faults, examples/ has stations.
 
 Example: station check examples/junction.toml";
+
+pub(crate) const TABLE: &str = "Prints the control table of a layout";
+
+pub(crate) const TABLE_DETAILS: &str = "Prints the control table of a layout, in Markdown.
+
+Each route has a row: its name, its entry signal and its exit, the aspect, the points on its path that
+have to lie right and left, the flank points, its sections in order, the points that it holds, each
+with the sections at which it is let go, the approach sections, and the routes that conflict with it,
+each with the reasons (entry, section, point, extra). The layout has to be sound, as for check.
+
+Example: station table examples/junction.toml";
 
 pub(crate) const SIM: &str = "Applies lines of events to a station of a layout";
 
@@ -45,21 +68,6 @@ All lines are judged before the first event. Each is then answered on a line of 
 
 Example: station sim examples/small.toml examples/proceed.events";
 
-pub(crate) const REPLAY: &str = "Applies a recorded session to a station of a layout again";
-
-pub(crate) const REPLAY_DETAILS: &str = "Applies a recorded session to a station of a layout again.
-
-Each line of a session is an event and what it answered, as EVENT = ANSWER. Where each event answers
-the same, it prints `same`. Otherwise it prints the first line that differs, and ends with status 3.
-
-Example: station replay examples/small.toml examples/commands.session";
-
-pub(crate) const SCRIPT: &str = "The lines that are applied, each at its time";
-
-pub(crate) const RECORD_OF_RUN: &str = "The file to which the session is written";
-
-pub(crate) const FOR: &str = "How long the station runs, from 1000 to 600000 milliseconds";
-
 pub(crate) const RUN: &str = "Runs a station of a layout over loopback sockets";
 
 pub(crate) const RUN_DETAILS: &str = "Runs a station of a layout over loopback sockets.
@@ -73,3 +81,23 @@ Each event is recorded with what it answered; the record of a run that was stopp
 it goes. At the end it prints what is seen of the station.
 
 Example: station run examples/small.toml --script examples/proceed.script --record run.session --for 12000";
+
+pub(crate) const REPLAY: &str = "Applies a recorded session to a station of a layout again";
+
+pub(crate) const REPLAY_DETAILS: &str = "Applies a recorded session to a station of a layout again.
+
+Each line of a session is an event and what it answered, as EVENT = ANSWER. Where each event answers
+the same, it prints `same`. Otherwise it prints the first line that differs, and ends with status 3.
+
+Example: station replay examples/small.toml examples/commands.session";
+
+pub(crate) const DECODE: &str = "Puts a datagram into words";
+
+pub(crate) const DECODE_DETAILS: &str = "Puts a datagram into words, in one line.
+
+It tells the sender and the receiver, the type, the sequence number and the confirmed one (SN, CS),
+the time stamp and the confirmed one (TS, CTS), and behind a colon what the datagram carries. With a
+layout its key is used and its nodes are called by name, otherwise the standard key and numbers.
+Where the bytes are no PDU, it tells the fault, and ends with status 0 all the same.
+
+Example: station decode --hex 32003818020000000100000000000000000000007017000000000000303330331400000000000000000023e6b5e69928e086 --layout examples/small.toml";

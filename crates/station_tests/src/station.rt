@@ -12,9 +12,11 @@ Usage: station <COMMAND>
 
 Commands:
   check   Checks the layout of a station and its table of routes
+  table   Prints the control table of a layout
   sim     Applies lines of events to a station of a layout
-  replay  Applies a recorded session to a station of a layout again
   run     Runs a station of a layout over loopback sockets
+  replay  Applies a recorded session to a station of a layout again
+  decode  Puts a datagram into words
   help    Print this message or the help of the given subcommand(s)
 
 Options:
@@ -144,6 +146,39 @@ Options:
           Print help (see a summary with '-h')
 ";
 
+const TABLE_HELP: &str = "Prints the control table of a layout, in Markdown.
+
+Each route has a row: its name, its entry signal and its exit, the aspect, the points on its path that
+have to lie right and left, the flank points, its sections in order, the points that it holds, each
+with the sections at which it is let go, the approach sections, and the routes that conflict with it,
+each with the reasons (entry, section, point, extra). The layout has to be sound, as for check.
+
+Example: station table examples/junction.toml
+
+Usage: station table [OPTIONS] <FILE>
+
+Arguments:
+  <FILE>
+          The layout, a TOML file
+
+Options:
+      --csv
+          Prints it as CSV, with the heads in the first line
+
+  -h, --help
+          Print help (see a summary with '-h')
+";
+
+const SHORT_DECODE_HELP: &str = "Puts a datagram into words
+
+Usage: station decode [OPTIONS] --hex <HEX>
+
+Options:
+      --hex <HEX>      The bytes of the datagram in hexadecimal digits, a hyphen for none
+      --layout <FILE>  The layout whose key and names are used, a TOML file
+  -h, --help           Print help (see more with '--help')
+";
+
 const NO_FILE: &str = "error: the following required arguments were not provided:
   <FILE>
 
@@ -213,15 +248,40 @@ Usage: station run --script <S> --record <R> --for <MS> <FILE>
 For more information, try '--help'.
 ";
 
+const A_VALUE_OF_A_SWITCH: &str =
+    "error: unexpected value 'yes' for '--csv' found; no more were expected
+
+Usage: station table --csv <FILE>
+
+For more information, try '--help'.
+";
+
+const A_SECOND_SWITCH: &str = "error: the argument '--csv' cannot be used multiple times
+
+Usage: station table [OPTIONS] <FILE>
+
+For more information, try '--help'.
+";
+
+const NO_HEX: &str = "error: the following required arguments were not provided:
+  --hex <HEX>
+
+Usage: station decode --hex <HEX> --layout <FILE>
+
+For more information, try '--help'.
+";
+
 /// Command lines that ask for nothing, each with its status and what is printed.
-const PRINTED: [(&[&str], i32, &str); 20] = [
+const PRINTED: [(&[&str], i32, &str); 25] = [
     (&["station", "--help"], 0, HELP),
     (&["station", "help"], 0, HELP),
     (&["station", "check", "--help"], 0, CHECK_HELP),
     (&["station", "check", "-h"], 0, SHORT_CHECK_HELP),
+    (&["station", "table", "--help"], 0, TABLE_HELP),
     (&["station", "sim", "--help"], 0, SIM_HELP),
     (&["station", "help", "replay"], 0, REPLAY_HELP),
     (&["station", "run", "--help"], 0, RUN_HELP),
+    (&["station", "decode", "-h"], 0, SHORT_DECODE_HELP),
     (&["station", "--version"], 0, "station 1.0.0\n"),
     (&["station", "-V"], 0, "station 1.0.0\n"),
     (&["station"], 2, HELP),
@@ -251,7 +311,24 @@ const PRINTED: [(&[&str], i32, &str); 20] = [
         2,
         A_SECOND_SCRIPT,
     ),
+    (
+        &["station", "table", "f", "--csv=yes"],
+        2,
+        A_VALUE_OF_A_SWITCH,
+    ),
+    (&["station", "table", "--csv", "--csv"], 2, A_SECOND_SWITCH),
+    (&["station", "decode", "--layout", "f"], 2, NO_HEX),
 ];
+
+const TABLE: Asked<'static> = Asked::Table {
+    layout: "a b",
+    csv: false,
+};
+
+const CSV: Asked<'static> = Asked::Table {
+    layout: "--csv",
+    csv: true,
+};
 
 const SIM: Asked<'static> = Asked::Sim {
     layout: "a b",
@@ -277,8 +354,18 @@ const LONG_RUN: Asked<'static> = Asked::Run {
     for_ms: 600_000,
 };
 
+const DECODE: Asked<'static> = Asked::Decode {
+    word: "-",
+    layout: None,
+};
+
+const NAMED_DECODE: Asked<'static> = Asked::Decode {
+    word: "00",
+    layout: Some("a b"),
+};
+
 /// Command lines with what they ask for.
-const ASKED: [(&[&str], Asked<'static>); 11] = [
+const ASKED: [(&[&str], Asked<'static>); 15] = [
     (
         &["station", "check", "small.toml"],
         Asked::Check("small.toml"),
@@ -288,6 +375,8 @@ const ASKED: [(&[&str], Asked<'static>); 11] = [
         &["station", "check", "--", "--help"],
         Asked::Check("--help"),
     ),
+    (&["station", "table", "a b"], TABLE),
+    (&["station", "table", "--csv", "--", "--csv"], CSV),
     (&["station", "sim", "a b", "-"], SIM),
     (&["station", "sim", "--", "a b", "-"], SIM),
     (&["station", "sim", "a b", "--", "-"], SIM),
@@ -312,6 +401,11 @@ const ASKED: [(&[&str], Asked<'static>); 11] = [
             "a b",
         ],
         LONG_RUN,
+    ),
+    (&["station", "decode", "--hex", "-"], DECODE),
+    (
+        &["station", "decode", "--layout=a b", "--hex=00"],
+        NAMED_DECODE,
     ),
 ];
 

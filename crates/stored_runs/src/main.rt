@@ -10,10 +10,16 @@
 //!
 //! - `report CASES`: what `station check` writes, and its status;
 //! - `commented CASES`: the same of the text behind many lines of comment;
+//! - `table LAYOUT` and `csv LAYOUT`: the control table of a layout, in either form;
 //! - `contents CASES`: what the layout reads from the text, and what the control table says of each route.
 //!
 //! An empty line parts two cases. The first line of a case names a layout of the folder `layouts`, and says behind a colon
 //! what is so in it. Each line `-OLD` behind it, with a line `+NEW`, puts NEW in place of the first OLD in its text.
+//!
+//! Of datagrams:
+//!
+//! - `decode LAYOUT LINES` and `plain-decode LINES`: each line of a file, as hexadecimal digits, is put into words, those of a
+//!   layout or without one.
 //!
 //! Of pairs:
 //!
@@ -26,6 +32,7 @@
 
 mod cases;
 mod contents;
+mod datagrams;
 mod failure;
 mod files;
 mod pairs;
@@ -33,6 +40,7 @@ mod report;
 mod runs;
 mod stations;
 mod status;
+mod tables;
 
 use crate::runs::carry_out_all;
 use std::process::ExitCode;

@@ -2,7 +2,8 @@
 
 use crate::failure::Failure;
 use crate::files::{parts, read};
-use crate::{cases, pairs, stations};
+use crate::{cases, datagrams, pairs, stations, tables};
+use station_table::Form;
 use std::io::{BufWriter, Write};
 
 /// The file that names what is run.
@@ -25,6 +26,10 @@ fn carry_out<W: Write>(rt: &HostRuntime, run: &str, out: &mut W) -> Result<(), F
     let (kind, files) = parts(run, " ")?;
     match kind {
         "report" | "commented" | "contents" => cases::carry_out(rt, kind, files, out),
+        "table" => tables::print(rt, files, Form::Markdown, out),
+        "csv" => tables::print(rt, files, Form::Csv, out),
+        "decode" => datagrams::decode_named(rt, files, out),
+        "plain-decode" => datagrams::decode_plain(rt, files, out),
         "pair" => pairs::run_file(rt, files, out),
         "each-pair" => pairs::run_each(rt, files, out),
         _ => stations::carry_out(rt, kind, files, out),

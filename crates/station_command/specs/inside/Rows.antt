@@ -1,15 +1,10 @@
 -- What is asked for by what was found on a command line.
 use Rattle.std.specs.Prelude.{◌&&◌, ◌^◌, ℕ, List, Option, Some, None, if◌then◌else◌, codes, nat_lt, option_and_then}
-use Rattle.std.specs.Option.{option_map}
 use Rattle.std.specs.Str.{bytes_eq}
 use Rattle.std.specs.Str.Parse.{digits_value, without_leading_plus}
 use Rattle.clap.specs.ValueTests.{is_numeral}
 use Rattle.clap.specs.Words.{Row, Text, first_of}
-use Rattle.station_command.specs.Asking.{Request, Check, Sim, Replay, run_of}
-
-abbrev pub both_of : Option Text → Option Text → Option (Text × Text)
-both_of (Some first) (Some second) = Some (first, second)
-both_of _ _ = None
+use Rattle.station_command.specs.Asking.{Request, both_of, check_of, decode_of, is_on, replay_of, run_of, sim_of, table_of}
 
 -- the two files of a subcommand
 abbrev pub files_of : List Row → Option (Text × Text)
@@ -21,18 +16,35 @@ number_of text =
     let digits = without_leading_plus text in
     if is_numeral digits && nat_lt (digits_value 10 digits) (2 ^ 64) then Some (digits_value 10 digits) else None
 
--- what `run` asks for
+-- what each command asks for
+abbrev pub check_of_rows : List Row → Option Request
+check_of_rows rows = check_of (first_of (codes "FILE") rows)
+
+abbrev pub table_of_rows : List Row → Option Request
+table_of_rows rows = table_of (first_of (codes "FILE") rows) (is_on (first_of (codes "csv") rows))
+
+abbrev pub sim_of_rows : List Row → Option Request
+sim_of_rows rows = sim_of (first_of (codes "FILE") rows) (first_of (codes "SECOND") rows)
+
 abbrev pub run_of_rows : List Row → Option Request
 run_of_rows rows = run_of (first_of (codes "FILE") rows) (first_of (codes "script") rows) (first_of (codes "record") rows)
     (option_and_then number_of (first_of (codes "for") rows))
 
+abbrev pub replay_of_rows : List Row → Option Request
+replay_of_rows rows = replay_of (first_of (codes "FILE") rows) (first_of (codes "SECOND") rows)
+
+abbrev pub decode_of_rows : List Row → Option Request
+decode_of_rows rows = decode_of (first_of (codes "hex") rows) (first_of (codes "layout") rows)
+
 -- what a subcommand of this name asks for
 abbrev pub request_by : Text → List Row → Option Request
 request_by name rows =
-    if bytes_eq name (codes "check") then option_map Check (first_of (codes "FILE") rows) else
-    (if bytes_eq name (codes "sim") then option_map (λ files. Sim files.0 files.1) (files_of rows) else
-    (if bytes_eq name (codes "replay") then option_map (λ files. Replay files.0 files.1) (files_of rows) else
-    (if bytes_eq name (codes "run") then run_of_rows rows else None)))
+    if bytes_eq name (codes "check") then check_of_rows rows else
+    (if bytes_eq name (codes "table") then table_of_rows rows else
+    (if bytes_eq name (codes "sim") then sim_of_rows rows else
+    (if bytes_eq name (codes "run") then run_of_rows rows else
+    (if bytes_eq name (codes "replay") then replay_of_rows rows else
+    (if bytes_eq name (codes "decode") then decode_of_rows rows else None)))))
 
 abbrev pub request_of_rows : Option (Text × List Row) → Option Request
 request_of_rows None = None

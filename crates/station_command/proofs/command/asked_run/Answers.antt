@@ -1,5 +1,5 @@
 use Rattle.std.proofs.Common.{rules}
-use Rattle.station_command.proofs.Reading.{run_found}
+use Rattle.station_command.proofs.Found.{run_found}
 use Rattle.station_command.proofs.command.asked_run.Goals as goal
 
 pub returns : goal.returns

@@ -1,0 +1,364 @@
+-- The commands, each as it is read: what is asked for by what was given, and by what was found.
+use Rattle.std.proofs.Common.{◌≡◌, ◌||◌, ℕ, zero, suc, Bool, true, false, not, List, [], ◌∷◌, Option, Some, None, is_some, refl, inl, inr, ◌⊎◌, sym, ap, subst, ◌∙◌, codes, nat_eq}
+use Rattle.std.specs.Prelude.{option_and_then}
+use Rattle.std.proofs.lemmas.Slice.Eq.{bytes_eq-Decides}
+use Rattle.std.specs.Option.{option_map}
+use Rattle.std.specs.Str.{bytes_eq}
+use Rattle.clap.specs.Kinds.{Kinds, check_kinds}
+use Rattle.clap.specs.Faults.{short_fault}
+use Rattle.clap.specs.Simple.{built, new_rule}
+use Rattle.clap.specs.ValueTests.{is_unsigned_in}
+use Rattle.clap.specs.Walk.{Held, Row, Rule, Text, arg_by_short, first_of, rows_after}
+use Rattle.station_command.proofs.Given.{or_none, or_value}
+use Rattle.station_command.proofs.LineRead.{AreFound, LineReads, line_fault, line_reads, missing_kinds}
+use Rattle.station_command.proofs.Numbers.{number_in}
+use Rattle.station_command.proofs.Rules.{Files, IsFile, IsHelp, IsLine, IsNamed, IsOption, IsSwitch, TakesOne, first_due, names_help, names_nothing, none_due, second_due, short_help, short_nothing}
+use Rattle.station_command.proofs.WordsRead.{Fails, nth_or, top}
+use Rattle.station_command.specs.Asking.{Check, Decode, Given, Replay, Request, Run, Sim, Table, Usage, check_by, check_of, check_usage, decode_by, decode_of, decode_usage, given_in, is_on, replay_by, replay_of, run_by, run_of, run_usage, sim_by, sim_of, table_by, table_of, table_usage, time_of, two_files_usage, value_of}
+use Rattle.station_command.specs.Line.{station_line}
+use Rattle.station_command.specs.inside.Rows.{check_of_rows, decode_of_rows, number_of, replay_of_rows, run_of_rows, sim_of_rows, table_of_rows}
+
+-- ---- the arguments
+
+abbrev rule_at : ℕ → List Rule → Rule
+rule_at n [] = new_rule []
+rule_at zero (x ∷ xs) = x
+rule_at (suc n) (x ∷ xs) = rule_at n xs
+
+abbrev pub rules_of : ℕ → List Rule
+rules_of n = (nth_or top n (built station_line).subs).rules
+
+abbrev pub check_rules : List Rule
+check_rules = rules_of 0
+
+abbrev pub table_rules : List Rule
+table_rules = rules_of 1
+
+abbrev pub sim_rules : List Rule
+sim_rules = rules_of 2
+
+abbrev pub run_rules : List Rule
+run_rules = rules_of 3
+
+abbrev pub replay_rules : List Rule
+replay_rules = rules_of 4
+
+abbrev pub decode_rules : List Rule
+decode_rules = rules_of 5
+
+-- ---- `check`
+
+check_one : TakesOne check_rules (rule_at 0 check_rules)
+check_one = record { found = refl; same = refl; fault = λ text rs. refl; empty = λ rs. tt; leaves = λ text rs. refl; most = refl; alone = refl; once = refl; further = refl }
+
+check_help : IsHelp (rule_at 1 check_rules)
+check_help = record { valueless = refl; fails = λ rs. tt }
+
+check_file : (n : Files) → IsFile check_usage.files check_rules n
+check_file first_due = inl (rule_at 0 check_rules, record { one = check_one; found = refl; left = refl; steps = refl })
+check_file second_due = inr (refl, refl)
+check_file none_due = inr (refl, refl)
+
+check_named : (name : Text) (is_help : Bool) → bytes_eq (codes "help") name ≡ is_help → IsNamed check_usage check_rules name
+check_named name true e = inr (inr (refl, refl, names_help check_rules name (rule_at 1 check_rules) (rw e refl) check_help))
+check_named name false e = inr (inr (refl, refl, names_nothing check_rules name (rw e refl)))
+
+check_short : (x : ℕ) (is_help : Bool) → nat_eq 104 x ≡ is_help → (rest : Text) (h : Held) (after : Held → Kinds) → Fails (short_fault check_rules false (arg_by_short check_rules x) rest h after)
+check_short x true e = short_help check_rules x (rule_at 1 check_rules) (rw e refl) check_help
+check_short x false e = short_nothing check_rules x (rw e refl)
+
+check_is : IsLine check_usage check_rules
+check_is = record {
+  file = check_file;
+  named = λ name. check_named name (bytes_eq (codes "help") name) refl;
+  short = λ x. check_short x (nat_eq 104 x) refl;
+  defaults = (refl, (refl, tt));
+}
+
+-- ---- `table`
+
+table_one : TakesOne table_rules (rule_at 0 table_rules)
+table_one = record { found = refl; same = refl; fault = λ text rs. refl; empty = λ rs. tt; leaves = λ text rs. refl; most = refl; alone = refl; once = refl; further = refl }
+
+table_csv : IsSwitch table_rules (rule_at 1 table_rules)
+table_csv = record { long = refl; valueless = refl; fault = λ rs. refl; leaves = λ rs. refl }
+
+table_help : IsHelp (rule_at 2 table_rules)
+table_help = record { valueless = refl; fails = λ rs. tt }
+
+table_file : (n : Files) → IsFile table_usage.files table_rules n
+table_file first_due = inl (rule_at 0 table_rules, record { one = table_one; found = refl; left = refl; steps = refl })
+table_file second_due = inr (refl, refl)
+table_file none_due = inr (refl, refl)
+
+table_named : (name : Text) (is_csv is_help : Bool) → bytes_eq (codes "csv") name ≡ is_csv → bytes_eq (codes "help") name ≡ is_help → IsNamed table_usage table_rules name
+table_named name true is_help a e = inr (inl (rule_at 1 table_rules, table_csv, (bytes_eq-Decides (codes "csv") name).0 a, refl, refl))
+table_named name false true a e = inr (inr (refl, rw a refl, names_help table_rules name (rule_at 2 table_rules) (rw (a, e) refl) table_help))
+table_named name false false a e = inr (inr (refl, rw a refl, names_nothing table_rules name (rw (a, e) refl)))
+
+table_short : (x : ℕ) (is_help : Bool) → nat_eq 104 x ≡ is_help → (rest : Text) (h : Held) (after : Held → Kinds) → Fails (short_fault table_rules false (arg_by_short table_rules x) rest h after)
+table_short x true e = short_help table_rules x (rule_at 2 table_rules) (rw e refl) table_help
+table_short x false e = short_nothing table_rules x (rw e refl)
+
+table_is : IsLine table_usage table_rules
+table_is = record {
+  file = table_file;
+  named = λ name. table_named name (bytes_eq (codes "csv") name) (bytes_eq (codes "help") name) refl refl;
+  short = λ x. table_short x (nat_eq 104 x) refl;
+  defaults = (refl, (refl, (refl, tt)));
+}
+
+-- ---- `sim` and `replay`, which are read alike
+
+two_first : TakesOne sim_rules (rule_at 0 sim_rules)
+two_first = record { found = refl; same = refl; fault = λ text rs. refl; empty = λ rs. tt; leaves = λ text rs. refl; most = refl; alone = refl; once = refl; further = refl }
+
+two_second : TakesOne sim_rules (rule_at 1 sim_rules)
+two_second = record { found = refl; same = refl; fault = λ text rs. refl; empty = λ rs. tt; leaves = λ text rs. refl; most = refl; alone = refl; once = refl; further = refl }
+
+two_help : IsHelp (rule_at 2 sim_rules)
+two_help = record { valueless = refl; fails = λ rs. tt }
+
+two_file : (n : Files) → IsFile two_files_usage.files sim_rules n
+two_file first_due = inl (rule_at 0 sim_rules, record { one = two_first; found = refl; left = refl; steps = refl })
+two_file second_due = inl (rule_at 1 sim_rules, record { one = two_second; found = refl; left = refl; steps = refl })
+two_file none_due = inr (refl, refl)
+
+two_named : (name : Text) (is_help : Bool) → bytes_eq (codes "help") name ≡ is_help → IsNamed two_files_usage sim_rules name
+two_named name true e = inr (inr (refl, refl, names_help sim_rules name (rule_at 2 sim_rules) (rw e refl) two_help))
+two_named name false e = inr (inr (refl, refl, names_nothing sim_rules name (rw e refl)))
+
+two_short : (x : ℕ) (is_help : Bool) → nat_eq 104 x ≡ is_help → (rest : Text) (h : Held) (after : Held → Kinds) → Fails (short_fault sim_rules false (arg_by_short sim_rules x) rest h after)
+two_short x true e = short_help sim_rules x (rule_at 2 sim_rules) (rw e refl) two_help
+two_short x false e = short_nothing sim_rules x (rw e refl)
+
+two_is : IsLine two_files_usage sim_rules
+two_is = record {
+  file = two_file;
+  named = λ name. two_named name (bytes_eq (codes "help") name) refl;
+  short = λ x. two_short x (nat_eq 104 x) refl;
+  defaults = (refl, (refl, (refl, tt)));
+}
+
+-- ---- `run`
+
+run_file : TakesOne run_rules (rule_at 0 run_rules)
+run_file = record { found = refl; same = refl; fault = λ text rs. refl; empty = λ rs. tt; leaves = λ text rs. refl; most = refl; alone = refl; once = refl; further = refl }
+
+run_script : IsOption run_rules (rule_at 1 run_rules)
+run_script = record {
+  one = record { found = refl; same = refl; fault = λ text rs. refl; empty = λ rs. tt; leaves = λ text rs. refl; most = refl; alone = refl; once = refl; further = refl };
+  long = refl;
+}
+
+run_record : IsOption run_rules (rule_at 2 run_rules)
+run_record = record {
+  one = record { found = refl; same = refl; fault = λ text rs. refl; empty = λ rs. tt; leaves = λ text rs. refl; most = refl; alone = refl; once = refl; further = refl };
+  long = refl;
+}
+
+run_time : IsOption run_rules (rule_at 3 run_rules)
+run_time = record {
+  one = record { found = refl; same = refl; fault = λ text rs. refl; empty = λ rs. tt; leaves = λ text rs. refl; most = refl; alone = refl; once = refl; further = refl };
+  long = refl;
+}
+
+run_help : IsHelp (rule_at 4 run_rules)
+run_help = record { valueless = refl; fails = λ rs. tt }
+
+run_files : (n : Files) → IsFile run_usage.files run_rules n
+run_files first_due = inl (rule_at 0 run_rules, record { one = run_file; found = refl; left = refl; steps = refl })
+run_files second_due = inr (refl, refl)
+run_files none_due = inr (refl, refl)
+
+run_named : (name : Text) (is_script is_record is_time is_help : Bool) → bytes_eq (codes "script") name ≡ is_script → bytes_eq (codes "record") name ≡ is_record
+    → bytes_eq (codes "for") name ≡ is_time → bytes_eq (codes "help") name ≡ is_help → IsNamed run_usage run_rules name
+run_named name true is_record is_time is_help a b c d = inl (rule_at 1 run_rules, run_script, (bytes_eq-Decides (codes "script") name).0 a, refl)
+run_named name false true is_time is_help a b c d = inl (rule_at 2 run_rules, run_record, (bytes_eq-Decides (codes "record") name).0 b, refl)
+run_named name false false true is_help a b c d = inl (rule_at 3 run_rules, run_time, (bytes_eq-Decides (codes "for") name).0 c, refl)
+run_named name false false false true a b c d = inr (inr (rw (a, b, c) refl, refl, names_help run_rules name (rule_at 4 run_rules) (rw (a, b, c, d) refl) run_help))
+run_named name false false false false a b c d = inr (inr (rw (a, b, c) refl, refl, names_nothing run_rules name (rw (a, b, c, d) refl)))
+
+run_short : (x : ℕ) (is_help : Bool) → nat_eq 104 x ≡ is_help → (rest : Text) (h : Held) (after : Held → Kinds) → Fails (short_fault run_rules false (arg_by_short run_rules x) rest h after)
+run_short x true e = short_help run_rules x (rule_at 4 run_rules) (rw e refl) run_help
+run_short x false e = short_nothing run_rules x (rw e refl)
+
+run_is : IsLine run_usage run_rules
+run_is = record {
+  file = run_files;
+  named = λ name. run_named name (bytes_eq (codes "script") name) (bytes_eq (codes "record") name) (bytes_eq (codes "for") name) (bytes_eq (codes "help") name) refl refl refl refl;
+  short = λ x. run_short x (nat_eq 104 x) refl;
+  defaults = (refl, (refl, (refl, (refl, (refl, tt)))));
+}
+
+-- ---- `decode`
+
+decode_hex : IsOption decode_rules (rule_at 0 decode_rules)
+decode_hex = record {
+  one = record { found = refl; same = refl; fault = λ text rs. refl; empty = λ rs. tt; leaves = λ text rs. refl; most = refl; alone = refl; once = refl; further = refl };
+  long = refl;
+}
+
+decode_layout : IsOption decode_rules (rule_at 1 decode_rules)
+decode_layout = record {
+  one = record { found = refl; same = refl; fault = λ text rs. refl; empty = λ rs. tt; leaves = λ text rs. refl; most = refl; alone = refl; once = refl; further = refl };
+  long = refl;
+}
+
+decode_help : IsHelp (rule_at 2 decode_rules)
+decode_help = record { valueless = refl; fails = λ rs. tt }
+
+decode_file : (n : Files) → IsFile decode_usage.files decode_rules n
+decode_file first_due = inr (refl, refl)
+decode_file second_due = inr (refl, refl)
+decode_file none_due = inr (refl, refl)
+
+decode_named : (name : Text) (is_hex is_layout is_help : Bool) → bytes_eq (codes "hex") name ≡ is_hex → bytes_eq (codes "layout") name ≡ is_layout → bytes_eq (codes "help") name ≡ is_help
+    → IsNamed decode_usage decode_rules name
+decode_named name true is_layout is_help a b d = inl (rule_at 0 decode_rules, decode_hex, (bytes_eq-Decides (codes "hex") name).0 a, refl)
+decode_named name false true is_help a b d = inl (rule_at 1 decode_rules, decode_layout, (bytes_eq-Decides (codes "layout") name).0 b, refl)
+decode_named name false false true a b d = inr (inr (rw (a, b) refl, refl, names_help decode_rules name (rule_at 2 decode_rules) (rw (a, b, d) refl) decode_help))
+decode_named name false false false a b d = inr (inr (rw (a, b) refl, refl, names_nothing decode_rules name (rw (a, b, d) refl)))
+
+decode_short : (x : ℕ) (is_help : Bool) → nat_eq 104 x ≡ is_help → (rest : Text) (h : Held) (after : Held → Kinds) → Fails (short_fault decode_rules false (arg_by_short decode_rules x) rest h after)
+decode_short x true e = short_help decode_rules x (rule_at 2 decode_rules) (rw e refl) decode_help
+decode_short x false e = short_nothing decode_rules x (rw e refl)
+
+decode_is : IsLine decode_usage decode_rules
+decode_is = record {
+  file = decode_file;
+  named = λ name. decode_named name (bytes_eq (codes "hex") name) (bytes_eq (codes "layout") name) (bytes_eq (codes "help") name) refl refl refl;
+  short = λ x. decode_short x (nat_eq 104 x) refl;
+  defaults = (refl, (refl, (refl, tt)));
+}
+
+-- ---- what is asked for
+
+-- something is missing, or nothing is and it is asked for, by what was given and by what was found
+abbrev Ends : Option Request → Option Request → Kinds → Type 0
+Ends by_given by_found missing = ((request : Request) × ((by_given ≡ Some request) × ((missing ≡ []) × (by_found ≡ Some request)))) ⊎ ((by_given ≡ None) × Fails missing)
+
+abbrev Settles : List Rule → Option Request → Option Request → List Given → Type 0
+Settles rules by_given by_found given = Ends by_given by_found (missing_kinds rules given)
+
+abbrev pub CommandReads : Text → Usage → List Rule → (List Given → Option Request) → (List Row → Option Request) → List Text → Type 0
+CommandReads name usage rules by by_rows words =
+    ((request : Request) × ((option_and_then by (given_in usage words) ≡ Some request) × ((line_fault name rules words ≡ []) × (by_rows (rows_after rules [] words) ≡ Some request))))
+    ⊎ ((option_and_then by (given_in usage words) ≡ None) × Fails (line_fault name rules words))
+
+command_reads : (name : Text) (usage : Usage) (rules : List Rule) → IsLine usage rules → (by : List Given → Option Request) (by_rows : List Row → Option Request)
+    → ((given : List Given) (found : List Row) → AreFound rules given found → Settles rules (by given) (by_rows found) given)
+    → (words : List Text) → CommandReads name usage rules by by_rows words
+command_reads name usage rules line by by_rows settles words = go (line_reads name usage rules line words)
+  where
+    settled : (given : List Given) → given_in usage words ≡ Some given → line_fault name rules words ≡ missing_kinds rules given
+        → Settles rules (by given) (by_rows (rows_after rules [] words)) given → CommandReads name usage rules by by_rows words
+    settled given read fault (inl r) = inl (r.0, (ap (option_and_then by) read ∙ r.1.0, (fault ∙ r.1.1.0, r.1.1.1)))
+    settled given read fault (inr r) = inr (ap (option_and_then by) read ∙ r.0, subst Fails (sym fault) r.1)
+
+    go : LineReads name usage rules words → CommandReads name usage rules by by_rows words
+    go (inl r) = settled r.0 r.1.0 r.1.1.0 (settles r.0 (rows_after rules [] words) r.1.1.1)
+    go (inr r) = inr (ap (option_and_then by) r.0, r.1)
+
+-- ---- of each command
+
+-- what was found is what was given, where there is no default
+no_default : (given : List Given) (found : List Row) (id : Text) → first_of id found ≡ or_value (value_of id given) None → first_of id found ≡ value_of id given
+no_default given found id e = e ∙ or_none (value_of id given)
+
+check_ends : (file : Option Text) → Ends (check_of file) (check_of file) (check_kinds false false (not (is_some file) || false))
+check_ends (Some file) = inl (Check file, (refl, (refl, refl)))
+check_ends None = inr (refl, tt)
+
+pub check_reads : (words : List Text) → CommandReads (codes "check") check_usage check_rules check_by check_of_rows words
+check_reads = command_reads (codes "check") check_usage check_rules check_is check_by check_of_rows settles
+  where
+    settles : (given : List Given) (found : List Row) → AreFound check_rules given found → Settles check_rules (check_by given) (check_of_rows found) given
+    settles given found are =
+        let file_is = no_default given found (codes "FILE") (are.values (codes "FILE")) in
+        subst (λ r. Settles check_rules (check_by given) r given) (λ i. check_of (sym file_is i)) (check_ends (value_of (codes "FILE") given))
+
+table_ends : (file : Option Text) (csv : Bool) → Ends (table_of file csv) (table_of file csv) (check_kinds false false (not (is_some file) || false))
+table_ends (Some file) csv = inl (Table file csv, (refl, (refl, refl)))
+table_ends None csv = inr (refl, tt)
+
+-- a switch is off by default
+off : (o : Option Text) → is_on (or_value o (Some (codes "false"))) ≡ is_on o
+off (Some text) = refl
+off None = refl
+
+pub table_reads : (words : List Text) → CommandReads (codes "table") table_usage table_rules table_by table_of_rows words
+table_reads = command_reads (codes "table") table_usage table_rules table_is table_by table_of_rows settles
+  where
+    settles : (given : List Given) (found : List Row) → AreFound table_rules given found → Settles table_rules (table_by given) (table_of_rows found) given
+    settles given found are =
+        let file_is = no_default given found (codes "FILE") (are.values (codes "FILE")) in
+        let csv_is : is_on (first_of (codes "csv") found) ≡ is_on (value_of (codes "csv") given) = ap is_on (are.values (codes "csv")) ∙ off (value_of (codes "csv") given) in
+        subst (λ r. Settles table_rules (table_by given) r given) (λ i. table_of (sym file_is i) (sym csv_is i)) (table_ends (value_of (codes "FILE") given) (is_on (value_of (codes "csv") given)))
+
+abbrev two_missing : Option Text → Option Text → Kinds
+two_missing a b = check_kinds false false (not (is_some a) || (not (is_some b) || false))
+
+sim_ends : (a b : Option Text) → Ends (sim_of a b) (sim_of a b) (two_missing a b)
+sim_ends (Some a) (Some b) = inl (Sim a b, (refl, (refl, refl)))
+sim_ends (Some a) None = inr (refl, tt)
+sim_ends None b = inr (refl, tt)
+
+pub sim_reads : (words : List Text) → CommandReads (codes "sim") two_files_usage sim_rules sim_by sim_of_rows words
+sim_reads = command_reads (codes "sim") two_files_usage sim_rules two_is sim_by sim_of_rows settles
+  where
+    settles : (given : List Given) (found : List Row) → AreFound sim_rules given found → Settles sim_rules (sim_by given) (sim_of_rows found) given
+    settles given found are =
+        let first_is = no_default given found (codes "FILE") (are.values (codes "FILE")) in
+        let second_is = no_default given found (codes "SECOND") (are.values (codes "SECOND")) in
+        subst (λ r. Settles sim_rules (sim_by given) r given) (λ i. sim_of (sym first_is i) (sym second_is i)) (sim_ends (value_of (codes "FILE") given) (value_of (codes "SECOND") given))
+
+replay_ends : (a b : Option Text) → Ends (replay_of a b) (replay_of a b) (two_missing a b)
+replay_ends (Some a) (Some b) = inl (Replay a b, (refl, (refl, refl)))
+replay_ends (Some a) None = inr (refl, tt)
+replay_ends None b = inr (refl, tt)
+
+pub replay_reads : (words : List Text) → CommandReads (codes "replay") two_files_usage sim_rules replay_by replay_of_rows words
+replay_reads = command_reads (codes "replay") two_files_usage sim_rules two_is replay_by replay_of_rows settles
+  where
+    settles : (given : List Given) (found : List Row) → AreFound sim_rules given found → Settles sim_rules (replay_by given) (replay_of_rows found) given
+    settles given found are =
+        let first_is = no_default given found (codes "FILE") (are.values (codes "FILE")) in
+        let second_is = no_default given found (codes "SECOND") (are.values (codes "SECOND")) in
+        subst (λ r. Settles sim_rules (replay_by given) r given) (λ i. replay_of (sym first_is i) (sym second_is i)) (replay_ends (value_of (codes "FILE") given) (value_of (codes "SECOND") given))
+
+abbrev run_missing : Option Text → Option Text → Option Text → Option Text → Kinds
+run_missing a b c d = check_kinds false false (not (is_some a) || (not (is_some b) || (not (is_some c) || (not (is_some d) || false))))
+
+run_ends : (a b c d : Option Text) → ((text : Text) → d ≡ Some text → is_unsigned_in 1000 600000 text ≡ true)
+    → Ends (run_of a b c (option_map time_of d)) (run_of a b c (option_and_then number_of d)) (run_missing a b c d)
+run_ends (Some a) (Some b) (Some c) (Some d) timed = inl (Run a b c (time_of d), (refl, (refl, ap (run_of (Some a) (Some b) (Some c)) (number_in 1000 600000 d (timed d refl)))))
+run_ends (Some a) (Some b) (Some c) None timed = inr (refl, tt)
+run_ends (Some a) (Some b) None d timed = inr (refl, tt)
+run_ends (Some a) None c d timed = inr (refl, tt)
+run_ends None b c d timed = inr (refl, tt)
+
+pub run_reads : (words : List Text) → CommandReads (codes "run") run_usage run_rules run_by run_of_rows words
+run_reads = command_reads (codes "run") run_usage run_rules run_is run_by run_of_rows settles
+  where
+    settles : (given : List Given) (found : List Row) → AreFound run_rules given found → Settles run_rules (run_by given) (run_of_rows found) given
+    settles given found are =
+        let file_is = no_default given found (codes "FILE") (are.values (codes "FILE")) in
+        let script_is = no_default given found (codes "script") (are.values (codes "script")) in
+        let record_is = no_default given found (codes "record") (are.values (codes "record")) in
+        let time_is = no_default given found (codes "for") (are.values (codes "for")) in
+        subst (λ r. Settles run_rules (run_by given) r given) (λ i. run_of (sym file_is i) (sym script_is i) (sym record_is i) (option_and_then number_of (sym time_is i)))
+        (run_ends (value_of (codes "FILE") given) (value_of (codes "script") given) (value_of (codes "record") given) (value_of (codes "for") given) (are.taken (codes "for")))
+
+decode_ends : (hex layout : Option Text) → Ends (decode_of hex layout) (decode_of hex layout) (check_kinds false false (not (is_some hex) || false))
+decode_ends (Some hex) layout = inl (Decode hex layout, (refl, (refl, refl)))
+decode_ends None layout = inr (refl, tt)
+
+pub decode_reads : (words : List Text) → CommandReads (codes "decode") decode_usage decode_rules decode_by decode_of_rows words
+decode_reads = command_reads (codes "decode") decode_usage decode_rules decode_is decode_by decode_of_rows settles
+  where
+    settles : (given : List Given) (found : List Row) → AreFound decode_rules given found → Settles decode_rules (decode_by given) (decode_of_rows found) given
+    settles given found are =
+        let hex_is = no_default given found (codes "hex") (are.values (codes "hex")) in
+        let layout_is = no_default given found (codes "layout") (are.values (codes "layout")) in
+        subst (λ r. Settles decode_rules (decode_by given) r given) (λ i. decode_of (sym hex_is i) (sym layout_is i)) (decode_ends (value_of (codes "hex") given) (value_of (codes "layout") given))

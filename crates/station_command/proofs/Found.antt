@@ -1,0 +1,111 @@
+-- What was found on a command line, as what is asked for.
+use Rattle.std.proofs.Common.{◌≡◌, ℕ, Bool, false, Option, Some, None, ap, ◌∙◌, codes}
+use Rattle.std.specs.Prelude.{option_and_then}
+use Rattle.std.specs.Str.{bytes_eq}
+use Rattle.clap.specs.Words.{first_value, found_of}
+use Rattle.clap.specs.declared.parser.matches.ArgMatches.{ArgMatches}
+use Rattle.clap.proofs.WalkLemmas.{first_value-rows}
+use Rattle.clap.specs.Walk.{Text, first_of, rows_of}
+use Rattle.station_command.specs.Asking.{Decode, Run, Table, both_of, decode_of, is_on, run_of, table_of}
+use Rattle.station_command.specs.inside.Rows.{decode_of_rows, files_of, number_of, run_of_rows, table_of_rows}
+
+module _ (m : ArgMatches) where
+  abbrev FirstOf : Text → Option Text
+  FirstOf id = first_of id (rows_of (found_of m))
+
+  pub value_found : (id : Text) (text : Option Text) → text ≡ first_value (found_of m) id → text ≡ first_of id (rows_of (found_of m))
+  value_found id text e = e ∙ first_value-rows (found_of m) id
+
+  -- ---- a switch
+
+  pub on_found : (id text : Text) → Some text ≡ first_value (found_of m) id → bytes_eq text (codes "true") ≡ is_on (first_of id (rows_of (found_of m)))
+  on_found id text e = ap is_on (value_found id (Some text) e)
+
+  pub off_found : (id : Text) → None ≡ first_value (found_of m) id → false ≡ is_on (first_of id (rows_of (found_of m)))
+  off_found id e = ap is_on (value_found id None e)
+
+  -- ---- two files
+
+  pub both_found : (a b : Text) → Some a ≡ first_value (found_of m) (codes "FILE") → Some b ≡ first_value (found_of m) (codes "SECOND") → Some (a, b) ≡ files_of (rows_of (found_of m))
+  both_found a b e f =
+      let first = value_found (codes "FILE") (Some a) e in
+      let second = value_found (codes "SECOND") (Some b) f in
+      λ i. both_of (first i) (second i)
+
+  pub first_missing : None ≡ first_value (found_of m) (codes "FILE") → None ≡ files_of (rows_of (found_of m))
+  first_missing e = ap (λ o. both_of o (FirstOf (codes "SECOND"))) (value_found (codes "FILE") None e)
+
+  pub second_missing : (a : Text) → Some a ≡ first_value (found_of m) (codes "FILE") → None ≡ first_value (found_of m) (codes "SECOND") → None ≡ files_of (rows_of (found_of m))
+  second_missing a e f =
+      let first = value_found (codes "FILE") (Some a) e in
+      let second = value_found (codes "SECOND") None f in
+      λ i. both_of (first i) (second i)
+
+  -- ---- `table`
+
+  pub table_found : (a : Text) (csv : Bool) → Some a ≡ first_of (codes "FILE") (rows_of (found_of m)) → csv ≡ is_on (first_of (codes "csv") (rows_of (found_of m)))
+      → Some (Table a csv) ≡ table_of_rows (rows_of (found_of m))
+  table_found a csv e f = λ i. table_of (e i) (f i)
+
+  pub no_table : None ≡ first_of (codes "FILE") (rows_of (found_of m)) → None ≡ table_of_rows (rows_of (found_of m))
+  no_table e = ap (λ o. table_of o (is_on (FirstOf (codes "csv")))) e
+
+  -- ---- `run`
+
+  -- the four that were found, as the request
+  four_found : (a b c t : Text) (n : Option ℕ) → Some a ≡ first_value (found_of m) (codes "FILE") → Some b ≡ first_value (found_of m) (codes "script")
+      → Some c ≡ first_value (found_of m) (codes "record") → Some t ≡ first_value (found_of m) (codes "for") → n ≡ number_of t
+      → run_of (Some a) (Some b) (Some c) n ≡ run_of_rows (rows_of (found_of m))
+  four_found a b c t n e f g h is =
+      let first = value_found (codes "FILE") (Some a) e in
+      let second = value_found (codes "script") (Some b) f in
+      let third = value_found (codes "record") (Some c) g in
+      let time = is ∙ ap (option_and_then number_of) (value_found (codes "for") (Some t) h) in
+      λ i. run_of (first i) (second i) (third i) (time i)
+
+  pub run_found : (a b c t : Text) (n : ℕ) → Some a ≡ first_value (found_of m) (codes "FILE") → Some b ≡ first_value (found_of m) (codes "script")
+      → Some c ≡ first_value (found_of m) (codes "record") → Some t ≡ first_value (found_of m) (codes "for") → Some n ≡ number_of t
+      → Some (Run a b c n) ≡ run_of_rows (rows_of (found_of m))
+  run_found a b c t n e f g h is = four_found a b c t (Some n) e f g h is
+
+  pub no_file : None ≡ first_value (found_of m) (codes "FILE") → None ≡ run_of_rows (rows_of (found_of m))
+  no_file e = ap (λ o. run_of o (FirstOf (codes "script")) (FirstOf (codes "record")) (option_and_then number_of (FirstOf (codes "for")))) (value_found (codes "FILE") None e)
+
+  pub no_script : (a : Text) → Some a ≡ first_value (found_of m) (codes "FILE") → None ≡ first_value (found_of m) (codes "script") → None ≡ run_of_rows (rows_of (found_of m))
+  no_script a e f =
+      let first = value_found (codes "FILE") (Some a) e in
+      let second = value_found (codes "script") None f in
+      λ i. run_of (first i) (second i) (FirstOf (codes "record")) (option_and_then number_of (FirstOf (codes "for")))
+
+  pub no_record : (a b : Text) → Some a ≡ first_value (found_of m) (codes "FILE") → Some b ≡ first_value (found_of m) (codes "script")
+      → None ≡ first_value (found_of m) (codes "record") → None ≡ run_of_rows (rows_of (found_of m))
+  no_record a b e f g =
+      let first = value_found (codes "FILE") (Some a) e in
+      let second = value_found (codes "script") (Some b) f in
+      let third = value_found (codes "record") None g in
+      λ i. run_of (first i) (second i) (third i) (option_and_then number_of (FirstOf (codes "for")))
+
+  pub no_time : (a b c : Text) → Some a ≡ first_value (found_of m) (codes "FILE") → Some b ≡ first_value (found_of m) (codes "script")
+      → Some c ≡ first_value (found_of m) (codes "record") → None ≡ first_value (found_of m) (codes "for") → None ≡ run_of_rows (rows_of (found_of m))
+  no_time a b c e f g h =
+      let first = value_found (codes "FILE") (Some a) e in
+      let second = value_found (codes "script") (Some b) f in
+      let third = value_found (codes "record") (Some c) g in
+      let time = ap (option_and_then number_of) (value_found (codes "for") None h) in
+      λ i. run_of (first i) (second i) (third i) (time i)
+
+  pub no_number : (a b c t : Text) → Some a ≡ first_value (found_of m) (codes "FILE") → Some b ≡ first_value (found_of m) (codes "script")
+      → Some c ≡ first_value (found_of m) (codes "record") → Some t ≡ first_value (found_of m) (codes "for") → None ≡ number_of t → None ≡ run_of_rows (rows_of (found_of m))
+  no_number a b c t e f g h is = four_found a b c t None e f g h is
+
+  -- ---- `decode`
+
+  pub decode_found : (word : Text) (layout : Option Text) → Some word ≡ first_value (found_of m) (codes "hex") → layout ≡ first_value (found_of m) (codes "layout")
+      → Some (Decode word layout) ≡ decode_of_rows (rows_of (found_of m))
+  decode_found word layout e f =
+      let hex_is = value_found (codes "hex") (Some word) e in
+      let layout_is = value_found (codes "layout") layout f in
+      λ i. decode_of (hex_is i) (layout_is i)
+
+  pub no_decode : None ≡ first_value (found_of m) (codes "hex") → None ≡ decode_of_rows (rows_of (found_of m))
+  no_decode e = ap (λ o. decode_of o (FirstOf (codes "layout"))) (value_found (codes "hex") None e)

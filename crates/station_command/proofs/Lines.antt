@@ -1,0 +1,49 @@
+-- The command line, made of its commands, and a command of its arguments, one after another.
+use Rattle.std.proofs.Common.{◌≡◌, Some, ap, ◌∙◌, codes}
+use Rattle.clap.specs.Words.{new_app, with_rule, with_subcommand}
+use Rattle.clap.specs.declared.builder.arg.Arg.{Arg}
+use Rattle.clap.specs.declared.builder.value_parser.ValueParser.{ValueParser}
+use Rattle.clap.specs.declared.builder.value_parser.ValueParser.TheVariants as parsers
+use Rattle.clap.specs.Simple.{App}
+use Rattle.clap.specs.Walk.{Rule, rule_of}
+use Rattle.station_command.specs.Line.{alone_line, check_line, decode_line, doing_line, file_rule, layout_line, needed_rule, option_rule, reading_line, replay_line, run_line, sim_line, station_line, switch_rule, table_line, time_rule}
+
+-- ---- the commands
+
+pub layout_is : (a b c check table : App) → a ≡ alone_line → check ≡ check_line → table ≡ table_line
+    → b ≡ with_subcommand a check.top → c ≡ with_subcommand b table.top → c ≡ layout_line
+layout_is a b c check table alone e f first last = last ∙ (λ i. with_subcommand ((first ∙ (λ j. with_subcommand (alone j) (e j).top)) i) (f i).top)
+
+pub doing_is : (a b c d sim run replay : App) → a ≡ layout_line → sim ≡ sim_line → run ≡ run_line → replay ≡ replay_line
+    → b ≡ with_subcommand a sim.top → c ≡ with_subcommand b run.top → d ≡ with_subcommand c replay.top → d ≡ doing_line
+doing_is a b c d sim run replay layouts e f g first second last =
+    last ∙ (λ i. with_subcommand ((second ∙ (λ j. with_subcommand ((first ∙ (λ k. with_subcommand (layouts k) (e k).top)) j) (f j).top)) i) (g i).top)
+
+pub station_is : (doing whole decode : App) → doing ≡ doing_line → decode ≡ decode_line → whole ≡ with_subcommand doing decode.top → whole ≡ station_line
+station_is doing whole decode e f is = is ∙ (λ i. with_subcommand (e i) (f i).top)
+
+-- ---- the arguments
+
+-- `table`
+pub table_is : (a b c : App) (file csv : Rule) → a ≡ new_app (codes "table") → file ≡ file_rule → csv ≡ switch_rule (codes "csv")
+    → b ≡ with_rule a file → c ≡ with_rule b csv → c ≡ table_line
+table_is a b c file csv new f s first last = last ∙ (λ i. with_rule ((first ∙ (λ j. with_rule (new j) (f j))) i) (s i))
+
+-- `run`
+pub reading_is : (a b c : App) (file script : Rule) → a ≡ new_app (codes "run") → file ≡ file_rule → script ≡ needed_rule (codes "script")
+    → b ≡ with_rule a file → c ≡ with_rule b script → c ≡ reading_line
+reading_is a b c file script new f s first last = last ∙ (λ i. with_rule ((first ∙ (λ j. with_rule (new j) (f j))) i) (s i))
+
+pub run_is : (a b c : App) (recording time : Rule) → a ≡ reading_line → recording ≡ needed_rule (codes "record") → time ≡ time_rule
+    → b ≡ with_rule a recording → c ≡ with_rule b time → c ≡ run_line
+run_is a b c recording time reads r t first last = last ∙ (λ i. with_rule ((first ∙ (λ j. with_rule (reads j) (r j))) i) (t i))
+
+-- the time among the options, by the parser of its value
+pub time_is : (before after : Arg) (parser : ValueParser) → after ≡ record before { value_parser = after.value_parser } → after.value_parser ≡ Some parser
+    → parser ≡ parsers.Unsigned 1000 600000 → rule_of before ≡ needed_rule (codes "for") → rule_of after ≡ time_rule
+time_is before after parser others given is rule = ap rule_of others ∙ (λ i. record (rule i) { parser = (given ∙ ap Some is) i })
+
+-- `decode`
+pub decode_is : (a b c : App) (hex layout : Rule) → a ≡ new_app (codes "decode") → hex ≡ needed_rule (codes "hex") → layout ≡ option_rule (codes "layout")
+    → b ≡ with_rule a hex → c ≡ with_rule b layout → c ≡ decode_line
+decode_is a b c hex layout new h l first last = last ∙ (λ i. with_rule ((first ∙ (λ j. with_rule (new j) (h j))) i) (l i))

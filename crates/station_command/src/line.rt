@@ -1,0 +1,221 @@
+//! The command line of `station`: its commands, each with its files, options and switches.
+
+ghost use Rattle.std.specs.Prelude.{◌≡◌, IfOk, false};
+ghost use Rattle.clap.specs.Words.{app_of, rule_of};
+ghost use Rattle.clap.specs.declared.builder.command.Command.TheViews.{out-Command};
+ghost use Rattle.station_command.specs.Line.{alone_line, check_line, decode_line, doing_line, layout_line, needed_rule, option_rule, reading_line, replay_line, run_line, sim_line, station_line, switch_rule, table_line, time_rule};
+
+use crate::texts;
+use clap::builder::ValueParser;
+use clap::{Arg, ArgAction, Command};
+use std::alloc::{AllocError, Global};
+
+/// The commands by their words.
+pub(crate) const CHECK: &str = "check";
+
+pub(crate) const TABLE: &str = "table";
+
+pub(crate) const SIM: &str = "sim";
+
+pub(crate) const RUN: &str = "run";
+
+pub(crate) const REPLAY: &str = "replay";
+
+pub(crate) const DECODE: &str = "decode";
+
+/// The file of the layout, and the one that is applied to it.
+pub(crate) const FILE: &str = "FILE";
+
+pub(crate) const SECOND: &str = "SECOND";
+
+/// The switch of a table.
+pub(crate) const CSV: &str = "csv";
+
+/// The options of a run.
+pub(crate) const SCRIPT: &str = "script";
+
+pub(crate) const RECORD: &str = "record";
+
+pub(crate) const FOR: &str = "for";
+
+/// The options of a datagram.
+pub(crate) const HEX: &str = "hex";
+
+pub(crate) const LAYOUT: &str = "layout";
+
+/// The shortest and the longest run, in milliseconds.
+const SHORTEST: u64 = 1000;
+
+const LONGEST: u64 = 600_000;
+
+/// The command line of `station`, without its commands.
+fn alone<'a>(alloc: Global) -> Result<Command<'a>, AllocError>
+    ensures { IfOk result (λ line. app_of line ≡ alone_line) }
+{
+    let line = Command::new(alloc, "station")
+        .bin_name("station")?
+        .version("1.0.0")
+        .about(texts::ABOUT)
+        .subcommand_required(true)
+        .arg_required_else_help(true);
+    Ok(line)
+}
+
+/// The command line of `station`, with the commands that tell of a layout.
+#[tactic(auto, using(crate::proofs::Lines::layout_is))]
+fn about_layouts<'a>(alloc: Global) -> Result<Command<'a>, AllocError>
+    ensures { IfOk result (λ line. app_of line ≡ layout_line) }
+{
+    let line = alone(alloc)?.subcommand(check(alloc)?)?;
+    line.subcommand(table(alloc)?)
+}
+
+/// The command line of `station`, also with the commands that have a station do something.
+#[tactic(auto, using(crate::proofs::Lines::doing_is))]
+fn about_stations<'a>(alloc: Global) -> Result<Command<'a>, AllocError>
+    ensures { IfOk result (λ line. app_of line ≡ doing_line) }
+{
+    let line = about_layouts(alloc)?.subcommand(sim(alloc)?)?;
+    let line = line.subcommand(run(alloc)?)?;
+    line.subcommand(replay(alloc)?)
+}
+
+/// The command line of `station`.
+#[tactic(auto, using(crate::proofs::Lines::station_is))]
+pub(crate) fn station<'a>(alloc: Global) -> Result<Command<'a>, AllocError>
+    ensures { IfOk result (λ line. app_of line ≡ station_line) }
+{
+    about_stations(alloc)?.subcommand(decode(alloc)?)
+}
+
+/// An option with its value.
+fn option<'a>(alloc: Global, name: &'a str, value: &'a str, help: &'a str) -> Arg<'a>
+    ensures rule { rule_of result ≡ option_rule name.entry.now }
+    ensures local { result.global ≡ false }
+{
+    Arg::new(alloc, name)
+        .long(name)
+        .value_name(value)
+        .help(help)
+}
+
+/// A required option with its value.
+fn needed<'a>(alloc: Global, name: &'a str, value: &'a str, help: &'a str) -> Arg<'a>
+    ensures rule { rule_of result ≡ needed_rule name.entry.now }
+    ensures local { result.global ≡ false }
+{
+    Arg::new(alloc, name)
+        .long(name)
+        .value_name(value)
+        .required(true)
+        .help(help)
+}
+
+/// A switch.
+fn switch<'a>(alloc: Global, name: &'a str, help: &'a str) -> Arg<'a>
+    ensures rule { rule_of result ≡ switch_rule name.entry.now }
+    ensures local { result.global ≡ false }
+{
+    Arg::new(alloc, name)
+        .long(name)
+        .action(ArgAction::SetTrue)
+        .help(help)
+}
+
+/// `check FILE`.
+fn check<'a>(alloc: Global) -> Result<Command<'a>, AllocError>
+    ensures { IfOk result (λ line. (app_of line ≡ check_line) × ((out-Command line).has_globals ≡ false)) }
+{
+    let file = Arg::new(alloc, FILE).required(true).help(texts::FILE);
+    Command::new(alloc, CHECK)
+        .about(texts::CHECK)
+        .long_about(texts::CHECK_DETAILS)
+        .arg(file)
+}
+
+/// `table FILE [--csv]`.
+#[tactic(auto, using(crate::proofs::Lines::table_is))]
+fn table<'a>(alloc: Global) -> Result<Command<'a>, AllocError>
+    ensures { IfOk result (λ line. (app_of line ≡ table_line) × ((out-Command line).has_globals ≡ false)) }
+{
+    let file = Arg::new(alloc, FILE).required(true).help(texts::FILE);
+    Command::new(alloc, TABLE)
+        .about(texts::TABLE)
+        .long_about(texts::TABLE_DETAILS)
+        .arg(file)?
+        .arg(switch(alloc, CSV, texts::CSV))
+}
+
+/// `sim FILE EVENTS`.
+fn sim<'a>(alloc: Global) -> Result<Command<'a>, AllocError>
+    ensures { IfOk result (λ line. (app_of line ≡ sim_line) × ((out-Command line).has_globals ≡ false)) }
+{
+    let file = Arg::new(alloc, FILE).required(true).help(texts::FILE);
+    let events = Arg::new(alloc, SECOND)
+        .value_name("EVENTS")
+        .required(true)
+        .help(texts::EVENTS);
+    Command::new(alloc, SIM)
+        .about(texts::SIM)
+        .long_about(texts::SIM_DETAILS)
+        .arg(file)?
+        .arg(events)
+}
+
+/// The option for how long a run takes.
+fn time<'a>(alloc: Global) -> Arg<'a>
+    ensures rule { rule_of result ≡ time_rule }
+    ensures local { result.global ≡ false }
+{
+    needed(alloc, FOR, "MS", texts::FOR).value_parser(ValueParser::unsigned(SHORTEST, LONGEST))
+}
+
+/// `run`, with the files that it reads.
+#[tactic(auto, using(crate::proofs::Lines::reading_is))]
+fn run_alone<'a>(alloc: Global) -> Result<Command<'a>, AllocError>
+    ensures { IfOk result (λ line. (app_of line ≡ reading_line) × ((out-Command line).has_globals ≡ false)) }
+{
+    let file = Arg::new(alloc, FILE).required(true).help(texts::FILE);
+    Command::new(alloc, RUN)
+        .about(texts::RUN)
+        .long_about(texts::RUN_DETAILS)
+        .arg(file)?
+        .arg(needed(alloc, SCRIPT, "S", texts::SCRIPT))
+}
+
+/// `run FILE --script S --record R --for MS`.
+#[tactic(auto, using(crate::proofs::Lines::run_is))]
+fn run<'a>(alloc: Global) -> Result<Command<'a>, AllocError>
+    ensures { IfOk result (λ line. (app_of line ≡ run_line) × ((out-Command line).has_globals ≡ false)) }
+{
+    let record = needed(alloc, RECORD, "R", texts::RECORD_OF_RUN);
+    run_alone(alloc)?.arg(record)?.arg(time(alloc))
+}
+
+/// `replay FILE RECORD`.
+fn replay<'a>(alloc: Global) -> Result<Command<'a>, AllocError>
+    ensures { IfOk result (λ line. (app_of line ≡ replay_line) × ((out-Command line).has_globals ≡ false)) }
+{
+    let file = Arg::new(alloc, FILE).required(true).help(texts::FILE);
+    let record = Arg::new(alloc, SECOND)
+        .value_name("RECORD")
+        .required(true)
+        .help(texts::RECORD);
+    Command::new(alloc, REPLAY)
+        .about(texts::REPLAY)
+        .long_about(texts::REPLAY_DETAILS)
+        .arg(file)?
+        .arg(record)
+}
+
+/// `decode --hex HEX [--layout FILE]`.
+#[tactic(auto, using(crate::proofs::Lines::decode_is))]
+fn decode<'a>(alloc: Global) -> Result<Command<'a>, AllocError>
+    ensures { IfOk result (λ line. (app_of line ≡ decode_line) × ((out-Command line).has_globals ≡ false)) }
+{
+    Command::new(alloc, DECODE)
+        .about(texts::DECODE)
+        .long_about(texts::DECODE_DETAILS)
+        .arg(needed(alloc, HEX, "HEX", texts::HEX))?
+        .arg(option(alloc, LAYOUT, "FILE", texts::LAYOUT))
+}
