@@ -196,16 +196,25 @@ class Words:
 
 
 def stored():
-    """Each stored datagram with the layout that it belongs to, each once, and the lists that belong to none."""
+    """The stored datagrams of each file that has any, with the layout that they belong to, or with none."""
     for line in (DATA / "runs").read_text().splitlines():
-        files = [DATA / word for word in line.split()[1:]]
-        if len(files) == 2 and files[0].suffix == ".toml" and files[1].suffix in (".session", ".events"):
-            text = files[1].read_text()
-            yield files[0], re.findall(r"^(?:deliver \S+|lose) ((?:[0-9a-f]{2})+)\b", text, re.MULTILINE)
-    for file in sorted(DATA.glob("*.hex")):
-        layout = file.with_suffix(".toml")
-        words = [word for word in file.read_text().split() if re.fullmatch("(?:[0-9a-f]{2})+", word)]
-        yield layout if layout.exists() else None, words
+        kind, *files = line.split()
+        layout, last = DATA / files[0], DATA / files[-1]
+        if kind == "plain-decode":
+            yield None, hexadecimal(last)
+        elif layout.suffix == ".toml" and len(files) == 2:
+            if kind == "decode":
+                yield layout, hexadecimal(last)
+            elif last.suffix in (".session", ".events"):
+                yield layout, re.findall(r"^(?:deliver \S+|lose) ((?:[0-9a-f]{2})+)\b", last.read_text(), re.MULTILINE)
+
+
+def hexadecimal(file):
+    """The datagrams of a list. One that has none would be a list that nobody compares."""
+    words = [word for word in file.read_text().split() if re.fullmatch("(?:[0-9a-f]{2})+", word)]
+    if not words:
+        sys.exit(f"{file} has no datagram")
+    return words
 
 
 def stored_datagrams():
