@@ -54,8 +54,9 @@ pub fn each_round_delivers_what_the_last_one_left()
 }
 
 /// After any list of events, and behind each good round from the 600th on, an interlocking doesn't hold: no request is refused
-/// any more since it was made anew. That is whatever requests and occupancies come between the rounds.
-pub fn requests_are_taken_behind_the_hold()
+/// any more for the hold, whatever requests and occupancies come between the rounds. One that was made anew still waits to
+/// be told to resume.
+pub fn the_hold_ends()
     ensures { (between : List (List Event)) (flowing : Flowing Played) → Once flowing.picture.sited.site → IsStation flowing.picture.sited.site
         → IsReached flowing.picture.sited.site flowing.picture.sited.table flowing.picture.run → Each (Each IsWork) between → HasTime (length between) flowing.picture.run
         → hold_rounds ≤ length between

@@ -1,5 +1,5 @@
 use Rattle.simulator_recovery.proofs.Rounds.{hold_is_over}
-use Rattle.simulator_recovery.proofs.laws.requests_are_taken_behind_the_hold.Goals as goal
+use Rattle.simulator_recovery.proofs.laws.the_hold_ends.Goals as goal
 
 pub returns : goal.returns
 returns c = hold_is_over (record { reach = record { on = c.reached_worlds_are_safe.ensures.on }; standing = c.stations_have_links.ensures.run })
