@@ -1,9 +1,0 @@
-pub mod Waiting
-pub mod Told
-pub mod Kinds
-pub mod Same
-pub mod Rounds
-pub mod Beginning
-pub mod Lives
-pub mod Drives
-pub mod Worked
