@@ -6,4 +6,3 @@ pub mod LinesKept
 pub mod SessionsKept
 pub mod Standing
 pub mod ReadAgain
-pub mod Placed

@@ -10,7 +10,7 @@ use replay::simulator::World;
 use replay::simulator::control_table::Checked;
 use replay::simulator::layout::{Layout, PointId};
 use replay::simulator::rasta_core::Role;
-use replay::simulator::sci_telegram::{Occupancy, Position, Side};
+use replay::simulator::sci_telegram::Side;
 use replay::simulator::simulator_event::{Event, NodeId, Refused, Reply};
 use replay::try_event;
 use std::alloc::{AllocError, Global};
@@ -38,15 +38,10 @@ impl Playable for Simulated {
 
     ghost sight = { sight_of_worlds };
 
-    fn at(
-        alloc: Global,
-        table: Checked,
-        positions: &[Position],
-        occupancies: &[Occupancy],
-    ) -> Result<Simulated, AllocError> {
+    fn new(alloc: Global, table: Checked) -> Result<Simulated, AllocError> {
         // Every checked layout is a station, in which no name stands twice.
         table.layout();
-        Ok(Simulated(World::at(alloc, table, positions, occupancies)?))
+        Ok(Simulated(World::new(alloc, table)?))
     }
 
     fn apply(&mut self, event: &Event) -> Result<Reply, Refused> {
