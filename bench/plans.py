@@ -1,23 +1,15 @@
 #!/usr/bin/env python3
-"""Judges plans of layouts, written as SVG.
-
-    plans.py              those that the program stored_plans prints, as they stand in its file `stdout`; and tells where a
-                          plan of the folder examples is another one than is printed
-    plans.py --to FOLDER  the same, and writes them into a folder, each with a PNG beside it
-    plans.py SVG ..       these, each with a PNG beside it
+"""plans.py SVG ..: judges plans of layouts, written as SVG, and renders each to a PNG beside it if it can.
 
 It tells of texts that overlap, of lines that run through a text, of identities that stand twice, and of what lies outside
 the picture. The status is 1 where there is any. Texts are judged by boxes of a fixed advance of 6 units. A PNG is made by
 rsvg-convert (of the Debian package librsvg2-bin) or by chromium, whichever is there."""
 import collections
-import pathlib
 import shutil
 import subprocess
 import sys
 import xml.etree.ElementTree as tree
 
-TOP = pathlib.Path(__file__).resolve().parent.parent
-STORED = TOP / 'crates/stored_plans/stdout'
 NAMESPACE = '{http://www.w3.org/2000/svg}'
 ADVANCE, ABOVE, BELOW = 6, 8, 2
 # What may lie under a text: the tint of a section.
@@ -81,66 +73,23 @@ def judge(root):
 
 
 def render(file):
-    picture = file.with_suffix('.png')
+    picture = file.removesuffix('.svg') + '.png'
     if shutil.which('rsvg-convert'):
         subprocess.run(['rsvg-convert', '-z', '1.5', file, '-o', picture], check=True)
     elif shutil.which('chromium'):
         subprocess.run(['chromium', '--headless', '--no-sandbox', f'--screenshot={picture}', file], check=True)
 
 
-def stored():
-    """The names and the texts of the plans that are printed: each stands behind the line that asks for it."""
-    asked, lines = None, []
-    for line in STORED.read_text().splitlines(keepends=True):
-        if line.startswith('<') or lines:
-            lines.append(line)
-            if line == '</svg>\n':
-                yield asked, ''.join(lines)
-                lines = []
-        else:
-            asked = '-'.join(word.removesuffix('.toml').removesuffix('.picture') for word in line.split() if word != '-')
-
-
-def is_same(name, text):
-    """Whether the plan of an example, if there is one of this name, is the one that is printed."""
-    example = TOP / 'examples' / f'{name}.svg'
-    return not example.exists() or example.read_text() == text
-
-
-def tell(name, text):
-    faults = judge(tree.fromstring(text))
-    print(f'{name}: {len(faults)} faults')
-    for fault in faults:
-        print(f'  {fault}')
-    return len(faults)
-
-
-def tell_stored(folder):
-    found = 0
-    for name, text in stored():
-        found += tell(name, text)
-        if not is_same(name, text):
-            found += 1
-            print(f'  examples/{name}.svg is another plan')
-        if folder:
-            file = folder / f'{name}.svg'
-            file.write_text(text)
-            render(file)
-    return found
-
-
-def tell_files(files):
+def main(files):
     found = 0
     for file in files:
-        found += tell(file, file.read_text())
+        faults = judge(tree.parse(file).getroot())
+        found += len(faults)
+        print(f'{file}: {len(faults)} faults')
+        for fault in faults:
+            print(f'  {fault}')
         render(file)
-    return found
-
-
-def main(words):
-    if words[:1] == ['--to']:
-        return 1 if tell_stored(pathlib.Path(words[1])) else 0
-    return 1 if (tell_files(map(pathlib.Path, words)) if words else tell_stored(None)) else 0
+    return 1 if found else 0
 
 
 if __name__ == '__main__':
