@@ -6,8 +6,8 @@ use Rattle.clap.specs.Words.{first_value, found_of}
 use Rattle.clap.specs.declared.parser.matches.ArgMatches.{ArgMatches}
 use Rattle.clap.proofs.WalkLemmas.{first_value-rows}
 use Rattle.clap.specs.Walk.{Text, first_of, rows_of}
-use Rattle.station_command.specs.Asking.{Check, Plan, Request, Run, Table, both_of, check_of, decode_of, is_on, plan_of, run_of, table_of}
-use Rattle.station_command.specs.inside.Rows.{check_of_rows, decode_of_rows, files_of, number_of, plan_of_rows, run_of_rows, table_of_rows}
+use Rattle.station_command.specs.Asking.{Decode, Run, Table, both_of, decode_of, is_on, run_of, table_of}
+use Rattle.station_command.specs.inside.Rows.{decode_of_rows, files_of, number_of, run_of_rows, table_of_rows}
 
 module _ (m : ArgMatches) where
   abbrev FirstOf : Text → Option Text
@@ -40,28 +40,6 @@ module _ (m : ArgMatches) where
       let first = value_found (codes "FILE") (Some a) e in
       let second = value_found (codes "SECOND") None f in
       λ i. both_of (first i) (second i)
-
-  -- ---- `check`
-
-  pub check_found : (a : Text) (explained : Bool) → Some a ≡ first_of (codes "FILE") (rows_of (found_of m)) → explained ≡ is_on (first_of (codes "explain") (rows_of (found_of m)))
-      → Some (Check a explained) ≡ check_of_rows (rows_of (found_of m))
-  check_found a explained e f = λ i. check_of (e i) (f i)
-
-  pub no_check : None ≡ first_of (codes "FILE") (rows_of (found_of m)) → None ≡ check_of_rows (rows_of (found_of m))
-  no_check e = ap (λ o. check_of o (is_on (FirstOf (codes "explain")))) e
-
-  -- ---- `plan`
-
-  pub plan_found : (a : Text) (route picture : Option Text) → Some a ≡ first_value (found_of m) (codes "FILE") → route ≡ first_value (found_of m) (codes "route")
-      → picture ≡ first_value (found_of m) (codes "picture") → Some (Plan a route picture) ≡ plan_of_rows (rows_of (found_of m))
-  plan_found a route picture e f g =
-      let file_is = value_found (codes "FILE") (Some a) e in
-      let route_is = value_found (codes "route") route f in
-      let picture_is = value_found (codes "picture") picture g in
-      λ i. plan_of (file_is i) (route_is i) (picture_is i)
-
-  pub no_plan : None ≡ first_value (found_of m) (codes "FILE") → None ≡ plan_of_rows (rows_of (found_of m))
-  no_plan e = ap (λ o. plan_of o (FirstOf (codes "route")) (FirstOf (codes "picture"))) (value_found (codes "FILE") None e)
 
   -- ---- `table`
 
@@ -122,12 +100,12 @@ module _ (m : ArgMatches) where
 
   -- ---- `decode`
 
-  pub decode_found : (hex layout file recording : Option Text) (asked : Option Request) → asked ≡ decode_of hex layout file recording → hex ≡ first_value (found_of m) (codes "hex")
-      → layout ≡ first_value (found_of m) (codes "layout") → file ≡ first_value (found_of m) (codes "FILE") → recording ≡ first_value (found_of m) (codes "SECOND")
-      → asked ≡ decode_of_rows (rows_of (found_of m))
-  decode_found hex layout file recording asked is e f g h =
-      let hex_is = value_found (codes "hex") hex e in
+  pub decode_found : (word : Text) (layout : Option Text) → Some word ≡ first_value (found_of m) (codes "hex") → layout ≡ first_value (found_of m) (codes "layout")
+      → Some (Decode word layout) ≡ decode_of_rows (rows_of (found_of m))
+  decode_found word layout e f =
+      let hex_is = value_found (codes "hex") (Some word) e in
       let layout_is = value_found (codes "layout") layout f in
-      let file_is = value_found (codes "FILE") file g in
-      let record_is = value_found (codes "SECOND") recording h in
-      is ∙ (λ i. decode_of (hex_is i) (layout_is i) (file_is i) (record_is i))
+      λ i. decode_of (hex_is i) (layout_is i)
+
+  pub no_decode : None ≡ first_value (found_of m) (codes "hex") → None ≡ decode_of_rows (rows_of (found_of m))
+  no_decode e = ap (λ o. decode_of o (FirstOf (codes "layout"))) (value_found (codes "hex") None e)

@@ -4,11 +4,7 @@ use Rattle.std.specs.List.{list_any}
 use Rattle.std.specs.Option.{option_map}
 use Rattle.std.specs.Str.{bytes_eq, chars}
 use Rattle.std.specs.Str.Parse.{digits_value, without_leading_plus}
-use Rattle.clap.specs.Faults.{fault_of}
-use Rattle.clap.specs.Kinds.{Kinds, or_else}
 use Rattle.clap.specs.Lexer.{long_of}
-use Rattle.clap.specs.declared.error.kind.ErrorKind.TheVariants as kind
-use Rattle.station_command.specs.Line.{station_line}
 use Rattle.clap.specs.ValueTests.{is_unsigned_in}
 use Rattle.station_command.specs.declared.command.Asked.{Asked}
 use Rattle.station_command.specs.declared.command.Asked.TheVariants as asked
@@ -99,33 +95,24 @@ given_in usage words = option_and_then given_at (words_read usage (Between [] us
 
 -- What is asked for, with the words for files and values, and for how many milliseconds.
 pub data Request : Type 0 where
-  Check : List ℕ → Bool → Request
-  Plan : List ℕ → Option (List ℕ) → Option (List ℕ) → Request
+  Check : List ℕ → Request
   Table : List ℕ → Bool → Request
   Sim : List ℕ → List ℕ → Request
   Run : List ℕ → List ℕ → List ℕ → ℕ → Request
   Replay : List ℕ → List ℕ → Request
   Decode : List ℕ → Option (List ℕ) → Request
-  DecodeSession : List ℕ → List ℕ → Request
 
 -- a switch is on
 abbrev pub is_on : Option (List ℕ) → Bool
 is_on None = false
 is_on (Some value) = bytes_eq value (codes "true")
 
--- `check FILE [--explain]`
+-- `check FILE`
 abbrev pub check_usage : Usage
-check_usage = record { files = codes "FILE" ∷ []; options = []; switches = codes "explain" ∷ [] }
+check_usage = record { files = codes "FILE" ∷ []; options = []; switches = [] }
 
-abbrev pub check_of : Option (List ℕ) → Bool → Option Request
-check_of file explained = option_map (λ file. Check file explained) file
-
--- `plan FILE [--route R] [--picture PICTURE]`
-abbrev pub plan_usage : Usage
-plan_usage = record { files = codes "FILE" ∷ []; options = codes "route" ∷ codes "picture" ∷ []; switches = [] }
-
-abbrev pub plan_of : Option (List ℕ) → Option (List ℕ) → Option (List ℕ) → Option Request
-plan_of file route picture = option_map (λ file. Plan file route picture) file
+abbrev pub check_of : Option (List ℕ) → Option Request
+check_of file = option_map Check file
 
 -- `table FILE [--csv]`
 abbrev pub table_usage : Usage
@@ -160,21 +147,16 @@ run_of _ _ _ _ = None
 abbrev pub time_of : List ℕ → ℕ
 time_of time = digits_value 10 (without_leading_plus time)
 
--- `decode --hex HEX [--layout FILE]`, or `decode FILE RECORD`
+-- `decode --hex HEX [--layout FILE]`
 abbrev pub decode_usage : Usage
-decode_usage = record { files = codes "FILE" ∷ codes "SECOND" ∷ []; options = codes "hex" ∷ codes "layout" ∷ []; switches = [] }
+decode_usage = record { files = []; options = codes "hex" ∷ codes "layout" ∷ []; switches = [] }
 
-abbrev pub decode_of : Option (List ℕ) → Option (List ℕ) → Option (List ℕ) → Option (List ℕ) → Option Request
-decode_of (Some hex) layout None None = Some (Decode hex layout)
-decode_of None None (Some file) (Some recording) = Some (DecodeSession file recording)
-decode_of _ _ _ _ = None
+abbrev pub decode_of : Option (List ℕ) → Option (List ℕ) → Option Request
+decode_of hex layout = option_map (λ hex. Decode hex layout) hex
 
 -- what each command asks for by what it was given
 abbrev pub check_by : List Given → Option Request
-check_by given = check_of (value_of (codes "FILE") given) (is_on (value_of (codes "explain") given))
-
-abbrev pub plan_by : List Given → Option Request
-plan_by given = plan_of (value_of (codes "FILE") given) (value_of (codes "route") given) (value_of (codes "picture") given)
+check_by given = check_of (value_of (codes "FILE") given)
 
 abbrev pub table_by : List Given → Option Request
 table_by given = table_of (value_of (codes "FILE") given) (is_on (value_of (codes "csv") given))
@@ -189,36 +171,28 @@ abbrev pub replay_by : List Given → Option Request
 replay_by given = replay_of (value_of (codes "FILE") given) (value_of (codes "SECOND") given)
 
 abbrev pub decode_by : List Given → Option Request
-decode_by given = decode_of (value_of (codes "hex") given) (value_of (codes "layout") given) (value_of (codes "FILE") given) (value_of (codes "SECOND") given)
+decode_by given = decode_of (value_of (codes "hex") given) (value_of (codes "layout") given)
 
 -- What a command line asks for, the first word of which is the program's name.
 abbrev pub request_in : List (List ℕ) → Option Request
 request_in (program ∷ command ∷ words) =
     if bytes_eq (codes "check") command then option_and_then check_by (given_in check_usage words) else
-    (if bytes_eq (codes "plan") command then option_and_then plan_by (given_in plan_usage words) else
     (if bytes_eq (codes "table") command then option_and_then table_by (given_in table_usage words) else
     (if bytes_eq (codes "sim") command then option_and_then sim_by (given_in two_files_usage words) else
     (if bytes_eq (codes "run") command then option_and_then run_by (given_in run_usage words) else
     (if bytes_eq (codes "replay") command then option_and_then replay_by (given_in two_files_usage words) else
-    (if bytes_eq (codes "decode") command then option_and_then decode_by (given_in decode_usage words) else None))))))
+    (if bytes_eq (codes "decode") command then option_and_then decode_by (given_in decode_usage words) else None)))))
 request_in _ = None
 
 -- an answer as a request
 abbrev pub request_of : Asked → Request
-request_of (asked.Check layout explained) = Check layout.now explained
-request_of (asked.Plan layout route picture) = Plan layout.now (option_copied route) (option_copied picture)
+request_of (asked.Check file) = Check file.now
 request_of (asked.Table layout csv) = Table layout.now csv
 request_of (asked.Sim layout events) = Sim layout.now events.now
 request_of (asked.Run layout script recording for_ms) = Run layout.now script.now recording.now for_ms
 request_of (asked.Replay layout recording) = Replay layout.now recording.now
 request_of (asked.Decode word layout) = Decode word.now (option_copied layout)
-request_of (asked.DecodeSession layout recording) = DecodeSession layout.now recording.now
 
 -- What is asked is what the words say.
 abbrev pub Asks : List (List ℕ) → Asked → Type 0
 Asks words asked = request_in words ≡ Some (request_of asked)
-
--- The kinds of error that a command line may have: those of clap's reading, and otherwise that something is missing, where its
--- words are read and ask for nothing.
-abbrev pub faults_in : List (List ℕ) → Kinds
-faults_in words = or_else (fault_of station_line words) (if is_some (request_in words) then [] else kind.MissingRequiredArgument ∷ [])

@@ -1,15 +1,16 @@
 //! What the words of a command line ask for.
 
-ghost use Rattle.std.specs.Prelude.{◌≡◌, ◌↔◌, ◌⊎◌, IsTrue, IfOk, IfErr, None, codes, map, option_copied};
+ghost use Rattle.std.specs.Prelude.{◌≡◌, ◌↔◌, ◌⊎◌, IsTrue, IfOk, IfErr, None, codes, map};
 ghost use Rattle.std.specs.Option.{option_map};
-ghost use Rattle.clap.specs.Words.{FailsBy, first_of, found_of, kind_of, rows_of, subcommand_rows_of};
-ghost use Rattle.station_command.specs.Asking.{Asks, faults_in, decode_of, is_on, request_in, request_of};
-ghost use Rattle.station_command.specs.inside.Rows.{check_of_rows, decode_of_rows, files_of, number_of, plan_of_rows, request_of_rows, run_of_rows, table_of_rows};
+ghost use Rattle.clap.specs.Words.{FailsBy, fault_of, first_of, found_of, kind_of, rows_of, subcommand_rows_of};
+ghost use Rattle.station_command.specs.Asking.{Asks, is_on, request_in, request_of};
+ghost use Rattle.station_command.specs.Line.{station_line};
+ghost use Rattle.station_command.specs.inside.Rows.{decode_of_rows, files_of, number_of, request_of_rows, run_of_rows, table_of_rows};
 ghost use Rattle.clap.specs.declared.error.kind.ErrorKind.TheVariants as kind;
 
 use crate::line::{
-    CHECK, CSV, DECODE, EXPLAIN, FILE, FOR, HEX, LAYOUT, PICTURE, PLAN, RECORD, REPLAY, ROUTE, RUN,
-    SCRIPT, SECOND, SIM, TABLE, station,
+    CHECK, CSV, DECODE, FILE, FOR, HEX, LAYOUT, RECORD, REPLAY, RUN, SCRIPT, SECOND, SIM, TABLE,
+    station,
 };
 use clap::error::ErrorKind;
 use clap::{ArgMatches, Error};
@@ -19,18 +20,8 @@ use std::convert::AsStr;
 /// What a command line asks for.
 #[derive(Clone, Copy, Debug, PartialEq, Eq)]
 pub enum Asked<'a> {
-    /// `check FILE [--explain]`: whether the layout in a file is sound, with what is wrong in words.
-    Check {
-        layout: &'a str,
-        explained: bool,
-    },
-    /// `plan FILE [--route R] [--picture PICTURE]`: the track plan of the layout in a file, with a route, and with what is
-    /// seen in a picture.
-    Plan {
-        layout: &'a str,
-        route: Option<&'a str>,
-        picture: Option<&'a str>,
-    },
+    /// `check FILE`: whether the layout in a file is sound.
+    Check(&'a str),
     /// `table FILE [--csv]`: the control table of the layout in a file, as Markdown or as CSV.
     Table {
         layout: &'a str,
@@ -58,16 +49,7 @@ pub enum Asked<'a> {
         word: &'a str,
         layout: Option<&'a str>,
     },
-    /// `decode FILE RECORD`: the datagrams of a recorded session on the layout in a file, in words.
-    DecodeSession {
-        layout: &'a str,
-        recording: &'a str,
-    },
 }
-
-/// What is told of words that are read and ask for nothing.
-const ASKS_NOTHING: &str =
-    "decode takes either --hex HEX, with or without --layout FILE, or FILE and RECORD";
 
 /// The value of a switch that is on.
 const ON: &str = "true";
@@ -113,31 +95,6 @@ fn number(text: &str) -> Option<u64>
     text.parse::<u64>().ok()
 }
 
-/// The check that is asked for.
-#[tactic(auto, using(crate::proofs::Found::check_found, crate::proofs::Found::no_check))]
-fn asked_check<'a>(matches: &ArgMatches<'a>) -> Option<Asked<'a>>
-    ensures { option_map request_of result ≡ check_of_rows (rows_of (found_of matches.now)) }
-{
-    let layout = file(matches)?;
-    let explained = is_on(matches, EXPLAIN);
-    Some(Asked::Check { layout, explained })
-}
-
-/// The plan that is asked for.
-#[tactic(auto, using(crate::proofs::Found::plan_found, crate::proofs::Found::no_plan))]
-fn asked_plan<'a>(matches: &ArgMatches<'a>) -> Option<Asked<'a>>
-    ensures { option_map request_of result ≡ plan_of_rows (rows_of (found_of matches.now)) }
-{
-    let layout = matches.get_str(FILE)?;
-    let route = matches.get_str(ROUTE);
-    let picture = matches.get_str(PICTURE);
-    Some(Asked::Plan {
-        layout,
-        route,
-        picture,
-    })
-}
-
 /// The table that is asked for.
 #[tactic(auto, using(crate::proofs::Found::table_found, crate::proofs::Found::no_table))]
 fn asked_table<'a>(matches: &ArgMatches<'a>) -> Option<Asked<'a>>
@@ -165,34 +122,14 @@ fn asked_run<'a>(matches: &ArgMatches<'a>) -> Option<Asked<'a>>
     })
 }
 
-/// What is to be put into words: a datagram, or a session.
-#[tactic(auto, using(crate::proofs::Found::decode_found))]
+/// The datagram that is to be put into words.
+#[tactic(auto, using(crate::proofs::Found::decode_found, crate::proofs::Found::no_decode))]
 fn asked_decode<'a>(matches: &ArgMatches<'a>) -> Option<Asked<'a>>
     ensures { option_map request_of result ≡ decode_of_rows (rows_of (found_of matches.now)) }
 {
-    let hex = matches.get_str(HEX);
+    let word = matches.get_str(HEX)?;
     let layout = matches.get_str(LAYOUT);
-    let file = matches.get_str(FILE);
-    let record = matches.get_str(SECOND);
-    decode_of(hex, layout, file, record)
-}
-
-/// What the values of `decode` ask for, if for anything.
-fn decode_of<'a>(
-    hex: Option<&'a str>,
-    layout: Option<&'a str>,
-    file: Option<&'a str>,
-    recording: Option<&'a str>,
-) -> Option<Asked<'a>>
-    ensures { option_map request_of result ≡ decode_of (option_copied hex) (option_copied layout) (option_copied file) (option_copied recording) }
-{
-    match (hex, layout, file, recording) {
-        (Some(word), layout, None, None) => Some(Asked::Decode { word, layout }),
-        (None, None, Some(layout), Some(recording)) => {
-            Some(Asked::DecodeSession { layout, recording })
-        }
-        _ => None,
-    }
+    Some(Asked::Decode { word, layout })
 }
 
 /// What was found on a command line asks for, if for anything.
@@ -201,8 +138,7 @@ fn asked_by<'a>(matches: &ArgMatches<'a>) -> Option<Asked<'a>>
 {
     let (name, matches) = matches.subcommand()?;
     match name {
-        CHECK => asked_check(matches),
-        PLAN => asked_plan(matches),
+        CHECK => Some(Asked::Check(file(matches)?)),
         TABLE => asked_table(matches),
         SIM => {
             let (layout, events) = files(matches)?;
@@ -224,13 +160,13 @@ fn asked_by<'a>(matches: &ArgMatches<'a>) -> Option<Asked<'a>>
 pub fn read_words<'a, S: AsStr>(alloc: Global, words: &'a [S]) -> Result<Asked<'a>, Error>
     ensures asked { IfOk result (Asks (map S.text words.entry.now)) }
     ensures refused { IfErr result (λ error. (kind_of error ≡ kind.OutOfMemory) ⊎ (request_in (map S.text words.entry.now) ≡ None)) }
-    ensures kinds { FailsBy (faults_in (map S.text words.entry.now)) result }
+    ensures kinds { FailsBy (fault_of station_line (map S.text words.entry.now)) result }
 {
     let mut command = station(alloc)?;
     let matches = command.try_get_matches_from_mut(words)?;
     match asked_by(&matches) {
         Some(asked) => Ok(asked),
-        None => Err(command.error(ErrorKind::MissingRequiredArgument, ASKS_NOTHING)?),
+        None => Err(command.error(ErrorKind::MissingSubcommand, "no subcommand was given")?),
     }
 }
 

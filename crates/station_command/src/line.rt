@@ -3,7 +3,7 @@
 ghost use Rattle.std.specs.Prelude.{◌≡◌, IfOk, false};
 ghost use Rattle.clap.specs.Words.{app_of, rule_of};
 ghost use Rattle.clap.specs.declared.builder.command.Command.TheViews.{out-Command};
-ghost use Rattle.station_command.specs.Line.{alone_line, check_line, datagram_line, decode_line, doing_line, layout_line, needed_rule, option_rule, optional_rule, plan_line, reading_line, replay_line, run_line, sim_line, station_line, switch_rule, table_line, time_rule};
+ghost use Rattle.station_command.specs.Line.{alone_line, check_line, decode_line, doing_line, layout_line, needed_rule, option_rule, reading_line, replay_line, run_line, sim_line, station_line, switch_rule, table_line, time_rule};
 
 use crate::texts;
 use clap::builder::ValueParser;
@@ -12,8 +12,6 @@ use std::alloc::{AllocError, Global};
 
 /// The commands by their words.
 pub(crate) const CHECK: &str = "check";
-
-pub(crate) const PLAN: &str = "plan";
 
 pub(crate) const TABLE: &str = "table";
 
@@ -29,14 +27,6 @@ pub(crate) const DECODE: &str = "decode";
 pub(crate) const FILE: &str = "FILE";
 
 pub(crate) const SECOND: &str = "SECOND";
-
-/// The options of a plan.
-pub(crate) const ROUTE: &str = "route";
-
-pub(crate) const PICTURE: &str = "picture";
-
-/// The switch of a check.
-pub(crate) const EXPLAIN: &str = "explain";
 
 /// The switch of a table.
 pub(crate) const CSV: &str = "csv";
@@ -77,7 +67,6 @@ fn about_layouts<'a>(alloc: Global) -> Result<Command<'a>, AllocError>
     ensures { IfOk result (λ line. app_of line ≡ layout_line) }
 {
     let line = alone(alloc)?.subcommand(check(alloc)?)?;
-    let line = line.subcommand(plan(alloc)?)?;
     line.subcommand(table(alloc)?)
 }
 
@@ -110,14 +99,6 @@ fn option<'a>(alloc: Global, name: &'a str, value: &'a str, help: &'a str) -> Ar
         .help(help)
 }
 
-/// A file that may be left out.
-fn optional<'a>(alloc: Global, name: &'a str, value: &'a str, help: &'a str) -> Arg<'a>
-    ensures rule { rule_of result ≡ optional_rule name.entry.now }
-    ensures local { result.global ≡ false }
-{
-    Arg::new(alloc, name).value_name(value).help(help)
-}
-
 /// A required option with its value.
 fn needed<'a>(alloc: Global, name: &'a str, value: &'a str, help: &'a str) -> Arg<'a>
     ensures rule { rule_of result ≡ needed_rule name.entry.now }
@@ -141,8 +122,7 @@ fn switch<'a>(alloc: Global, name: &'a str, help: &'a str) -> Arg<'a>
         .help(help)
 }
 
-/// `check FILE [--explain]`.
-#[tactic(auto, using(crate::proofs::Lines::check_is))]
+/// `check FILE`.
 fn check<'a>(alloc: Global) -> Result<Command<'a>, AllocError>
     ensures { IfOk result (λ line. (app_of line ≡ check_line) × ((out-Command line).has_globals ≡ false)) }
 {
@@ -150,22 +130,7 @@ fn check<'a>(alloc: Global) -> Result<Command<'a>, AllocError>
     Command::new(alloc, CHECK)
         .about(texts::CHECK)
         .long_about(texts::CHECK_DETAILS)
-        .arg(file)?
-        .arg(switch(alloc, EXPLAIN, texts::EXPLAIN))
-}
-
-/// `plan FILE [--route R] [--picture PICTURE]`.
-#[tactic(auto, using(crate::proofs::Lines::plan_is))]
-fn plan<'a>(alloc: Global) -> Result<Command<'a>, AllocError>
-    ensures { IfOk result (λ line. (app_of line ≡ plan_line) × ((out-Command line).has_globals ≡ false)) }
-{
-    let file = Arg::new(alloc, FILE).required(true).help(texts::FILE);
-    Command::new(alloc, PLAN)
-        .about(texts::PLAN)
-        .long_about(texts::PLAN_DETAILS)
-        .arg(file)?
-        .arg(option(alloc, ROUTE, "R", texts::ROUTE))?
-        .arg(option(alloc, PICTURE, "PICTURE", texts::PICTURE))
+        .arg(file)
 }
 
 /// `table FILE [--csv]`.
@@ -243,25 +208,14 @@ fn replay<'a>(alloc: Global) -> Result<Command<'a>, AllocError>
         .arg(record)
 }
 
-/// `decode`, with the options for a datagram.
-#[tactic(auto, using(crate::proofs::Lines::datagram_is))]
-fn decode_alone<'a>(alloc: Global) -> Result<Command<'a>, AllocError>
-    ensures { IfOk result (λ line. (app_of line ≡ datagram_line) × ((out-Command line).has_globals ≡ false)) }
-{
-    Command::new(alloc, DECODE)
-        .about(texts::DECODE)
-        .long_about(texts::DECODE_DETAILS)
-        .arg(option(alloc, HEX, "HEX", texts::HEX))?
-        .arg(option(alloc, LAYOUT, "FILE", texts::LAYOUT))
-}
-
-/// `decode --hex HEX [--layout FILE]`, or `decode FILE RECORD`.
+/// `decode --hex HEX [--layout FILE]`.
 #[tactic(auto, using(crate::proofs::Lines::decode_is))]
 fn decode<'a>(alloc: Global) -> Result<Command<'a>, AllocError>
     ensures { IfOk result (λ line. (app_of line ≡ decode_line) × ((out-Command line).has_globals ≡ false)) }
 {
-    let record = optional(alloc, SECOND, "RECORD", texts::RECORD);
-    decode_alone(alloc)?
-        .arg(optional(alloc, FILE, "FILE", texts::FILE))?
-        .arg(record)
+    Command::new(alloc, DECODE)
+        .about(texts::DECODE)
+        .long_about(texts::DECODE_DETAILS)
+        .arg(needed(alloc, HEX, "HEX", texts::HEX))?
+        .arg(option(alloc, LAYOUT, "FILE", texts::LAYOUT))
 }

@@ -4,12 +4,6 @@ pub(crate) const ABOUT: &str = "The interlocking of a railway station";
 
 pub(crate) const FILE: &str = "The layout, a TOML file";
 
-pub(crate) const EXPLAIN: &str = "Tells a fault in a second line, in words";
-
-pub(crate) const ROUTE: &str = "The route that is drawn thick, with its flank points and approach";
-
-pub(crate) const PICTURE: &str = "What is seen of the station, as sim prints it";
-
 pub(crate) const CSV: &str = "Prints it as CSV, with the heads in the first line";
 
 pub(crate) const EVENTS: &str = "The lines of events";
@@ -39,18 +33,6 @@ pair of routes that can't be set at the same time. Otherwise it prints the first
 status 1. docs/INTERLOCKING.md has the keys of the file and all faults, examples/ has stations.
 
 Example: station check examples/junction.toml";
-
-pub(crate) const PLAN: &str = "Draws the track plan of a layout";
-
-pub(crate) const PLAN_DETAILS: &str =
-    "Draws the track plan of a layout, as an SVG picture on standard output.
-
-It shows the tracks, the points with their two legs, the borders, the signals on the side of the
-direction that they rule, the joints where sections differ, and each section with its detector. With
-a route its path is drawn thick. With a picture, as `picture` in the lines of sim prints it, aspects,
-positions, occupancies and set routes are shown. The layout has to be sound, as for check.
-
-Example: station plan examples/junction.toml > junction.svg";
 
 pub(crate) const TABLE: &str = "Prints the control table of a layout";
 
@@ -109,17 +91,13 @@ the same, it prints `same`. Otherwise it prints the first line that differs, and
 
 Example: station replay examples/small.toml examples/commands.session";
 
-pub(crate) const DECODE: &str = "Puts a datagram, or those of a session, into words";
+pub(crate) const DECODE: &str = "Puts a datagram into words";
 
-pub(crate) const DECODE_DETAILS: &str =
-    "Puts a datagram, or those of a session, into words, each in one line.
+pub(crate) const DECODE_DETAILS: &str = "Puts a datagram into words, in one line.
 
-With --hex the line of one datagram is told. It tells the sender and the receiver, the type, the sequence number and the confirmed one (SN, CS),
+It tells the sender and the receiver, the type, the sequence number and the confirmed one (SN, CS),
 the time stamp and the confirmed one (TS, CTS), and behind a colon what the datagram carries. With a
 layout its key is used and its nodes are called by name, otherwise the standard key and numbers.
 Where the bytes are no PDU, it tells the fault, and ends with status 0 all the same.
-
-With a layout and a session its replay is told: a line for each datagram that was sent, delivered or
-lost, with true time in milliseconds, the sender and the receiver, and the words of the datagram.
 
 Example: station decode --hex 32003818020000000100000000000000000000007017000000000000303330331400000000000000000023e6b5e69928e086 --layout examples/small.toml";
