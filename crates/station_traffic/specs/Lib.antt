@@ -1,0 +1,5 @@
+pub mod Traffic
+pub mod Lines
+pub mod Decoding
+pub mod Capturing
+pub mod inside

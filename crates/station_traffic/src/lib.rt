@@ -1,0 +1,17 @@
+//! What goes over the network of a station as a recorded session is applied to it again: each datagram that is sent, and
+//! each that is delivered or lost, in words; and those that are sent as a capture.
+#![tactic(auto)]
+
+mod capture;
+mod capture_failure;
+mod captured;
+mod decode;
+mod ends;
+mod event_lines;
+mod fate;
+mod line;
+mod replayed;
+
+pub use capture::capture_session;
+pub use decode::decode_session_text;
+pub use fate::Fate;
