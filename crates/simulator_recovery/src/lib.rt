@@ -6,6 +6,5 @@ mod laws;
 
 pub use laws::{
     each_round_delivers_what_the_last_one_left, good_rounds_are_events,
-    good_rounds_leave_fresh_datagrams, good_rounds_take_their_time,
-    the_hold_ends,
+    good_rounds_leave_fresh_datagrams, good_rounds_take_their_time, the_hold_ends,
 };
