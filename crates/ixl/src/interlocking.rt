@@ -143,6 +143,13 @@ impl Interlocking {
         self.state.table()
     }
 
+    /// All that it keeps: how far each route is, what is known of each controller, and whether it was told to resume.
+    pub fn state(&self) -> &State
+        ensures { result.now ≡ self.now.state }
+    {
+        &self.state
+    }
+
     /// Whether the hold after the creation isn't over: nothing is set then.
     pub fn holding(&self, now: Millis) -> bool
         ensures { result ≡ is_holding now self.now.state.ixl }

@@ -5,6 +5,7 @@ pub mod inside
 pub use Rattle.simulator_headline.specs as simulator_headline
 pub use Rattle.simulator_ixl.specs.control_table as control_table
 pub use Rattle.simulator_ixl.specs.ixl_rules as ixl_rules
+pub use Rattle.simulator_ixl.specs.ixl_state as ixl_state
 pub use Rattle.simulator_ixl.specs.ixl_table as ixl_table
 pub use Rattle.simulator_ixl.specs.layout as layout
 pub use Rattle.simulator_ixl.specs.rasta_core as rasta_core

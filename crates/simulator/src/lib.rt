@@ -21,6 +21,6 @@ pub use world::World;
 // What crates above need of the crates below.
 pub use simulator_headline;
 pub use simulator_ixl::{
-    control_table, ixl_rules, ixl_table, layout, rasta_core, sci_telegram, simulator_event,
+    control_table, ixl_rules, ixl_state, ixl_table, layout, rasta_core, sci_telegram, simulator_event,
     simulator_field, simulator_run, simulator_snapshot,
 };

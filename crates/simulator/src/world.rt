@@ -4,6 +4,7 @@ ghost use Rattle.std.specs.Prelude.{◌≡◌, ◌≤◌, ◌<◌, ◌+◌, ◌�
 ghost use Rattle.std.specs.Option.{option_map};
 ghost use Rattle.simulator_ixl.specs.ixl_rules.View.{is_set};
 ghost use Rattle.simulator_ixl.specs.ixl_table.Table.{IsTableOf};
+ghost use Rattle.simulator_ixl.specs.rasta_core.Ends.{reading_of};
 ghost use Rattle.simulator_ixl.specs.simulator_event.declared.refused.Refused.TheVariants.{OutOfMemory};
 ghost use Rattle.simulator_headline.specs.Reached.{HasSafeLinks, IsReachedSafely};
 ghost use Rattle.simulator_ixl.specs.simulator_field.Bag.{in_bag, not_lost};
@@ -21,7 +22,9 @@ use crate::parts::Parts;
 use arrayvec::ArrayVec;
 use simulator_headline::reached_worlds_are_safe;
 use simulator_ixl::control_table::Checked;
+use simulator_ixl::ixl_state::State;
 use simulator_ixl::layout::{PointId, RouteId, SectionId, SignalId};
+use simulator_ixl::rasta_core::Millis;
 use simulator_ixl::sci_telegram::{Aspect, Occupancy, Position, Side};
 use simulator_ixl::simulator_event::{Event, Refused, Reply};
 use simulator_ixl::simulator_field::{Bag, Network};
@@ -234,6 +237,22 @@ impl World {
     {
         let _ = self.parts.station.table().checked();
         self.parts.station.is_set(route)
+    }
+
+    /// All that the interlocking keeps: how far each route is, and what is known of each controller.
+    #[tactic(auto, unfolding(crate::proofs::Below::world_of))]
+    pub fn interlocking(&self) -> &State
+        ensures { result.now ≡ record { sited = self.now.sited; ixl = self.now.run.station.ixl } }
+    {
+        self.parts.station.state()
+    }
+
+    /// The clock of the interlocking, in milliseconds.
+    #[tactic(auto, unfolding(crate::proofs::Below::world_of))]
+    pub fn interlocking_clock(&self) -> Millis
+        ensures { result ≡ reading_of self.now.run.station.clock }
+    {
+        self.parts.station.now()
     }
 
     /// What is seen of the station at the clocks of this moment.

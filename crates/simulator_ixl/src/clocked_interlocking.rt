@@ -18,6 +18,7 @@ use ixl::{Input, Interlocking, Reply};
 use ixl_state::control_table::Checked;
 use ixl_state::ixl_table::Table;
 use ixl_state::layout::{RouteId, SignalId};
+use ixl_state::State;
 use ixl_state::rasta_core::Millis;
 use simulator_field::Network;
 use std::alloc::{AllocError, Global};
@@ -109,6 +110,13 @@ impl ClockedInterlocking {
         ensures known_signals { length self.now.station.ixl.known_signals ≡ length self.now.sited.site.signals }
     {
         self.interlocking.table()
+    }
+
+    /// All that it keeps.
+    pub fn state(&self) -> &State
+        ensures { result.now ≡ record { sited = self.now.sited; ixl = self.now.station.ixl } }
+    {
+        self.interlocking.state()
     }
 
     /// Whether it takes no commands yet, since it was made less than 6000 ms before by its clock.
