@@ -31,4 +31,5 @@ pub use sides::FlankProtection;
 // What crates above need of the crates below.
 pub use bit_row;
 pub use layout;
+pub use layout::{BorderId, DetectorId, PointId, RouteId, SectionId, SignalId, TrackId};
 pub use sci_telegram;

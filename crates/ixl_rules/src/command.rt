@@ -1,6 +1,7 @@
 //! What an interlocking is told to do, and why it refuses.
 
 use control_table::layout::{PointId, RouteId, SectionId};
+use thiserror::Error;
 
 /// What an interlocking is told to do.
 #[derive(Clone, Copy, Debug)]
@@ -14,27 +15,37 @@ pub enum Command {
 }
 
 /// Why a command is refused. The first test in this order that fails is told.
-#[derive(Clone, Copy, Debug, PartialEq, Eq)]
+#[derive(Clone, Copy, Debug, PartialEq, Eq, Error)]
 pub enum Refusal {
     /// The table has no such route.
+    #[error("no such route")]
     UnknownRoute,
     /// Less than 6000 ms have passed since the interlocking was made.
+    #[error("the interlocking holds")]
     Holding,
     /// It wasn't told to resume yet.
+    #[error("the interlocking was not told to resume")]
     NotResumed,
     /// The route is set.
+    #[error("the route is set")]
     AlreadySet,
     /// The first route of the table that blocks it.
+    #[error("a set route blocks it")]
     Conflict(RouteId),
     /// The first section with a ready link whose last report is occupied.
+    #[error("a section is occupied")]
     NotClear(SectionId),
     /// The first required point that isn't available and isn't held at its side.
+    #[error("a point isn't available")]
     PointUnavailable(PointId),
     /// The entry signal's link isn't ready, or it isn't at known stop.
+    #[error("the signal isn't ready at known stop")]
     SignalUnavailable,
     /// A route that isn't set can't be cancelled.
+    #[error("the route isn't set")]
     NotSet,
     /// A section of the route is unknown.
+    #[error("a section is unknown")]
     DetectionDown,
 }
 

@@ -3,8 +3,8 @@ use Rattle.std.proofs.Common.{◌≡◌, sym, ap, ◌∙◌, inl, inr, Some, Non
 use Rattle.std.specs.Prelude.{IfOk, IfErr, ◌⊎◌}
 use Rattle.simulator.specs.ixl_table.Table.{SitedTable}
 use Rattle.simulator.specs.simulator_event.declared.event.Event.{Event}
-use Rattle.simulator.specs.simulator_event.declared.refused.Refused.{Refused}
-use Rattle.simulator.specs.simulator_event.declared.refused.Refused.TheVariants.{OutOfMemory}
+use Rattle.simulator.specs.simulator_event.refused.Refused.{Refused}
+use Rattle.simulator.specs.simulator_event.refused.Refused.TheVariants.{OutOfMemory}
 use Rattle.simulator.specs.simulator_event.declared.reply.Answer.{Answer}
 use Rattle.simulator.specs.simulator_event.declared.reply.Reply.{Reply}
 use Rattle.simulator.specs.simulator_run.Happens.{answered, happens, reply_to}

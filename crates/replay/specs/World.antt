@@ -5,7 +5,7 @@ use Rattle.simulator.specs.layout.Once.{Once}
 use Rattle.simulator.specs.layout.Station.{IsStation}
 use Rattle.simulator.specs.ixl_table.Table.{IsTableOf}
 use Rattle.simulator.specs.simulator_event.declared.event.Event.{Event}
-use Rattle.simulator.specs.simulator_event.declared.refused.Refused.{Refused}
+use Rattle.simulator.specs.simulator_event.refused.Refused.{Refused}
 use Rattle.simulator.specs.simulator_event.declared.reply.Answer.{Answer}
 use Rattle.simulator.specs.World.{View}
 use Rattle.simulator.specs.simulator_run.First.{first_world}

@@ -7,9 +7,8 @@ ghost use Rattle.simulator.specs.simulator_run.Tried.{Played, after};
 ghost use Rattle.replay.specs.World.{AnswersOtherwiseAt, AnswersSame, IsFirst, answer, played};
 
 use replay_lines::{Apply, Entry, Replayed};
-use simulator::World;
 use simulator::control_table::Checked;
-use simulator::simulator_event::{Event, Refused, Reply};
+use simulator::{Event, Refused, Reply, World};
 use std::alloc::{AllocError, Global};
 
 /// A world to which the events of a session happen.

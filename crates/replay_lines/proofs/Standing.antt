@@ -1,7 +1,7 @@
 -- Sessions of which a beginning answered as it was recorded.
 use Rattle.std.proofs.Common.{◌≡◌, ◌≢◌, ◌↔◌, IsTrue, Bool, false, ℕ, suc, ◌+◌, ◌≤◌, List, ◌∷◌, length, drop, Result, subst, sym, arith}
 use Rattle.simulator_event.specs.declared.event.Event.{Event}
-use Rattle.simulator_event.specs.declared.refused.Refused.{Refused}
+use Rattle.simulator_event.specs.refused.Refused.{Refused}
 use Rattle.simulator_event.specs.declared.reply.Answer.{Answer}
 use Rattle.replay_lines.specs.declared.session.Entry.{Entry}
 use Rattle.std.proofs.Math.ListN.{drop_of_length-le}

@@ -11,7 +11,7 @@ use Rattle.ixl_rules.specs.Commands.{refusal_number}
 use Rattle.ixl_rules.specs.declared.command.Refusal.{Refusal}
 use Rattle.ixl_rules.specs.declared.command.Refusal.TheVariants.{Conflict, NotClear, PointUnavailable}
 use Rattle.simulator_event.specs.Refused.{number_of}
-use Rattle.simulator_event.specs.declared.refused.Refused.{Refused as Why}
+use Rattle.simulator_event.specs.refused.Refused.{Refused as Why}
 use Rattle.simulator_event.specs.declared.reply.Answer.{Answer}
 use Rattle.simulator_event.specs.declared.reply.Answer.TheVariants.{Done, Accepted, Refused}
 use Rattle.simulator_event.specs.declared.reply.Reply.{Reply}

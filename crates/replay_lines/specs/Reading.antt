@@ -13,7 +13,7 @@ use Rattle.ixl_rules.specs.declared.command.Refusal.TheVariants as refusal
 use Rattle.simulator_event.specs.Refused.{numbered}
 use Rattle.simulator_event.specs.declared.event.Event.{Event}
 use Rattle.simulator_event.specs.declared.event.Event.TheVariants.{Request}
-use Rattle.simulator_event.specs.declared.refused.Refused.{Refused as Why}
+use Rattle.simulator_event.specs.refused.Refused.{Refused as Why}
 use Rattle.simulator_event.specs.declared.reply.Answer.{Answer}
 use Rattle.simulator_event.specs.declared.reply.Answer.TheVariants.{Done, Accepted, Refused}
 use Rattle.replay_lines.specs.Names.{point_named, route_named, section_named}

@@ -1,8 +1,8 @@
 -- Whether the events of a session answer as it was recorded.
 use Rattle.std.specs.Prelude.{◌≡◌, ◌≢◌, ◌⊎◌, ℕ, suc, ◌+◌, List, [], ◌∷◌, Result, Err}
 use Rattle.simulator_event.specs.declared.event.Event.{Event}
-use Rattle.simulator_event.specs.declared.refused.Refused.{Refused}
-use Rattle.simulator_event.specs.declared.refused.Refused.TheVariants.{OutOfMemory}
+use Rattle.simulator_event.specs.refused.Refused.{Refused}
+use Rattle.simulator_event.specs.refused.Refused.TheVariants.{OutOfMemory}
 use Rattle.simulator_event.specs.declared.reply.Answer.{Answer}
 use Rattle.simulator_event.specs.declared.reply.Reply.{Reply}
 use Rattle.replay_lines.specs.Answers.{recorded}

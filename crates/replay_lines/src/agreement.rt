@@ -12,7 +12,7 @@ use std::alloc::AllocError;
 pub trait Apply {
     ghost use Rattle.std.specs.Prelude.{Result};
     ghost use Rattle.simulator_event.specs.declared.event.Event.{Event};
-    ghost use Rattle.simulator_event.specs.declared.refused.Refused.{Refused};
+    ghost use Rattle.simulator_event.specs.refused.Refused.{Refused};
     ghost use Rattle.simulator_event.specs.declared.reply.Answer.{Answer};
 
     /// What answers depend on.

@@ -18,13 +18,16 @@ use control_table::sci_telegram::Side;
 use control_table::{Checked, RouteMasks, a_route_leads_over_sections_that_are_there};
 use std::alloc::{AllocError, Global};
 use std::marker::Model;
+use thiserror::Error;
 
 /// Why a route can't be reserved.
-#[derive(Clone, Copy, Debug, PartialEq, Eq)]
+#[derive(Clone, Copy, Debug, PartialEq, Eq, Error)]
 pub enum LockFault {
     /// This set route blocks it.
+    #[error("a set route blocks it")]
     Conflict(RouteId),
     /// This set route blocks it by its points alone, of which this is the first.
+    #[error("a set route holds a point at the other side")]
     PointHeld(RouteId, PointId),
 }
 

@@ -21,8 +21,8 @@ use Rattle.simulator_ixl.specs.ixl_rules.Step as ixl
 use Rattle.simulator_ixl.specs.ixl_rules.Table.{Table}
 use Rattle.simulator_ixl.specs.simulator_event.declared.event.Event.{Event}
 use Rattle.simulator_ixl.specs.simulator_event.declared.event.Event.TheVariants as event
-use Rattle.simulator_ixl.specs.simulator_event.declared.refused.Refused.{Refused}
-use Rattle.simulator_ixl.specs.simulator_event.declared.refused.Refused.TheVariants as refused
+use Rattle.simulator_ixl.specs.simulator_event.refused.Refused.{Refused}
+use Rattle.simulator_ixl.specs.simulator_event.refused.Refused.TheVariants as refused
 use Rattle.simulator_ixl.specs.simulator_field.Controllers.{world_of}
 use Rattle.simulator_ixl.specs.simulator_run.First.{Beginning}
 use Rattle.simulator_ixl.specs.simulator_run.Happens.{Stepped, coming, delivered_to, detector_anew, detector_stepped, happens, made_anew, passed, point_anew, point_stepped, sensed_by, signal_anew, signal_stepped, station_stepped, stepped_at, ticked_at}

@@ -4,7 +4,7 @@ use Rattle.simulator_ixl.specs.layout.Entries.{Site}
 use Rattle.simulator_ixl.specs.ixl_rules.Table.{Table}
 use Rattle.simulator_ixl.specs.ixl_table.Table.{SitedTable}
 use Rattle.simulator_ixl.specs.simulator_event.declared.event.Event.{Event}
-use Rattle.simulator_ixl.specs.simulator_event.declared.refused.Refused.{Refused}
+use Rattle.simulator_ixl.specs.simulator_event.refused.Refused.{Refused}
 use Rattle.simulator_ixl.specs.simulator_event.declared.reply.Reply.{Reply}
 use Rattle.simulator_headline.specs.Reached.{IsReached}
 use Rattle.simulator_ixl.specs.simulator_run.Happens.{happens}

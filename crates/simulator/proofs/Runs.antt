@@ -8,8 +8,8 @@ use Rattle.simulator_ixl.specs.ixl_state.State.{AtRoute}
 use Rattle.simulator_ixl.specs.ixl_table.Table.{SitedTable}
 use Rattle.simulator_ixl.specs.simulator_event.declared.event.Event.{Event}
 use Rattle.simulator_ixl.specs.simulator_event.declared.reply.Reply.{Reply}
-use Rattle.simulator_ixl.specs.simulator_event.declared.refused.Refused.{Refused}
-use Rattle.simulator_ixl.specs.simulator_event.declared.refused.Refused.TheVariants.{OutOfMemory}
+use Rattle.simulator_ixl.specs.simulator_event.refused.Refused.{Refused}
+use Rattle.simulator_ixl.specs.simulator_event.refused.Refused.TheVariants.{OutOfMemory}
 use Rattle.simulator_ixl.specs.simulator_run.Happens.{happens, is_restart}
 use Rattle.simulator_ixl.specs.simulator_run.Refusals.{refusal}
 use Rattle.simulator.specs.Runs.{Goes, Runs, Stays, stops, refuses, lacks_memory, accepts}

@@ -6,7 +6,7 @@ use Rattle.std.proofs.lemmas.Bool.{and_parts, false≢true}
 use Rattle.std.proofs.lemmas.Bool.Decides.{nat_tests}
 use Rattle.std.proofs.lemmas.List.{drop_all, drop_more, length-drop}
 use Rattle.simulator_ixl.specs.layout.Entries.{Site}
-use Rattle.simulator_ixl.specs.simulator_event.declared.refused.Refused.{Refused}
+use Rattle.simulator_ixl.specs.simulator_event.refused.Refused.{Refused}
 use Rattle.simulator_ixl.specs.simulator_run.Nodes.{nodes}
 use Rattle.simulator_ixl.specs.simulator_run.Refusals.{all_within, are_within, clock_limit, keeps_time, refusal_of_time, refused_where}
 use Rattle.simulator_ixl.specs.simulator_run.State.{ServerState, WorldState}

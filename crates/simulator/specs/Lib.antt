@@ -14,3 +14,4 @@ pub use Rattle.simulator_ixl.specs.simulator_event as simulator_event
 pub use Rattle.simulator_ixl.specs.simulator_field as simulator_field
 pub use Rattle.simulator_ixl.specs.simulator_run as simulator_run
 pub use Rattle.simulator_ixl.specs.simulator_snapshot as simulator_snapshot
+pub use Rattle.simulator_pair.specs as simulator_pair

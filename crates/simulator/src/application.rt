@@ -1,7 +1,7 @@
 //! Events are applied.
 
 ghost use Rattle.std.specs.Prelude.{◌≡◌, ◌≤◌, ◌<◌, ◌+◌, ◌⊎◌, Err, IfErr, IfOk, IsTrue, None, OnErr, OnOk, Some};
-ghost use Rattle.simulator_ixl.specs.simulator_event.declared.refused.Refused.TheVariants.{OutOfMemory};
+ghost use Rattle.simulator_ixl.specs.simulator_event.refused.Refused.TheVariants.{OutOfMemory};
 ghost use Rattle.simulator_ixl.specs.simulator_run.Happens.{happens, is_restart, reply_to};
 ghost use Rattle.simulator_ixl.specs.simulator_run.Refusals.{refusal};
 ghost use Rattle.simulator.specs.inside.Parts.{IsWhole, site_of, seen, steps_of, table_of};

@@ -5,7 +5,7 @@ ghost use Rattle.std.specs.Option.{option_map};
 ghost use Rattle.simulator_ixl.specs.ixl_rules.View.{is_set};
 ghost use Rattle.simulator_ixl.specs.ixl_table.Table.{IsTableOf};
 ghost use Rattle.simulator_ixl.specs.rasta_core.Ends.{reading_of};
-ghost use Rattle.simulator_ixl.specs.simulator_event.declared.refused.Refused.TheVariants.{OutOfMemory};
+ghost use Rattle.simulator_ixl.specs.simulator_event.refused.Refused.TheVariants.{OutOfMemory};
 ghost use Rattle.simulator_headline.specs.Reached.{HasSafeLinks, IsReachedSafely};
 ghost use Rattle.simulator_ixl.specs.simulator_field.Bag.{in_bag, not_lost};
 ghost use Rattle.simulator_ixl.specs.simulator_run.First.{first_world, world_at};

@@ -3,10 +3,9 @@
 
 mod event;
 mod readings;
-mod refused;
 mod reply;
 
 pub use event::{Event, NodeId};
 pub use readings::{ClockSteps, RawDatagram};
-pub use refused::Refused;
 pub use reply::{Answer, Reply};
+pub use simulator_refused::Refused;

@@ -9,8 +9,8 @@ use Rattle.simulator_run.specs.layout.declared.ids.PointId.{PointId}
 use Rattle.simulator_run.specs.layout.Entries.{Site}
 use Rattle.simulator_run.specs.point_ctl.Drive.{PointState}
 use Rattle.simulator_run.specs.simulator_event.declared.event.Event.TheVariants as event
-use Rattle.simulator_run.specs.simulator_event.declared.refused.Refused.{Refused}
-use Rattle.simulator_run.specs.simulator_event.declared.refused.Refused.TheVariants as refused
+use Rattle.simulator_run.specs.simulator_event.refused.Refused.{Refused}
+use Rattle.simulator_run.specs.simulator_event.refused.Refused.TheVariants as refused
 use Rattle.simulator_run.specs.Refusals.{driven_at, driven_by, may_reach, refusal, refused_where}
 use Rattle.simulator_run.specs.State.{ServerState, WorldState}
 use Rattle.simulator_headline.proofs.ControllerLists.{none_some}

@@ -23,8 +23,8 @@ use Rattle.simulator_run.specs.ixl_rules.State.{IxlState, KnownPointState}
 use Rattle.simulator_run.specs.ixl_rules.Table.{Table}
 use Rattle.ixl_table.specs.Table.{IsTableOf}
 use Rattle.simulator_run.specs.simulator_event.declared.event.NodeId.{NodeId}
-use Rattle.simulator_run.specs.simulator_event.declared.refused.Refused.{Refused}
-use Rattle.simulator_run.specs.simulator_event.declared.refused.Refused.TheVariants as refused
+use Rattle.simulator_run.specs.simulator_event.refused.Refused.{Refused}
+use Rattle.simulator_run.specs.simulator_event.refused.Refused.TheVariants as refused
 use Rattle.simulator_machine.specs.Chains.{MovesTo}
 use Rattle.simulator_machine.specs.Invariant.{Invariant}
 use Rattle.simulator_machine.specs.Link.{Closes, Link, link_after}

@@ -17,8 +17,8 @@ use Rattle.simulator_run.specs.point_ctl.Drive.{PointState}
 use Rattle.simulator_run.specs.signal_ctl.Signal.{SignalState}
 use Rattle.simulator_run.specs.ixl_rules.State.{IxlState, KnownSignalState, KnownPointState}
 use Rattle.simulator_run.specs.ixl_rules.Table.{Table}
-use Rattle.simulator_run.specs.simulator_event.declared.refused.Refused.{Refused}
-use Rattle.simulator_run.specs.simulator_event.declared.refused.Refused.TheVariants as refused
+use Rattle.simulator_run.specs.simulator_event.refused.Refused.{Refused}
+use Rattle.simulator_run.specs.simulator_event.refused.Refused.TheVariants as refused
 use Rattle.simulator_machine.specs.Chains.{MovesTo, NoneFrom, PointMayChain, SignalMayChain, point_chained, points_chained, signal_chained, signals_chained}
 use Rattle.simulator_machine.specs.Invariant.{Invariant}
 use Rattle.simulator_machine.specs.Link.{Down, In, Link}

@@ -18,7 +18,7 @@ use Rattle.simulator_run.specs.ixl_rules.Table.{Table}
 use Rattle.simulator_run.specs.simulator_event.declared.event.Event.{Event}
 use Rattle.simulator_run.specs.simulator_event.declared.event.Event.TheVariants as event
 use Rattle.simulator_run.specs.simulator_event.declared.event.NodeId.{NodeId}
-use Rattle.simulator_run.specs.simulator_event.declared.refused.Refused.TheVariants as refused
+use Rattle.simulator_run.specs.simulator_event.refused.Refused.TheVariants as refused
 use Rattle.simulator_run.specs.simulator_snapshot.declared.snapshot.Snapshot.{Snapshot}
 use Rattle.simulator_run.specs.First.{IsOutsetOf, Outset, world_at}
 use Rattle.simulator_run.specs.Happens.{coming, detector_stepped, happens, point_stepped, sensed_by, signal_stepped, station_stepped}

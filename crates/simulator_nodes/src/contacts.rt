@@ -18,7 +18,7 @@ ghost use Rattle.simulator_run.specs.ixl_rules.Table.{Table};
 ghost use Rattle.simulator_run.specs.simulator_event.declared.event.Event.{Event};
 ghost use Rattle.simulator_run.specs.simulator_event.declared.event.Event.TheVariants as event;
 ghost use Rattle.simulator_run.specs.simulator_event.declared.event.NodeId.{NodeId};
-ghost use Rattle.simulator_run.specs.simulator_event.declared.refused.Refused.TheVariants.{NotDriven};
+ghost use Rattle.simulator_run.specs.simulator_event.refused.Refused.TheVariants.{NotDriven};
 ghost use Rattle.simulator_run.specs.simulator_snapshot.declared.snapshot.Snapshot.{Snapshot};
 ghost use Rattle.simulator_run.specs.First.{IsOutsetOf, Outset, world_at};
 ghost use Rattle.simulator_run.specs.Happens.{coming, happens};

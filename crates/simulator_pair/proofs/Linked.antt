@@ -6,7 +6,7 @@ use Rattle.std.proofs.lemmas.Bool.{and_parts, false≢true}
 use Rattle.std.proofs.lemmas.Bool.Decides.{nat_tests}
 use Rattle.std.proofs.lemmas.Slice.Eq.{bytes_eq-Decides}
 use Rattle.std.proofs.lemmas.Option.{same_Some}
-use Rattle.simulator_pair.specs.declared.event.Refused.TheVariants.{NeverSent}
+use Rattle.simulator_refused.specs.declared.refused.Refused.TheVariants.{NeverSent}
 use Rattle.rasta_core.specs.Bag.{is_copy, is_alive_copy, lifetime, newest_copy}
 use Rattle.rasta_core.specs.Ends.{Sent, Call, Ticks, Opens, Closes, Sends, Receives, is_taken, reading_of}
 use Rattle.rasta_core.specs.Run.{Ends, end_of, called}
@@ -21,7 +21,7 @@ use Rattle.rasta_core.specs.Names.{AreNames, Names}
 use Rattle.rasta_core.specs.Invariant.{Timely}
 use Rattle.rasta_core.specs.Sentences.{IsIn, IsOpening, IsOut, freshness, receipt_at}
 use Rattle.simulator_pair.specs.declared.event.PairReply.{PairReply}
-use Rattle.simulator_pair.specs.declared.event.Refused.{Refused}
+use Rattle.simulator_refused.specs.declared.refused.Refused.{Refused}
 use Rattle.rasta_pdu.specs.SafetyCode.{IsIntact, intact}
 use Rattle.rasta_pdu.specs.Reading.{reading}
 use Rattle.rasta_pdu.specs.declared.fault.PduFault.{PduFault}

@@ -22,7 +22,7 @@ use Rattle.simulator_pair.specs.inside.Lit.{IsLit}
 use Rattle.simulator_pair.specs.declared.event.PairEvent.{PairEvent}
 use Rattle.simulator_pair.specs.declared.event.PairEvent.TheVariants as event
 use Rattle.simulator_pair.specs.declared.event.PairReply.{PairReply}
-use Rattle.simulator_pair.specs.declared.event.Refused.{Refused}
+use Rattle.simulator_refused.specs.declared.refused.Refused.{Refused}
 
 -- the laws of how an end enters a connection
 pub record EnteringLaws : Type 0 where

@@ -7,8 +7,8 @@ use Rattle.simulator_pair.specs.Runs.{Runs, stops, refuses, lacks_memory, accept
 use Rattle.simulator_pair.specs.Theorem.{HappensRightly}
 use Rattle.simulator_pair.specs.declared.event.PairEvent.{PairEvent}
 use Rattle.simulator_pair.specs.declared.event.PairReply.{PairReply}
-use Rattle.simulator_pair.specs.declared.event.Refused.{Refused}
-use Rattle.simulator_pair.specs.declared.event.Refused.TheVariants.{OutOfMemory}
+use Rattle.simulator_refused.specs.declared.refused.Refused.{Refused}
+use Rattle.simulator_refused.specs.declared.refused.Refused.TheVariants.{OutOfMemory}
 
 -- one event after a run: its own run comes behind
 run_then : (events : List PairEvent) (event : PairEvent) (first middle last : PairView) (count more : ℕ) → Runs events first count middle → Runs (event ∷ []) middle more last → Runs (events ++ event ∷ []) first (more + count) last

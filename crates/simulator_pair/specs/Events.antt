@@ -15,14 +15,8 @@ use Rattle.simulator_pair.specs.declared.event.PairEvent.TheVariants as event
 use Rattle.simulator_pair.specs.declared.event.PairReply.{PairReply}
 use Rattle.simulator_pair.specs.declared.event.PairAnswer.{PairAnswer}
 use Rattle.simulator_pair.specs.declared.event.PairAnswer.TheVariants as answer
-use Rattle.simulator_pair.specs.declared.event.Refused.{Refused}
-use Rattle.simulator_pair.specs.declared.event.Refused.TheVariants as refused
-
-abbrev pub refusal_number : Refused → ℕ
-refusal_number refused.NeverSent = 2
-refusal_number refused.Drift = 3
-refusal_number refused.ClockLimit = 5
-refusal_number refused.OutOfMemory = 6
+use Rattle.simulator_refused.specs.declared.refused.Refused.{Refused}
+use Rattle.simulator_refused.specs.declared.refused.Refused.TheVariants as refused
 
 -- the greatest true time and the greatest clock, in microseconds
 abbrev pub clock_limit : ℕ

@@ -4,7 +4,7 @@ use Rattle.simulator_pair.specs.Events.{happens, is_restart, refusal}
 use Rattle.simulator_pair.specs.Pair.{PairView}
 use Rattle.simulator_pair.specs.Theorem.{HappensRightly}
 use Rattle.simulator_pair.specs.declared.event.PairEvent.{PairEvent}
-use Rattle.simulator_pair.specs.declared.event.Refused.{Refused}
+use Rattle.simulator_refused.specs.declared.refused.Refused.{Refused}
 
 -- So many of the events are accepted, and what each of these brings is taken rightly. Those that can't happen change
 -- nothing, and neither do those for which memory is lacking: restarts, and others only where there was no room for

@@ -10,16 +10,17 @@ ghost use Rattle.rasta_core.specs.identity.Role.TheVariants.{Client, Server};
 ghost use Rattle.rasta_pdu.specs.SafetyCode.{intact};
 ghost use Rattle.simulator_pair.specs.Pair.{stepped};
 ghost use Rattle.simulator_pair.specs.declared.event.PairEvent.TheVariants as event;
-ghost use Rattle.simulator_pair.specs.declared.event.Refused.TheVariants.{OutOfMemory};
+ghost use Rattle.simulator_refused.specs.declared.refused.Refused.TheVariants.{OutOfMemory};
 ghost use Rattle.simulator_pair.specs.Events.{refusal, refusal_of_time, refusal_of_delivery, keeps_time, happens, answered, reply_to, is_restart, copy_of, connection_of, clock_limit};
 
 use crate::bag;
-use crate::event::{Bytes, PairAnswer, PairEvent, PairReply, Refused};
+use crate::event::{Bytes, PairAnswer, PairEvent, PairReply};
 use crate::node::{Call, MICROS, Node};
 use crate::parts::Parts;
 use rasta_core::{Millis, Role};
 use rasta_pdu::is_intact;
 use signal_ctl::Lamp;
+use simulator_refused::Refused;
 use std::alloc::AllocError;
 
 /// The greatest true time and the greatest clock, in microseconds.

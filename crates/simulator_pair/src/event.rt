@@ -3,7 +3,6 @@
 use arrayvec::ArrayVec;
 use rasta_core::{Millis, Reason, Role, SendFault};
 use rasta_pdu::Item;
-use thiserror::Error;
 
 /// Bytes as the network may deliver them: at most 512.
 pub type Bytes = ArrayVec<u8, 512>;
@@ -49,33 +48,4 @@ pub enum PairAnswer {
     Done,
     /// The answer of `Link::send` to an item.
     Given(Result<(), SendFault>),
-}
-
-/// Why an event can't happen. Nothing has changed then.
-#[derive(Clone, Copy, Debug, PartialEq, Eq, Error)]
-pub enum Refused {
-    /// Intact bytes of which there is no copy that can still be delivered, or none to be lost.
-    #[error("no such datagram was sent")]
-    NeverSent = 2,
-    /// A clock would leave true time by more than 1 in 1000.
-    #[error("a clock drifts too far")]
-    Drift = 3,
-    /// True time or a clock would pass 9000000000000000 microseconds.
-    #[error("the clock is at its limit")]
-    ClockLimit = 5,
-    /// A growth was refused.
-    #[error("out of memory")]
-    OutOfMemory = 6,
-}
-
-impl Refused {
-    ghost use Rattle.std.specs.Prelude.{◌≡◌};
-    ghost use Rattle.simulator_pair.specs.Events.{refusal_number};
-
-    /// Its number in answers: 2, 3, 5 or 6.
-    pub fn number(self) -> u8
-        ensures { result ≡ refusal_number self }
-    {
-        self as u8
-    }
 }

@@ -9,7 +9,7 @@ ghost use Rattle.simulator_pair.specs.inside.Parts.{seen, IsPair};
 ghost use Rattle.md4.specs.declared.message.TheConstants.{STANDARD};
 
 use crate::bag::Bag;
-use crate::event::{PairEvent, PairReply, Refused};
+use crate::event::{PairEvent, PairReply};
 use crate::node::Node;
 use crate::parts::Parts;
 use place_index::PlaceIndex;
@@ -20,6 +20,7 @@ use rasta_core::{
 };
 use rasta_pdu::{Item, Key, intact_is_tested, read_was_written};
 use signal_ctl::{Aspect, Lamp};
+use simulator_refused::Refused;
 use std::alloc::{AllocError, Global};
 use std::marker::Model;
 
@@ -109,7 +110,7 @@ impl Pair {
     ghost use Rattle.simulator_pair.specs.Events.{refusal, happens, reply_to, is_restart};
     ghost use Rattle.simulator_pair.specs.Bag.{in_bag, not_lost};
     ghost use Rattle.simulator_pair.specs.Runs.{Runs};
-    ghost use Rattle.simulator_pair.specs.declared.event.Refused.TheVariants.{OutOfMemory};
+    ghost use Rattle.simulator_refused.specs.declared.refused.Refused.TheVariants.{OutOfMemory};
 
     /// A new pair: the client has identity 1, the server 2; their key is the standard start of MD4, their clocks
     /// and first sequence numbers are 0.

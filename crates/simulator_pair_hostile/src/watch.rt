@@ -418,7 +418,7 @@ fn count_refusal(why: Refused, tally: &mut Tally) {
         Refused::NeverSent => once_more(&mut tally.never_sent),
         Refused::Drift => once_more(&mut tally.drift),
         Refused::ClockLimit => once_more(&mut tally.clock_limit),
-        Refused::OutOfMemory => {}
+        Refused::NoSuchNode | Refused::NotDriven | Refused::OutOfMemory => {}
     }
 }
 

@@ -20,7 +20,7 @@ use Rattle.simulator_pair.specs.Events.{connection_of, copy_of, happens, new_pai
 use Rattle.simulator_pair.specs.Theorem.{names}
 use Rattle.simulator_pair.specs.declared.event.PairEvent.{PairEvent}
 use Rattle.simulator_pair.specs.declared.event.PairEvent.TheVariants as event
-use Rattle.simulator_pair.specs.declared.event.Refused.TheVariants.{NeverSent}
+use Rattle.simulator_pair.specs.refused.Refused.TheVariants.{NeverSent}
 use Rattle.simulator_pair_text.specs.Flow.{Flowing, arrived, arriving, arriving_from, partner_of, round, tried}
 use Rattle.simulator_pair_recovery.specs.Recovery.{GivesItem, after_events}
 

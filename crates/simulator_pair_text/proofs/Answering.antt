@@ -5,8 +5,8 @@ use Rattle.simulator_pair.specs.Pair.{PairState}
 use Rattle.simulator_pair.specs.Events.{refusal, happens, reply_to}
 use Rattle.simulator_pair.specs.declared.event.PairEvent.{PairEvent}
 use Rattle.simulator_pair.specs.declared.event.PairReply.{PairReply}
-use Rattle.simulator_pair.specs.declared.event.Refused.{Refused}
-use Rattle.simulator_pair.specs.declared.event.Refused.TheVariants.{OutOfMemory}
+use Rattle.simulator_pair.specs.refused.Refused.{Refused}
+use Rattle.simulator_pair.specs.refused.Refused.TheVariants.{OutOfMemory}
 use Rattle.simulator_pair_text.specs.Answers.{answer_to}
 use Rattle.simulator_pair_text.specs.Flow.{Flowing}
 use Rattle.simulator_pair_text.specs.Transcript.{Answers, refuses, happens_so, lacks_memory}

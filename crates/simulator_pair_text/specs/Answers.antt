@@ -10,8 +10,8 @@ use Rattle.rasta_core.specs.fault.SendFault.TheVariants.{NotUp, WindowFull}
 use Rattle.simulator_pair.specs.declared.event.PairReply.{PairReply}
 use Rattle.simulator_pair.specs.declared.event.PairAnswer.{PairAnswer}
 use Rattle.simulator_pair.specs.declared.event.PairAnswer.TheVariants.{Given, Done as Applied}
-use Rattle.simulator_pair.specs.declared.event.Refused.{Refused as Why}
-use Rattle.simulator_pair.specs.Events.{refusal_number}
+use Rattle.simulator_pair.specs.refused.Refused.{Refused as Why}
+use Rattle.simulator_pair.specs.Refused.{number_of}
 use Rattle.simulator_pair_text.specs.declared.answer.Answer.{Answer}
 use Rattle.simulator_pair_text.specs.declared.answer.Answer.TheVariants.{Done, Accepted, Refused, No}
 use Rattle.simulator_pair_text.specs.declared.picture.EndSeen.{EndSeen}
@@ -27,7 +27,7 @@ told (Given (Err WindowFull)) = Refused 2
 -- the answer to an event, by what the pair says to it
 abbrev pub answer_to : Result PairReply Why → Answer
 answer_to (Ok reply) = told reply.answer
-answer_to (Err why) = No (refusal_number why)
+answer_to (Err why) = No (number_of why)
 
 -- the text of an answer
 abbrev pub answer_text : Answer → List ℕ

@@ -4,8 +4,8 @@ use Rattle.std.specs.Io.KnownBytes.{Appends}
 use Rattle.simulator_pair.specs.Theorem.{names}
 use Rattle.simulator_pair.specs.Events.{refusal, happens, reply_to, new_pair}
 use Rattle.simulator_pair.specs.declared.event.PairEvent.{PairEvent}
-use Rattle.simulator_pair.specs.declared.event.Refused.{Refused as Why}
-use Rattle.simulator_pair.specs.declared.event.Refused.TheVariants.{OutOfMemory}
+use Rattle.simulator_pair.specs.refused.Refused.{Refused as Why}
+use Rattle.simulator_pair.specs.refused.Refused.TheVariants.{OutOfMemory}
 use Rattle.simulator_pair_text.specs.declared.answer.Answer.{Answer}
 use Rattle.simulator_pair_text.specs.declared.line.PairLine.{PairLine}
 use Rattle.simulator_pair_text.specs.declared.line.PairLine.TheVariants.{Event, Flow, Picture}

@@ -24,7 +24,7 @@ use Rattle.simulator_run.specs.layout.declared.entries.Signal.{Signal as SignalE
 use Rattle.simulator_run.specs.layout.Entries.{DetectorEntry}
 use Rattle.simulator_run.specs.simulator_event.declared.event.Event.{Event}
 use Rattle.simulator_run.specs.simulator_event.declared.event.Event.TheVariants as event
-use Rattle.simulator_run.specs.simulator_event.declared.refused.Refused.TheVariants as refused
+use Rattle.simulator_run.specs.simulator_event.refused.Refused.TheVariants as refused
 use Rattle.simulator_run.specs.First.{Beginning, new_ixl}
 use Rattle.simulator_run.specs.Flow.{round_of_time}
 use Rattle.simulator_run.specs.Happens.{all_later, coming, delivered_to, detector_anew, detector_stepped, happens, made_anew, passed, point_anew, point_stepped, sensed_by, signal_anew, signal_stepped, station_stepped, stepped_at, ticked_at}

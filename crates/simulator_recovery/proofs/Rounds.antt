@@ -13,7 +13,7 @@ use Rattle.simulator_run.specs.ixl_rules.View.{is_holding}
 use Rattle.simulator_run.specs.simulator_event.declared.event.Event.{Event}
 use Rattle.simulator_run.specs.simulator_event.declared.event.Event.TheVariants as event
 use Rattle.simulator_run.specs.simulator_event.declared.event.NodeId.{NodeId}
-use Rattle.simulator_run.specs.simulator_event.declared.refused.Refused.{Refused}
+use Rattle.simulator_run.specs.simulator_event.refused.Refused.{Refused}
 use Rattle.simulator_run.specs.declared.round.FoundDriven.{FoundDriven}
 use Rattle.simulator_run.specs.declared.round.RoundEvent.{RoundEvent}
 use Rattle.simulator_run.specs.First.{IsOutsetOf, Outset, new_ixl, world_at}

@@ -11,8 +11,8 @@ use Rattle.ixl_rules.specs.Table.{is_same_side}
 use Rattle.simulator_event.specs.declared.event.Event.{Event}
 use Rattle.simulator_event.specs.declared.event.Event.TheVariants as event
 use Rattle.simulator_event.specs.declared.event.NodeId.{NodeId}
-use Rattle.simulator_event.specs.declared.refused.Refused.{Refused}
-use Rattle.simulator_event.specs.declared.refused.Refused.TheVariants.{OutOfMemory}
+use Rattle.simulator_event.specs.refused.Refused.{Refused}
+use Rattle.simulator_event.specs.refused.Refused.TheVariants.{OutOfMemory}
 use Rattle.simulator_event.specs.declared.reply.Answer.{Answer}
 use Rattle.simulator_event.specs.declared.reply.Answer.TheVariants.{Done}
 use Rattle.simulator_run.specs.Nodes.{nodes}

@@ -12,8 +12,8 @@ use Rattle.ixl_rules.specs.rasta_core.Ends.{reading_of}
 use Rattle.point_ctl.specs.Drive.{PointState, drives}
 use Rattle.simulator_event.specs.declared.event.Event.{Event}
 use Rattle.simulator_event.specs.declared.event.Event.TheVariants as event
-use Rattle.simulator_event.specs.declared.refused.Refused.{Refused}
-use Rattle.simulator_event.specs.declared.refused.Refused.TheVariants as refused
+use Rattle.simulator_event.specs.refused.Refused.{Refused}
+use Rattle.simulator_event.specs.refused.Refused.TheVariants as refused
 use Rattle.simulator_run.specs.Network.{copy_of, datagrams_of}
 use Rattle.simulator_run.specs.Nodes.{key_of, nodes}
 use Rattle.simulator_run.specs.State.{ServerState, WorldState}

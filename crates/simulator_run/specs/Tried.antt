@@ -8,7 +8,7 @@ use Rattle.ixl_rules.specs.rasta_core.identity.Role.TheVariants.{Client, Server}
 use Rattle.ixl_rules.specs.sci_telegram.declared.message.Side.{Side}
 use Rattle.simulator_event.specs.declared.event.Event.{Event}
 use Rattle.simulator_event.specs.declared.event.NodeId.{NodeId}
-use Rattle.simulator_event.specs.declared.refused.Refused.{Refused}
+use Rattle.simulator_event.specs.refused.Refused.{Refused}
 use Rattle.simulator_run.specs.Happens.{happens}
 use Rattle.simulator_run.specs.Refusals.{driven_at, refusal}
 use Rattle.simulator_run.specs.State.{WorldState}

@@ -3,7 +3,7 @@
 ghost use Rattle.std.specs.Prelude.{◌≡◌, ◌≤◌, ℕ, true, Some};
 ghost use Rattle.ixl_rules.specs.layout.Entries.{Site};
 ghost use Rattle.simulator_event.specs.declared.event.Event.TheVariants.{Tick};
-ghost use Rattle.simulator_event.specs.declared.refused.Refused.TheVariants.{NoSuchNode};
+ghost use Rattle.simulator_event.specs.refused.Refused.TheVariants.{NoSuchNode};
 ghost use Rattle.ixl_rules.specs.Table.{Table};
 ghost use Rattle.ixl_rules.specs.View.{is_holding};
 ghost use Rattle.ixl_rules.specs.rasta_core.Links.{begun};

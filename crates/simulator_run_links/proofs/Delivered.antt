@@ -10,7 +10,7 @@ use Rattle.simulator_run.specs.rasta_core.Links.{IsAmongAll, Links, MayCallOn, O
 use Rattle.simulator_run.specs.rasta_core.Run.{Ends}
 use Rattle.simulator_run.specs.rasta_pdu.SafetyCode.{IsIntact, intact}
 use Rattle.simulator_run.specs.rasta_pdu.declared.key.Key.{Key}
-use Rattle.simulator_run.specs.simulator_event.declared.refused.Refused.TheVariants as refused
+use Rattle.simulator_run.specs.simulator_event.refused.Refused.TheVariants as refused
 use Rattle.simulator_run.specs.Links.{AreLinksOf, names_at}
 use Rattle.simulator_run.specs.Network.{connection_of, copy_of, datagrams_of}
 use Rattle.simulator_run.specs.Nodes.{key_of}

@@ -10,8 +10,8 @@ use Rattle.simulator_run.specs.rasta_core.Ends.{EndState, end_later, leaves, rea
 use Rattle.simulator_run.specs.rasta_core.Events.{IsWithinDrift}
 use Rattle.simulator_run.specs.rasta_core.Links.{Links, PassesFor, happened_to}
 use Rattle.simulator_run.specs.rasta_core.State.{is_open}
-use Rattle.simulator_run.specs.simulator_event.declared.refused.Refused.{Refused}
-use Rattle.simulator_run.specs.simulator_event.declared.refused.Refused.TheVariants as refused
+use Rattle.simulator_run.specs.simulator_event.refused.Refused.{Refused}
+use Rattle.simulator_run.specs.simulator_event.refused.Refused.TheVariants as refused
 use Rattle.simulator_run.specs.Happens.{all_later, passed}
 use Rattle.simulator_run.specs.Links.{AreLinksOf, IsClientAt, IsServerAt, ServerEnd, end_of_server, server_ends}
 use Rattle.simulator_run.specs.Nodes.{links, nodes, partners}

@@ -8,8 +8,8 @@ use Rattle.std.specs.Result.{OnErr}
 use Rattle.std.proofs.lemmas.List.{map-append, take-append-le}
 use Rattle.simulator_event.specs.declared.event.Event.{Event}
 use Rattle.simulator_event.specs.declared.event.NodeId.{NodeId}
-use Rattle.simulator_event.specs.declared.refused.Refused.{Refused}
-use Rattle.simulator_event.specs.declared.refused.Refused.TheVariants.{NoSuchNode, NeverSent, Drift, NotDriven, ClockLimit, OutOfMemory}
+use Rattle.simulator_event.specs.refused.Refused.{Refused}
+use Rattle.simulator_event.specs.refused.Refused.TheVariants.{NoSuchNode, NeverSent, Drift, NotDriven, ClockLimit, OutOfMemory}
 use Rattle.simulator_event.specs.declared.reply.Reply.{Reply}
 use Rattle.simulator_event.specs.declared.reply.Answer.{Answer}
 use Rattle.replay_lines.specs.Answers.{answer_text, recorded}

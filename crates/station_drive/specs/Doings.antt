@@ -5,8 +5,8 @@ use Rattle.control_table.specs.layout.Entries.{Site}
 use Rattle.control_table.specs.sci_telegram.declared.message.Side.{Side}
 use Rattle.simulator_event.specs.declared.event.Event.{Event}
 use Rattle.simulator_event.specs.declared.event.NodeId.{NodeId}
-use Rattle.simulator_event.specs.declared.refused.Refused.{Refused}
-use Rattle.simulator_event.specs.declared.refused.Refused.TheVariants.{OutOfMemory}
+use Rattle.simulator_event.specs.refused.Refused.{Refused}
+use Rattle.simulator_event.specs.refused.Refused.TheVariants.{OutOfMemory}
 use Rattle.simulator_event.specs.declared.reply.Answer.{Answer}
 use Rattle.simulator_event.specs.declared.reply.Reply.{Reply}
 use Rattle.replay_lines.specs.Written.{event_line}

@@ -4,7 +4,7 @@ ghost use Rattle.std.specs.Prelude.{◌≡◌, ◌↔◌, IsTrue, Err, [], ◌�
 ghost use Rattle.std.specs.Io.KnownBytes.{Appends, Keeps};
 ghost use Rattle.std.specs.Option.{option_map};
 ghost use Rattle.replay_lines.specs.Answers.{answer_text};
-ghost use Rattle.simulator_event.specs.declared.refused.Refused.TheVariants as refused;
+ghost use Rattle.simulator_event.specs.refused.Refused.TheVariants as refused;
 ghost use Rattle.station_drive.specs.Told.{Grows, Sends};
 ghost use Rattle.station_drive.specs.Doings.{Applying, Performs, Stops, recorded_line};
 

@@ -3,8 +3,8 @@ use Rattle.std.proofs.Common.{◌≡◌, sym, ap, subst, ◌∙◌, inl, inr, So
 use Rattle.std.specs.Prelude.{IfOk, IfErr, ◌⊎◌}
 use Rattle.station_sim.specs.ixl_table.Table.{SitedTable}
 use Rattle.station_sim.specs.simulator_event.declared.event.Event.{Event}
-use Rattle.station_sim.specs.simulator_event.declared.refused.Refused.{Refused}
-use Rattle.station_sim.specs.simulator_event.declared.refused.Refused.TheVariants.{NoSuchNode, NeverSent, Drift, NotDriven, ClockLimit, OutOfMemory}
+use Rattle.station_sim.specs.simulator_event.refused.Refused.{Refused}
+use Rattle.station_sim.specs.simulator_event.refused.Refused.TheVariants.{NoSuchNode, NeverSent, Drift, NotDriven, ClockLimit, OutOfMemory}
 use Rattle.station_sim.specs.simulator_event.declared.reply.Answer.{Answer}
 use Rattle.station_sim.specs.simulator_event.declared.reply.Reply.{Reply}
 use Rattle.station_sim.specs.simulator_run.Happens.{answered, happens, reply_to}

@@ -2,8 +2,8 @@
 use Rattle.std.proofs.Common.{ℕ, List, Option, Result, Ok, Err, inl, inr, sym, subst}
 use Rattle.std.specs.Prelude.{OnErr}
 use Rattle.replay.specs.simulator.simulator_event.declared.event.Event.{Event}
-use Rattle.replay.specs.simulator.simulator_event.declared.refused.Refused.{Refused}
-use Rattle.replay.specs.simulator.simulator_event.declared.refused.Refused.TheVariants.{OutOfMemory}
+use Rattle.replay.specs.simulator.simulator_event.refused.Refused.{Refused}
+use Rattle.replay.specs.simulator.simulator_event.refused.Refused.TheVariants.{OutOfMemory}
 use Rattle.replay.specs.simulator.simulator_event.declared.reply.Answer.{Answer}
 use Rattle.replay.specs.simulator.simulator_event.declared.reply.Reply.{Reply}
 use Rattle.replay.specs.replay_lines.Answers.{recorded}

@@ -3,7 +3,7 @@ use Rattle.std.proofs.Common.{◌≡◌, ◌<◌, ◌≤◌, ◌-◌, ◌+◌, �
 use Rattle.std.proofs.lemmas.List.{drop_more, drop_all, take_more}
 use Rattle.replay.specs.simulator.simulator_event.declared.event.Event.TheVariants as event
 use Rattle.replay.specs.simulator.simulator_event.declared.event.NodeId.{NodeId}
-use Rattle.replay.specs.simulator.simulator_event.declared.refused.Refused.TheVariants.{OutOfMemory}
+use Rattle.replay.specs.simulator.simulator_event.refused.Refused.TheVariants.{OutOfMemory}
 use Rattle.replay.specs.simulator.simulator_event.declared.reply.Answer.TheVariants.{Done}
 use Rattle.replay.specs.simulator.simulator_run.declared.round.FoundDriven.{FoundDriven}
 use Rattle.replay.specs.simulator.simulator_run.declared.round.RoundEvent.{RoundEvent}

@@ -2,7 +2,7 @@
 use Rattle.std.specs.Prelude.{ℕ, List, Result}
 use Rattle.replay.specs.simulator.layout.Entries.{Site}
 use Rattle.replay.specs.simulator.simulator_event.declared.event.Event.{Event}
-use Rattle.replay.specs.simulator.simulator_event.declared.refused.Refused.{Refused}
+use Rattle.replay.specs.simulator.simulator_event.refused.Refused.{Refused}
 use Rattle.replay.specs.simulator.simulator_event.declared.reply.Answer.{Answer}
 use Rattle.replay.specs.simulator.simulator_event.declared.reply.Reply.{Reply}
 use Rattle.replay.specs.simulator.simulator_run.Flow.{Flowable}

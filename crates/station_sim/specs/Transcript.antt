@@ -3,8 +3,8 @@ use Rattle.std.specs.Prelude.{◌≡◌, ℕ, ◌/◌, codes, List, [], ◌∷�
 use Rattle.std.specs.Io.KnownBytes.{Appends}
 use Rattle.replay.specs.simulator.layout.Entries.{Site}
 use Rattle.replay.specs.simulator.simulator_event.declared.event.Event.{Event}
-use Rattle.replay.specs.simulator.simulator_event.declared.refused.Refused.{Refused}
-use Rattle.replay.specs.simulator.simulator_event.declared.refused.Refused.TheVariants.{OutOfMemory}
+use Rattle.replay.specs.simulator.simulator_event.refused.Refused.{Refused}
+use Rattle.replay.specs.simulator.simulator_event.refused.Refused.TheVariants.{OutOfMemory}
 use Rattle.replay.specs.simulator.simulator_event.declared.reply.Answer.{Answer}
 use Rattle.replay.specs.replay_lines.Answers.{answer_text}
 use Rattle.replay.specs.replay_lines.Text.{FailsAt, lines_said}

@@ -8,7 +8,7 @@ ghost use Rattle.station_sim.specs.inside.Runs.{flowing_of};
 
 use crate::playable::Playable;
 use crate::run::Run;
-use replay::simulator::simulator_event::{Answer, Refused};
+use replay::simulator::{Answer, Refused};
 use replay::{AnswerText, SimLine};
 use station_check::Failure;
 use std::alloc::Global;

@@ -7,7 +7,7 @@ ghost use Rattle.station_sim.specs.Sight.{Applies, Sight};
 use replay::simulator::control_table::Checked;
 use replay::simulator::layout::{Layout, PointId};
 use replay::simulator::sci_telegram::Side;
-use replay::simulator::simulator_event::{Event, NodeId, Refused, Reply};
+use replay::simulator::{Event, NodeId, Refused, Reply};
 use std::alloc::{AllocError, Global};
 
 /// A station that is made of its table, to which events happen, and of which can be seen what a flow of time needs.

@@ -7,8 +7,8 @@ use crate::drive::note_drives;
 use crate::due::{add_deliveries, add_reaches, add_ticks, round_of_time};
 use crate::playable::Playable;
 use replay::simulator::control_table::Checked;
-use replay::simulator::simulator_event::{Answer, Event, Refused};
 use replay::simulator::simulator_run::{FoundDriven, RoundEvent, nodes};
+use replay::simulator::{Answer, Event, Refused};
 use replay::{ROUND, recorded};
 use std::alloc::{AllocError, Global};
 

@@ -6,12 +6,11 @@ ghost use Rattle.replay.specs.simulator.simulator_field.declared.sent_on.SentOn.
 ghost use Rattle.replay.specs.simulator.simulator_run.Tried.{receiver};
 
 use crate::Playable;
-use replay::simulator::World;
 use replay::simulator::control_table::Checked;
 use replay::simulator::layout::{Layout, PointId};
 use replay::simulator::rasta_core::Role;
 use replay::simulator::sci_telegram::Side;
-use replay::simulator::simulator_event::{Event, NodeId, Refused, Reply};
+use replay::simulator::{Event, NodeId, Refused, Reply, World};
 use replay::try_event;
 use std::alloc::{AllocError, Global};
 

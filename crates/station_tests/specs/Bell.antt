@@ -5,8 +5,8 @@ use Rattle.station_sim.specs.sci_telegram.declared.message.Side.TheVariants.{Rig
 use Rattle.station_sim.specs.simulator_event.declared.event.Event.{Event}
 use Rattle.station_sim.specs.simulator_event.declared.event.Event.TheVariants.{Request, Reach}
 use Rattle.station_sim.specs.simulator_event.declared.event.NodeId.{NodeId}
-use Rattle.station_sim.specs.simulator_event.declared.refused.Refused.{Refused}
-use Rattle.station_sim.specs.simulator_event.declared.refused.Refused.TheVariants.{NotDriven}
+use Rattle.station_sim.specs.simulator_event.refused.Refused.{Refused}
+use Rattle.station_sim.specs.simulator_event.refused.Refused.TheVariants.{NotDriven}
 use Rattle.station_sim.specs.simulator_event.declared.reply.Answer.{Answer}
 use Rattle.station_sim.specs.simulator_event.declared.reply.Answer.TheVariants.{Accepted, Done}
 use Rattle.station_drive.specs.Doings.{Behaviour}

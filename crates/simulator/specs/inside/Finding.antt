@@ -3,7 +3,7 @@ use Rattle.std.specs.Prelude.{◌≡◌, Some, None, Result, Ok, Err}
 use Rattle.simulator_ixl.specs.layout.Entries.{Site}
 use Rattle.simulator_ixl.specs.simulator_event.declared.event.Event.{Event}
 use Rattle.simulator_ixl.specs.simulator_event.declared.event.Event.TheVariants as event
-use Rattle.simulator_ixl.specs.simulator_event.declared.refused.Refused.{Refused}
+use Rattle.simulator_ixl.specs.simulator_event.refused.Refused.{Refused}
 use Rattle.simulator_ixl.specs.simulator_field.Network.{IsOldestCopy}
 use Rattle.simulator_ixl.specs.simulator_run.Network.{connection_of, copy_of}
 use Rattle.simulator_ixl.specs.simulator_run.Refusals.{refusal}

@@ -1,5 +1,5 @@
 use Rattle.std.proofs.Common.{sym, subst, Result}
-use Rattle.replay.specs.simulator.simulator_event.declared.refused.Refused.{Refused}
+use Rattle.replay.specs.simulator.simulator_event.refused.Refused.{Refused}
 use Rattle.replay.specs.simulator.simulator_event.declared.reply.Answer.{Answer}
 use Rattle.station_sim.specs.Transcript.{Answers}
 use Rattle.station_sim.proofs.Answering.{answered, at}

@@ -28,7 +28,7 @@ pub enum Refused {
 }
 
 impl Refused {
-    ghost use Rattle.simulator_event.specs.Refused.{number_of, numbered};
+    ghost use Rattle.simulator_refused.specs.Refused.{number_of, numbered};
 
     /// Its number in answers, 1 to 6.
     pub fn number(self) -> u8

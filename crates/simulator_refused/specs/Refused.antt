@@ -1,7 +1,7 @@
 -- The numbers by which refused events are answered.
 use Rattle.std.specs.Prelude.{ℕ, ◌==◌, if◌then◌else◌, Option, Some, None}
-use Rattle.simulator_event.specs.declared.refused.Refused.{Refused}
-use Rattle.simulator_event.specs.declared.refused.Refused.TheVariants.{NoSuchNode, NeverSent, Drift, NotDriven, ClockLimit, OutOfMemory}
+use Rattle.simulator_refused.specs.declared.refused.Refused.{Refused}
+use Rattle.simulator_refused.specs.declared.refused.Refused.TheVariants.{NoSuchNode, NeverSent, Drift, NotDriven, ClockLimit, OutOfMemory}
 
 -- the number of a refusal
 abbrev pub number_of : Refused → ℕ
