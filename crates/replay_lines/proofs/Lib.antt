@@ -6,3 +6,4 @@ pub mod LinesKept
 pub mod SessionsKept
 pub mod Standing
 pub mod ReadAgain
+pub mod Placed

@@ -28,7 +28,7 @@ use Rattle.replay_lines.specs.Names.{node_named, node_names, point_named, route_
 
 -- ---- single words
 
--- where a point comes to lie
+-- where a point stands, or comes to lie
 abbrev pub position_named : List ℕ → Result Position Fault
 position_named word =
     if bytes_eq word (codes "left") then Ok position.Left

@@ -1,6 +1,7 @@
 pub mod Names
 pub mod Given
 pub mod Events
+pub mod Outset
 pub mod Line
 pub mod Scripted
 pub mod Text

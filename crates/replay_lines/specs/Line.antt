@@ -1,5 +1,7 @@
 -- What a line of a file for the simulation says, or its lowest fault: an event, or
 --
+--     begins POINT left|right|none  how a point stands when the station is started
+--     begins SECTION clear|occupied and how a section lies then
 --     flow MS                       10 to 600000, a multiple of 10
 --     picture
 use Rattle.std.specs.Prelude.{ℕ, ◌==◌, ◌%◌, ◌&&◌, nat_le, if◌then◌else◌, List, [], ◌∷◌, codes, Result, Ok, Err}
@@ -13,6 +15,12 @@ use Rattle.ixl_rules.specs.layout.Entries.{Site}
 use Rattle.replay_lines.specs.declared.line.SimLine.{SimLine}
 use Rattle.replay_lines.specs.declared.line.SimLine.TheVariants as said
 use Rattle.replay_lines.specs.Events.{event}
+use Rattle.replay_lines.specs.Outset.{begins}
+
+abbrev pub beginning : Site → List (List ℕ) → Result SimLine Fault
+beginning site words = do
+  of ← begins site words
+  Ok (said.Begins of)
 
 -- the milliseconds of a flow
 abbrev pub milliseconds : List ℕ → Result ℕ Fault
@@ -38,7 +46,8 @@ happening site words = do
 -- what a line says, by its words
 abbrev pub line_of : Site → List (List ℕ) → Result SimLine Fault
 line_of site (first ∷ rest) =
-    if bytes_eq first (codes "flow") then flow rest
+    if bytes_eq first (codes "begins") then beginning site rest
+    else if bytes_eq first (codes "flow") then flow rest
     else if bytes_eq first (codes "picture") then picture rest
     else happening site (first ∷ rest)
 line_of site [] = happening site []

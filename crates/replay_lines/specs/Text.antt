@@ -2,7 +2,7 @@
 use Rattle.std.specs.Prelude.{◌≡◌, ◌==◌, Bool, true, false, ℕ, if◌then◌else◌, List, [], ◌∷◌, ◌++◌, codes, Result, Ok, Err}
 use Rattle.std.specs.List.{enumerate_from}
 use Rattle.std.specs.Fmt.{decimal}
-use Rattle.replay_words.specs.Fault.{number_of}
+use Rattle.replay_words.specs.Fault.{number_of, ◌>>=◌}
 use Rattle.replay_words.specs.declared.fault.Fault.{Fault}
 use Rattle.replay_words.specs.declared.fault.Fault.TheVariants.{Memory}
 use Rattle.replay_words.specs.Cut.{lines, is_passed_over}
@@ -10,6 +10,7 @@ use Rattle.ixl_rules.specs.layout.Entries.{Site}
 use Rattle.replay_lines.specs.declared.line.SimLine.{SimLine}
 use Rattle.replay_lines.specs.declared.text.SessionFault.{SessionFault}
 use Rattle.replay_lines.specs.Line.{line}
+use Rattle.replay_lines.specs.Outset.{may_stand}
 
 -- what a line says before the lines after it, or its fault
 abbrev pub at_line : {A : Type 0} → ℕ → Result A Fault → Result (List A) SessionFault → Result (List A) SessionFault
@@ -17,14 +18,28 @@ at_line number (Ok said) (Ok more) = Ok (said ∷ more)
 at_line number (Ok said) (Err later) = Err later
 at_line number (Err fault) more = Err (record { line = number; number = number_of fault })
 
--- what numbered lines say, or the fault of the first faulty one
-abbrev pub said : Site → List (ℕ × List ℕ) → Result (List SimLine) SessionFault
-said site [] = Ok []
-said site (l ∷ more) = if is_passed_over l.1 then said site more else at_line l.0 (line site l.1) (said site more)
+-- what a line says behind earlier ones, if it may stand there
+abbrev pub line_behind : Site → List SimLine → List ℕ → Result SimLine Fault
+line_behind site earlier text = do
+  this ← line site text
+  stands ← may_stand earlier this
+  Ok this
+
+-- what a line says before those behind it, or its fault
+abbrev pub before : ℕ → Result SimLine Fault → (SimLine → Result (List SimLine) SessionFault) → Result (List SimLine) SessionFault
+before number (Ok this) more = at_line number (Ok this) (more this)
+before number (Err fault) more = Err (record { line = number; number = number_of fault })
+
+-- what numbered lines say behind earlier ones, or the fault of the first faulty one
+abbrev pub said : Site → List SimLine → List (ℕ × List ℕ) → Result (List SimLine) SessionFault
+said site earlier [] = Ok []
+said site earlier (l ∷ more) =
+    if is_passed_over l.1 then said site earlier more
+    else before l.0 (line_behind site earlier l.1) (λ this. said site (earlier ++ this ∷ []) more)
 
 -- what the lines of a text say
 abbrev pub lines_said : Site → List ℕ → Result (List SimLine) SessionFault
-lines_said site text = said site (enumerate_from 1 (lines text))
+lines_said site text = said site [] (enumerate_from 1 (lines text))
 
 -- where memory was lacking that is told instead of what is so
 abbrev pub Unless : Bool → Type 0 → Type 0

@@ -1,12 +1,15 @@
-//! What is called by its name is found by it.
+//! What is called by its name is found by it, and where the lines of a file stand.
 
-ghost use Rattle.std.specs.Prelude.{◌≡◌, ℕ, List, Some, Ok, codes, length, slice_get, true};
+ghost use Rattle.std.specs.Prelude.{◌≡◌, ℕ, List, [], Some, Ok, codes, length, slice_get, true};
 ghost use Rattle.replay_words.specs.Words.{is_without};
 ghost use Rattle.ixl_rules.specs.layout.declared.entries.Point.{Point};
 ghost use Rattle.ixl_rules.specs.layout.Entries.{Site, RouteEntry};
 ghost use Rattle.ixl_rules.specs.layout.Once.{Once};
 ghost use Rattle.ixl_rules.specs.layout.Station.{IsStation};
 ghost use Rattle.replay_lines.specs.Names.{node_named, node_names, point_named, route_named, section_named};
+ghost use Rattle.replay_lines.specs.Outset.{AllStandBehind};
+ghost use Rattle.replay_lines.specs.Text.{lines_said};
+ghost use Rattle.replay_lines.specs.declared.line.SimLine.{SimLine as Said};
 
 /// In a layout, where no name is used twice, the name of a node, a section, a point or a route is read as
 /// what it names.
@@ -28,4 +31,10 @@ pub fn names_are_words()
     ensures points { (site : Site) → IsStation site → (k : ℕ) (point : Point) → slice_get site.points k ≡ Some point → is_without 32 point.name ≡ true }
     ensures routes { (site : Site) → IsStation site → (k : ℕ) (route : RouteEntry) → slice_get site.routes k ≡ Some route → is_without 32 route.name ≡ true }
     ensures unknown { (site : Site) → IsStation site → route_named site (codes "_") ≡ record { 0 = length site.routes } }
+{}
+
+/// In a file for the simulation the lines that say how points and sections begin stand before all others, and no two of them
+/// name the same.
+pub fn begun_lines_stand_first()
+    ensures { (site : Site) (text : List ℕ) (lines : List Said) → lines_said site text ≡ Ok lines → AllStandBehind [] lines }
 {}

@@ -9,6 +9,7 @@ mod line;
 mod lines_written;
 mod names;
 mod nodes;
+mod outset;
 mod reply;
 mod round_trip;
 mod script;
@@ -19,13 +20,14 @@ mod words;
 pub use agreement::{Apply, Replayed, replay};
 pub use answers_read::read_answer;
 pub use answers_written::AnswerText;
-pub use laws::{names_are_read_again, names_are_words};
+pub use laws::{begun_lines_stand_first, names_are_read_again, names_are_words};
 pub use line::{ROUND, SimLine, read_line};
 pub use lines_written::write_event;
 pub use names::{
     name_word, point_named, point_word, route_named, route_word, section_named, section_word,
 };
 pub use nodes::{node_count, node_name, node_named};
+pub use outset::Begun;
 pub use reply::recorded;
 pub use round_trip::written_events_are_read_again;
 pub use script::read_script;

@@ -2,8 +2,9 @@
 
 ghost use Rattle.std.specs.Prelude.{◌≡◌};
 ghost use Rattle.replay_lines.specs.Given.{Gives};
-ghost use Rattle.replay_lines.specs.Line.{flow, happening, line, milliseconds, picture};
+ghost use Rattle.replay_lines.specs.Line.{beginning, flow, happening, line, milliseconds, picture};
 
+use crate::outset::{Begun, read_begun};
 use crate::words::read_event;
 use ixl_rules::layout::Layout;
 use replay_words::{Fault, Words, decimal};
@@ -21,6 +22,8 @@ const LONGEST_FLOW: u64 = 600000;
 /// What a line of a file for the simulation asks for.
 #[derive(Debug, Drop)]
 pub enum SimLine {
+    /// How a point or a section lies when the station is started. Such lines stand before all others.
+    Begins(Begun),
     /// One event.
     Event(Event),
     /// Rounds of 10 ms each, in which every datagram arrives and every driven point comes to lie; in
@@ -36,10 +39,17 @@ pub fn read_line(alloc: Global, layout: &Layout, text: &str) -> Result<SimLine, 
 {
     let mut words = Words::of(text);
     match words.next() {
+        Some("begins") => beginning(layout, words),
         Some("flow") => flow(words),
         Some("picture") => picture(words),
         _ => happening(alloc, layout, Words::of(text)),
     }
+}
+
+fn beginning(layout: &Layout, words: Words<'_>) -> Result<SimLine, Fault>
+    ensures { result ≡ beginning layout.now words.entry }
+{
+    Ok(SimLine::Begins(read_begun(layout, words)?))
 }
 
 fn flow(mut words: Words<'_>) -> Result<SimLine, Fault>

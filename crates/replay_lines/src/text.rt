@@ -1,12 +1,13 @@
 //! The lines of a whole text.
 
 ghost use Rattle.std.specs.Prelude.{◌≡◌, [], ◌∷◌, ◌++◌, OnOk, IfErr, Ok};
-ghost use Rattle.replay_lines.specs.Given.{Fails};
-ghost use Rattle.replay_lines.specs.Line.{line};
-ghost use Rattle.replay_lines.specs.Text.{Tells, lines_said};
+ghost use Rattle.replay_lines.specs.Given.{Fails, Gives};
+ghost use Rattle.replay_lines.specs.Text.{Tells, line_behind, lines_said};
 
 use crate::line::{SimLine, read_line};
+use crate::outset::may_stand;
 use ixl_rules::control_table::Checked;
+use ixl_rules::layout::Layout;
 use replay_words::{Fault, Lines, is_passed_over};
 use std::alloc::Global;
 use std::error::Error;
@@ -36,8 +37,9 @@ impl fmt::Display for SessionFault {
 
 impl Error for SessionFault {}
 
-/// What the lines of a text say that aren't passed over, or where the first faulty one is. Fault 7 comes
-/// only where memory was refused, at the line that was being read.
+/// What the lines of a text say that aren't passed over, or where the first faulty one is. Lines that say how points and
+/// sections begin stand before all others, each for another one. Fault 7 comes only where memory was refused, at the line
+/// that was being read.
 pub fn read_lines(alloc: Global, table: &Checked, text: &str) -> Result<Vec<SimLine>, SessionFault>
     ensures { Tells (λ lines. lines.items) (lines_said table.now text.now) result }
 {
@@ -64,10 +66,24 @@ fn keep_line(
     text: &str,
     said: &mut Vec<SimLine>,
 ) -> Result<(), Fault>
-    ensures ok { OnOk result ((this : SimLine) × (line table.now text.now ≡ Ok this) × (said.new.items ≡ said.old.items ++ this ∷ [])) }
-    ensures err { IfErr result (λ fault. Fails fault (line table.now text.now)) }
+    ensures ok { OnOk result ((this : SimLine) × (line_behind table.now said.old.items text.now ≡ Ok this) × (said.new.items ≡ said.old.items ++ this ∷ [])) }
+    ensures err { IfErr result (λ fault. Fails fault (line_behind table.now said.old.items text.now)) }
 {
-    let this = read_line(alloc, table.layout(), text)?;
+    let this = line_behind(alloc, table.layout(), said.as_slice(), text)?;
     said.push(this)?;
     Ok(())
+}
+
+// What a line says behind earlier ones.
+fn line_behind(
+    alloc: Global,
+    layout: &Layout,
+    earlier: &[SimLine],
+    text: &str,
+) -> Result<SimLine, Fault>
+    ensures { Gives (λ this. this) (line_behind layout.now earlier.now text.now) result }
+{
+    let this = read_line(alloc, layout, text)?;
+    may_stand(earlier, &this)?;
+    Ok(this)
 }

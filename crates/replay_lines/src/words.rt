@@ -189,8 +189,8 @@ fn restart(layout: &Layout, mut words: Words<'_>) -> Result<Event, Fault>
     })
 }
 
-// Where a point comes to lie.
-fn position_named(word: &str) -> Result<Position, Fault>
+/// Where a point stands, or comes to lie.
+pub(crate) fn position_named(word: &str) -> Result<Position, Fault>
     ensures { result ≡ position_named word.now }
 {
     match word {

@@ -11,7 +11,7 @@ use std::alloc::Global;
 use std::process::Abort;
 
 /// Lines with the numbers of their faults, 0 for none.
-const LINES: [(&str, u8); 72] = [
+const LINES: [(&str, u8); 84] = [
     ("", 1),
     ("frobnicate", 1),
     ("Set R1", 1),
@@ -42,6 +42,11 @@ const LINES: [(&str, u8); 72] = [
     ("reach P9 up", 1),
     ("restart S1 0", 1),
     ("restart S1 0 0 0", 1),
+    ("begins", 1),
+    ("begins P1", 1),
+    ("begins P1 right now", 1),
+    ("begins P1 up", 1),
+    ("begins P9 up", 1),
     ("flow", 1),
     ("flow 10 10", 1),
     ("picture now", 1),
@@ -59,6 +64,10 @@ const LINES: [(&str, u8); 72] = [
     ("deliver S9 0", 2),
     ("reach S1 left", 2),
     ("restart S9 x y", 2),
+    ("begins P9 right", 2),
+    ("begins GA left", 2),
+    ("begins P1 clear", 2),
+    ("begins S1 occupied", 2),
     ("time ", 3),
     ("time -1", 3),
     ("time +1", 3),
@@ -80,6 +89,9 @@ const LINES: [(&str, u8); 72] = [
     ("lose ", 4),
     ("lose 0", 4),
     ("lose zz", 4),
+    ("begins P1 none", 0),
+    ("begins GA occupied", 0),
+    ("begins GA clear", 0),
     ("flow 10", 0),
     ("flow 600000", 0),
     ("picture", 0),

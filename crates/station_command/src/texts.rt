@@ -63,10 +63,32 @@ a clock for each, and the network between them. Each line is an event, or asks f
   flow MS                     so much time flows in rounds of 10 ms, and all datagrams are delivered
   picture                     what is seen of the station
 
+Before all these, lines may say how the station lies when it is started, one for each point that
+doesn't stand left, and for each section that isn't clear:
+
+  begins P left|right|none    a point stands so
+  begins S clear|occupied     a section is so
+
 All lines are judged before the first event. Each is then answered on a line of its own: `ok`,
 `accepted`, `refused N` by the interlocking, or `no N` for an event that can't happen.
 
 Example: station sim examples/small.toml examples/proceed.events";
+
+pub(crate) const REPLAY: &str = "Applies a recorded session to a station of a layout again";
+
+pub(crate) const REPLAY_DETAILS: &str = "Applies a recorded session to a station of a layout again.
+
+The station begins with each point at left and each section clear. Each line of a session is an event
+and what it answered, as EVENT = ANSWER. Where each event answers the same, it prints `same`. Otherwise
+it prints the first line that differs, and ends with status 3.
+
+Example: station replay examples/small.toml examples/commands.session";
+
+pub(crate) const SCRIPT: &str = "The lines that are applied, each at its time";
+
+pub(crate) const RECORD_OF_RUN: &str = "The file to which the session is written";
+
+pub(crate) const FOR: &str = "How long the station runs, from 1000 to 600000 milliseconds";
 
 pub(crate) const RUN: &str = "Runs a station of a layout over loopback sockets";
 

@@ -94,6 +94,7 @@ impl Run {
     pub(crate) fn follow(&mut self, alloc: Global, lines: &[SimLine]) -> Result<(), Fault> {
         for line in lines {
             match line {
+                SimLine::Begins(_) => return Err(Fault::Event),
                 SimLine::Event(event) => self.apply(event)?,
                 SimLine::Flow(length) => self.flow(alloc, *length)?,
                 SimLine::Picture => {}

@@ -54,6 +54,8 @@ pub(crate) fn events_of(
 fn keep_all(alloc: Global, run: &mut Run, lines: Vec<SimLine>) -> Result<(), Fault> {
     for line in lines {
         match line {
+            // Each run here begins at rest.
+            SimLine::Begins(_) => return Err(Fault::Event),
             SimLine::Event(event) => run.keep(event)?,
             SimLine::Flow(length) => run.flow(alloc, length)?,
             SimLine::Picture => {}

@@ -3,4 +3,5 @@ pub mod Noted
 pub mod Rounds
 pub mod Transcripts
 pub mod Safety
+pub mod Outsets
 pub mod Verdicts

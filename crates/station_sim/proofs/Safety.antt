@@ -1,4 +1,4 @@
--- Every world that comes from a first one is reached by events that could happen.
+-- Every world that comes from one that begins is reached by events that could happen.
 use Rattle.std.proofs.Common.{◌≡◌, refl, sym, subst, Option, Some, None}
 use Rattle.replay.specs.simulator.layout.Entries.{Site}
 use Rattle.replay.specs.simulator.ixl_rules.Table.{Table}
@@ -7,22 +7,52 @@ use Rattle.replay.specs.simulator.layout.Once.{Once}
 use Rattle.replay.specs.simulator.layout.Station.{IsStation}
 use Rattle.replay.specs.simulator.simulator_event.declared.event.Event.{Event}
 use Rattle.replay.specs.simulator.simulator_headline.Reached.{IsReached}
-use Rattle.replay.specs.simulator.simulator_run.First.{first_world}
+use Rattle.replay.specs.simulator.simulator_run.First.{IsOutsetOf, Outset, first_world, world_at}
 use Rattle.replay.specs.simulator.simulator_run.Happens.{happens}
 use Rattle.replay.specs.simulator.simulator_run.Refusals.{refusal}
 use Rattle.replay.specs.simulator.simulator_run.Seen.{IsSnapshotOf}
 use Rattle.replay.specs.simulator.simulator_run.State.{WorldState}
 use Rattle.replay.specs.simulator.simulator_snapshot.Safe.{Safe}
 use Rattle.replay.specs.simulator.simulator_snapshot.declared.snapshot.Snapshot.{Snapshot}
-use Rattle.station_sim.specs.World.{begins, ComesFrom, goes_on, IsFirst, IsSafe, Played, refusal_of, world_where}
+use Rattle.station_sim.specs.World.{begins, ComesFrom, goes_on, IsAt, IsFirst, IsSafe, Played, refusal_of, world_where}
 
 -- a world has the data of the first one, and events have led to it
 pub record IsOf (first now : Played) : Type 0 where
   pub sited : now.sited ≡ first.sited
   pub reached : IsReached first.sited.site first.sited.table now.run
 
-module _ (starts : (site : Site) (table : Table) → IsReached site table (first_world site table))
-    (leads : (site : Site) (table : Table) (event : Event) (world : WorldState) → IsReached site table world → refusal site event world ≡ None → IsReached site table (happens site table event world)) where
+-- a world of a checked table that is reached
+pub record Starts (first : Played) : Type 0 where
+  pub once : Once first.sited.site
+  pub station : IsStation first.sited.site
+  pub table : IsTableOf first.sited.site first.sited.table
+  pub reached : IsReached first.sited.site first.sited.table first.run
+
+-- the first world of a layout
+pub starts_first : ((site : Site) (table : Table) → IsReached site table (first_world site table)) → (site : Site) (first : Played) → IsFirst site first → Starts first
+starts_first reached site first is =
+    let Reached : WorldState → Type 0 = IsReached first.sited.site first.sited.table
+    in record {
+      once = subst Once (sym is.site_is) is.once;
+      station = subst IsStation (sym is.site_is) is.station;
+      table = is.table;
+      reached = subst Reached (sym is.run_is) (reached first.sited.site first.sited.table);
+    }
+
+-- one that lies otherwise when it is started
+pub starts_at : ((site : Site) (table : Table) (outset : Outset) → IsOutsetOf site outset → IsReached site table (world_at site table outset))
+    → (site : Site) (outset : Outset) (first : Played) → IsAt site outset first → Starts first
+starts_at reached site outset first is =
+    let Reached : WorldState → Type 0 = IsReached first.sited.site first.sited.table
+    in let Fits : Site → Type 0 = λ s. IsOutsetOf s outset
+    in record {
+      once = subst Once (sym is.site_is) is.once;
+      station = subst IsStation (sym is.site_is) is.station;
+      table = is.table;
+      reached = subst Reached (sym is.run_is) (reached first.sited.site first.sited.table outset (subst Fits (sym is.site_is) is.fits));
+    }
+
+module _ (leads : (site : Site) (table : Table) (event : Event) (world : WorldState) → IsReached site table world → refusal site event world ≡ None → IsReached site table (happens site table event world)) where
   after_of : (first now : Played) (event : Event) (why : Option _) → refusal_of event now ≡ why → IsOf first now
       → IsOf first (world_where why now (record now { run = happens now.sited.site now.sited.table event now.run }))
   after_of first now event (Some why) e before = before
@@ -34,23 +64,19 @@ module _ (starts : (site : Site) (table : Table) → IsReached site table (first
       in let Next : SitedTable → Type 0 = λ p. IsReached p.site p.table (happens now.sited.site now.sited.table event now.run)
       in record { sited = before.sited; reached = subst Next before.sited next }
 
-  pub comes : (site : Site) (first now : Played) → IsFirst site first → ComesFrom first now → IsOf first now
-  comes site first _ is begins =
-      let Reached : WorldState → Type 0 = IsReached first.sited.site first.sited.table
-      in record { sited = refl; reached = subst Reached (sym is.run_is) (starts first.sited.site first.sited.table) }
-  comes site first _ is (goes_on {now = now} before event) = after_of first now event (refusal_of event now) refl (comes site first now is before)
+  pub comes : (first now : Played) → Starts first → ComesFrom first now → IsOf first now
+  comes first _ starts begins = record { sited = refl; reached = starts.reached }
+  comes first _ starts (goes_on {now = now} before event) = after_of first now event (refusal_of event now) refl (comes first now starts before)
 
   module _ (safe : (site : Site) (table : Table) (world : WorldState) (seen : Snapshot) → Once site → IsStation site → IsTableOf site table → IsReached site table world
       → IsSnapshotOf table world seen → Safe site seen) where
-    pub all_safe : (site : Site) (first now : Played) → IsFirst site first → ComesFrom first now → IsSafe now
-    all_safe site first now is from seen of =
-        let own = comes site first now is from
-        in let once : Once first.sited.site = subst Once (sym is.site_is) is.once
-        in let station : IsStation first.sited.site = subst IsStation (sym is.site_is) is.station
+    pub all_safe : (first now : Played) → Starts first → ComesFrom first now → IsSafe now
+    all_safe first now starts from seen of =
+        let own = comes first now starts from
         in let back : first.sited ≡ now.sited = sym own.sited
         in let HasTable : SitedTable → Type 0 = λ p. IsTableOf p.site p.table
         in let OfReached : SitedTable → Type 0 = λ p. IsReached p.site p.table now.run
         in let OfOnce : SitedTable → Type 0 = λ p. Once p.site
         in let OfStation : SitedTable → Type 0 = λ p. IsStation p.site
-        in safe now.sited.site now.sited.table now.run seen (subst OfOnce back once) (subst OfStation back station) (subst HasTable back is.table)
+        in safe now.sited.site now.sited.table now.run seen (subst OfOnce back starts.once) (subst OfStation back starts.station) (subst HasTable back starts.table)
         (subst OfReached back own.reached) of

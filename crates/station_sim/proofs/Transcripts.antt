@@ -8,6 +8,7 @@ use Rattle.replay.specs.simulator.layout.Entries.{Site}
 use Rattle.replay.specs.replay_lines.declared.line.SimLine.{SimLine}
 use Rattle.replay.specs.replay_lines.declared.line.SimLine.TheVariants as said
 use Rattle.replay.specs.simulator.simulator_run.Flow.{Flowing}
+use Rattle.station_sim.specs.Outset.{outset_of}
 use Rattle.station_sim.specs.Sight.{Sight}
 use Rattle.station_sim.specs.Transcript.{IsBeginning, IsTold, Transcript, Writes, feed, line, nothing, picture}
 
@@ -34,9 +35,9 @@ module _ {Picture : Type 0} (sight : Sight Picture) where
             (before.on (text ++ rest) (subst (λ (left : List SimLine). Transcript sight now left (text ++ rest)) (sym split) (line writes t)));
       }
 
-  pub goes-on-ends : (site : Site) (first : Flowing Picture) → IsBeginning sight site first → (all : List SimLine) (place : ℕ) (now : Flowing Picture) (old was new : Option (List ℕ)) → length all ≤ place
+  pub goes-on-ends : (site : Site) (first : Flowing Picture) → (all : List SimLine) → IsBeginning sight site (outset_of site all) first → (place : ℕ) (now : Flowing Picture) (old was new : Option (List ℕ)) → length all ≤ place
       → GoesOn first all place now old was → Keeps was new → IsTold sight site all old new
-  goes-on-ends site first begins all place now old was new past before kept = record {
+  goes-on-ends site first all begins place now old was new past before kept = record {
     first = first;
     begins = begins;
     written = before.written;

@@ -1,5 +1,6 @@
 pub mod Replaying
 pub mod Sight
+pub mod Outset
 pub mod Transcript
 pub mod inside
 pub mod World

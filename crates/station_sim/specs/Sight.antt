@@ -5,12 +5,13 @@ use Rattle.replay.specs.simulator.simulator_event.declared.event.Event.{Event}
 use Rattle.replay.specs.simulator.simulator_event.refused.Refused.{Refused}
 use Rattle.replay.specs.simulator.simulator_event.declared.reply.Answer.{Answer}
 use Rattle.replay.specs.simulator.simulator_event.declared.reply.Reply.{Reply}
+use Rattle.replay.specs.simulator.simulator_run.First.{Outset}
 use Rattle.replay.specs.simulator.simulator_run.Flow.{Flowable}
 use Rattle.replay.specs.replay_lines.Replay as replaying
 
 pub record Sight (Picture : Type 0) : Type 1 where
-  -- a picture is that of a new station of this table
-  pub IsFirst : Site → Picture → Type 0
+  -- a picture is that of a station of this table that lies so when it is started
+  pub IsAt : Site → Outset → Picture → Type 0
   -- what an event answers
   pub answer : Picture → Event → Result Answer Refused
   -- its layout, what an event changes, and what a flow of time needs to know

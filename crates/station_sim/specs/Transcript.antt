@@ -6,15 +6,19 @@ use Rattle.replay.specs.simulator.simulator_event.declared.event.Event.{Event}
 use Rattle.replay.specs.simulator.simulator_event.refused.Refused.{Refused}
 use Rattle.replay.specs.simulator.simulator_event.refused.Refused.TheVariants.{OutOfMemory}
 use Rattle.replay.specs.simulator.simulator_event.declared.reply.Answer.{Answer}
+use Rattle.replay.specs.simulator.simulator_event.declared.reply.Answer.TheVariants.{Done}
 use Rattle.replay.specs.replay_lines.Answers.{answer_text}
 use Rattle.replay.specs.replay_lines.Text.{FailsAt, lines_said}
 use Rattle.replay.specs.replay_lines.declared.line.SimLine.{SimLine}
 use Rattle.replay.specs.replay_lines.declared.line.SimLine.TheVariants as said
+use Rattle.replay.specs.replay_lines.declared.outset.Begun.{Begun}
 use Rattle.station_check.specs.Report.{IsSound}
 use Rattle.station_check.specs.Failures.{ExplainsTable, Leaves, Tells}
 use Rattle.station_check.specs.declared.failure.Failure.{Failure}
 use Rattle.station_check.specs.declared.failure.Failure.TheVariants as failure
+use Rattle.replay.specs.simulator.simulator_run.First.{Outset}
 use Rattle.replay.specs.simulator.simulator_run.Flow.{Flowing, Flows}
+use Rattle.station_sim.specs.Outset.{outset_of}
 use Rattle.station_sim.specs.Sight.{Sight}
 
 -- a text, and a line feed
@@ -22,9 +26,9 @@ abbrev pub feed : List ℕ → List ℕ
 feed text = text ++ codes "\n"
 
 module _ {Picture : Type 0} (sight : Sight Picture) where
-  -- a new station, on which nothing has flowed
-  pub record IsBeginning (site : Site) (flowing : Flowing Picture) : Type 0 where
-    pub first : sight.IsFirst site flowing.picture
+  -- a station that lies so when it is started, on which nothing has flowed
+  pub record IsBeginning (site : Site) (outset : Outset) (flowing : Flowing Picture) : Type 0 where
+    pub first : sight.IsAt site outset flowing.picture
     pub none_passed : flowing.passed ≡ 0
     pub none_driven : flowing.drives ≡ replicate (length site.points) None
 
@@ -37,8 +41,9 @@ module _ {Picture : Type 0} (sight : Sight Picture) where
   abbrev pub answer_line : Result Answer Refused → Flowing Picture → List ℕ
   answer_line reply flowing = feed (answer_text (sight.station.layout flowing.picture) reply)
 
-  -- what a line writes and changes
+  -- what a line writes and changes: as the first lines say, so the station has begun
   pub data Writes (old : Flowing Picture) : SimLine → List ℕ → Flowing Picture → Type 0 where
+    begun : {of : Begun} → Writes old (said.Begins of) (answer_line (Ok Done) old) old
     event : {event : Event} {reply : Result Answer Refused} {new : Flowing Picture} → Answers event old reply new → Writes old (said.Event event) (answer_line reply new) new
     flow : {length : ℕ} {reply : Result Answer Refused} {new : Flowing Picture} → Flows sight.station (length / 10) old reply new → Writes old (said.Flow length) (answer_line reply new) new
     picture : {text : List ℕ} → sight.IsText old.picture text → Writes old said.Picture (feed text) old
@@ -48,10 +53,11 @@ module _ {Picture : Type 0} (sight : Sight Picture) where
     nothing : {old : Flowing Picture} → Transcript old [] []
     line : {old new : Flowing Picture} {line : SimLine} {later : List SimLine} {text rest : List ℕ} → Writes old line text new → Transcript new later rest → Transcript old (line ∷ later) (text ++ rest)
 
-  -- Where what was written before is known, what lines write with a new station of this site stands behind it.
+  -- Where what was written before is known, what lines write with a station of this site, which lies as they say when it is
+  -- started, stands behind it.
   pub record IsTold (site : Site) (lines : List SimLine) (before now : Option (List ℕ)) : Type 0 where
     pub first : Flowing Picture
-    pub begins : IsBeginning site first
+    pub begins : IsBeginning site (outset_of site lines) first
     pub written : List ℕ
     pub transcript : Transcript first lines written
     pub appended : Appends before now written

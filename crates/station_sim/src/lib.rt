@@ -6,6 +6,7 @@ mod drive;
 mod due;
 mod laws;
 mod line;
+mod outset;
 mod play;
 mod playable;
 mod run;
@@ -13,7 +14,7 @@ mod session;
 mod sim;
 mod simulated;
 
-pub use laws::{played_worlds_are_safe, worlds_are_safe};
+pub use laws::{played_worlds_are_safe, stations_lie_as_lines_say, worlds_are_safe};
 pub use play::play_text;
 pub use playable::Playable;
 pub use session::replay_text;

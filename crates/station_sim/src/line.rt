@@ -25,6 +25,8 @@ pub(crate) fn carry_out<S: Playable, W: Write>(
     ensures failed { IfErr result IsLate }
 {
     match line {
+        // So the station has begun.
+        SimLine::Begins(_) => write_answer(run, Ok(Answer::Done), out),
         SimLine::Event(event) => {
             let answer = run.event(event);
             write_answer(run, answer, out)

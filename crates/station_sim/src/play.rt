@@ -1,4 +1,4 @@
-//! The lines of a file, carried out on a new station.
+//! The lines of a file, carried out on a station.
 
 ghost use Rattle.std.specs.Prelude.{◌≡◌, ◌≤◌, IsErr, IfErr, OnOk};
 ghost use Rattle.station_check.specs.Failures.{Leaves};
@@ -6,6 +6,7 @@ ghost use Rattle.station_sim.specs.Transcript.{CanPlay, Explained, Explains, IsP
 ghost use Rattle.station_sim.specs.inside.Lines.{IsLate};
 
 use crate::line::carry_out;
+use crate::outset::Outset;
 use crate::playable::Playable;
 use crate::run::Run;
 use replay::simulator::control_table::Checked;
@@ -14,7 +15,8 @@ use station_check::{Failure, table_of, tell};
 use std::alloc::Global;
 use std::io::Write;
 
-/// Plays event lines on a new station of this layout, and writes the answer of each to `out`. Both texts are judged
+/// Plays event lines on a station of this layout, which lies as they say when it is started, and writes the answer of each
+/// to `out`. Both texts are judged
 /// before the first event, the layout first: where one is faulty, `out` stays as it is. The status is 0, or 1 where
 /// anything failed; `err` is then told why, unless an answer couldn't be written.
 pub fn play_text<S: Playable, W: Write, E: Write>(
@@ -25,7 +27,8 @@ pub fn play_text<S: Playable, W: Write, E: Write>(
     err: &mut E,
 ) -> u8
     ensures status { result ≤ 1 }
-    // What the lines say, carried out one after the other by a new station, is what was written.
+    // What the lines say, carried out one after the other by a station that lies as they say when it is started, is what was
+    // written.
     ensures done { result ≡ 0 → IsPlayed S.sight layout.now events.now (W.contents out.old) (W.contents out.new) }
     ensures faulty { (CanPlay layout.now events.now → ⊥) → (result ≡ 1) × (out.new ≡ out.old) }
     ensures silent { result ≡ 0 → err.new ≡ err.old }
@@ -57,7 +60,7 @@ fn play<S: Playable, W: Write>(
     perform::<S, W>(alloc, table, &lines, out)
 }
 
-/// Carries out lines on a new station of this table.
+/// Carries out lines on a station of this table, which lies as they say when it is started.
 fn perform<S: Playable, W: Write>(
     alloc: Global,
     table: Checked,
@@ -67,7 +70,8 @@ fn perform<S: Playable, W: Write>(
     ensures done { OnOk result (IsTold S.sight table lines.now (W.contents out.old) (W.contents out.new)) }
     ensures failed { IfErr result IsLate }
 {
-    let mut run = Run::<S>::new(alloc, table)?;
+    let outset = Outset::of(alloc, table.layout(), lines)?;
+    let mut run = Run::<S>::at(alloc, table, &outset)?;
     for line in lines {
         carry_out(alloc, &mut run, line, out)?;
     }

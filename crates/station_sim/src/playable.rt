@@ -1,12 +1,12 @@
 //! A station that can be played.
 
-ghost use Rattle.std.specs.Prelude.{◌≡◌, IfOk, OnErr, string_bytes};
+ghost use Rattle.std.specs.Prelude.{◌≡◌, IfOk, OnErr, length, string_bytes};
 ghost use Rattle.std.specs.Option.{option_map};
 ghost use Rattle.station_sim.specs.Sight.{Applies, Sight};
 
 use replay::simulator::control_table::Checked;
 use replay::simulator::layout::{Layout, PointId};
-use replay::simulator::sci_telegram::Side;
+use replay::simulator::sci_telegram::{Occupancy, Position, Side};
 use replay::simulator::{Event, NodeId, Refused, Reply};
 use std::alloc::{AllocError, Global};
 
@@ -21,9 +21,16 @@ pub trait Playable: Drop {
     /// What is seen of it in each picture, and what events answer and change.
     ghost sight: { Sight Picture };
 
-    /// A new station of this table.
-    fn new(alloc: Global, table: Checked) -> Result<Self, AllocError>
-        ensures { IfOk result (λ station. sight.IsFirst table (picture station)) };
+    /// A station of this table as it lies when it is started: where each point stands, and which sections are occupied.
+    fn at(
+        alloc: Global,
+        table: Checked,
+        positions: &[Position],
+        occupancies: &[Occupancy],
+    ) -> Result<Self, AllocError>
+        requires positions { length positions.now ≡ length table.points }
+        requires occupancies { length occupancies.now ≡ length table.sections }
+        ensures { IfOk result (λ station. sight.IsAt table (record { positions = positions.now; occupancies = occupancies.now }) (picture station)) };
 
     /// Applies an event. Want of memory is answered instead where it is lacking, and nothing has happened then.
     fn apply(&mut self, event: &Event) -> Result<Reply, Refused>

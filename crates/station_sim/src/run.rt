@@ -1,10 +1,13 @@
 //! A station as the lines of a file drive it.
 
 ghost use Rattle.std.specs.Prelude.{◌≡◌, ◌/◌, ℕ, take, IfOk, OnOk, OnErr};
+ghost use Rattle.replay.specs.simulator.simulator_run.First.{IsOutsetOf};
+ghost use Rattle.station_sim.specs.inside.Outsets.{outset_in};
 ghost use Rattle.station_sim.specs.inside.Runs.{flowing_of};
 
 use crate::drive::note_drives;
 use crate::due::{add_deliveries, add_reaches, add_ticks, round_of_time};
+use crate::outset::Outset;
 use crate::playable::Playable;
 use replay::simulator::control_table::Checked;
 use replay::simulator::simulator_run::{FoundDriven, RoundEvent, nodes};
@@ -26,13 +29,14 @@ impl<S: Playable> Run<S> {
     ghost use Rattle.replay.specs.simulator.simulator_run.Flow.{Flows, StopsIn, all_did, did, due, rested, round};
     ghost use Rattle.station_sim.specs.Transcript.{Answers, IsBeginning};
 
-    /// A new station, on which nothing has flowed.
-    pub(crate) fn new(alloc: Global, table: Checked) -> Result<Self, AllocError>
-        ensures { IfOk result (λ run. IsBeginning S.sight table (flowing_of S.picture run)) }
+    /// A station that lies so when it is started, on which nothing has flowed.
+    pub(crate) fn at(alloc: Global, table: Checked, outset: &Outset) -> Result<Self, AllocError>
+        requires { IsOutsetOf table (outset_in outset.now) }
+        ensures { IfOk result (λ run. IsBeginning S.sight table (outset_in outset.now) (flowing_of S.picture run)) }
     {
         let points = table.layout().points().len();
         Ok(Run {
-            station: S::new(alloc, table)?,
+            station: S::at(alloc, table, &outset.positions, &outset.occupancies)?,
             passed: 0,
             drives: vec![in alloc; None; points]?,
         })

@@ -9,7 +9,7 @@ use crate::Playable;
 use replay::simulator::control_table::Checked;
 use replay::simulator::layout::{Layout, PointId};
 use replay::simulator::rasta_core::Role;
-use replay::simulator::sci_telegram::Side;
+use replay::simulator::sci_telegram::{Occupancy, Position, Side};
 use replay::simulator::{Event, NodeId, Refused, Reply, World};
 use replay::try_event;
 use std::alloc::{AllocError, Global};
@@ -37,10 +37,15 @@ impl Playable for Simulated {
 
     ghost sight = { sight_of_worlds };
 
-    fn new(alloc: Global, table: Checked) -> Result<Simulated, AllocError> {
+    fn at(
+        alloc: Global,
+        table: Checked,
+        positions: &[Position],
+        occupancies: &[Occupancy],
+    ) -> Result<Simulated, AllocError> {
         // Every checked layout is a station, in which no name stands twice.
         table.layout();
-        Ok(Simulated(World::new(alloc, table)?))
+        Ok(Simulated(World::at(alloc, table, positions, occupancies)?))
     }
 
     fn apply(&mut self, event: &Event) -> Result<Reply, Refused> {

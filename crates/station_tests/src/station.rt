@@ -74,6 +74,12 @@ a clock for each, and the network between them. Each line is an event, or asks f
   flow MS                     so much time flows in rounds of 10 ms, and all datagrams are delivered
   picture                     what is seen of the station
 
+Before all these, lines may say how the station lies when it is started, one for each point that
+doesn't stand left, and for each section that isn't clear:
+
+  begins P left|right|none    a point stands so
+  begins S clear|occupied     a section is so
+
 All lines are judged before the first event. Each is then answered on a line of its own: `ok`,
 `accepted`, `refused N` by the interlocking, or `no N` for an event that can't happen.
 
@@ -95,8 +101,9 @@ Options:
 
 const REPLAY_HELP: &str = "Applies a recorded session to a station of a layout again.
 
-Each line of a session is an event and what it answered, as EVENT = ANSWER. Where each event answers
-the same, it prints `same`. Otherwise it prints the first line that differs, and ends with status 3.
+The station begins with each point at left and each section clear. Each line of a session is an event
+and what it answered, as EVENT = ANSWER. Where each event answers the same, it prints `same`. Otherwise
+it prints the first line that differs, and ends with status 3.
 
 Example: station replay examples/small.toml examples/commands.session
 

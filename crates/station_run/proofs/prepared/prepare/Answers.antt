@@ -13,5 +13,5 @@ returns-clause-prepared c =
       sound = c.in_ok-table.ensures.sound;
       says = c.in_ok-script.ensures;
       begins = begins;
-      safe = c.played_worlds_are_safe.ensures table (played c.in_ok-new.field-0) begins;
+      safe = c.played_worlds_are_safe.ensures.first table (played c.in_ok-new.field-0) begins;
     }

@@ -1,5 +1,12 @@
-use Rattle.station_sim.proofs.Safety.{all_safe}
+use Rattle.station_sim.proofs.Safety.{all_safe, starts_at, starts_first}
 use Rattle.station_sim.proofs.laws.worlds_are_safe.Goals as goal
 
-pub returns : goal.returns
-returns c = all_safe c.reached_worlds_are_safe.ensures.first c.reached_worlds_are_safe.ensures.on c.reached_worlds_are_safe.ensures.safe
+pub returns-clause-first : goal.returns-clause-first
+returns-clause-first c = λ site first now is.
+    let reached = c.reached_worlds_are_safe.ensures
+    in all_safe reached.on reached.safe first now (starts_first reached.first site first is)
+
+pub returns-clause-at : goal.returns-clause-at
+returns-clause-at c = λ site outset first now is.
+    let reached = c.reached_worlds_are_safe.ensures
+    in all_safe reached.on reached.safe first now (starts_at reached.at site outset first is)

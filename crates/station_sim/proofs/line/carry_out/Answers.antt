@@ -1,9 +1,18 @@
-use Rattle.std.proofs.Common.{sym, subst}
+use Rattle.std.proofs.Common.{Ok, sym, subst}
 use Rattle.replay.specs.replay_lines.declared.line.SimLine.{SimLine}
-use Rattle.station_sim.specs.Transcript.{Writes, answer_line, event, flow}
+use Rattle.replay.specs.simulator.simulator_event.declared.reply.Answer.TheVariants.{Done}
+use Rattle.station_sim.specs.Transcript.{Writes, answer_line, begun, event, flow}
 use Rattle.station_sim.specs.inside.Runs.{flowing_of}
 use Rattle.station_sim.proofs.Transcripts.{wrote, wrote_picture}
 use Rattle.station_sim.proofs.line.carry_out.Goals as goal
+
+pub returns-in-Begins-clause-done : goal.returns-in-Begins-clause-done
+returns-in-Begins-clause-done g c =
+    let sight = g.S.Playable.sight
+    in let now = flowing_of g.S.Playable.picture c.args.run.now
+    in let text = answer_line sight (Ok Done) now
+    in wrote sight c.write_answer.result (g.W.Write.contents c.args.out.now) (g.W.Write.contents c.write_answer.new.out) now now c.args.line.now text c.write_answer.ensures.done
+    (subst (λ (said : SimLine). Writes sight now said text now) (sym c.in-Begins.is) begun)
 
 pub returns-in-Event-clause-done : goal.returns-in-Event-clause-done
 returns-in-Event-clause-done g c =
@@ -11,7 +20,7 @@ returns-in-Event-clause-done g c =
     in let old = flowing_of g.S.Playable.picture c.args.run.now
     in let new = flowing_of g.S.Playable.picture c.event-answer.new.self
     in let text = answer_line sight c.event-answer.result new
-    in wrote sight c.write_answer.result (g.W.Write.contents c.args.out.now) (g.W.Write.contents c.write_answer.new.out) old new c.args.line.now text c.write_answer.ensures.done
+    in wrote sight c.write_answer-in-Event.result (g.W.Write.contents c.args.out.now) (g.W.Write.contents c.write_answer-in-Event.new.out) old new c.args.line.now text c.write_answer-in-Event.ensures.done
     (subst (λ (said : SimLine). Writes sight old said text new) (sym c.in-Event.is) (event c.event-answer.ensures))
 
 pub returns-in-Flow-clause-done : goal.returns-in-Flow-clause-done

@@ -1,3 +1,8 @@
+use Rattle.std.proofs.Common.{◌∙◌, ap, subst}
+use Rattle.replay.specs.simulator.layout.Entries.{Site}
+use Rattle.replay.specs.simulator.simulator_run.First.{Outset}
+use Rattle.station_sim.specs.Outset.{outset_of}
+use Rattle.station_sim.specs.Transcript.{IsBeginning}
 use Rattle.station_sim.specs.inside.Runs.{flowing_of}
 use Rattle.station_sim.proofs.Transcripts.{goes-on-begins, goes-on-ends, goes-on-next}
 use Rattle.station_sim.proofs.play.perform.Goals as goal
@@ -5,7 +10,9 @@ use Rattle.station_sim.proofs.play.perform.Goals as goal
 pub loop-line-init : goal.loop-line-init
 loop-line-init g c =
     let first = flowing_of g.S.Playable.picture c.in_ok-run.run'
-    in (first, c.in_ok-run.ensures, goes-on-begins g.S.Playable.sight first c.args.lines.now (g.W.Write.contents c.args.out.now))
+    in let said = c.in_ok-outset.ensures.said ∙ ap (λ (site : Site). outset_of site c.args.lines.now) c.layout.ensures.entries
+    in let begins = subst (λ (outset : Outset). IsBeginning g.S.Playable.sight c.args.table outset first) said c.in_ok-run.ensures
+    in (first, begins, goes-on-begins g.S.Playable.sight first c.args.lines.now (g.W.Write.contents c.args.out.now))
 
 pub loop-line-preserved : goal.loop-line-preserved
 loop-line-preserved g c =
@@ -22,5 +29,5 @@ loop-line-preserved g c =
 pub returns-clause-done : goal.returns-clause-done
 returns-clause-done g c =
     let before = c.loop-line.invariant
-    in goes-on-ends g.S.Playable.sight c.args.table before.0 before.1 c.args.lines.now c.loop-line.line-index (flowing_of g.S.Playable.picture c.loop-line.run)
+    in goes-on-ends g.S.Playable.sight c.args.table before.0 c.args.lines.now before.1 c.loop-line.line-index (flowing_of g.S.Playable.picture c.loop-line.run)
     (g.W.Write.contents c.args.out.now) (g.W.Write.contents c.loop-line.out) (g.W.Write.contents c.flush.new.self) c.loop-line-test.false before.2 c.in_ok-flush.ensures.bytes

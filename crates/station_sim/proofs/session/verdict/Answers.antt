@@ -19,5 +19,5 @@ returns-clause-done g c =
       begins = found.1;
       judged = subst (λ (entries : List Entry). Judges answer after found.0 entries verdict) c.deref.ensures.value found.2;
       appended = c.in_ok-write_verdict.ensures;
-      safe = c.played_worlds_are_safe.ensures site found.0 found.1;
+      safe = c.played_worlds_are_safe.ensures.first site found.0 found.1;
     }

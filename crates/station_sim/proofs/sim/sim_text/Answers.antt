@@ -1,6 +1,11 @@
+use Rattle.station_sim.specs.Outset.{outset_of}
 use Rattle.station_sim.proofs.sim.sim_text.Goals as goal
 
 pub returns-clause-done : goal.returns-clause-done
 returns-clause-done g c = λ e.
     let played = c.play_text.ensures.done e
-    in record { played = played; safe = c.played_worlds_are_safe.ensures played.site played.told.first.picture played.told.begins.first }
+    in record {
+      played = played;
+      lies = c.stations_lie_as_lines_say.ensures.said played.site c.args.events.now played.lines played.says;
+      safe = c.played_worlds_are_safe.ensures.at played.site (outset_of played.site played.lines) played.told.first.picture played.told.begins.first;
+    }
