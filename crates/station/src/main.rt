@@ -8,8 +8,8 @@
 use station_command::{Asked, Error, Failure, is_memory, read_words, text_of, texts_of, words};
 use station_decode::decode_text;
 use station_run::Asked as Run;
-use station_sim::station_check::check_text;
-use station_sim::{replay_text, sim_text};
+use station_run::station_sim::station_check::check_text;
+use station_run::station_sim::{replay_text, sim_text};
 use station_table::{Form, table_text};
 use std::io::{BufWriter, IsTerminal};
 use std::process::ExitCode;

@@ -12,3 +12,6 @@ pub use driven_world::drive;
 pub use failure::RunFailure;
 pub use machine::{Asked, run};
 pub use prepared::{Prepared, prepare};
+
+// What crates above need of the crates below.
+pub use station_sim;

@@ -2,9 +2,9 @@
 
 use arrayvec::{ArrayString, ArrayVec};
 use station_drive::DriveFault;
-use station_sim::control_table::TableFault;
-use station_sim::layout::LayoutFault;
-use station_sim::station_check::{Failure, tell};
+use station_run::station_sim::control_table::TableFault;
+use station_run::station_sim::layout::LayoutFault;
+use station_run::station_sim::station_check::{Failure, tell};
 use std::fmt::Write;
 
 /// More bytes than any of these texts has.

@@ -3,7 +3,7 @@
 use station_drive::{Clock, Datagrams};
 use station_network::{MemoryNetwork, NetCall};
 use station_run::{Asked, Prepared, prepare, run};
-use station_sim::replay_text;
+use station_run::station_sim::replay_text;
 use std::alloc::Global;
 use std::io;
 use std::io::Write;

@@ -4,10 +4,10 @@ use crate::bell::Bell;
 use crate::run_bench::SMALL;
 use station_drive::drive;
 use station_network::{MemoryNetwork, SteppingClock};
-use station_sim::control_table::check;
-use station_sim::layout::{Layout, SectionId};
-use station_sim::sci_telegram::Occupancy;
-use station_sim::simulator_event::Event;
+use station_run::station_sim::control_table::check;
+use station_run::station_sim::layout::{Layout, SectionId};
+use station_run::station_sim::sci_telegram::Occupancy;
+use station_run::station_sim::simulator_event::Event;
 use std::alloc::Global;
 use std::test::Fail;
 
