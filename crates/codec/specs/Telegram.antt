@@ -7,7 +7,7 @@ use Rattle.sci_telegram.specs.declared.fault.SciFault.TheVariants as faults
 use Rattle.sci_telegram.specs.declared.telegram.Telegram.{Telegram}
 use Rattle.sci_telegram.specs.Messages.{payload, protocol_byte, protocol_of, type_number}
 use Rattle.sci_telegram.specs.Names.{name_field}
-use Rattle.sci_telegram.specs.Reading.{protocol_field, type_field}
+use Rattle.sci_telegram.specs.TelegramRead.{protocol_field, type_field}
 use Rattle.codec.specs.declared.telegram.TelegramFields.{TelegramFields}
 
 -- the number of a fault, in the order of the tests

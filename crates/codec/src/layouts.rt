@@ -2,7 +2,7 @@
 
 ghost use Rattle.std.specs.Prelude.{◌≡◌, ◌≢◌, IsOk};
 ghost use Rattle.layout.specs.Faults.{IsFirstFault};
-ghost use Rattle.layout.specs.Resolving.{layout_in};
+ghost use Rattle.layout.specs.NamesResolved.{layout_in};
 ghost use Rattle.layout_text.specs.declared.fault.LayoutFault.{LayoutFault};
 ghost use Rattle.codec.specs.LayoutText.{fault_number};
 

@@ -12,7 +12,7 @@ use Rattle.control_table.specs.Path.{Passage, sections, Path}
 use Rattle.control_table.specs.Sides.{PathUses, Requires}
 use Rattle.control_table.specs.declared.sides.FlankProtection.{FlankProtection}
 use Rattle.control_table.specs.Table.{LeadsOver, RouteRequires, InLayoutOrder, AreSections, AreRequired, AreProtections}
-use Rattle.control_table.specs.inside.Judging.{needs, TableRow, rows_of, IsRowAt}
+use Rattle.control_table.specs.inside.TableTests.{needs, TableRow, rows_of, IsRowAt}
 use Rattle.control_table.proofs.Joints.{OneBeyond}
 use Rattle.control_table.proofs.Judged.{none-some}
 use Rattle.control_table.proofs.Members.{some-injective}

@@ -22,8 +22,8 @@ use Rattle.control_table.specs.Topology.{IsRoute, section_of}
 use Rattle.control_table.specs.Path.{Passage, Path}
 use Rattle.control_table.specs.Sides.{OnPath, Requires}
 use Rattle.control_table.specs.Table.{AreProtections, LeadsOver, Protects, RouteRequires, Sound}
-use Rattle.control_table.specs.Freeing.{Awaits, InSection, OnRoute}
-use Rattle.control_table.specs.inside.Judging.{names_point, with_section, guarded_sections, awaited_by}
+use Rattle.control_table.specs.AwaitedSections.{Awaits, InSection, OnRoute}
+use Rattle.control_table.specs.inside.TableTests.{names_point, with_section, guarded_sections, awaited_by}
 use Rattle.control_table.proofs.Joints.{OneBeyond, one-beyond}
 use Rattle.control_table.proofs.Judged.{none-some}
 use Rattle.control_table.proofs.Members.{contains-none, contains-here, contains-there, contains-cases, some-injective}

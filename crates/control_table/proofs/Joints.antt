@@ -8,7 +8,7 @@ use Rattle.layout.specs.declared.entries.Joint.{Joint}
 use Rattle.layout.specs.Entries.{Site}
 use Rattle.layout.specs.Once.{Distinct, joined_ports, Once}
 use Rattle.control_table.specs.Topology.{Joins, Joined}
-use Rattle.control_table.specs.inside.Judging.{is_port, other_port, joined_to}
+use Rattle.control_table.specs.inside.TableTests.{is_port, other_port, joined_to}
 use Rattle.control_table.proofs.Judged.{none-some, false-from}
 use Rattle.control_table.proofs.Members.{contains-none, contains-here, contains-there, contains-cases, some-injective, distinct-first, distinct-rest}
 use Rattle.control_table.proofs.Same.{port-decides}

@@ -4,7 +4,7 @@ use Rattle.std.specs.Prelude.{if◌then◌else◌}
 use Rattle.std.specs.Option.{ok_or}
 use Rattle.std.proofs.lemmas.Bool.{false≢true}
 use Rattle.control_table.specs.declared.fault.TableFault.{TableFault}
-use Rattle.control_table.specs.inside.Judging.{◌>>=◌}
+use Rattle.control_table.specs.inside.TableTests.{◌>>=◌}
 
 pub none-some : {A : Type 0} (x : A) → None ≡ Some x → ⊥
 none-some {A} x e = let is_some : Option A → Bool = λ o. elim o [ None ↦ false | Some y ↦ true ] in false≢true (ap is_some e)

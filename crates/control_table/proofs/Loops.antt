@@ -12,7 +12,7 @@ use Rattle.control_table.specs.declared.fault.TableFault.TheVariants.{PathBroken
 use Rattle.control_table.specs.declared.fault.FaultyRoute.{FaultyRoute}
 use Rattle.control_table.specs.Path.{Passage}
 use Rattle.control_table.specs.declared.masks.RouteMasks.{RouteMasks}
-use Rattle.control_table.specs.inside.Judging.{◌>>=◌, Fails, AreWithin, IsWithin, masks_of, all_masks, passage_behind, passages, all_different, is_other_at, no_other_at, TableRow, row_of, rows_from}
+use Rattle.control_table.specs.inside.TableTests.{◌>>=◌, Fails, AreWithin, IsWithin, masks_of, all_masks, passage_behind, passages, all_different, is_other_at, no_other_at, TableRow, row_of, rows_from}
 
 -- what was made before, and what is still made
 abbrev pub with_front : {B : Type 0} → List B → Result (List B) TableFault → Result (List B) TableFault

@@ -23,7 +23,7 @@ use Rattle.control_table.specs.declared.masks.RouteMasks.{RouteMasks}
 use Rattle.control_table.specs.Topology.{IsRoute}
 use Rattle.control_table.specs.Table.{LeadsOver, Lists, RouteRequires, SameEntry, ShareSection, RequireDifferently, Conflict}
 use Rattle.control_table.specs.Masks.{AreMasks}
-use Rattle.control_table.specs.inside.Judging.{MasksConflict, same_need, has_need, section_row, point_row, route_row, same_side, IsWithin, AreWithin, TableRow, rows_of, masks_of, all_masks}
+use Rattle.control_table.specs.inside.TableTests.{MasksConflict, same_need, has_need, section_row, point_row, route_row, same_side, IsWithin, AreWithin, TableRow, rows_of, masks_of, all_masks}
 use Rattle.control_table.specs.Path.{same_section}
 use Rattle.control_table.proofs.Joints.{OneBeyond, one-beyond}
 use Rattle.control_table.proofs.Members.{has-decides, get-contains, some-injective}

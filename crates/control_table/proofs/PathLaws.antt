@@ -24,7 +24,7 @@ use Rattle.control_table.specs.declared.fault.TableFault.{TableFault}
 use Rattle.control_table.specs.declared.fault.TableFault.TheVariants.{PathBroken}
 use Rattle.control_table.specs.Topology.{port_of, StandsAt}
 use Rattle.control_table.specs.Path.{Passage, Passes, Leads, Follows, elements, sections, ComesOnce, ExitAt, EndsAt, SignalsPlaced, same_section}
-use Rattle.control_table.specs.inside.Judging.{is_port, is_element, is_end, joined_to, ◌>>=◌, some_and, is_point, may_pass, passage_from, passage_behind, passages, path_of, all_different, same_exit, stands_at, is_exit, ends_at_exit, is_other_at, no_other_at, none_between, signals_placed}
+use Rattle.control_table.specs.inside.TableTests.{is_port, is_element, is_end, joined_to, ◌>>=◌, some_and, is_point, may_pass, passage_from, passage_behind, passages, path_of, all_different, same_exit, stands_at, is_exit, ends_at_exit, is_other_at, no_other_at, none_between, signals_placed}
 use Rattle.control_table.proofs.Joints.{OneBeyond, joined-found}
 use Rattle.control_table.proofs.Judged.{none-some, err-ok, ok-injective, ok-from, err-from, ok-some, err-none, not_stopped, stopped_or_not, false-from}
 use Rattle.control_table.proofs.Members.{all-decides, has-decides, some-injective, distinct-first, distinct-rest, distinct-cons}

@@ -19,7 +19,7 @@ use Rattle.layout.specs.declared.entries.Exit.TheVariants as exit
 use Rattle.layout.specs.Known.{end_number}
 use Rattle.control_table.specs.Sides.{other}
 use Rattle.control_table.specs.Path.{same_section}
-use Rattle.control_table.specs.inside.Judging.{is_port, is_element, is_end, same_side, same_need, same_exit}
+use Rattle.control_table.specs.inside.TableTests.{is_port, is_element, is_end, same_side, same_need, same_exit}
 
 -- what never holds is decided by false
 pub never : {P : Type 0} → (P → ⊥) → Decides false P

@@ -23,7 +23,7 @@ use Rattle.control_table.specs.declared.sides.Protection.{Protection}
 use Rattle.control_table.specs.declared.sides.Protection.TheVariants as protection
 use Rattle.control_table.specs.Topology.{Joined, StandsAt}
 use Rattle.control_table.specs.Sides.{leg_at, leg, other, Uses, PathUses, OnPath, Guards, Requires, IsGuarded, FlanksGuarded, NoneAtBothSides, PointsNamed, WritesOnlyRequired, FlankNamed}
-use Rattle.control_table.specs.inside.Judging.{is_port, is_end, joined_to, side_of, leg_used, point_of, used_of, used, leg_at_port, leg_of_another, guarded_by, protection_by, protection_from, protection_behind, protection_of, has_signal, flank_need, needs_at, needs, protections_at, protections, is_open_leg, is_open_at, flanks_guarded, same_need, has_need, consistent, names_point, is_over, on_path, is_named, points_written, points_right, flank_right, flank_written}
+use Rattle.control_table.specs.inside.TableTests.{is_port, is_end, joined_to, side_of, leg_used, point_of, used_of, used, leg_at_port, leg_of_another, guarded_by, protection_by, protection_from, protection_behind, protection_of, has_signal, flank_need, needs_at, needs, protections_at, protections, is_open_leg, is_open_at, flanks_guarded, same_need, has_need, consistent, names_point, is_over, on_path, is_named, points_written, points_right, flank_right, flank_written}
 use Rattle.control_table.proofs.Joints.{OneBeyond, joined-found}
 use Rattle.control_table.proofs.Judged.{none-some, false-from}
 use Rattle.control_table.proofs.Members.{contains-none, contains-here, contains-there, contains-cases, any-decides, all-decides, has-decides, flat_map-from, flat_map-to, get-contains, contains-get, some-injective}

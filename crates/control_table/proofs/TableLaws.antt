@@ -18,7 +18,7 @@ use Rattle.control_table.specs.Path.{Passage, elements, sections, ComesOnce, Sig
 use Rattle.control_table.specs.Sides.{FlanksGuarded, NoneAtBothSides, PointsNamed, WritesOnlyRequired, FlankNamed, WritesRequired}
 use Rattle.control_table.specs.Table.{Lists, ExtrasListed, SoundRoute, Sound}
 use Rattle.control_table.specs.Faults.{BeforePointMissing, BeforeSignalPlace, IsFaultOf, ToldAt, IsFirstFault}
-use Rattle.control_table.specs.inside.Judging.{is_element, ◌>>=◌, Fails, path_of, all_different, sections_of, needs, protections, points_written, points_right, flank_right, flank_written, flanks_guarded, consistent, in_layout_order, required_of, signals_placed, names_route, lists, extras_listed, TableRow, row_of, rows_from, rows_of}
+use Rattle.control_table.specs.inside.TableTests.{is_element, ◌>>=◌, Fails, path_of, all_different, sections_of, needs, protections, points_written, points_right, flank_right, flank_written, flanks_guarded, consistent, in_layout_order, required_of, signals_placed, names_route, lists, extras_listed, TableRow, row_of, rows_from, rows_of}
 use Rattle.control_table.proofs.Joints.{OneBeyond}
 use Rattle.control_table.proofs.Judged.{none-some, err-ok, ok-injective, err-injective, ok-from, err-from, passed, failed_or_passed}
 use Rattle.control_table.proofs.Members.{all-decides, has-decides, some-injective}

@@ -20,7 +20,7 @@ use Rattle.layout.specs.declared.port.Element.TheVariants as of
 use Rattle.layout_text.specs.declared.entries.End.{End}
 use Rattle.layout_text.specs.declared.entries.End.TheVariants as end
 use Rattle.layout.specs.Entries.{RouteEntry, Site}
-use Rattle.layout.specs.Resolving.{has_port}
+use Rattle.layout.specs.NamesResolved.{has_port}
 use Rattle.layout.specs.Station.{HasSection, HasPoint, HasElement, HasPort, IsRouteOf, IsStation}
 use Rattle.control_table.specs.Topology.{Joined, section_of, IsRoute}
 use Rattle.control_table.specs.Path.{Passage, Passes, Leads, Path, elements, same_section}

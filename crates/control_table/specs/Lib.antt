@@ -3,7 +3,7 @@ pub mod Path
 pub mod Sides
 pub mod Table
 pub mod Masks
-pub mod Freeing
+pub mod AwaitedSections
 pub mod Faults
 pub mod inside
 pub mod Messages

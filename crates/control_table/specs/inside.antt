@@ -1,2 +1,2 @@
 -- What contracts inside the crate say, step by step. No promise names any of it.
-pub mod Judging
+pub mod TableTests

@@ -8,10 +8,10 @@ ghost use Rattle.layout.specs.Station.{IsStation};
 ghost use Rattle.layout.specs.declared.ids.SectionId.{SectionId};
 ghost use Rattle.bit_row.specs.Places.{Has};
 ghost use Rattle.control_table.specs.Table.{Sound, AreSections, AreRequired, AreProtections, Conflict, HasAspect, is_slow, telegram_version};
-ghost use Rattle.control_table.specs.Freeing.{Awaits};
+ghost use Rattle.control_table.specs.AwaitedSections.{Awaits};
 ghost use Rattle.control_table.specs.Masks.{AreMasks};
 ghost use Rattle.control_table.specs.Faults.{IsFirstFault};
-ghost use Rattle.control_table.specs.inside.Judging.{IsRowAt, rows_of};
+ghost use Rattle.control_table.specs.inside.TableTests.{IsRowAt, rows_of};
 ghost use Rattle.control_table.specs.declared.fault.TableFault.TheVariants.{OutOfMemory};
 
 use crate::conflicts::conflicts;
@@ -39,7 +39,7 @@ impl Model for Checked {
     ghost use Rattle.layout.specs.Entries.{Site};
     ghost use Rattle.layout.specs.Once.{Once};
     ghost use Rattle.layout.specs.Station.{IsStation};
-    ghost use Rattle.control_table.specs.inside.Judging.{all_masks, rows_of};
+    ghost use Rattle.control_table.specs.inside.TableTests.{all_masks, rows_of};
 
     ghost Value = { Site };
 

@@ -1,7 +1,7 @@
 //! Which routes conflict.
 
 ghost use Rattle.std.specs.Prelude.{◌↔◌, IsTrue};
-ghost use Rattle.control_table.specs.inside.Judging.{MasksConflict};
+ghost use Rattle.control_table.specs.inside.TableTests.{MasksConflict};
 
 use crate::masks::RouteMasks;
 use layout::RouteId;

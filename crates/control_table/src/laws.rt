@@ -14,7 +14,7 @@ ghost use Rattle.layout.specs.Station.{HasPoint, HasSection, IsStation};
 ghost use Rattle.control_table.specs.Topology.{IsRoute, section_of};
 ghost use Rattle.control_table.specs.Path.{Passage, Path};
 ghost use Rattle.control_table.specs.Sides.{OnPath};
-ghost use Rattle.control_table.specs.Freeing.{Awaits};
+ghost use Rattle.control_table.specs.AwaitedSections.{Awaits};
 ghost use Rattle.control_table.specs.Table.{AreSections, Conflict, LeadsOver, RouteRequires, SameEntry, Sound};
 
 /// Two routes conflict whichever of them is named first.

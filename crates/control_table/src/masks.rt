@@ -2,7 +2,7 @@
 
 ghost use Rattle.std.specs.Prelude.{◌≡◌, ◌<◌, length, IfOk};
 ghost use Rattle.std.specs.List.{All};
-ghost use Rattle.control_table.specs.inside.Judging.{AreWithin, IsWithin, all_masks, masks_of, point_row, route_row, section_row};
+ghost use Rattle.control_table.specs.inside.TableTests.{AreWithin, IsWithin, all_masks, masks_of, point_row, route_row, section_row};
 
 use crate::row::Row;
 use crate::sides::same_side;

@@ -1,7 +1,7 @@
 //! How a route's path passes from element to element.
 
 ghost use Rattle.std.specs.Prelude.{◌≡◌};
-ghost use Rattle.control_table.specs.inside.Judging.{Gives, may_pass, passage_behind, passages};
+ghost use Rattle.control_table.specs.inside.TableTests.{Gives, may_pass, passage_behind, passages};
 
 use crate::fault::{FaultyRoute, TableFault};
 use crate::topology::{is_element, is_end, joined_to};
@@ -30,7 +30,7 @@ impl Model for Passage {
 
 /// Whether a train can pass from one port to another: both are of one element, and through a point
 /// one of them is the tip.
-#[tactic(auto, unfolding(crate::specs::inside::Judging::may_pass))]
+#[tactic(auto, unfolding(crate::specs::inside::TableTests::may_pass))]
 fn may_pass(entered: Port, left: Port) -> bool
     ensures { result ≡ may_pass entered left }
 {
@@ -42,7 +42,7 @@ fn may_pass(entered: Port, left: Port) -> bool
 }
 
 /// The passage over the element behind a port, out by another, if there is one.
-#[tactic(auto, unfolding(crate::specs::inside::Judging::passage_behind))]
+#[tactic(auto, unfolding(crate::specs::inside::TableTests::passage_behind))]
 fn passage_behind(joints: &[Joint], before: Port, left: Port) -> Option<Passage>
     ensures { result ≡ passage_behind joints.now before left }
 {

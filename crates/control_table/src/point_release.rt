@@ -4,7 +4,7 @@ ghost use Rattle.std.specs.Prelude.{◌≡◌};
 ghost use Rattle.layout.specs.declared.port.Element.TheVariants as element;
 ghost use Rattle.layout.specs.Station.{IsStation};
 ghost use Rattle.control_table.specs.Topology.{section_of};
-ghost use Rattle.control_table.specs.inside.Judging.{awaited_by, guarded_sections, with_section};
+ghost use Rattle.control_table.specs.inside.TableTests.{awaited_by, guarded_sections, with_section};
 
 use crate::sides::FlankProtection;
 use crate::topology::section_of;
@@ -39,7 +39,7 @@ fn guarded_sections(layout: &Layout, flanks: &[FlankProtection], point: PointId)
 
 /// The sections that a required point awaits: its own where it lies on the path of the route, otherwise
 /// those of the points that it guards.
-#[tactic(auto, unfolding(crate::specs::inside::Judging::awaited_by))]
+#[tactic(auto, unfolding(crate::specs::inside::TableTests::awaited_by))]
 pub(crate) fn awaited(
     layout: &Layout,
     route: &Route,

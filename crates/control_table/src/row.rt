@@ -1,7 +1,7 @@
 //! One route of the control table.
 
 ghost use Rattle.std.specs.Prelude.{◌≡◌, IfOk, map};
-ghost use Rattle.control_table.specs.inside.Judging.{Gives, path_of, sections_of, required_of, row_of, rows_from, rows_of};
+ghost use Rattle.control_table.specs.inside.TableTests.{Gives, path_of, sections_of, required_of, row_of, rows_from, rows_of};
 
 use crate::fault::{FaultyRoute, TableFault};
 use crate::order::in_layout_order;
@@ -27,7 +27,7 @@ pub(crate) struct Row {
 }
 
 impl Model for Row {
-    ghost use Rattle.control_table.specs.inside.Judging.{TableRow};
+    ghost use Rattle.control_table.specs.inside.TableTests.{TableRow};
 
     ghost Value = { TableRow };
 
@@ -62,7 +62,7 @@ pub(crate) fn copy_rows(alloc: Global, rows: &[Row]) -> Result<Vec<Row>, AllocEr
 }
 
 /// The path of a route, unless it is broken.
-#[tactic(auto, unfolding(crate::specs::inside::Judging::path_of))]
+#[tactic(auto, unfolding(crate::specs::inside::TableTests::path_of))]
 fn path_of(
     alloc: Global,
     place: &FaultyRoute,
@@ -81,7 +81,7 @@ fn path_of(
 }
 
 /// The sections of a path, unless an element or a section comes again.
-#[tactic(auto, unfolding(crate::specs::inside::Judging::sections_of))]
+#[tactic(auto, unfolding(crate::specs::inside::TableTests::sections_of))]
 fn sections_of(
     alloc: Global,
     place: &FaultyRoute,
@@ -100,7 +100,7 @@ fn sections_of(
 
 /// The points that a path requires, unless a fault is in what the route writes, in the flanks or in
 /// the points.
-#[tactic(auto, unfolding(crate::specs::inside::Judging::required_of))]
+#[tactic(auto, unfolding(crate::specs::inside::TableTests::required_of))]
 fn required_of(
     alloc: Global,
     place: &FaultyRoute,
@@ -130,7 +130,7 @@ fn required_of(
 }
 
 /// The row of a route, or its first fault.
-#[tactic(auto, unfolding(crate::specs::inside::Judging::row_of))]
+#[tactic(auto, unfolding(crate::specs::inside::TableTests::row_of))]
 fn row_of(
     alloc: Global,
     place: &FaultyRoute,
@@ -172,7 +172,7 @@ fn each_row(alloc: Global, layout: &Layout, routes: &[Route]) -> Result<Vec<Row>
 }
 
 /// The rows of all routes, or the first fault of the first faulty one.
-#[tactic(auto, unfolding(crate::specs::inside::Judging::rows_of))]
+#[tactic(auto, unfolding(crate::specs::inside::TableTests::rows_of))]
 pub(crate) fn rows(alloc: Global, layout: &Layout) -> Result<Vec<Row>, TableFault>
     ensures { Gives (λ v. v.items) result (rows_of layout.now) }
 {

@@ -4,7 +4,7 @@ ghost use Rattle.std.specs.Prelude.{◌≡◌, IfOk};
 ghost use Rattle.std.specs.List.{dedup, filter_map};
 ghost use Rattle.control_table.specs.Topology.{section_of};
 ghost use Rattle.control_table.specs.Path.{elements, same_section};
-ghost use Rattle.control_table.specs.inside.Judging.{is_element, all_different};
+ghost use Rattle.control_table.specs.inside.TableTests.{is_element, all_different};
 
 use crate::passage::Passage;
 use crate::topology::section_of;
@@ -62,7 +62,7 @@ fn all_different<T: Eq>(items: &[T]) -> bool
 }
 
 /// Whether no element comes twice.
-#[tactic(auto, unfolding(crate::specs::inside::Judging::is_element))]
+#[tactic(auto, unfolding(crate::specs::inside::TableTests::is_element))]
 pub(crate) fn elements_differ(elements: &[Element]) -> bool
     ensures { result ≡ all_different is_element elements.now }
 {

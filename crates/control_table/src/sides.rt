@@ -2,7 +2,7 @@
 
 ghost use Rattle.std.specs.Prelude.{◌≡◌, IfOk};
 ghost use Rattle.control_table.specs.Sides.{leg_at, other};
-ghost use Rattle.control_table.specs.inside.Judging.{side_of, leg_used, used, leg_of_another, guarded_by, protection_from, protection_of, needs, protections, is_open_at, flanks_guarded, same_side, has_need, consistent};
+ghost use Rattle.control_table.specs.inside.TableTests.{side_of, leg_used, used, leg_of_another, guarded_by, protection_from, protection_of, needs, protections, is_open_at, flanks_guarded, same_side, has_need, consistent};
 
 use crate::passage::Passage;
 use crate::topology::{has_signal, is_end, joined_to};
@@ -54,7 +54,7 @@ fn leg_used(passage: &Passage) -> Option<Side>
 }
 
 /// The point over which a passage leads, if it is one, and the side at which it has to lie.
-#[tactic(auto, unfolding(crate::specs::inside::Judging::used))]
+#[tactic(auto, unfolding(crate::specs::inside::TableTests::used))]
 pub(crate) fn used(passage: &Passage) -> Option<(PointId, Side)>
     ensures { result ≡ used passage.now }
 {
@@ -85,7 +85,7 @@ pub(crate) enum Protection {
 }
 
 /// The other point and the side of its leg, if a port is the leg of another point than this one.
-#[tactic(auto, unfolding(crate::specs::inside::Judging::leg_of_another))]
+#[tactic(auto, unfolding(crate::specs::inside::TableTests::leg_of_another))]
 fn leg_of_another(point: PointId, port: Port) -> Option<(PointId, Side)>
     ensures { result ≡ leg_of_another point port }
 {
@@ -98,7 +98,7 @@ fn leg_of_another(point: PointId, port: Port) -> Option<(PointId, Side)>
 }
 
 /// What protects the path against what comes to a point's leg from a port.
-#[tactic(auto, unfolding(crate::specs::inside::Judging::protection_from))]
+#[tactic(auto, unfolding(crate::specs::inside::TableTests::protection_from))]
 fn protection_from(layout: &Layout, point: PointId, from: Port) -> Protection
     ensures { result ≡ protection_from layout.now point from }
 {
@@ -110,7 +110,7 @@ fn protection_from(layout: &Layout, point: PointId, from: Port) -> Protection
 }
 
 /// What protects the path at the unused leg of a point that it passes at a side.
-#[tactic(auto, unfolding(crate::specs::inside::Judging::protection_of))]
+#[tactic(auto, unfolding(crate::specs::inside::TableTests::protection_of))]
 fn protection_of(layout: &Layout, point: PointId, side: Side) -> Protection
     ensures { result ≡ protection_of layout.now point side }
 {
@@ -126,7 +126,7 @@ fn protection_of(layout: &Layout, point: PointId, side: Side) -> Protection
 
 /// All points that a path requires, each with its side: for each point on it the point itself, and
 /// the one that protects its unused leg.
-#[tactic(auto, unfolding(crate::specs::inside::Judging::needs))]
+#[tactic(auto, unfolding(crate::specs::inside::TableTests::needs))]
 pub(crate) fn needs(
     alloc: Global,
     layout: &Layout,
@@ -147,7 +147,7 @@ pub(crate) fn needs(
 }
 
 /// Which point guards the unused leg of which point on the path, in the order of the path.
-#[tactic(auto, unfolding(crate::specs::inside::Judging::protections))]
+#[tactic(auto, unfolding(crate::specs::inside::TableTests::protections))]
 pub(crate) fn protections(
     alloc: Global,
     layout: &Layout,
@@ -177,7 +177,7 @@ fn is_open(layout: &Layout, passage: &Passage) -> bool
 }
 
 /// Whether the rule for each unused leg of a path is met.
-#[tactic(auto, unfolding(crate::specs::inside::Judging::flanks_guarded))]
+#[tactic(auto, unfolding(crate::specs::inside::TableTests::flanks_guarded))]
 pub(crate) fn flanks_guarded(layout: &Layout, path: &[Passage]) -> bool
     ensures { result ≡ flanks_guarded layout.now path.now }
 {
@@ -201,7 +201,7 @@ pub(crate) fn has_need(needs: &[(PointId, Side)], point: PointId, side: Side) ->
 }
 
 /// Whether no point is required at both sides.
-#[tactic(auto, unfolding(crate::specs::inside::Judging::consistent))]
+#[tactic(auto, unfolding(crate::specs::inside::TableTests::consistent))]
 pub(crate) fn consistent(needs: &[(PointId, Side)]) -> bool
     ensures { result ≡ consistent needs.now }
 {

@@ -2,7 +2,7 @@
 
 ghost use Rattle.std.specs.Prelude.{◌≡◌};
 ghost use Rattle.control_table.specs.Topology.{port_of};
-ghost use Rattle.control_table.specs.inside.Judging.{same_exit, is_other_at, names_route, stands_at, none_between, leads_out, is_exit, ends_at_exit, no_other_at, signals_placed, lists, lists_in, extras_listed};
+ghost use Rattle.control_table.specs.inside.TableTests.{same_exit, is_other_at, names_route, stands_at, none_between, leads_out, is_exit, ends_at_exit, no_other_at, signals_placed, lists, lists_in, extras_listed};
 ghost use Rattle.std.specs.Option.{option_map};
 
 use crate::passage::Passage;
@@ -58,7 +58,7 @@ fn is_exit(layout: &Layout, exit: Exit, port: Port) -> bool
 }
 
 /// Whether a path ends at its exit.
-#[tactic(auto, unfolding(crate::specs::inside::Judging::ends_at_exit))]
+#[tactic(auto, unfolding(crate::specs::inside::TableTests::ends_at_exit))]
 fn ends_at_exit(layout: &Layout, exit: Exit, path: &[Passage]) -> bool
     ensures { result ≡ ends_at_exit layout.now exit path.now }
 {
@@ -69,7 +69,7 @@ fn ends_at_exit(layout: &Layout, exit: Exit, path: &[Passage]) -> bool
 }
 
 /// Whether a signal stands at a port and isn't the exit.
-#[tactic(auto, unfolding(crate::specs::inside::Judging::is_other_at))]
+#[tactic(auto, unfolding(crate::specs::inside::TableTests::is_other_at))]
 fn is_other_at(signal: &Signal, id: SignalId, exit: Exit, port: Port) -> bool
     ensures { result ≡ is_other_at signal.now id exit port }
 {
@@ -97,7 +97,7 @@ fn none_between(signals: &[Signal], exit: Exit, path: &[Passage]) -> bool
 }
 
 /// Whether the path ends at the exit, which isn't the entry, and no signal stands between.
-#[tactic(auto, unfolding(crate::specs::inside::Judging::signals_placed))]
+#[tactic(auto, unfolding(crate::specs::inside::TableTests::signals_placed))]
 pub(crate) fn signals_placed(layout: &Layout, route: &Route, path: &[Passage]) -> bool
     ensures { result ≡ signals_placed layout.now route.now path.now }
 {
@@ -124,7 +124,7 @@ fn lists_in(route: Option<&Route>, other: RouteId) -> bool
 }
 
 /// Whether a route lists another as an extra conflict.
-#[tactic(auto, unfolding(crate::specs::inside::Judging::lists))]
+#[tactic(auto, unfolding(crate::specs::inside::TableTests::lists))]
 pub(crate) fn lists(routes: &[Route], route: RouteId, other: RouteId) -> bool
     ensures { result ≡ lists routes.now route other }
 {
@@ -132,7 +132,7 @@ pub(crate) fn lists(routes: &[Route], route: RouteId, other: RouteId) -> bool
 }
 
 /// Whether each extra conflict of a route is listed the other way too, and is none with itself.
-#[tactic(auto, unfolding(crate::specs::inside::Judging::extras_listed))]
+#[tactic(auto, unfolding(crate::specs::inside::TableTests::extras_listed))]
 pub(crate) fn extras_listed(routes: &[Route], id: RouteId, extra: &[RouteId]) -> bool
     ensures { result ≡ extras_listed routes.now id extra.now }
 {

@@ -2,12 +2,12 @@
 
 ghost use Rattle.std.specs.Prelude.{◌≡◌};
 ghost use Rattle.control_table.specs.Topology.{section_of};
-ghost use Rattle.control_table.specs.inside.Judging.{is_port, is_element, is_end, other_port, joined_to, has_signal};
+ghost use Rattle.control_table.specs.inside.TableTests.{is_port, is_element, is_end, other_port, joined_to, has_signal};
 
 use layout::{Element, End, Joint, Layout, Port, SectionId, Signal};
 
 /// Whether two ports are the same.
-#[tactic(auto, unfolding(crate::specs::inside::Judging::is_port))]
+#[tactic(auto, unfolding(crate::specs::inside::TableTests::is_port))]
 pub(crate) fn is_port(one: Port, other: Port) -> bool
     ensures { result ≡ is_port one other }
 {
@@ -15,7 +15,7 @@ pub(crate) fn is_port(one: Port, other: Port) -> bool
 }
 
 /// Whether two elements are the same.
-#[tactic(auto, unfolding(crate::specs::inside::Judging::is_element))]
+#[tactic(auto, unfolding(crate::specs::inside::TableTests::is_element))]
 pub(crate) fn is_element(one: Element, other: Element) -> bool
     ensures { result ≡ is_element one other }
 {
@@ -23,7 +23,7 @@ pub(crate) fn is_element(one: Element, other: Element) -> bool
 }
 
 /// Whether two ends of elements have the same word.
-#[tactic(auto, unfolding(crate::specs::inside::Judging::is_end))]
+#[tactic(auto, unfolding(crate::specs::inside::TableTests::is_end))]
 pub(crate) fn is_end(one: End, other: End) -> bool
     ensures { result ≡ is_end one other }
 {

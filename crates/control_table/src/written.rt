@@ -1,7 +1,7 @@
 //! What a route writes under `points` and `flank`, beside what it requires.
 
 ghost use Rattle.std.specs.Prelude.{◌≡◌, ◌&&◌};
-ghost use Rattle.control_table.specs.inside.Judging.{used, names_point, is_over, on_path, is_named, points_written, points_right, flank_right, flank_written};
+ghost use Rattle.control_table.specs.inside.TableTests.{used, names_point, is_over, on_path, is_named, points_written, points_right, flank_right, flank_written};
 
 use crate::passage::Passage;
 use crate::sides::{has_need, used};
@@ -26,7 +26,7 @@ fn is_over(passage: &Passage, point: PointId) -> bool
 }
 
 /// Whether a path leads over a point.
-#[tactic(auto, unfolding(crate::specs::inside::Judging::on_path))]
+#[tactic(auto, unfolding(crate::specs::inside::TableTests::on_path))]
 fn on_path(path: &[Passage], point: PointId) -> bool
     ensures { result ≡ on_path path.now point }
 {
@@ -44,7 +44,7 @@ fn is_named(points: &[(PointId, Side)], passage: &Passage) -> bool
 }
 
 /// Whether each point of the path is written under `points`.
-#[tactic(auto, unfolding(crate::specs::inside::Judging::points_written))]
+#[tactic(auto, unfolding(crate::specs::inside::TableTests::points_written))]
 pub(crate) fn points_written(route: &Route, path: &[Passage]) -> bool
     ensures { result ≡ points_written route.now path.now }
 {
@@ -52,7 +52,7 @@ pub(crate) fn points_written(route: &Route, path: &[Passage]) -> bool
 }
 
 /// Whether each point under `points` is required so and on the path.
-#[tactic(auto, unfolding(crate::specs::inside::Judging::points_right))]
+#[tactic(auto, unfolding(crate::specs::inside::TableTests::points_right))]
 fn points_right(route: &Route, path: &[Passage], needs: &[(PointId, Side)]) -> bool
     ensures { result ≡ points_right route.now path.now needs.now }
 {
@@ -60,7 +60,7 @@ fn points_right(route: &Route, path: &[Passage], needs: &[(PointId, Side)]) -> b
 }
 
 /// Whether each point under `flank` is required so and off the path.
-#[tactic(auto, unfolding(crate::specs::inside::Judging::flank_right))]
+#[tactic(auto, unfolding(crate::specs::inside::TableTests::flank_right))]
 fn flank_right(route: &Route, path: &[Passage], needs: &[(PointId, Side)]) -> bool
     ensures { result ≡ flank_right route.now path.now needs.now }
 {
@@ -75,7 +75,7 @@ pub(crate) fn written_right(route: &Route, path: &[Passage], needs: &[(PointId, 
 }
 
 /// Whether each required point off the path is written under `flank`.
-#[tactic(auto, unfolding(crate::specs::inside::Judging::flank_written))]
+#[tactic(auto, unfolding(crate::specs::inside::TableTests::flank_written))]
 pub(crate) fn flank_written(route: &Route, path: &[Passage], needs: &[(PointId, Side)]) -> bool
     ensures { result ≡ flank_written route.now path.now needs.now }
 {

@@ -12,7 +12,7 @@ use Rattle.ixl_state.specs.ixl_rules.declared.phase.Phase.{Phase}
 use Rattle.ixl_state.specs.ixl_rules.declared.phase.Phase.TheVariants as phase
 use Rattle.ixl_state.specs.ixl_table.Locks.{IsKeptRoute}
 use Rattle.ixl_state.specs.State.{AtRoute, Goes, StateView}
-use Rattle.ixl.specs.inside.Resting.{AllRest, rests}
+use Rattle.ixl.specs.inside.RoutesAtRest.{AllRest, rests}
 use Rattle.ixl.proofs.Going.{goes_next, goes_nowhere}
 use Rattle.ixl.proofs.Rules.{along_still, repeated_still}
 

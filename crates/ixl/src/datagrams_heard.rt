@@ -2,7 +2,7 @@
 
 ghost use Rattle.std.specs.Prelude.{◌≡◌};
 ghost use Rattle.ixl_state.specs.rasta_core.Outbox.{HasRoomFor};
-ghost use Rattle.ixl_state.specs.rasta_pdu.Reading.{reading};
+ghost use Rattle.ixl_state.specs.rasta_pdu.PduRead.{reading};
 ghost use Rattle.ixl_state.specs.ixl_rules.Step.{Datagram, given, verdict_of};
 ghost use Rattle.ixl_state.specs.State.{AllAt, Goes};
 

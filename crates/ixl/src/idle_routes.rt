@@ -2,7 +2,7 @@
 
 ghost use Rattle.std.specs.Prelude.{◌≡◌, ◌<◌, length, IsTrue};
 ghost use Rattle.ixl_state.specs.State.{AtRoute};
-ghost use Rattle.ixl.specs.inside.Resting.{AllRest, rests};
+ghost use Rattle.ixl.specs.inside.RoutesAtRest.{AllRest, rests};
 
 use ixl_state::State;
 use ixl_state::ixl_rules::Phase;

@@ -4,7 +4,7 @@ use Rattle.std.specs.Prelude.{Result, Ok, Err}
 use Rattle.sci_telegram.specs.Telegrams.{writing}
 use Rattle.sci_telegram.specs.declared.message.Message.{Message}
 use Rattle.rasta_core.specs.Calls.{answer_to_send, closing_by}
-use Rattle.rasta_core.specs.Sending.{closing, entered, is_told, silent, telling}
+use Rattle.rasta_core.specs.PdusHandedOut.{closing, entered, is_told, silent, telling}
 use Rattle.rasta_core.specs.State.{LinkState, is_open, is_up}
 use Rattle.rasta_core.specs.fault.SendFault.{SendFault}
 use Rattle.rasta_core.specs.fault.SendFault.TheVariants.{NotUp, WindowFull}
@@ -17,7 +17,7 @@ use Rattle.ixl_client.specs.ClientSoFar.{Closes, ClientSoFar, Sends, calling}
 use Rattle.ixl_client.specs.Step.{acting_all, at_stage, commanding, fallen, is_refused_by_window, message_of, posting, stage_after_command, telegram_to}
 use Rattle.ixl_client.specs.declared.command.Command.{Command}
 use Rattle.ixl_client.specs.declared.stage.Stage.TheVariants as stage
-use Rattle.ixl_client.specs.Closing.{ClosesForWindow, ClosesWith, SendsAlone, telegram_of}
+use Rattle.ixl_client.specs.LinkClosed.{ClosesForWindow, ClosesWith, SendsAlone, telegram_of}
 
 closing_closes : (why : Reason) (link : LinkState) → is_open (closing why link).link.phase ≡ false
 unfolding closing telling

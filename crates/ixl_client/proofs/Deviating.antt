@@ -5,7 +5,7 @@ use Rattle.std.specs.Str.{bytes_eq}
 use Rattle.std.proofs.lemmas.Bool.{false≢true, eqb-true}
 use Rattle.std.proofs.lemmas.Slice.Eq.{bytes_eq-Decides}
 use Rattle.sci_telegram.specs.Messages.{protocol_of}
-use Rattle.sci_telegram.specs.Reading.{reading}
+use Rattle.sci_telegram.specs.TelegramRead.{reading}
 use Rattle.sci_telegram.specs.declared.fault.SciFault.{SciFault}
 use Rattle.sci_telegram.specs.declared.message.Agreement.{Agreement}
 use Rattle.sci_telegram.specs.declared.message.Agreement.TheVariants.{Match, NoMatch}
@@ -24,8 +24,8 @@ use Rattle.ixl_client.specs.Step.{acted_on, acting, meaning_of_item, following, 
 use Rattle.ixl_client.specs.declared.indication.ObjectState.{ObjectState}
 use Rattle.ixl_client.specs.declared.stage.Stage.{Stage}
 use Rattle.ixl_client.specs.declared.stage.Stage.TheVariants as stage
-use Rattle.ixl_client.specs.Closing.{ClosesWith, Fate}
-use Rattle.ixl_client.specs.Expecting.{IsExpected, IsExpectedAt, IsForClient, Tells, TellsState, TellsStatus}
+use Rattle.ixl_client.specs.LinkClosed.{ClosesWith, Fate}
+use Rattle.ixl_client.specs.ExpectedTelegrams.{IsExpected, IsExpectedAt, IsForClient, Tells, TellsState, TellsStatus}
 use Rattle.ixl_client.proofs.Closing.{closes_with}
 use Rattle.ixl_client.proofs.Picking.{both, either, picked}
 

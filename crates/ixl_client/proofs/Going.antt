@@ -1,6 +1,6 @@
 -- One part of a step after another.
 use Rattle.std.specs.Prelude.{◌&&◌}
-use Rattle.sci_telegram.specs.Reading.{reading}
+use Rattle.sci_telegram.specs.TelegramRead.{reading}
 use Rattle.sci_telegram.specs.declared.message.Initialisation.TheVariants.{InitialisationRequest, VersionCheck}
 use Rattle.rasta_core.specs.State.{is_up}
 use Rattle.ixl_client.specs.declared.meaning.Meaning.{Meaning}

@@ -6,7 +6,7 @@ use Rattle.rasta_core.specs.Calls.{opening, ticking}
 use Rattle.rasta_core.specs.Clock.{deadline, open_state, settled, state_at}
 use Rattle.rasta_core.specs.Opening.{beginning, is_down, may_open, requesting}
 use Rattle.rasta_core.specs.Parameters.{connection_limit, heartbeat_interval, quiet_time, time_limit}
-use Rattle.rasta_core.specs.Sending.{Step, beating, entered, limited, sending, silent, telling}
+use Rattle.rasta_core.specs.PdusHandedOut.{Step, beating, entered, limited, sending, silent, telling}
 use Rattle.rasta_core.specs.State.{LinkState, is_client, is_open, is_up}
 use Rattle.rasta_core.specs.identity.Identity.{Identity}
 use Rattle.rasta_core.specs.phase.Phase.{Phase}
@@ -15,7 +15,7 @@ use Rattle.rasta_core.specs.phase.State.TheVariants as state
 use Rattle.rasta_core.specs.reason.Reason.TheVariants as reason
 use Rattle.ixl_client.specs.ClientSoFar.{ClientSoFar, calling}
 use Rattle.ixl_client.specs.Step.{ticking as client_ticking}
-use Rattle.ixl_client.specs.Opening.{AsksWhereDown, IsNotDown}
+use Rattle.ixl_client.specs.LinkOpened.{AsksWhereDown, IsNotDown}
 use Rattle.ixl_client.proofs.Picking.{either, picked_other}
 use Rattle.ixl_client.proofs.Closing.{closed_not_up, fallen_link}
 

@@ -4,7 +4,7 @@ use Rattle.std.specs.Prelude.{◌&&◌, ◌==◌, length, map, Option, Some, Non
 use Rattle.std.specs.Str.{bytes_eq}
 use Rattle.std.proofs.lemmas.Bool.{true≢false, false≢true}
 use Rattle.std.proofs.lemmas.List.{append-nil}
-use Rattle.sci_telegram.specs.Reading.{reading}
+use Rattle.sci_telegram.specs.TelegramRead.{reading}
 use Rattle.sci_telegram.specs.Telegrams.{writing}
 use Rattle.sci_telegram.specs.declared.fault.SciFault.{SciFault}
 use Rattle.sci_telegram.specs.declared.message.Agreement.{Agreement}
@@ -27,8 +27,8 @@ use Rattle.ixl_client.specs.declared.indication.ObjectState.{ObjectState}
 use Rattle.ixl_client.specs.declared.stage.Stage.{Stage}
 use Rattle.ixl_client.specs.declared.stage.Stage.TheVariants as stage
 use Rattle.ixl_client.proofs.Picking.{both, either, picked}
-use Rattle.ixl_client.specs.Closing.{telegram_of}
-use Rattle.ixl_client.specs.Saying.{KeepsWhatWasSaid, SaysCommand, SaysInOrder, SaysNothing, item_of, items_said, items_sent, said_by}
+use Rattle.ixl_client.specs.LinkClosed.{telegram_of}
+use Rattle.ixl_client.specs.ItemsSaid.{KeepsWhatWasSaid, SaysCommand, SaysInOrder, SaysNothing, item_of, items_said, items_sent, said_by}
 
 -- what is said at a stage, as items
 abbrev pub said_at : PeerState → Stage → List (List ℕ)

@@ -2,14 +2,14 @@
 use Rattle.std.proofs.Common.{inl, inr, ◌≡◌, ◌⊎◌, ℕ, Bool, true, false, not, if◌then◌else◌, List, [], ◌∷◌, refl, ap, sym, ◌∙◌, subst}
 use Rattle.std.specs.Prelude.{◌&&◌, is_ok, nat_le}
 use Rattle.std.proofs.lemmas.Bool.{true≢false}
-use Rattle.sci_telegram.specs.Reading.{reading}
+use Rattle.sci_telegram.specs.TelegramRead.{reading}
 use Rattle.sci_telegram.specs.Telegrams.{writing}
 use Rattle.sci_telegram.specs.declared.message.Message.{Message}
 use Rattle.sci_telegram.specs.declared.message.Initialisation.TheVariants.{VersionCheck}
 use Rattle.rasta_core.specs.State.{LinkState, is_client, is_open, is_up}
 use Rattle.rasta_core.specs.Clock.{deadline, settled}
 use Rattle.rasta_core.specs.Parameters.{connection_limit}
-use Rattle.rasta_core.specs.Sending.{Step, beating, closing, entered, giving, is_told, limited, sending, silent, telling}
+use Rattle.rasta_core.specs.PdusHandedOut.{Step, beating, closing, entered, giving, is_told, limited, sending, silent, telling}
 use Rattle.rasta_core.specs.Opening.{beginning, may_open, requesting}
 use Rattle.rasta_core.specs.Calls.{IsAt, acceptance, answer_to_send, closing_by, created, opening, receiving, sending_item, ticking as beats}
 use Rattle.rasta_core.specs.phase.Phase.{Phase}

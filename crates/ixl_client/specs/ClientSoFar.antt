@@ -4,7 +4,7 @@ use Rattle.rasta_core.specs.Calls.{opening, ticking, closing_by, sending_item, r
 use Rattle.rasta_core.specs.Ends as ends
 use Rattle.rasta_core.specs.Ends.{Call}
 use Rattle.rasta_core.specs.Outbox.{OutboxState, posted}
-use Rattle.rasta_core.specs.Sending.{Step}
+use Rattle.rasta_core.specs.PdusHandedOut.{Step}
 use Rattle.rasta_core.specs.State.{LinkState}
 use Rattle.rasta_core.specs.reason.Reason.{Reason}
 use Rattle.ixl_client.specs.Client.{ClientState}

@@ -4,7 +4,7 @@ pub mod ClientSoFar
 pub mod Step
 pub mod Way
 pub mod Made
-pub mod Closing
-pub mod Expecting
-pub mod Opening
-pub mod Saying
+pub mod LinkClosed
+pub mod ExpectedTelegrams
+pub mod LinkOpened
+pub mod ItemsSaid

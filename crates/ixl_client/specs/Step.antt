@@ -1,6 +1,6 @@
 -- What a client does in a step: with the clock, with a datagram, with a command, on a tick.
 use Rattle.std.specs.Prelude.{ℕ, ◌-◌, length, ◌&&◌, not, Bool, true, false, List, [], ◌∷◌, ◌++◌, Result, Ok, Err, if◌then◌else◌}
-use Rattle.sci_telegram.specs.Reading.{reading}
+use Rattle.sci_telegram.specs.TelegramRead.{reading}
 use Rattle.sci_telegram.specs.Telegrams.{writing}
 use Rattle.sci_telegram.specs.declared.fault.SciFault.{SciFault}
 use Rattle.sci_telegram.specs.declared.message.Initialisation.{Initialisation}

@@ -3,7 +3,7 @@
 ghost use Rattle.std.specs.Prelude.{◌≡◌, ◌≤◌, ◌<◌, ◌+◌, ◌&&◌, List, [], ℕ, length};
 ghost use Rattle.rasta_core.specs.Calls.{MayStep, receiving};
 ghost use Rattle.rasta_core.specs.Outbox.{HasRoomFor};
-ghost use Rattle.sci_telegram.specs.Reading.{reading};
+ghost use Rattle.sci_telegram.specs.TelegramRead.{reading};
 ghost use Rattle.rasta_core.specs.State.{is_up};
 ghost use Rattle.ixl_client.specs.Client.{is_outside};
 ghost use Rattle.ixl_client.specs.ClientSoFar.{Receives, calling};

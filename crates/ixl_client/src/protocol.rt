@@ -1,7 +1,7 @@
 //! Laws over every step of a client.
 
 ghost use Rattle.std.specs.Prelude.{◌≡◌, ℕ, true, List, [], ◌∷◌, ◌++◌, Err};
-ghost use Rattle.sci_telegram.specs.Reading.{reading};
+ghost use Rattle.sci_telegram.specs.TelegramRead.{reading};
 ghost use Rattle.rasta_core.specs.Calls.{answer_to_send};
 ghost use Rattle.rasta_core.specs.State.{is_client};
 ghost use Rattle.rasta_core.specs.fault.SendFault.TheVariants.{WindowFull};
@@ -9,10 +9,10 @@ ghost use Rattle.ixl_client.specs.Client.{ClientState};
 ghost use Rattle.ixl_client.specs.ClientSoFar.{ClientSoFar};
 ghost use Rattle.ixl_client.specs.Step.{acting, clocked, commanding, hearing, ticking};
 ghost use Rattle.ixl_client.specs.declared.command.Command.{Command};
-ghost use Rattle.ixl_client.specs.Closing.{ClosesForWindow, Fate, SendsAlone, telegram_of};
-ghost use Rattle.ixl_client.specs.Expecting.{IsExpected};
-ghost use Rattle.ixl_client.specs.Opening.{AsksWhereDown, IsNotDown};
-ghost use Rattle.ixl_client.specs.Saying.{SaysCommand, SaysInOrder, SaysNothing, KeepsWhatWasSaid};
+ghost use Rattle.ixl_client.specs.LinkClosed.{ClosesForWindow, Fate, SendsAlone, telegram_of};
+ghost use Rattle.ixl_client.specs.ExpectedTelegrams.{IsExpected};
+ghost use Rattle.ixl_client.specs.LinkOpened.{AsksWhereDown, IsNotDown};
+ghost use Rattle.ixl_client.specs.ItemsSaid.{SaysCommand, SaysInOrder, SaysNothing, KeepsWhatWasSaid};
 
 /// A telegram that the window of the link refuses closes the link with reason 5, and the client is outside. No other send
 /// closes it.

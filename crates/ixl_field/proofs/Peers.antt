@@ -5,7 +5,7 @@ use Rattle.std.specs.List.{All, position, position_or_len}
 use Rattle.std.proofs.lemmas.Bool.{ltb-true}
 use Rattle.std.proofs.lemmas.List.Elements.{All-nil, All-cons, All-append}
 use Rattle.std.proofs.lemmas.Option.{same_Some}
-use Rattle.ixl_rules.specs.sci_telegram.Reading.{reading}
+use Rattle.ixl_rules.specs.sci_telegram.TelegramRead.{reading}
 use Rattle.ixl_rules.specs.sci_telegram.declared.fault.SciFault.{SciFault}
 use Rattle.ixl_rules.specs.sci_telegram.declared.telegram.Telegram.{Telegram}
 use Rattle.ixl_rules.specs.ixl_client.Meaning.{place_of}

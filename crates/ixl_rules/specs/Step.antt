@@ -4,7 +4,7 @@ use Rattle.std.specs.Prelude.{ℕ, zero, suc, ◌==◌, ◌&&◌, ◌||◌, not,
 use Rattle.std.specs.FinSet.{contains, insert, remove}
 use Rattle.std.specs.List.{position}
 use Rattle.control_table.specs.bit_row.Places.{Places}
-use Rattle.rasta_pdu.specs.Reading.{reading}
+use Rattle.rasta_pdu.specs.PduRead.{reading}
 use Rattle.rasta_pdu.specs.declared.fault.PduFault.{PduFault}
 use Rattle.rasta_pdu.specs.declared.key.Key.{Key}
 use Rattle.rasta_pdu.specs.declared.pdu.Pdu.{Pdu}

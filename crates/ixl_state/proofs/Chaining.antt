@@ -8,7 +8,7 @@ use Rattle.ixl_rules.specs.Table.{Row, Table}
 use Rattle.ixl_table.specs.Locks.{IsKeptRoute}
 use Rattle.ixl_table.specs.Table.{SitedTable}
 use Rattle.ixl_state.specs.State.{AllAt, Goes, StateView, route_changed}
-use Rattle.ixl_state.specs.inside.Hearing.{Passes, Remains}
+use Rattle.ixl_state.specs.inside.DetectorHeard.{Passes, Remains}
 
 abbrev pub part_at : IxlState → OutboxState → List (Node × LinkCall) → List (Node × List ℕ) → StepSoFar
 part_at ixl box calls acted = record { ixl = ixl; outbox = box; calls = calls; acted = acted }

@@ -22,7 +22,7 @@ use Rattle.ixl_field.specs.declared.node.Node.TheVariants as nodes
 use Rattle.ixl_state.specs.State.{AllAt, Goes, StateView}
 use Rattle.ixl_field.specs.Nodes.{AreHeardBy}
 use Rattle.ixl_table.specs.Table.{SitedTable}
-use Rattle.ixl_state.specs.inside.Hearing.{Passes, told_since}
+use Rattle.ixl_state.specs.inside.DetectorHeard.{Passes, told_since}
 use Rattle.ixl_state.specs.State.{heard_from}
 use Rattle.std.proofs.lemmas.Option.{slice_get_within}
 use Rattle.ixl_state.proofs.Lists.{get-below}

@@ -7,7 +7,7 @@ ghost use Rattle.ixl_rules.specs.StepSoFar.{along};
 ghost use Rattle.ixl_rules.specs.Step.{client_at, client_of, detector_hearing, looking, looking_by, node_hearing, node_of, told_before, told_now, verdict_at};
 ghost use Rattle.ixl_field.specs.Field.{IsThere, node_at};
 ghost use Rattle.ixl_state.specs.State.{AllAt, Goes, field_of, heard_from};
-ghost use Rattle.ixl_state.specs.inside.Hearing.{Passes, told_since};
+ghost use Rattle.ixl_state.specs.inside.DetectorHeard.{Passes, told_since};
 
 use crate::state::State;
 use ixl_field::{Node, is_told_occupied};

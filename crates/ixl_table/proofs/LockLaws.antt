@@ -13,7 +13,7 @@ use Rattle.ixl_rules.specs.layout.declared.ids.PointId.{PointId}
 use Rattle.ixl_rules.specs.layout.declared.ids.RouteId.{RouteId}
 use Rattle.ixl_rules.specs.layout.declared.ids.SignalId.{SignalId}
 use Rattle.ixl_rules.specs.layout.Entries.{Site, RouteEntry}
-use Rattle.ixl_rules.specs.control_table.Freeing.{Awaits}
+use Rattle.ixl_rules.specs.control_table.AwaitedSections.{Awaits}
 use Rattle.ixl_rules.specs.control_table.Table.{AreSections, LeadsOver, Lists, RouteRequires, SameEntry}
 use Rattle.route_lock.specs.Locks.{Blocks, Clashes, Holds, HoldsAgainst, IsSet, LockState, LocksSection}
 use Rattle.ixl_rules.specs.Table.{Need, Row, is_same_side}

@@ -18,7 +18,7 @@ use Rattle.ixl_rules.specs.layout.Entries.{DetectorEntry, Site, RouteEntry}
 use Rattle.ixl_rules.specs.layout.Station.{HasPoint, HasSection, IsDetectorOf, IsRouteOf, IsStation}
 use Rattle.ixl_rules.specs.bit_row.Places.{Has, Places}
 use Rattle.ixl_rules.specs.control_table.Topology.{IsRoute}
-use Rattle.ixl_rules.specs.control_table.Freeing.{Awaits}
+use Rattle.ixl_rules.specs.control_table.AwaitedSections.{Awaits}
 use Rattle.ixl_rules.specs.control_table.Table.{AreRequired, AreSections, InLayoutOrder, LeadsOver, RouteRequires}
 use Rattle.ixl_rules.specs.Table.{Need, Row, Table}
 use Rattle.ixl_table.specs.Table.{AreNeededAt, IsHeldUntil, IsReportedIn, IsRowOf, IsRowThere, IsSetOf, IsTableOf, IsTableThere, as_point, as_route, as_section, required}

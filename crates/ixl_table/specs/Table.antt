@@ -8,7 +8,7 @@ use Rattle.ixl_rules.specs.layout.declared.ids.RouteId.{RouteId}
 use Rattle.ixl_rules.specs.layout.Entries.{DetectorEntry, Site, RouteEntry}
 use Rattle.ixl_rules.specs.bit_row.Places.{Has, Places}
 use Rattle.ixl_rules.specs.control_table.Topology.{IsRoute}
-use Rattle.ixl_rules.specs.control_table.Freeing.{Awaits}
+use Rattle.ixl_rules.specs.control_table.AwaitedSections.{Awaits}
 use Rattle.ixl_rules.specs.control_table.Table.{AreRequired, AreSections, HasAspect}
 use Rattle.ixl_rules.specs.Table.{Need, Row, Table}
 pub use Rattle.ixl_rules.specs.Table.{SitedTable}

@@ -11,7 +11,7 @@ use Rattle.ixl_state.specs.ixl_client.Step.{clocked}
 use Rattle.ixl_state.specs.ixl_client.declared.indication.ObjectState.{ObjectState}
 use Rattle.ixl_state.specs.ixl_client.declared.stage.Stage.{Stage}
 use Rattle.ixl_state.specs.ixl_client.declared.stage.Stage.TheVariants as stage
-use Rattle.ixl_state.specs.ixl_client.Saying.{items_said, items_sent}
+use Rattle.ixl_state.specs.ixl_client.ItemsSaid.{items_said, items_sent}
 use Rattle.ixl_state.specs.ixl_rules.Due.{Known}
 use Rattle.ixl_state.specs.ixl_rules.StepSoFar.{StepSoFar, Point, begun_with, empty_outbox, over}
 use Rattle.ixl_state.specs.ixl_rules.Rules.{count, ruled}

@@ -5,7 +5,7 @@ use Rattle.std.proofs.lemmas.Bool.{eq-eqb, eqb-true, false≢true}
 use Rattle.ixl_state.specs.sci_telegram.Telegrams.{writing}
 use Rattle.ixl_state.specs.sci_telegram.declared.message.Aspect.{Aspect}
 use Rattle.ixl_state.specs.sci_telegram.declared.message.Side.{Side}
-use Rattle.ixl_state.specs.rasta_pdu.Reading.{reading}
+use Rattle.ixl_state.specs.rasta_pdu.PduRead.{reading}
 use Rattle.ixl_state.specs.rasta_pdu.declared.key.Key.{Key}
 use Rattle.ixl_state.specs.bit_row.Places.{Places}
 use Rattle.ixl_state.specs.ixl_client.Client.{ClientState, PeerState, is_available, is_outside}
@@ -19,8 +19,8 @@ use Rattle.ixl_state.specs.ixl_client.declared.indication.Indication.{Indication
 use Rattle.ixl_state.specs.ixl_client.declared.indication.ObjectState.{ObjectState}
 use Rattle.ixl_state.specs.ixl_client.declared.stage.Stage.{Stage}
 use Rattle.ixl_state.specs.ixl_client.declared.stage.Stage.TheVariants as stage
-use Rattle.ixl_state.specs.ixl_client.Closing.{telegram_of}
-use Rattle.ixl_state.specs.ixl_client.Saying.{SaysCommand, SaysInOrder, SaysNothing, items_said, items_sent}
+use Rattle.ixl_state.specs.ixl_client.LinkClosed.{telegram_of}
+use Rattle.ixl_state.specs.ixl_client.ItemsSaid.{SaysCommand, SaysInOrder, SaysNothing, items_said, items_sent}
 use Rattle.ixl_state.specs.ixl_rules.Commands.{commanded_by, obeyed, refusal, unmoved_for}
 use Rattle.ixl_state.specs.ixl_rules.StepSoFar.{Detector, Node, StepSoFar, Point, Signal, all_below, giving_aspect, giving_move, noted, over, known_point_after, with_one, with_route, with_known_point}
 use Rattle.ixl_state.specs.ixl_rules.Rules.{count, ruled}

@@ -1,7 +1,7 @@
 -- The input of a step calls links.
 use Rattle.std.proofs.Common.{◌≡◌, inr, ℕ, List, refl, ap, sym, ◌∙◌, subst}
 use Rattle.std.specs.Prelude.{Option, Some, None, is_some, option_map, slice_get}
-use Rattle.ixl_state.specs.rasta_pdu.Reading.{reading}
+use Rattle.ixl_state.specs.rasta_pdu.PduRead.{reading}
 use Rattle.ixl_state.specs.ixl_client.ClientSoFar.{begun}
 use Rattle.ixl_state.specs.ixl_client.Step.{hearing}
 use Rattle.ixl_state.specs.ixl_rules.Commands.{commanded_by, obeyed, refusal, unmoved_for}

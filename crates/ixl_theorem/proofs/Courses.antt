@@ -4,7 +4,7 @@ use Rattle.std.specs.Prelude.{◌&&◌, ◌==◌, Option, Some, None, Result, Ok
 use Rattle.std.specs.Str.{bytes_eq}
 use Rattle.std.proofs.lemmas.Bool.{eqb-true}
 use Rattle.std.proofs.lemmas.List.Quantifiers.{position-Some}
-use Rattle.ixl_state.specs.sci_telegram.Reading.{reading}
+use Rattle.ixl_state.specs.sci_telegram.TelegramRead.{reading}
 use Rattle.ixl_state.specs.sci_telegram.declared.fault.SciFault.{SciFault}
 use Rattle.ixl_state.specs.sci_telegram.declared.message.Initialisation.{Initialisation}
 use Rattle.ixl_state.specs.sci_telegram.declared.message.Initialisation.TheVariants.{InitialisationRequest, StartInitialisation, InitialisationCompleted, VersionCheck, VersionAnswer}

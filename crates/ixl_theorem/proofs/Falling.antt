@@ -11,7 +11,7 @@ use Rattle.ixl_state.specs.ixl_rules.Table.{Row, Table}
 use Rattle.ixl_state.specs.ixl_rules.declared.phase.Phase.{Phase}
 use Rattle.ixl_state.specs.ixl_rules.declared.phase.Phase.TheVariants as phase
 use Rattle.ixl_theorem.specs.Onward.{order_of}
-use Rattle.ixl_theorem.specs.Standing.{IsUnsound}
+use Rattle.ixl_theorem.specs.UnsoundAspect.{IsUnsound}
 use Rattle.ixl_theorem.specs.WholeStep.{Beat, DoesItsTurn, EndAuthority, Follow, FreeCancelled, FreeSection, MovePoint, Passed, Proceed, Turn, TurnTaken, Watch, Withdraw, approach_seen, beaten, for_each, turns_of_rules}
 use Rattle.ixl_theorem.proofs.Learning.{LearnsNothing, learns_kept, nothing_at_first}
 use Rattle.ixl_theorem.proofs.Cancelled.{IsOff, Off, off_kept}

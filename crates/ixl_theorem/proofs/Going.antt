@@ -2,7 +2,7 @@
 use Rattle.std.proofs.Common.{inl, inr, ◌≡◌, ◌⊎◌, ℕ, zero, suc, Bool, true, false, List, [], ◌∷◌, length, arith, refl, ap, sym, ◌∙◌, subst}
 use Rattle.std.specs.Prelude.{◌&&◌, ◌||◌, ◌==◌, not, Option, Some, None, slice_get}
 use Rattle.std.proofs.lemmas.Bool.{false≢true}
-use Rattle.ixl_state.specs.rasta_pdu.Reading.{reading}
+use Rattle.ixl_state.specs.rasta_pdu.PduRead.{reading}
 use Rattle.ixl_state.specs.rasta_pdu.declared.key.Key.{Key}
 use Rattle.ixl_state.specs.ixl_rules.Commands.{commanded_by, locking_refusal, obeyed, refusal, refused_where, request_refusal, set_anew}
 use Rattle.ixl_state.specs.ixl_client.ClientSoFar.{begun}

@@ -7,7 +7,7 @@ use Rattle.std.specs.Ordering.{nat_cmp}
 use Rattle.std.proofs.lemmas.Bool.{eqb-true, false≢true, true≢false}
 use Rattle.std.proofs.lemmas.List.Sums.{AllPass-from_list_all, list_all-from_AllPass}
 use Rattle.ixl_state.specs.release.Passage.{PassageState, passage_after}
-use Rattle.ixl_state.specs.rasta_pdu.Reading.{reading}
+use Rattle.ixl_state.specs.rasta_pdu.PduRead.{reading}
 use Rattle.ixl_state.specs.ixl_client.Client.{ClientState, is_ready}
 use Rattle.ixl_state.specs.ixl_client.Made.{ActsOn, told_by_all}
 use Rattle.ixl_state.specs.ixl_client.ClientSoFar as client

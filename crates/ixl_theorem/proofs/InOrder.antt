@@ -4,11 +4,11 @@ use Rattle.std.specs.Prelude.{map, Option, Some, None, slice_get}
 use Rattle.ixl_state.specs.ixl_rules.StepSoFar.{StepSoFar, along, at_route, over, with_one}
 use Rattle.ixl_state.specs.ixl_rules.State.{RouteState}
 use Rattle.ixl_state.specs.ixl_rules.Table.{Row, Table}
-use Rattle.ixl_theorem.specs.Order.{AtMostOne, InOrderOf, Turn, calls_of}
+use Rattle.ixl_theorem.specs.Order.{AtMostOne, CallsAtLink, InOrderOf, calls_of}
 use Rattle.ixl_theorem.proofs.Picking.{none_is, some_same}
 use Rattle.ixl_theorem.proofs.Ruled.{over_holds}
 
-pub calls_joined : (some more : List Turn) → calls_of (some ++ more) ≡ calls_of some ++ calls_of more
+pub calls_joined : (some more : List CallsAtLink) → calls_of (some ++ more) ≡ calls_of some ++ calls_of more
 calls_joined [] more = refl
 calls_joined (first ∷ others) more =
     ap (λ calls. map (λ call. (first.node, call)) first.calls ++ calls) (calls_joined others more) ∙ sym (append_assoc (map (λ call. (first.node, call)) first.calls) (calls_of others) (calls_of more))
@@ -38,7 +38,7 @@ first_same (suc n) [] is = refl
 first_same zero (first ∷ others) is = absurd (none_is (sym is))
 first_same (suc n) (first ∷ others) is = ap (λ list. first ∷ list) (first_same n others is)
 
-order_next : {A : Type 0} (AreOf : A → List Turn → Type 0) (list : List A) (one : A) (turns own : List Turn) → InOrderOf AreOf list turns → AreOf one own → InOrderOf AreOf (list ++ one ∷ []) (turns ++ own)
+order_next : {A : Type 0} (AreOf : A → List CallsAtLink → Type 0) (list : List A) (one : A) (turns own : List CallsAtLink) → InOrderOf AreOf list turns → AreOf one own → InOrderOf AreOf (list ++ one ∷ []) (turns ++ own)
 order_next AreOf [] one turns own is are = (own, [], ap (λ some. some ++ own) is ∙ sym (append-nil own), are, refl)
 order_next AreOf (first ∷ others) one turns own is are =
     (is.0, is.1 ++ own, ap (λ some. some ++ own) is.2 ∙ append_assoc is.0 is.1 own, is.3, order_next AreOf others one is.1 own is.4 are)
@@ -46,22 +46,22 @@ order_next AreOf (first ∷ others) one turns own is are =
 -- ---- parts of a step
 
 -- from one part of a step to the next, calls are made in turns
-pub record Grows (Are : List Turn → Type 0) (a b : StepSoFar) : Type 0 where
-  pub turns : List Turn
+pub record Grows (Are : List CallsAtLink → Type 0) (a b : StepSoFar) : Type 0 where
+  pub turns : List CallsAtLink
   pub calls : b.calls ≡ a.calls ++ calls_of turns
   pub are : Are turns
 
-pub grows_nothing : (Are : List Turn → Type 0) (a b : StepSoFar) → b.calls ≡ a.calls → Are [] → Grows Are a b
+pub grows_nothing : (Are : List CallsAtLink → Type 0) (a b : StepSoFar) → b.calls ≡ a.calls → Are [] → Grows Are a b
 grows_nothing Are a b same are = record { turns = []; calls = same ∙ sym (append-nil a.calls); are = are }
 
-pub grows_one : (Is : Turn → Type 0) (a b : StepSoFar) (turn : Turn) → b.calls ≡ a.calls ++ map (λ call. (turn.node, call)) turn.calls → Is turn → Grows (AtMostOne Is) a b
+pub grows_one : (Is : CallsAtLink → Type 0) (a b : StepSoFar) (turn : CallsAtLink) → b.calls ≡ a.calls ++ map (λ call. (turn.node, call)) turn.calls → Is turn → Grows (AtMostOne Is) a b
 grows_one Is a b turn calls is = record { turns = turn ∷ []; calls = calls ∙ ap (λ more. a.calls ++ more) (sym (append-nil (map (λ call. (turn.node, call)) turn.calls))); are = inr (turn, refl, is) }
 
 -- a part whose calls are those of another
-pub grows_from : (Are : List Turn → Type 0) (a other b : StepSoFar) → a.calls ≡ other.calls → Grows Are a b → Grows Are other b
+pub grows_from : (Are : List CallsAtLink → Type 0) (a other b : StepSoFar) → a.calls ≡ other.calls → Grows Are a b → Grows Are other b
 grows_from Are a other b same grows = record { turns = grows.turns; calls = grows.calls ∙ ap (λ calls. calls ++ calls_of grows.turns) same; are = grows.are }
 
-pub at_route_grows : (Are : List Turn → Type 0) (table : Table) (number : ℕ) (does : Row → RouteState → StepSoFar → StepSoFar) (part : StepSoFar) (row : Row) → slice_get table.rows number ≡ Some row → Are [] →
+pub at_route_grows : (Are : List CallsAtLink → Type 0) (table : Table) (number : ℕ) (does : Row → RouteState → StepSoFar → StepSoFar) (part : StepSoFar) (row : Row) → slice_get table.rows number ≡ Some row → Are [] →
     ((route : RouteState) → Grows Are part (does row route part)) → Grows Are part (at_route table number does part)
 unfolding at_route
 at_route_grows Are table number does part row is none each = rw is (by_route (slice_get part.ixl.routes number)) where
@@ -74,7 +74,7 @@ unfolding at_route
 at_route_none table number does part none = rw none refl
 
 module _ (Holds : StepSoFar → Type 0) where
-  pub along_grows : {A : Type 0} (does : A → StepSoFar → StepSoFar) (AreOf : A → List Turn → Type 0) → ((a : A) (part : StepSoFar) → Holds part → Holds (does a part)) →
+  pub along_grows : {A : Type 0} (does : A → StepSoFar → StepSoFar) (AreOf : A → List CallsAtLink → Type 0) → ((a : A) (part : StepSoFar) → Holds part → Holds (does a part)) →
       ((a : A) (part : StepSoFar) → Holds part → Grows (AreOf a) part (does a part)) → (list : List A) (part : StepSoFar) → Holds part → Grows (InOrderOf AreOf list) part (along does list part)
   along_grows does AreOf keeps each [] part is = grows_nothing (InOrderOf AreOf []) part part refl refl
   along_grows does AreOf keeps each (first ∷ others) part is =
@@ -87,7 +87,7 @@ module _ (Holds : StepSoFar → Type 0) where
         are = (own.turns, rest.turns, refl, own.are, rest.are);
       }
 
-  module _ (does : ℕ → StepSoFar → StepSoFar) (rows : List Row) (AreOf : Row → List Turn → Type 0) (keeps : (number : ℕ) (part : StepSoFar) → Holds part → Holds (does number part))
+  module _ (does : ℕ → StepSoFar → StepSoFar) (rows : List Row) (AreOf : Row → List CallsAtLink → Type 0) (keeps : (number : ℕ) (part : StepSoFar) → Holds part → Holds (does number part))
       (each : (number : ℕ) (part : StepSoFar) (row : Row) → Holds part → slice_get rows number ≡ Some row → Grows (AreOf row) part (does number part))
       (none : (number : ℕ) (part : StepSoFar) → slice_get rows number ≡ None → (does number part).calls ≡ part.calls) where
     over_first : (n : ℕ) (part : StepSoFar) → Holds part → Grows (InOrderOf AreOf (first_n n rows)) part (over does n part)

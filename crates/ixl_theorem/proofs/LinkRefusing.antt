@@ -5,8 +5,8 @@ use Rattle.std.proofs.lemmas.Bool.{false≢true, leb-true, true≢false}
 use Rattle.ixl_state.specs.rasta_core.Parameters.{connection_limit, quiet_time, sequence_range}
 use Rattle.ixl_state.specs.rasta_core.State.{LinkState, is_client, is_open}
 use Rattle.ixl_state.specs.rasta_core.Clock.{deadline, settled, state_at}
-use Rattle.ixl_state.specs.rasta_core.Sending.{silent, entered, limited, telling}
-use Rattle.ixl_state.specs.rasta_core.Receiving.{Receipt, refusing, violating, ahead, missing, handing, bringing, in_turn, admission, admitting, is_stale, confirms, testing, is_opening_again, connected, answers_request, asking, resting, by_state, hearing, taking}
+use Rattle.ixl_state.specs.rasta_core.PdusHandedOut.{silent, entered, limited, telling}
+use Rattle.ixl_state.specs.rasta_core.Receipt.{Receipt, refusing, violating, ahead, missing, handing, bringing, in_turn, admission, admitting, is_stale, confirms, testing, is_opening_again, connected, answers_request, asking, resting, by_state, hearing, taking}
 use Rattle.ixl_state.specs.rasta_core.Calls.{hearing_bytes, receiving}
 use Rattle.ixl_state.specs.rasta_core.Verdicts.{is_refusal}
 use Rattle.ixl_state.specs.rasta_core.phase.Phase.{Phase}
@@ -20,7 +20,7 @@ use Rattle.ixl_state.specs.rasta_pdu.declared.pdu.Pdu.{Pdu}
 use Rattle.ixl_state.specs.rasta_pdu.declared.fault.PduFault.{PduFault}
 use Rattle.ixl_state.specs.rasta_pdu.declared.body.Body.{Body}
 use Rattle.ixl_state.specs.rasta_pdu.declared.body.Body.TheVariants.{ConnectionRequest, ConnectionResponse, RetransmissionRequest, RetransmissionResponse, DisconnectionRequest, Heartbeat, Data, RetransmittedData}
-use Rattle.ixl_state.specs.rasta_pdu.Reading.{reading}
+use Rattle.ixl_state.specs.rasta_pdu.PduRead.{reading}
 use Rattle.ixl_theorem.proofs.Picking.{either, picked}
 
 abbrev Leaves : LinkState → Receipt → Type 0

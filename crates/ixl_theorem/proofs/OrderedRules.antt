@@ -21,7 +21,7 @@ use Rattle.ixl_state.specs.ixl_rules.State.{IxlState, RouteState}
 use Rattle.ixl_state.specs.ixl_rules.Step.{client_at}
 use Rattle.ixl_state.specs.ixl_rules.Table.{Need, Row, Table}
 use Rattle.ixl_state.specs.ixl_rules.View.{is_signal_ready}
-use Rattle.ixl_theorem.specs.Order.{AreMovesOf, AtMostOne, Gives, InOrderOf, IsProceedOf, IsStopOf, Turn, calls_of}
+use Rattle.ixl_theorem.specs.Order.{AreMovesOf, AtMostOne, CallsAtLink, Gives, InOrderOf, IsProceedOf, IsStopOf, calls_of}
 use Rattle.ixl_theorem.proofs.CalledSteps.{ClientLaws}
 use Rattle.ixl_theorem.proofs.Clients.{known_point_kept, known_signal_kept, point_at, signal_at}
 use Rattle.ixl_theorem.proofs.InOrder.{Grows, along_grows, at_route_grows, at_route_none, grows_from, grows_nothing, grows_one, over_rows}
@@ -111,7 +111,7 @@ module _ (now : ℕ) (laws : ClientLaws now) (links : Node → Option LinkState)
     move_grows_for : (number : ℕ) (need : Need) (part : StepSoFar) → Is part → Grows (AtMostOne (Gives start (Point need.point) (commands.Move need.side))) part (moving_one now table number need part)
     unfolding moving_one
     move_grows_for number need part is = by_row (slice_get table.rows number) refl where
-      Are : List Turn → Type 0
+      Are : List CallsAtLink → Type 0
       Are = AtMostOne (Gives start (Point need.point) (commands.Move need.side))
 
       by_row : (row : Option Row) → slice_get table.rows number ≡ row → Grows Are part (moving_one now table number need part)
@@ -140,9 +140,9 @@ module _ (now : ℕ) (laws : ClientLaws now) (links : Node → Option LinkState)
     -- ---- one rule after another
 
     pub record RulesGrow (a b : StepSoFar) : Type 0 where
-      pub stops : List Turn
-      pub moves : List Turn
-      pub proceeds : List Turn
+      pub stops : List CallsAtLink
+      pub moves : List CallsAtLink
+      pub proceeds : List CallsAtLink
       pub calls : b.calls ≡ a.calls ++ calls_of stops ++ calls_of moves ++ calls_of proceeds
       pub stops_are : InOrderOf (IsStopOf start) table.rows stops
       pub moves_are : InOrderOf (AreMovesOf start) table.rows moves

@@ -1,7 +1,7 @@
 -- A whole step calls links in its order, and hands out what the calls do.
 use Rattle.std.proofs.Common.{◌≡◌, ◌<◌, ◌≤◌, inl, ℕ, zero, suc, List, [], ◌∷◌, ◌++◌, append_assoc, append-nil, arith, length, refl, ap, sym, ◌∙◌}
 use Rattle.std.specs.Prelude.{map, Option, Some, None, option_map, slice_get}
-use Rattle.ixl_state.specs.rasta_pdu.Reading.{reading}
+use Rattle.ixl_state.specs.rasta_pdu.PduRead.{reading}
 use Rattle.ixl_state.specs.rasta_core.Clock.{settled}
 use Rattle.ixl_state.specs.rasta_core.Outbox.{OutboxState}
 use Rattle.ixl_state.specs.rasta_core.State.{LinkState}
@@ -20,7 +20,7 @@ use Rattle.ixl_state.specs.ixl_rules.declared.command.Refusal.{Refusal}
 use Rattle.ixl_state.specs.First.{key_of}
 use Rattle.ixl.specs.Interlocking.{HasStepped, InterlockingState, step_of}
 use Rattle.ixl_theorem.specs.Called.{ReceivesFirst}
-use Rattle.ixl_theorem.specs.Order.{AreOfInput, AtMostOne, CallsInOrder, Turn, beats, beats_of, calls_of, handed_out, links_at}
+use Rattle.ixl_theorem.specs.Order.{AreOfInput, AtMostOne, CallsAtLink, CallsInOrder, beats, beats_of, calls_of, handed_out, links_at}
 use Rattle.ixl_theorem.proofs.Called.{clocked_clients, clocked_link, clocked_peer}
 use Rattle.ixl_theorem.proofs.CalledGiven.{commanded_clients}
 use Rattle.ixl_theorem.proofs.CalledSteps.{ClientLaws}
@@ -52,7 +52,7 @@ module _ (now : ℕ) (laws : ClientLaws now) (links : Node → Option LinkState)
   -- ---- a datagram
 
   module _ (table : Table) (bytes : List ℕ) (first : StepSoFar) (ordered : On first) where
-    abbrev AreFrom : Node → List Turn → Type 0
+    abbrev AreFrom : Node → List CallsAtLink → Type 0
     AreFrom sender = AtMostOne (λ turn. (Some sender ≡ Some turn.node) × ReceivesFirst (Receives bytes ∷ []) turn.calls)
 
     -- the receipt is all that was done
@@ -112,7 +112,7 @@ module _ (now : ℕ) (laws : ClientLaws now) (links : Node → Option LinkState)
     node_heard (Point place) = point_heard place
     node_heard (Detector place) = detector_heard place
 
-    abbrev AreFromSome : Option Node → List Turn → Type 0
+    abbrev AreFromSome : Option Node → List CallsAtLink → Type 0
     AreFromSome sender = AtMostOne (λ turn. (sender ≡ Some turn.node) × ReceivesFirst (Receives bytes ∷ []) turn.calls)
 
     pub datagram_heard : (sender : Option Node) → On (with_one sender (node_hearing now table bytes) first) × Grows (AreFromSome sender) first (with_one sender (node_hearing now table bytes) first)
@@ -313,7 +313,7 @@ module _ (now : ℕ) (laws : ClientLaws now) (old : InterlockingState) where
     ends : OnStep (ticked now input (ruled now old.state.sited.table seen)) × ((ticked now input (ruled now old.state.sited.table seen)).calls ≡ (ruled now old.state.sited.table seen).calls ++ calls_of (beats_of input old.state.ixl))
     ends = tick_ordered now laws (links_at now old.state.ixl) old.state.ixl input (ruled now old.state.sited.table seen) rules.ordered
 
-    joined : (a b c d e : List Turn) → calls_of (a ++ b ++ c ++ d ++ e) ≡ calls_of a ++ calls_of b ++ calls_of c ++ calls_of d ++ calls_of e
+    joined : (a b c d e : List CallsAtLink) → calls_of (a ++ b ++ c ++ d ++ e) ≡ calls_of a ++ calls_of b ++ calls_of c ++ calls_of d ++ calls_of e
     joined a b c d e = calls_joined (a ++ b ++ c ++ d) e ∙ ap (λ list. list ++ calls_of e) (calls_joined (a ++ b ++ c) d
         ∙ ap (λ list. list ++ calls_of d) (calls_joined (a ++ b) c ∙ ap (λ list. list ++ calls_of c) (calls_joined a b)))
 

@@ -2,7 +2,7 @@
 use Rattle.std.proofs.Common.{◌≡◌, ℕ, Bool, true, false, List, refl, ap, sym, ◌∙◌}
 use Rattle.std.specs.Prelude.{Option, Some, None}
 use Rattle.std.proofs.lemmas.Bool.{false≢true}
-use Rattle.ixl_state.specs.rasta_pdu.Reading.{reading}
+use Rattle.ixl_state.specs.rasta_pdu.PduRead.{reading}
 use Rattle.ixl_state.specs.ixl_rules.Commands.{commanded_by, refusal}
 use Rattle.ixl_state.specs.ixl_rules.StepSoFar.{Node, StepSoFar, begun_with, empty_outbox, over, with_one}
 use Rattle.ixl_state.specs.ixl_rules.Rules.{count, ruled}

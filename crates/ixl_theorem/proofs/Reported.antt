@@ -9,7 +9,7 @@ use Rattle.ixl_state.specs.layout.Entries.{Site}
 use Rattle.ixl_state.specs.bit_row.Places.{Places}
 use Rattle.ixl_state.specs.rasta_core.Clock.{settled}
 use Rattle.ixl_state.specs.rasta_core.Outbox.{OutboxState}
-use Rattle.ixl_state.specs.rasta_pdu.Reading.{reading}
+use Rattle.ixl_state.specs.rasta_pdu.PduRead.{reading}
 use Rattle.ixl_state.specs.ixl_client.Client.{ClientState, is_outside}
 use Rattle.ixl_state.specs.ixl_client.Made.{ActsOn, told_by_all}
 use Rattle.ixl_state.specs.ixl_client.ClientSoFar as client

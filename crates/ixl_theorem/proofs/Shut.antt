@@ -4,7 +4,7 @@ use Rattle.std.specs.Prelude.{is_ok}
 use Rattle.std.proofs.lemmas.Bool.{true≢false}
 use Rattle.ixl_state.specs.rasta_core.Calls.{acceptance, answer_to_send, closing_by, sending_item}
 use Rattle.ixl_state.specs.rasta_core.Clock.{settled}
-use Rattle.ixl_state.specs.rasta_core.Sending.{entered, limited, silent}
+use Rattle.ixl_state.specs.rasta_core.PdusHandedOut.{entered, limited, silent}
 use Rattle.ixl_state.specs.rasta_core.State.{LinkState, is_open, is_up}
 use Rattle.ixl_state.specs.rasta_core.phase.Phase.{Phase}
 use Rattle.ixl_state.specs.rasta_core.phase.Phase.TheVariants as phase

@@ -4,8 +4,8 @@ use Rattle.std.specs.Prelude.{map, Some, slice_get}
 use Rattle.ixl_state.specs.sci_telegram.declared.message.Aspect.{Aspect}
 use Rattle.ixl_state.specs.sci_telegram.declared.message.Side.{Side}
 use Rattle.ixl_state.specs.ixl_client.ClientSoFar.{ClientSoFar, LinkCall, begun}
-use Rattle.ixl_state.specs.ixl_client.Closing.{telegram_of}
-use Rattle.ixl_state.specs.ixl_client.Saying.{SaysCommand}
+use Rattle.ixl_state.specs.ixl_client.LinkClosed.{telegram_of}
+use Rattle.ixl_state.specs.ixl_client.ItemsSaid.{SaysCommand}
 use Rattle.ixl_state.specs.ixl_client.Step.{commanding}
 use Rattle.ixl_state.specs.ixl_client.declared.command.Command.{Command}
 use Rattle.ixl_state.specs.ixl_client.declared.command.Command.TheVariants as commands

@@ -7,7 +7,7 @@ use Rattle.ixl_state.specs.rasta_core.identity.Identity.{Identity}
 use Rattle.ixl_state.specs.ixl_client.ClientSoFar as client
 use Rattle.ixl_state.specs.ixl_client.ClientSoFar.{begun}
 use Rattle.ixl_state.specs.ixl_client.Step.{ticking}
-use Rattle.ixl_state.specs.ixl_client.Opening.{IsNotDown}
+use Rattle.ixl_state.specs.ixl_client.LinkOpened.{IsNotDown}
 use Rattle.ixl_state.specs.ixl_rules.StepSoFar.{Detector, StepSoFar, Point, Signal, detector_after, known_signal_after, noted, over, known_point_after, with_detector, with_known_signal, with_one, with_known_point}
 use Rattle.ixl_state.specs.ixl_rules.State.{KnownDetectorState, KnownSignalState, KnownPointState, changed}
 use Rattle.ixl_state.specs.ixl_rules.Step.{Tick, detector_ticking, known_signal_ticking, stepped, known_point_ticking, ticked}

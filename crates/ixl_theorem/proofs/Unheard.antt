@@ -3,13 +3,13 @@ use Rattle.std.proofs.Common.{◌≡◌, ℕ, zero, suc, Bool, true, false, if�
 use Rattle.std.specs.Prelude.{map, not, Option, Some, None, Result, Ok, Err, slice_get}
 use Rattle.std.proofs.lemmas.Bool.{false≢true}
 use Rattle.std.specs.FinSet.{empty}
-use Rattle.ixl_state.specs.rasta_pdu.Reading.{reading}
+use Rattle.ixl_state.specs.rasta_pdu.PduRead.{reading}
 use Rattle.ixl_state.specs.rasta_pdu.declared.fault.PduFault.{PduFault}
 use Rattle.ixl_state.specs.rasta_pdu.declared.pdu.Pdu.{Pdu}
 use Rattle.ixl_state.specs.rasta_core.Calls.{receiving}
 use Rattle.ixl_state.specs.rasta_core.Clock.{settled}
 use Rattle.ixl_state.specs.rasta_core.Outbox.{OutboxState, posted}
-use Rattle.ixl_state.specs.rasta_core.Receiving.{Receipt, refusing}
+use Rattle.ixl_state.specs.rasta_core.Receipt.{Receipt, refusing}
 use Rattle.ixl_state.specs.rasta_core.State.{is_up}
 use Rattle.ixl_state.specs.rasta_core.Verdicts.{is_refusal}
 use Rattle.ixl_state.specs.rasta_core.verdict.Verdict.{Verdict}

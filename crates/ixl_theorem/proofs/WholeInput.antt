@@ -1,7 +1,7 @@
 -- Behind the clock and the input what is kept still fits the table.
 use Rattle.std.proofs.Common.{◌≡◌, ℕ, Bool, true, false, List, refl}
 use Rattle.std.specs.Prelude.{Option, Some, None, slice_get}
-use Rattle.ixl_state.specs.rasta_pdu.Reading.{reading}
+use Rattle.ixl_state.specs.rasta_pdu.PduRead.{reading}
 use Rattle.ixl_state.specs.rasta_pdu.declared.key.Key.{Key}
 use Rattle.ixl_state.specs.release.Passage.{PassageState, after_look}
 use Rattle.ixl_state.specs.ixl_client.ClientSoFar.{begun}

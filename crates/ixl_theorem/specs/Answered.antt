@@ -12,7 +12,7 @@ use Rattle.ixl_state.specs.ixl_client.declared.indication.Indication.{Indication
 use Rattle.ixl_state.specs.ixl_client.declared.indication.ObjectState.{ObjectState}
 use Rattle.ixl_state.specs.ixl_client.declared.stage.Stage.{Stage}
 use Rattle.ixl_state.specs.ixl_client.declared.stage.Stage.TheVariants as stage
-use Rattle.ixl_state.specs.ixl_client.Saying.{items_said, items_sent}
+use Rattle.ixl_state.specs.ixl_client.ItemsSaid.{items_said, items_sent}
 use Rattle.ixl_state.specs.ixl_rules.StepSoFar.{Point}
 use Rattle.ixl_state.specs.ixl_rules.State.{KnownPointState}
 use Rattle.ixl_state.specs.ixl_rules.Step.{Input, side_of}

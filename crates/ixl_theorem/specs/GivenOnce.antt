@@ -3,7 +3,7 @@ use Rattle.std.specs.Prelude.{◌≡◌, ◌<◌, ℕ, List, [], ◌∷◌, ◌+
 use Rattle.ixl_state.specs.sci_telegram.Telegrams.{writing}
 use Rattle.ixl_state.specs.ixl_client.Client.{ClientState}
 use Rattle.ixl_state.specs.ixl_client.ClientSoFar.{LinkCall}
-use Rattle.ixl_state.specs.ixl_client.Saying.{items_sent}
+use Rattle.ixl_state.specs.ixl_client.ItemsSaid.{items_sent}
 use Rattle.ixl_state.specs.ixl_client.Step.{message_of, telegram_to}
 use Rattle.ixl_state.specs.ixl_client.declared.command.Command.{Command}
 use Rattle.ixl_state.specs.ixl_rules.Due.{IsRouteOf, MoveDue, ProceedDue, StopDue}

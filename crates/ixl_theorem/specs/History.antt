@@ -5,7 +5,7 @@ use Rattle.std.specs.Prelude.{◌≡◌, ◌==◌, ◌↔◌, ℕ, suc, Bool, tr
 use Rattle.std.specs.FinSet.{contains}
 use Rattle.std.specs.List.{Contains}
 use Rattle.ixl_state.specs.bit_row.Places.{Places}
-use Rattle.ixl_state.specs.rasta_pdu.Reading.{reading}
+use Rattle.ixl_state.specs.rasta_pdu.PduRead.{reading}
 use Rattle.ixl_state.specs.ixl_client.Client.{ClientState, is_ready}
 use Rattle.ixl_state.specs.ixl_client.Made.{told_by_all}
 use Rattle.ixl_state.specs.ixl_client.declared.indication.Indication.{Indication}

@@ -10,5 +10,5 @@ pub mod Onward
 pub mod Order
 pub mod Refused
 pub mod Reported
-pub mod Standing
+pub mod UnsoundAspect
 pub mod WholeStep

@@ -2,7 +2,7 @@
 use Rattle.std.specs.Prelude.{◌≡◌, ℕ, true, slice_get, Some}
 use Rattle.ixl_state.specs.rasta_core.State.{is_client}
 use Rattle.ixl_state.specs.ixl_client.Client.{ClientState}
-use Rattle.ixl_state.specs.ixl_client.Opening.{IsNotDown}
+use Rattle.ixl_state.specs.ixl_client.LinkOpened.{IsNotDown}
 use Rattle.ixl_state.specs.ixl_rules.State.{KnownDetectorState, IxlState, KnownSignalState, KnownPointState}
 
 -- the link of a client, which opens it, isn't down

@@ -3,7 +3,7 @@
 ghost use Rattle.std.specs.Prelude.{◌≡◌, ◌+◌, ◌<◌, ◌↔◌, ℕ, [], false, true, length, List, None, Err, Some, slice_get};
 ghost use Rattle.std.specs.FinSet.{contains};
 ghost use Rattle.std.specs.List.{Contains};
-ghost use Rattle.ixl_state.specs.rasta_pdu.Reading.{reading};
+ghost use Rattle.ixl_state.specs.rasta_pdu.PduRead.{reading};
 ghost use Rattle.ixl_state.specs.rasta_pdu.declared.key.Key.{Key};
 ghost use Rattle.ixl_state.specs.layout.Entries.{Site};
 ghost use Rattle.ixl_state.specs.layout.declared.ids.RouteId.{RouteId};

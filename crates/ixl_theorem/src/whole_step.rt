@@ -13,7 +13,7 @@ ghost use Rattle.ixl_state.specs.sci_telegram.declared.message.Aspect.{Aspect};
 ghost use Rattle.ixl_state.specs.sci_telegram.declared.message.Side.{Side};
 ghost use Rattle.ixl.specs.Interlocking.{HasStepped, InterlockingState};
 ghost use Rattle.ixl_theorem.specs.GivenOnce.{GivesMove, GivesProceed, GivesStop, GivesTelegram, InNone, NoneBehind, OneAfterAnother, ProceedGiven, SetsAnew, StepTaken, telegram_for};
-ghost use Rattle.ixl_theorem.specs.Standing.{IsUnsound};
+ghost use Rattle.ixl_theorem.specs.UnsoundAspect.{IsUnsound};
 ghost use Rattle.ixl_theorem.specs.WholeStep.{EndAuthority, Fits, FreeCancelled, FreeSection, MovePoint, Passed, Proceed, Watch, WholeStep, Withdraw, heard, turns_of_rules};
 
 use ixl_state::ixl_client::initialisations_go_out_in_order;

@@ -10,10 +10,10 @@ use Rattle.layout_text.specs.declared.fault.TableName.{TableName}
 use Rattle.layout_text.specs.declared.fault.TableName.TheVariants as named
 use Rattle.layout.specs.declared.known.Double.TheVariants as double
 use Rattle.layout_text.specs.Written.{LayoutText}
-use Rattle.layout_text.specs.Reading.{◌>>=◌}
+use Rattle.layout_text.specs.FirstFault.{◌>>=◌}
 use Rattle.layout.specs.Known.{same_name, note_key, note_each}
 use Rattle.layout.specs.Doubles.{ground_of, directory_of}
-use Rattle.layout.specs.Resolving.{table_number, entry_named, number_in, number_named}
+use Rattle.layout.specs.NamesResolved.{table_number, entry_named, number_in, number_named}
 use Rattle.layout.proofs.OnceLemmas.{came_from, same_ok, was_false}
 use Rattle.layout.proofs.Steps.{passed}
 

@@ -14,7 +14,7 @@ use Rattle.layout_text.specs.declared.fault.TableName.{TableName}
 use Rattle.layout_text.specs.declared.fault.TableName.TheVariants as named
 use Rattle.layout.specs.declared.known.Double.TheVariants as double
 use Rattle.layout_text.specs.Written.{LayoutText}
-use Rattle.layout_text.specs.Reading.{◌>>=◌}
+use Rattle.layout_text.specs.FirstFault.{◌>>=◌}
 use Rattle.layout.specs.Known.{same_name, note_key, note_each, note_all, note_lists}
 use Rattle.layout.specs.Doubles.{sections_reported, ground_of, directory_of, reported_of}
 use Rattle.layout.specs.Faults.{numbered, all_at, listed, names_written, sections_written}

@@ -12,12 +12,12 @@ use Rattle.layout.specs.declared.known.Double.{Double}
 use Rattle.layout.specs.declared.known.Double.TheVariants as double
 use Rattle.layout.specs.Entries.{Site}
 use Rattle.layout_text.specs.Written.{LayoutText}
-use Rattle.layout_text.specs.Reading.{◌>>=◌, Fails, Gives}
+use Rattle.layout_text.specs.FirstFault.{◌>>=◌, Fails, Gives}
 use Rattle.layout_text.specs.Text.{text_of, document_of}
 use Rattle.layout_text.specs.Limits.{limits_of, all_within}
 use Rattle.layout.specs.Known.{same_name, same_port, double_fault, note_key, note_each, note_all, note_lists}
 use Rattle.layout.specs.Doubles.{same_id, sections_reported, ports_joined, ground_of, directory_of, ids_of, reported_of, joined_of, signalled_of}
-use Rattle.layout.specs.Resolving.{section_reported, site_of, names_of, entries_of, ports_once, layout_of, layout_in}
+use Rattle.layout.specs.NamesResolved.{section_reported, site_of, names_of, entries_of, ports_once, layout_of, layout_in}
 use Rattle.layout.specs.Faults.{numbered, all_at, listed, names_written, ids_written, sections_written, joints_written, signals_written, NoneTwice, IsFirstTwice, IsDoubleName, HasNothingTwice, IsDoubleJoint, written_in, IsFaultOf, IsFirstFault}
 use Rattle.layout.proofs.ReportedOnce.{look-key}
 use Rattle.layout.proofs.OnceLemmas.{came_from, read_as, same_ok, was_false, Apart, key_once, nothing_twice}

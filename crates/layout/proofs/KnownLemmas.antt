@@ -12,7 +12,7 @@ use Rattle.layout.specs.declared.entries.Joint.{Joint}
 use Rattle.layout.specs.declared.port.Port.{Port}
 use Rattle.layout.specs.declared.port.Element.TheVariants.{Track}
 use Rattle.layout_text.specs.declared.entries.End.TheVariants as end
-use Rattle.layout_text.specs.Reading.{◌>>=◌, Fails, each_of}
+use Rattle.layout_text.specs.FirstFault.{◌>>=◌, Fails, each_of}
 use Rattle.layout.specs.contracts.port.PortPartialEq.TheImpl as PortEq
 use Rattle.layout.specs.Known.{same_port, note_key, note_each, note_all, note_lists}
 

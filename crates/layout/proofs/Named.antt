@@ -16,9 +16,9 @@ use Rattle.layout.specs.declared.port.Element.{Element}
 use Rattle.layout_text.specs.declared.entries.End.{End}
 use Rattle.layout_text.specs.declared.entries.End.TheVariants as end
 use Rattle.layout_text.specs.Written.{LayoutText}
-use Rattle.layout_text.specs.Reading.{Read, ◌>>=◌}
+use Rattle.layout_text.specs.FirstFault.{Read, ◌>>=◌}
 use Rattle.layout.specs.Known.{same_name}
-use Rattle.layout.specs.Resolving.{table_number, element_of, exit_of, has_port, number_in, number_named, section_named, signal_named, route_named, side_named, exit_named, element_named, port_named}
+use Rattle.layout.specs.NamesResolved.{table_number, element_of, exit_of, has_port, number_in, number_named, section_named, signal_named, route_named, side_named, exit_named, element_named, port_named}
 use Rattle.layout.specs.Faults.{names_written}
 use Rattle.layout.specs.Unknown.{Use, section_use, point_use, signal_use, route_use, exit_use, table_with, port_use, IsNamed}
 use Rattle.layout.proofs.Tells.{Quiet, quiet-ok, Tells, tells-held, tells-missed, tells-end}

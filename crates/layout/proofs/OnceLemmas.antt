@@ -16,7 +16,7 @@ use Rattle.layout.specs.declared.port.Port.{Port}
 use Rattle.layout.specs.declared.port.Element.{Element}
 use Rattle.layout.specs.declared.port.Element.TheVariants.{Track, Point, Border}
 use Rattle.layout.specs.declared.entries.Joint.{Joint}
-use Rattle.layout_text.specs.Reading.{◌>>=◌, each_of}
+use Rattle.layout_text.specs.FirstFault.{◌>>=◌, each_of}
 use Rattle.layout.specs.Known.{same_name, same_element, same_port, note_key, note_each, note_all, note_lists}
 use Rattle.layout.specs.Doubles.{same_id, ports_joined}
 use Rattle.layout.specs.Once.{Distinct, joined_ports}

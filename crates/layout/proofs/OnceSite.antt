@@ -12,11 +12,11 @@ use Rattle.layout_text.specs.declared.entries.WrittenPoint.{WrittenPoint}
 use Rattle.layout_text.specs.declared.entries.WrittenSignal.{WrittenSignal}
 use Rattle.layout.specs.Entries.{DetectorEntry, RouteEntry, Site}
 use Rattle.layout_text.specs.Written.{DetectorText, RouteText, LayoutText}
-use Rattle.layout_text.specs.Reading.{◌>>=◌, each_of, all_of}
+use Rattle.layout_text.specs.FirstFault.{◌>>=◌, each_of, all_of}
 use Rattle.layout.specs.Known.{same_name, same_port, note_key, note_each}
 use Rattle.layout_text.specs.Limits.{limits_of, all_within}
 use Rattle.layout.specs.Doubles.{ports_joined, same_id, ground_of, directory_of, ids_of, reported_of, joined_of, signalled_of}
-use Rattle.layout.specs.Resolving.{section_named, signal_named, exit_named, port_named, side_named, route_named, track_named, point_named, joint_named, signal_entry, detector_entry, route_entry, section_reported, site_of, names_of, entries_of, ports_once}
+use Rattle.layout.specs.NamesResolved.{section_named, signal_named, exit_named, port_named, side_named, route_named, track_named, point_named, joint_named, signal_entry, detector_entry, route_entry, section_reported, site_of, names_of, entries_of, ports_once}
 use Rattle.layout.specs.Once.{Distinct, all_names, all_ids, joined_ports, Once}
 use Rattle.layout.proofs.OnceLemmas.{came_from, read_as, same_ok, Apart, apart_distinct, key_once, each_once, lists_once, joined-flat, same_name-refl, same_id-refl, same_port-refl, nothing_twice, each_keeps}
 

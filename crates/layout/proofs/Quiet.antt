@@ -9,7 +9,7 @@ use Rattle.layout_text.specs.declared.fault.TableName.{TableName}
 use Rattle.layout_text.specs.declared.fault.TableName.TheVariants as named
 use Rattle.layout.specs.declared.known.Double.TheVariants as double
 use Rattle.layout_text.specs.Written.{LayoutText}
-use Rattle.layout_text.specs.Reading.{Read, ◌>>=◌, each_of}
+use Rattle.layout_text.specs.FirstFault.{Read, ◌>>=◌, each_of}
 use Rattle.layout_text.specs.Limits.{at_most, detector_limit, route_limit, all_within, limits_of}
 use Rattle.layout.specs.Known.{same_name, note_key, note_each, note_all, note_lists}
 use Rattle.layout.specs.Doubles.{same_id, sections_reported, ground_of, directory_of, ids_of, reported_of}

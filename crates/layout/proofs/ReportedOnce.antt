@@ -15,11 +15,11 @@ use Rattle.layout.specs.declared.known.Double.TheVariants as double
 use Rattle.layout.specs.declared.ids.SectionId.{SectionId}
 use Rattle.layout.specs.Entries.{DetectorEntry}
 use Rattle.layout_text.specs.Written.{DetectorText, LayoutText}
-use Rattle.layout_text.specs.Reading.{each_of, all_of}
+use Rattle.layout_text.specs.FirstFault.{each_of, all_of}
 use Rattle.layout.specs.Known.{same_name}
 use Rattle.layout_text.specs.Limits.{all_within}
 use Rattle.layout.specs.Doubles.{sections_reported, reported_of}
-use Rattle.layout.specs.Resolving.{number_named, section_named, detector_entry, section_reported}
+use Rattle.layout.specs.NamesResolved.{number_named, section_named, detector_entry, section_reported}
 use Rattle.layout.specs.Once.{Distinct}
 use Rattle.layout.proofs.OnceLemmas.{came_from, same_ok, Apart, lists_once, nothing_twice}
 use Rattle.layout.proofs.Steps.{passed, each-held}

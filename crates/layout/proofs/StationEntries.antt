@@ -29,8 +29,8 @@ use Rattle.layout_text.specs.declared.entries.WrittenJoint.{WrittenJoint}
 use Rattle.layout_text.specs.declared.entries.WrittenSignal.{WrittenSignal}
 use Rattle.layout.specs.Entries.{DetectorEntry, RouteEntry, Site}
 use Rattle.layout_text.specs.Written.{DetectorText, RouteText, LayoutText}
-use Rattle.layout_text.specs.Reading.{all_of}
-use Rattle.layout.specs.Resolving.{element_of, exit_of, has_port, entry_named, number_named, section_named, signal_named, route_named, side_named, exit_named, element_named, port_named, track_named, point_named, joint_named, signal_entry, detector_entry, route_entry}
+use Rattle.layout_text.specs.FirstFault.{all_of}
+use Rattle.layout.specs.NamesResolved.{element_of, exit_of, has_port, entry_named, number_named, section_named, signal_named, route_named, side_named, exit_named, element_named, port_named, track_named, point_named, joint_named, signal_entry, detector_entry, route_entry}
 use Rattle.layout.specs.Station.{HasSection, HasPoint, HasSignal, HasRoute, HasElement, HasExit, HasPort, IsRouteOf, IsDetectorOf}
 use Rattle.layout.proofs.OnceLemmas.{came_from, same_ok}
 use Rattle.layout.proofs.Steps.{passed, all-all, all-length}

@@ -11,12 +11,12 @@ use Rattle.layout_text.specs.declared.fault.TableName.{TableName}
 use Rattle.layout_text.specs.declared.fault.TableName.TheVariants as named
 use Rattle.layout.specs.Entries.{Site}
 use Rattle.layout_text.specs.Written.{DetectorText, RouteText, LayoutText}
-use Rattle.layout_text.specs.Reading.{◌>>=◌, each_of}
+use Rattle.layout_text.specs.FirstFault.{◌>>=◌, each_of}
 use Rattle.layout.specs.Known.{same_name}
 use Rattle.layout_text.specs.Text.{text_of}
 use Rattle.layout_text.specs.Limits.{at_most, detector_limit, route_limit, all_within, limits_of}
 use Rattle.layout.specs.Doubles.{sections_reported, directory_of, ids_of, reported_of}
-use Rattle.layout.specs.Resolving.{track_named, point_named, joint_named, signal_entry, detector_entry, route_entry, section_reported, site_of, names_of, entries_of}
+use Rattle.layout.specs.NamesResolved.{track_named, point_named, joint_named, signal_entry, detector_entry, route_entry, section_reported, site_of, names_of, entries_of}
 use Rattle.layout.specs.Station.{HasSection, HasPort, IsNodeId, IsRouteOf, IsDetectorOf, IsWithinLimits, ReportsEachOnce, IsStation}
 use Rattle.layout.proofs.OnceLemmas.{came_from, same_ok, Apart, each_keeps}
 use Rattle.layout.proofs.OnceSite.{names_in, ids_in, names-once, site-keeps, track-keeps, point-keeps, signal-keeps, detector-keeps, route-keeps}

@@ -5,7 +5,7 @@ use Rattle.std.proofs.lemmas.List.Elements.{All-nil, All-cons, All-head, All-tai
 use Rattle.layout_text.specs.declared.fault.LayoutFault.{LayoutFault}
 use Rattle.layout_text.specs.declared.fault.Place.{Place}
 use Rattle.layout_text.specs.declared.fault.TableName.{TableName}
-use Rattle.layout_text.specs.Reading.{◌>>=◌, each_of, all_of}
+use Rattle.layout_text.specs.FirstFault.{◌>>=◌, each_of, all_of}
 use Rattle.layout.proofs.OnceLemmas.{came_from, same_ok}
 
 pub le-decides : (a b : ℕ) → Decides (nat_le a b) (a ≤ b)

@@ -1,7 +1,7 @@
 -- Steps one after the other: where they failed, and what each gave.
 use Rattle.std.proofs.Common.{◌≡◌, ◌⊎◌, Result, Ok, Err, refl, ap, inl, inr, rules}
 use Rattle.layout_text.specs.declared.fault.LayoutFault.{LayoutFault}
-use Rattle.layout_text.specs.Reading.{◌>>=◌}
+use Rattle.layout_text.specs.FirstFault.{◌>>=◌}
 
 pub same_ok : {A : Type 0} (x y : A) → ◌≡◌ {A = Result A LayoutFault} (Ok x) (Ok y) → x ≡ y
 same_ok x y h = search rules

@@ -6,7 +6,7 @@ use Rattle.layout_text.specs.declared.fault.LayoutFault.{LayoutFault}
 use Rattle.layout_text.specs.declared.fault.LayoutFault.TheVariants.{UnknownName}
 use Rattle.layout_text.specs.declared.fault.Place.{Place}
 use Rattle.layout_text.specs.declared.fault.TableName.{TableName}
-use Rattle.layout_text.specs.Reading.{◌>>=◌, each_of, all_of}
+use Rattle.layout_text.specs.FirstFault.{◌>>=◌, each_of, all_of}
 use Rattle.layout.specs.Faults.{numbered, all_at, listed}
 use Rattle.layout.specs.Unknown.{IsFirstNot}
 use Rattle.layout.proofs.Stepwise.{same_err, never, failed_at, came_from}

@@ -14,7 +14,7 @@ use Rattle.layout_text.specs.declared.entries.Station.{Station}
 use Rattle.layout_text.specs.declared.entries.WrittenPoint.{WrittenPoint}
 use Rattle.layout_text.specs.declared.entries.WrittenSignal.{WrittenSignal}
 use Rattle.layout_text.specs.Written.{DetectorText, RouteText, LayoutText}
-use Rattle.layout_text.specs.Reading.{Read}
+use Rattle.layout_text.specs.FirstFault.{Read}
 use Rattle.layout_text.specs.Values.{field_at, text_at, table_at, name_at, id_of, aspect_at}
 use Rattle.layout_text.specs.Text.{key_place, name_field, id_field, port_field, names_field, ports_field, sides_field, names_at, sides_at, list_or_empty, aspect_or_proceed, key_or_none, station_at, track_at, point_at, joint_at, signal_at, detector_at, route_at, items_at, entries_at, station_in, text_of}
 use Rattle.layout.specs.Station.{IsNodeId}

@@ -6,7 +6,7 @@ use Rattle.layout_text.specs.declared.fault.LayoutFault.TheVariants.{Limit}
 use Rattle.layout_text.specs.declared.fault.Place.{Place}
 use Rattle.layout_text.specs.declared.fault.TableName.{TableName}
 use Rattle.layout_text.specs.declared.fault.TableName.TheVariants as named
-use Rattle.layout_text.specs.Reading.{Read, ◌>>=◌, each_of}
+use Rattle.layout_text.specs.FirstFault.{Read, ◌>>=◌, each_of}
 use Rattle.layout_text.specs.Limits.{at_most, all_within, detector_limit, route_limit, limits_of}
 use Rattle.layout_text.specs.Written.{DetectorText, RouteText, LayoutText}
 use Rattle.layout.specs.TooMany.{IsTooMany, EachFits, IsFirstUnfit, DetectorFits, RouteFits, IsFirstTooMany, KeepsLimits}

@@ -8,12 +8,12 @@ use Rattle.layout_text.specs.declared.fault.TableName.{TableName}
 use Rattle.layout_text.specs.declared.fault.TableName.TheVariants as named
 use Rattle.layout.specs.Entries.{Site}
 use Rattle.layout_text.specs.Written.{LayoutText, RouteText}
-use Rattle.layout_text.specs.Reading.{each_of, all_of}
+use Rattle.layout_text.specs.FirstFault.{each_of, all_of}
 use Rattle.layout.specs.Known.{same_name}
 use Rattle.layout_text.specs.Limits.{limits_of, all_within}
 use Rattle.layout.specs.Doubles.{directory_of, ids_of, reported_of}
 use Rattle.layout.specs.Faults.{numbered, all_at, listed, names_written, sections_written}
-use Rattle.layout.specs.Resolving.{section_named, signal_named, route_named, side_named, exit_named, port_named, track_named, point_named, joint_named, signal_entry, detector_entry, route_entry, section_reported, site_of, names_of, entries_of}
+use Rattle.layout.specs.NamesResolved.{section_named, signal_named, route_named, side_named, exit_named, port_named, track_named, point_named, joint_named, signal_entry, detector_entry, route_entry, section_reported, site_of, names_of, entries_of}
 use Rattle.layout.specs.Unknown.{section_use, point_use, signal_use, route_use, exit_use, port_use, used_by_route, names_used, IsNamed, IsReported, IsFirstUnknown, NamesWhatIsThere}
 use Rattle.layout.proofs.Stepwise.{same_ok, never, failed_at, came_from}
 use Rattle.layout.proofs.Tells.{Quiet, quiet-ok, quiet-then, Tells, tells-held, tells-missed, tells-then, tells-end, tells-within, tells-all, tells-each, tells-numbered}

@@ -6,7 +6,7 @@ use Rattle.layout.specs.declared.known.Double.TheVariants as double
 use Rattle.layout.specs.declared.port.Port.{Port}
 use Rattle.layout.specs.declared.entries.Joint.{Joint}
 use Rattle.layout.specs.declared.entries.Signal.{Signal}
-use Rattle.layout_text.specs.Reading.{Read, ◌>>=◌}
+use Rattle.layout_text.specs.FirstFault.{Read, ◌>>=◌}
 use Rattle.layout.specs.Known.{note_key, note_each, note_lists, same_name, same_port}
 use Rattle.layout_text.specs.Written.{DetectorText, LayoutText}
 

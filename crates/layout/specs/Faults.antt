@@ -10,12 +10,12 @@ use Rattle.layout_text.specs.declared.fault.TableName.TheVariants as named
 use Rattle.layout.specs.declared.port.Port.{Port}
 use Rattle.layout.specs.Entries.{Site}
 use Rattle.layout_text.specs.Written.{LayoutText}
-use Rattle.layout_text.specs.Reading.{Read, ◌>>=◌}
+use Rattle.layout_text.specs.FirstFault.{Read, ◌>>=◌}
 use Rattle.layout_text.specs.Text.{text_of, document_of}
 use Rattle.layout_text.specs.Limits.{limits_of}
 use Rattle.layout.specs.Known.{same_name, same_port}
 use Rattle.layout.specs.Doubles.{same_id, sections_reported, ports_joined}
-use Rattle.layout.specs.Resolving.{entries_of}
+use Rattle.layout.specs.NamesResolved.{entries_of}
 
 -- ---- keys with the places of their entries, in reading order
 

@@ -14,7 +14,7 @@ use Rattle.layout.specs.declared.port.Element.{Element}
 use Rattle.layout.specs.declared.port.Element.TheVariants.{Track, Point, Border}
 use Rattle.layout_text.specs.declared.entries.End.{End}
 use Rattle.layout_text.specs.declared.entries.End.TheVariants as end
-use Rattle.layout_text.specs.Reading.{◌>>=◌}
+use Rattle.layout_text.specs.FirstFault.{◌>>=◌}
 
 -- names are the same where their fields in telegrams are
 abbrev pub same_name : List ℕ → List ℕ → Bool

@@ -1,7 +1,7 @@
 pub mod Entries
 pub mod Known
 pub mod Doubles
-pub mod Resolving
+pub mod NamesResolved
 pub mod Once
 pub mod Station
 pub mod Faults

@@ -14,7 +14,7 @@ use Rattle.layout.specs.declared.entries.Exit.{Exit}
 use Rattle.layout.specs.declared.entries.Exit.TheVariants as exit
 use Rattle.layout.specs.Entries.{DetectorEntry, RouteEntry, Site}
 use Rattle.layout.specs.Once.{Distinct, all_ids, all_names}
-use Rattle.layout.specs.Resolving.{has_port}
+use Rattle.layout.specs.NamesResolved.{has_port}
 
 -- An entry that is named is there: its place lies within its list.
 abbrev pub HasSection : Site → SectionId → Type 0

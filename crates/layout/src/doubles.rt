@@ -1,7 +1,7 @@
 //! What stands in a layout once: names, identities, sections of detectors, and ports.
 
 ghost use Rattle.std.specs.Prelude.{[], Ok, map};
-ghost use Rattle.layout_text.specs.Reading.{Gives};
+ghost use Rattle.layout_text.specs.FirstFault.{Gives};
 ghost use Rattle.layout.specs.Known.{note_key, note_each, same_name, same_port};
 ghost use Rattle.layout.specs.Doubles.{same_id, ground_of, directory_of, ids_of, reported_of, joined_of, signalled_of};
 ghost use Rattle.layout_text.specs.declared.fault.TableName.TheVariants as named;

@@ -1,7 +1,7 @@
 //! Keys that stand in a layout once: names, identities, ports.
 
 ghost use Rattle.std.specs.Prelude.{◌≡◌};
-ghost use Rattle.layout_text.specs.Reading.{Gives};
+ghost use Rattle.layout_text.specs.FirstFault.{Gives};
 ghost use Rattle.layout.specs.Known.{double_fault, note_key, note_each, note_all};
 
 use indexmap::IndexMap;

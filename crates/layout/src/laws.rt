@@ -6,7 +6,7 @@ ghost use Rattle.layout_text.specs.declared.fault.LayoutFault.TheVariants.{Unkno
 ghost use Rattle.layout_text.specs.declared.fault.Place.{Place};
 ghost use Rattle.layout.specs.Entries.{Site};
 ghost use Rattle.layout_text.specs.Limits.{limits_of};
-ghost use Rattle.layout.specs.Resolving.{entries_of};
+ghost use Rattle.layout.specs.NamesResolved.{entries_of};
 ghost use Rattle.layout_text.specs.Written.{LayoutText};
 ghost use Rattle.layout.specs.TooMany.{IsFirstTooMany, KeepsLimits};
 ghost use Rattle.layout.specs.Unknown.{IsFirstUnknown, NamesWhatIsThere};

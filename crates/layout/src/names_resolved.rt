@@ -1,9 +1,9 @@
 //! Which entry each name is.
 
 ghost use Rattle.std.specs.Prelude.{◌≡◌, Ok};
-ghost use Rattle.layout_text.specs.Reading.{Gives, each_of, all_of};
+ghost use Rattle.layout_text.specs.FirstFault.{Gives, each_of, all_of};
 ghost use Rattle.layout_text.specs.declared.fault.TableName.TheVariants as named;
-ghost use Rattle.layout.specs.Resolving.{number_named, element_of, exit_of, element_named, exit_named, port_named, section_named, signal_named, side_named, route_named, track_named, point_named, joint_named, signal_entry, detector_entry, route_entry, has_port, site_of};
+ghost use Rattle.layout.specs.NamesResolved.{number_named, element_of, exit_of, element_named, exit_named, port_named, section_named, signal_named, side_named, route_named, track_named, point_named, joint_named, signal_entry, detector_entry, route_entry, has_port, site_of};
 
 use crate::detector::Detector;
 use crate::entries::{Exit, Joint, Point, Route, Signal, Track};
@@ -33,7 +33,7 @@ fn number(
     }
 }
 
-#[tactic(auto, unfolding(crate::specs::Resolving::section_named))]
+#[tactic(auto, unfolding(crate::specs::NamesResolved::section_named))]
 fn section(
     directory: &IndexMap<Name, Place>,
     name: Name,
@@ -44,7 +44,7 @@ fn section(
     Ok(SectionId(number(directory, TableName::Section, name, place)?))
 }
 
-#[tactic(auto, unfolding(crate::specs::Resolving::signal_named))]
+#[tactic(auto, unfolding(crate::specs::NamesResolved::signal_named))]
 fn signal(
     directory: &IndexMap<Name, Place>,
     name: Name,
@@ -78,7 +78,7 @@ fn exit_of(table: TableName, number: usize) -> Option<Exit>
     }
 }
 
-#[tactic(auto, unfolding(crate::specs::Resolving::element_named))]
+#[tactic(auto, unfolding(crate::specs::NamesResolved::element_named))]
 fn element(
     directory: &IndexMap<Name, Place>,
     name: Name,
@@ -95,7 +95,7 @@ fn element(
     }
 }
 
-#[tactic(auto, unfolding(crate::specs::Resolving::exit_named))]
+#[tactic(auto, unfolding(crate::specs::NamesResolved::exit_named))]
 fn exit(directory: &IndexMap<Name, Place>, name: Name, place: Place) -> Result<Exit, LayoutFault>
     ensures { Gives (λ e. e) result (exit_named directory.now.entries place name) }
 {
@@ -120,7 +120,7 @@ fn has_port(element: Element, end: End) -> bool
     }
 }
 
-#[tactic(auto, unfolding(crate::specs::Resolving::port_named))]
+#[tactic(auto, unfolding(crate::specs::NamesResolved::port_named))]
 fn port(
     directory: &IndexMap<Name, Place>,
     written: PortName,
@@ -141,7 +141,7 @@ fn port(
 struct SectionByName<'a>(&'a IndexMap<Name, Place>);
 
 impl<'a> Step for SectionByName<'a> {
-    ghost use Rattle.layout.specs.Resolving.{section_named};
+    ghost use Rattle.layout.specs.NamesResolved.{section_named};
 
     type From = Name;
 
@@ -149,7 +149,7 @@ impl<'a> Step for SectionByName<'a> {
 
     ghost gives = { λ resolve place from. section_named resolve.0.now.entries place from };
 
-    #[tactic(auto, unfolding(crate::specs::Resolving::section_named))]
+    #[tactic(auto, unfolding(crate::specs::NamesResolved::section_named))]
     fn step(&self, _alloc: Global, place: Place, from: &Name) -> Result<SectionId, LayoutFault> {
         section(self.0, *from, place)
     }
@@ -160,7 +160,7 @@ impl<'a> Step for SectionByName<'a> {
 struct PortByName<'a>(&'a IndexMap<Name, Place>);
 
 impl<'a> Step for PortByName<'a> {
-    ghost use Rattle.layout.specs.Resolving.{port_named};
+    ghost use Rattle.layout.specs.NamesResolved.{port_named};
 
     type From = PortName;
 
@@ -168,7 +168,7 @@ impl<'a> Step for PortByName<'a> {
 
     ghost gives = { λ resolve place from. port_named resolve.0.now.entries place from };
 
-    #[tactic(auto, unfolding(crate::specs::Resolving::port_named))]
+    #[tactic(auto, unfolding(crate::specs::NamesResolved::port_named))]
     fn step(&self, _alloc: Global, place: Place, from: &PortName) -> Result<Port, LayoutFault> {
         port(self.0, *from, place)
     }
@@ -179,7 +179,7 @@ impl<'a> Step for PortByName<'a> {
 struct SideByName<'a>(&'a IndexMap<Name, Place>);
 
 impl<'a> Step for SideByName<'a> {
-    ghost use Rattle.layout.specs.Resolving.{side_named};
+    ghost use Rattle.layout.specs.NamesResolved.{side_named};
 
     type From = (Name, Side);
 
@@ -187,7 +187,7 @@ impl<'a> Step for SideByName<'a> {
 
     ghost gives = { λ resolve place from. side_named resolve.0.now.entries place from };
 
-    #[tactic(auto, unfolding(crate::specs::Resolving::side_named))]
+    #[tactic(auto, unfolding(crate::specs::NamesResolved::side_named))]
     fn step(
         &self,
         _alloc: Global,
@@ -204,7 +204,7 @@ impl<'a> Step for SideByName<'a> {
 struct RouteByName<'a>(&'a IndexMap<Name, Place>);
 
 impl<'a> Step for RouteByName<'a> {
-    ghost use Rattle.layout.specs.Resolving.{route_named};
+    ghost use Rattle.layout.specs.NamesResolved.{route_named};
 
     type From = Name;
 
@@ -212,7 +212,7 @@ impl<'a> Step for RouteByName<'a> {
 
     ghost gives = { λ resolve place from. route_named resolve.0.now.entries place from };
 
-    #[tactic(auto, unfolding(crate::specs::Resolving::route_named))]
+    #[tactic(auto, unfolding(crate::specs::NamesResolved::route_named))]
     fn step(&self, _alloc: Global, place: Place, from: &Name) -> Result<RouteId, LayoutFault> {
         Ok(RouteId(number(self.0, TableName::Route, *from, place)?))
     }
@@ -271,7 +271,7 @@ fn route_list(
 struct TrackEntry<'a>(&'a IndexMap<Name, Place>);
 
 impl<'a> Step for TrackEntry<'a> {
-    ghost use Rattle.layout.specs.Resolving.{track_named};
+    ghost use Rattle.layout.specs.NamesResolved.{track_named};
 
     type From = WrittenTrack;
 
@@ -279,7 +279,7 @@ impl<'a> Step for TrackEntry<'a> {
 
     ghost gives = { λ resolve place from. track_named resolve.0.now.entries place from };
 
-    #[tactic(auto, unfolding(crate::specs::Resolving::track_named))]
+    #[tactic(auto, unfolding(crate::specs::NamesResolved::track_named))]
     fn step(
         &self,
         _alloc: Global,
@@ -299,7 +299,7 @@ impl<'a> Step for TrackEntry<'a> {
 struct PointEntry<'a>(&'a IndexMap<Name, Place>);
 
 impl<'a> Step for PointEntry<'a> {
-    ghost use Rattle.layout.specs.Resolving.{point_named};
+    ghost use Rattle.layout.specs.NamesResolved.{point_named};
 
     type From = WrittenPoint;
 
@@ -307,7 +307,7 @@ impl<'a> Step for PointEntry<'a> {
 
     ghost gives = { λ resolve place from. point_named resolve.0.now.entries place from };
 
-    #[tactic(auto, unfolding(crate::specs::Resolving::point_named))]
+    #[tactic(auto, unfolding(crate::specs::NamesResolved::point_named))]
     fn step(
         &self,
         _alloc: Global,
@@ -328,7 +328,7 @@ impl<'a> Step for PointEntry<'a> {
 struct JointEntry<'a>(&'a IndexMap<Name, Place>);
 
 impl<'a> Step for JointEntry<'a> {
-    ghost use Rattle.layout.specs.Resolving.{joint_named};
+    ghost use Rattle.layout.specs.NamesResolved.{joint_named};
 
     type From = WrittenJoint;
 
@@ -336,7 +336,7 @@ impl<'a> Step for JointEntry<'a> {
 
     ghost gives = { λ resolve place from. joint_named resolve.0.now.entries place from };
 
-    #[tactic(auto, unfolding(crate::specs::Resolving::joint_named))]
+    #[tactic(auto, unfolding(crate::specs::NamesResolved::joint_named))]
     fn step(
         &self,
         _alloc: Global,
@@ -354,7 +354,7 @@ impl<'a> Step for JointEntry<'a> {
 struct SignalEntry<'a>(&'a IndexMap<Name, Place>);
 
 impl<'a> Step for SignalEntry<'a> {
-    ghost use Rattle.layout.specs.Resolving.{signal_entry};
+    ghost use Rattle.layout.specs.NamesResolved.{signal_entry};
 
     type From = WrittenSignal;
 
@@ -362,7 +362,7 @@ impl<'a> Step for SignalEntry<'a> {
 
     ghost gives = { λ resolve place from. signal_entry resolve.0.now.entries place from };
 
-    #[tactic(auto, unfolding(crate::specs::Resolving::signal_entry))]
+    #[tactic(auto, unfolding(crate::specs::NamesResolved::signal_entry))]
     fn step(
         &self,
         _alloc: Global,
@@ -383,7 +383,7 @@ impl<'a> Step for SignalEntry<'a> {
 struct DetectorEntries<'a>(&'a IndexMap<Name, Place>);
 
 impl<'a> Step for DetectorEntries<'a> {
-    ghost use Rattle.layout.specs.Resolving.{detector_entry};
+    ghost use Rattle.layout.specs.NamesResolved.{detector_entry};
 
     type From = WrittenDetector;
 
@@ -391,7 +391,7 @@ impl<'a> Step for DetectorEntries<'a> {
 
     ghost gives = { λ resolve place from. detector_entry resolve.0.now.entries place from };
 
-    #[tactic(auto, unfolding(crate::specs::Resolving::detector_entry))]
+    #[tactic(auto, unfolding(crate::specs::NamesResolved::detector_entry))]
     fn step(
         &self,
         alloc: Global,
@@ -412,7 +412,7 @@ impl<'a> Step for DetectorEntries<'a> {
 struct RouteEntries<'a>(&'a IndexMap<Name, Place>);
 
 impl<'a> Step for RouteEntries<'a> {
-    ghost use Rattle.layout.specs.Resolving.{route_entry};
+    ghost use Rattle.layout.specs.NamesResolved.{route_entry};
 
     type From = WrittenRoute;
 
@@ -420,7 +420,7 @@ impl<'a> Step for RouteEntries<'a> {
 
     ghost gives = { λ resolve place from. route_entry resolve.0.now.entries place from };
 
-    #[tactic(auto, unfolding(crate::specs::Resolving::route_entry))]
+    #[tactic(auto, unfolding(crate::specs::NamesResolved::route_entry))]
     fn step(&self, alloc: Global, place: Place, from: &WrittenRoute) -> Result<Route, LayoutFault> {
         let entry = signal(self.0, from.entry, place)?;
         let exit = exit(self.0, from.exit, place)?;
@@ -523,7 +523,7 @@ fn copied(alloc: Global, names: &[Name]) -> Result<Vec<Name>, LayoutFault>
 }
 
 /// The entries, with their names resolved in reading order.
-#[tactic(auto, unfolding(crate::specs::Resolving::site_of))]
+#[tactic(auto, unfolding(crate::specs::NamesResolved::site_of))]
 pub(crate) fn site(
     alloc: Global,
     directory: &IndexMap<Name, Place>,

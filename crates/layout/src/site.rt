@@ -3,11 +3,11 @@
 ghost use Rattle.std.specs.Prelude.{◌≡◌, IfErr, IfOk};
 ghost use Rattle.layout.specs.Faults.{IsFirstFault};
 ghost use Rattle.toml.specs.View.{table_view};
-ghost use Rattle.layout_text.specs.Reading.{Gives};
+ghost use Rattle.layout_text.specs.FirstFault.{Gives};
 ghost use Rattle.layout_text.specs.Limits.{all_within};
 ghost use Rattle.layout.specs.Once.{Once};
 ghost use Rattle.layout.specs.Station.{IsStation};
-ghost use Rattle.layout.specs.Resolving.{names_of, entries_of, ports_once, layout_of, layout_in, section_reported};
+ghost use Rattle.layout.specs.NamesResolved.{names_of, entries_of, ports_once, layout_of, layout_in, section_reported};
 ghost use Rattle.layout_text.specs.declared.fault.TableName.TheVariants as named;
 
 use crate::detector::Detector;
@@ -82,7 +82,7 @@ impl Model for Layout {
 struct IsReported<'a>(&'a IndexMap<Name, Place>);
 
 impl<'a> Step for IsReported<'a> {
-    ghost use Rattle.layout.specs.Resolving.{section_reported};
+    ghost use Rattle.layout.specs.NamesResolved.{section_reported};
 
     type From = Name;
 
@@ -111,7 +111,7 @@ fn all_reported(
 }
 
 /// All names, of a layout that keeps the limits and in which no name and no identity is used twice.
-#[tactic(auto, unfolding(crate::specs::Resolving::names_of))]
+#[tactic(auto, unfolding(crate::specs::NamesResolved::names_of))]
 fn names_of(alloc: Global, written: &WrittenLayout) -> Result<IndexMap<Name, Place>, LayoutFault>
     ensures { Gives (λ m. m.entries) result (names_of written.now) }
 {
@@ -122,7 +122,7 @@ fn names_of(alloc: Global, written: &WrittenLayout) -> Result<IndexMap<Name, Pla
 }
 
 /// The layout of the entries, of which every name is there and every section reported.
-#[tactic(auto, unfolding(crate::specs::Resolving::entries_of))]
+#[tactic(auto, unfolding(crate::specs::NamesResolved::entries_of))]
 fn entries_of(alloc: Global, written: &WrittenLayout) -> Result<Draft, LayoutFault>
     ensures { Gives (λ d. d) result (entries_of written.now) }
 {
@@ -134,7 +134,7 @@ fn entries_of(alloc: Global, written: &WrittenLayout) -> Result<Draft, LayoutFau
 }
 
 /// Tests that no port is joined twice, and that no two signals stand at one.
-#[tactic(auto, unfolding(crate::specs::Resolving::ports_once))]
+#[tactic(auto, unfolding(crate::specs::NamesResolved::ports_once))]
 fn ports_once(alloc: Global, draft: &Draft) -> Result<(), LayoutFault>
     ensures { Gives (λ u. u) result (ports_once draft.now) }
 {
@@ -144,7 +144,7 @@ fn ports_once(alloc: Global, draft: &Draft) -> Result<(), LayoutFault>
 }
 
 /// The layout that a TOML document is.
-#[tactic(auto, unfolding(crate::specs::Resolving::layout_of), using(crate::proofs::OnceSite::once_of))]
+#[tactic(auto, unfolding(crate::specs::NamesResolved::layout_of), using(crate::proofs::OnceSite::once_of))]
 fn layout_of(alloc: Global, document: &Table) -> Result<Layout, LayoutFault>
     ensures read { Gives (λ l. l) result (layout_of (table_view document.now)) }
     ensures once { IfOk result (λ l. Once l) }
@@ -157,7 +157,7 @@ fn layout_of(alloc: Global, document: &Table) -> Result<Layout, LayoutFault>
 }
 
 /// The layout that a text is.
-#[tactic(auto, unfolding(crate::specs::Resolving::layout_in))]
+#[tactic(auto, unfolding(crate::specs::NamesResolved::layout_in))]
 fn layout_in(alloc: Global, text: &str) -> Result<Layout, LayoutFault>
     ensures read { Gives (λ l. l) result (layout_in text.now) }
     ensures once { IfOk result (λ l. Once l) }

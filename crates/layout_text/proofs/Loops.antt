@@ -5,7 +5,7 @@ use Rattle.layout_text.specs.declared.fault.LayoutFault.{LayoutFault}
 use Rattle.layout_text.specs.declared.fault.LayoutFault.TheVariants.{Toml, MissingKey, WrongKind, UnknownName, DoubleName, DoubleJoint, Limit, OutOfMemory}
 use Rattle.layout_text.specs.declared.fault.Place.{Place}
 use Rattle.layout_text.specs.declared.fault.TableName.{TableName}
-use Rattle.layout_text.specs.Reading.{◌>>=◌, Fails, each_of, all_of}
+use Rattle.layout_text.specs.FirstFault.{◌>>=◌, Fails, each_of, all_of}
 
 -- what was made before, and what is still made
 abbrev pub with_front : {B : Type 0} → List B → Result (List B) LayoutFault → Result (List B) LayoutFault

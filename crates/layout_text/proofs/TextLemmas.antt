@@ -8,7 +8,7 @@ use Rattle.sci_telegram.specs.declared.message.Side.{Side}
 use Rattle.layout_text.specs.declared.fault.LayoutFault.{LayoutFault}
 use Rattle.layout_text.specs.declared.fault.Place.{Place}
 use Rattle.layout_text.specs.declared.fault.TableName.{TableName}
-use Rattle.layout_text.specs.Reading.{◌>>=◌, Fails, each_of, all_of}
+use Rattle.layout_text.specs.FirstFault.{◌>>=◌, Fails, each_of, all_of}
 use Rattle.layout_text.specs.Values.{name_of, side_at}
 use Rattle.layout_text.specs.Text.{sides_of}
 use Rattle.layout_text.proofs.Loops.{with_front, regroup, failed}

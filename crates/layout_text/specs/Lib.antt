@@ -1,4 +1,4 @@
-pub mod Reading
+pub mod FirstFault
 pub mod Values
 pub mod Written
 pub mod Text

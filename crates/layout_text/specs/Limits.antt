@@ -4,7 +4,7 @@ use Rattle.layout_text.specs.declared.fault.LayoutFault.TheVariants.{Limit}
 use Rattle.layout_text.specs.declared.fault.Place.{Place}
 use Rattle.layout_text.specs.declared.fault.TableName.{TableName}
 use Rattle.layout_text.specs.declared.fault.TableName.TheVariants as named
-use Rattle.layout_text.specs.Reading.{Read, ◌>>=◌, each_of}
+use Rattle.layout_text.specs.FirstFault.{Read, ◌>>=◌, each_of}
 use Rattle.layout_text.specs.Written.{DetectorText, RouteText, LayoutText}
 
 abbrev pub at_most : ℕ → TableName → ℕ → Read (Unit {0})

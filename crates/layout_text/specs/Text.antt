@@ -14,7 +14,7 @@ use Rattle.layout_text.specs.declared.entries.WrittenTrack.{WrittenTrack}
 use Rattle.layout_text.specs.declared.entries.WrittenPoint.{WrittenPoint}
 use Rattle.layout_text.specs.declared.entries.WrittenJoint.{WrittenJoint}
 use Rattle.layout_text.specs.declared.entries.WrittenSignal.{WrittenSignal}
-use Rattle.layout_text.specs.Reading.{Read, ◌>>=◌, each_of, all_of}
+use Rattle.layout_text.specs.FirstFault.{Read, ◌>>=◌, each_of, all_of}
 use Rattle.layout_text.specs.Values.{field_at, array_at, table_at, name_of, name_at, id_at, port_at, side_at, aspect_at, key_at}
 use Rattle.layout_text.specs.Written.{DetectorText, RouteText, LayoutText}
 

@@ -17,7 +17,7 @@ use Rattle.sci_telegram.specs.declared.message.Aspect.TheVariants.{Proceed, Slow
 use Rattle.sci_telegram.specs.declared.message.Side.{Side}
 use Rattle.sci_telegram.specs.declared.message.Side.TheVariants.{Left, Right}
 use Rattle.layout_text.specs.declared.entries.PortName.{PortName}
-use Rattle.layout_text.specs.Reading.{Read, ◌>>=◌}
+use Rattle.layout_text.specs.FirstFault.{Read, ◌>>=◌}
 
 -- the value of a field that has to be there
 abbrev pub field_at : List ℕ → Place → Members → Read Data

@@ -3,7 +3,7 @@
 ghost use Rattle.std.specs.Prelude.{◌≡◌, option_map};
 ghost use Rattle.toml.specs.Data.{get_member};
 ghost use Rattle.toml.specs.View.{view, table_view};
-ghost use Rattle.layout_text.specs.Reading.{Gives};
+ghost use Rattle.layout_text.specs.FirstFault.{Gives};
 ghost use Rattle.layout_text.specs.Values.{name_at};
 ghost use Rattle.layout_text.specs.Text.{name_field, id_field, port_field, names_field, ports_field, sides_field, names_at, ports_at, sides_of, sides_at, list_or_empty, aspect_or_proceed, key_or_none, station_at, track_at, point_at, joint_at, signal_at, detector_at, route_at};
 

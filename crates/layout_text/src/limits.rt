@@ -1,7 +1,7 @@
 //! How many entries a station may have.
 
 ghost use Rattle.std.specs.Prelude.{◌<◌};
-ghost use Rattle.layout_text.specs.Reading.{Gives};
+ghost use Rattle.layout_text.specs.FirstFault.{Gives};
 ghost use Rattle.layout_text.specs.Limits.{at_most, all_within, detector_limit, route_limit, limits_of};
 ghost use Rattle.layout_text.specs.declared.fault.TableName.TheVariants as named;
 

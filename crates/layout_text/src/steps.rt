@@ -1,6 +1,6 @@
 //! One step for each entry of a list, up to the first fault.
 
-ghost use Rattle.layout_text.specs.Reading.{Gives, each_of, all_of};
+ghost use Rattle.layout_text.specs.FirstFault.{Gives, each_of, all_of};
 
 use crate::fault::{LayoutFault, Place, TableName};
 use std::alloc::Global;

@@ -3,7 +3,7 @@
 ghost use Rattle.std.specs.Prelude.{codes, map};
 ghost use Rattle.toml.specs.View.{view, table_view};
 ghost use Rattle.toml.specs.Parse.{parse_document};
-ghost use Rattle.layout_text.specs.Reading.{Gives};
+ghost use Rattle.layout_text.specs.FirstFault.{Gives};
 ghost use Rattle.layout_text.specs.Values.{name_at};
 ghost use Rattle.layout_text.specs.Text.{entries_at, items_at, station_in, track_at, point_at, joint_at, signal_at, detector_at, route_at, text_of, document_of};
 ghost use Rattle.layout_text.specs.declared.fault.TableName.TheVariants as named;

@@ -2,7 +2,7 @@
 
 ghost use Rattle.std.specs.Prelude.{◌≡◌, map};
 ghost use Rattle.toml.specs.View.{view, table_view};
-ghost use Rattle.layout_text.specs.Reading.{Gives};
+ghost use Rattle.layout_text.specs.FirstFault.{Gives};
 ghost use Rattle.layout_text.specs.Values.{field_at, text_at, array_at, table_at, name_of, name_at, id_at, end_of, port_of, port_at, side_at, aspect_at, key_of, key_at};
 
 use crate::entries::{End, PortName};

@@ -3,7 +3,7 @@ use Rattle.std.proofs.Common.{◌≡◌, ℕ, ◌+◌, ◌*◌, ◌<◌, ◌≤�
 use Rattle.std.proofs.lemmas.List.{at_drop_more, at_drop_all}
 use Rattle.rasta_core.specs.State.{is_open}
 use Rattle.rasta_core.specs.Outbox.{OutboxState}
-use Rattle.sci_telegram.specs.Reading.{reading}
+use Rattle.sci_telegram.specs.TelegramRead.{reading}
 use Rattle.object_host.specs.Behaviour.{Behaviour}
 use Rattle.object_host.specs.Host.{HostState, HostSoFar}
 use Rattle.object_host.specs.Step.{acting, acting_all}

@@ -2,7 +2,7 @@
 use Rattle.std.proofs.Common.{◌≡◌, ℕ, suc, zero, Bool, true, false, not, ◌&&◌, ◌==◌, if◌then◌else◌, List, [], ◌∷◌, refl, ap, sym, ◌∙◌}
 use Rattle.std.specs.Prelude.{Option, Some, None, Result, Ok, Err, is_ok}
 use Rattle.std.proofs.lemmas.Bool.{true≢false, false≢true}
-use Rattle.sci_telegram.specs.Reading.{reading}
+use Rattle.sci_telegram.specs.TelegramRead.{reading}
 use Rattle.sci_telegram.specs.declared.fault.SciFault.{SciFault}
 use Rattle.sci_telegram.specs.declared.message.Message.{Message}
 use Rattle.sci_telegram.specs.declared.message.Message.TheVariants as message

@@ -4,7 +4,7 @@ use Rattle.std.specs.Prelude.{is_ok}
 use Rattle.std.proofs.lemmas.Bool.{true≢false}
 use Rattle.rasta_core.specs.State.{LinkState, is_open, is_up}
 use Rattle.rasta_core.specs.Clock.{settled}
-use Rattle.rasta_core.specs.Sending.{Step, beating as link_beats, closing, entered, giving, limited, silent as links_silent, telling, then_do as links_then}
+use Rattle.rasta_core.specs.PdusHandedOut.{Step, beating as link_beats, closing, entered, giving, limited, silent as links_silent, telling, then_do as links_then}
 use Rattle.rasta_core.specs.Calls.{acceptance, closing_by, sending_item, ticking}
 use Rattle.rasta_core.specs.phase.Phase.{Phase}
 use Rattle.rasta_core.specs.phase.Phase.TheVariants as phase

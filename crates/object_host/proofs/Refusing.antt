@@ -2,9 +2,9 @@
 use Rattle.std.proofs.Common.{◌≡◌, ℕ, List, ◌++◌, refl, ap, sym, ◌∙◌, subst}
 use Rattle.std.proofs.lemmas.List.{append-nil}
 use Rattle.rasta_core.specs.Clock.{settled}
-use Rattle.rasta_core.specs.Sending.{entered}
+use Rattle.rasta_core.specs.PdusHandedOut.{entered}
 use Rattle.rasta_core.specs.Calls.{receiving}
-use Rattle.rasta_core.specs.Receiving.{Receipt}
+use Rattle.rasta_core.specs.Receipt.{Receipt}
 use Rattle.rasta_core.specs.Verdicts.{refused}
 use Rattle.rasta_core.specs.verdict.Verdict.{Verdict}
 use Rattle.object_host.specs.Behaviour.{Behaviour}

@@ -6,7 +6,7 @@ use Rattle.sci_telegram.specs.declared.telegram.Telegram.{Telegram}
 use Rattle.rasta_pdu.specs.declared.pdu.Pdu.{Pdu}
 use Rattle.rasta_core.specs.State.{LinkState, is_open}
 use Rattle.rasta_core.specs.Clock.{alive_until}
-use Rattle.rasta_core.specs.Sending.{Step}
+use Rattle.rasta_core.specs.PdusHandedOut.{Step}
 use Rattle.rasta_core.specs.reason.Reason.{Reason}
 use Rattle.object_host.specs.Behaviour.{Behaviour}
 use Rattle.object_host.specs.declared.report.Report.{Report}

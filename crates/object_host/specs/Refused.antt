@@ -2,7 +2,7 @@
 use Rattle.std.specs.Prelude.{◌≡◌, ℕ, true, []}
 use Rattle.rasta_core.specs.State.{LinkState}
 use Rattle.rasta_core.specs.Clock.{settled}
-use Rattle.rasta_core.specs.Sending.{entered}
+use Rattle.rasta_core.specs.PdusHandedOut.{entered}
 use Rattle.rasta_core.specs.Calls.{receiving}
 use Rattle.rasta_core.specs.Verdicts.{is_refusal, refused}
 use Rattle.rasta_core.specs.verdict.Verdict.{Verdict}

@@ -3,7 +3,7 @@
 use Rattle.std.specs.Prelude.{ℕ, zero, suc, ◌+◌, ◌==◌, nat_le, ◌&&◌, ◌||◌, not, Bool, true, false, List, [], ◌∷◌, Option, Some, None, Result, Ok, Err, is_ok, if◌then◌else◌}
 use Rattle.std.specs.Str.{bytes_eq}
 use Rattle.sci_telegram.specs.Messages.{protocol_of}
-use Rattle.sci_telegram.specs.Reading.{reading}
+use Rattle.sci_telegram.specs.TelegramRead.{reading}
 use Rattle.sci_telegram.specs.Telegrams.{writing}
 use Rattle.sci_telegram.specs.declared.fault.SciFault.{SciFault}
 use Rattle.sci_telegram.specs.declared.message.Agreement.TheVariants.{NoMatch, Match}
@@ -18,7 +18,7 @@ use Rattle.sci_telegram.specs.declared.telegram.Telegram.{Telegram}
 use Rattle.rasta_core.specs.State.{is_open}
 use Rattle.rasta_core.specs.Clock.{settled}
 use Rattle.rasta_core.specs.Calls.{ticking, closing_by, answer_to_send, sending_item, receiving}
-use Rattle.rasta_core.specs.Receiving.{Receipt}
+use Rattle.rasta_core.specs.Receipt.{Receipt}
 use Rattle.rasta_core.specs.reason.Reason.TheVariants as reason
 use Rattle.object_host.specs.Behaviour.{Behaviour}
 use Rattle.object_host.specs.Meaning.{meaning}

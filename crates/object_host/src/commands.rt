@@ -6,7 +6,7 @@ ghost use Rattle.rasta_core.specs.Outbox.{HasRoomFor};
 ghost use Rattle.object_host.specs.Meaning.{meaning};
 ghost use Rattle.object_host.specs.Step.{acting, acting_all, commanding, following, is_admitted, is_from_peer, is_in_version, is_same_protocol, posting};
 ghost use Rattle.object_host.specs.inside.Performed.{IsPerformed};
-ghost use Rattle.sci_telegram.specs.Reading.{reading};
+ghost use Rattle.sci_telegram.specs.TelegramRead.{reading};
 
 use crate::controller::Controller;
 use crate::host::Host;

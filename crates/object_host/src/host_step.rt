@@ -5,13 +5,13 @@ ghost use Rattle.rasta_core.specs.Calls.{MayStep, IsAt};
 ghost use Rattle.rasta_core.specs.Outbox.{HasRoomFor};
 ghost use Rattle.rasta_core.specs.Calls.{receiving};
 ghost use Rattle.rasta_core.specs.Clock.{settled};
-ghost use Rattle.rasta_core.specs.Sending.{entered};
+ghost use Rattle.rasta_core.specs.PdusHandedOut.{entered};
 ghost use Rattle.rasta_core.specs.Verdicts.{is_refusal, refused};
 ghost use Rattle.object_host.specs.Host.{fallen, risen};
 ghost use Rattle.object_host.specs.Refused.{RefusesRightly};
 ghost use Rattle.object_host.specs.Step.{beating, beginning, ending, given, hearing, host_step, posting};
 ghost use Rattle.object_host.specs.inside.Performed.{IsPerformed};
-ghost use Rattle.sci_telegram.specs.Reading.{reading};
+ghost use Rattle.sci_telegram.specs.TelegramRead.{reading};
 
 use crate::controller::Controller;
 use crate::host::Host;

@@ -2,7 +2,7 @@
 use Rattle.std.proofs.Common.{◌+◌, ◌≡◌, ℕ, Bool, true, false, not, nat_lt, ◌==◌, if◌then◌else◌, List, [], refl, ap, sym, ◌∙◌, subst}
 use Rattle.std.specs.Prelude.{Result, Ok, Err}
 use Rattle.std.proofs.lemmas.Bool.{true≢false}
-use Rattle.rasta_pdu.specs.Reading.{reading}
+use Rattle.rasta_pdu.specs.PduRead.{reading}
 use Rattle.rasta_pdu.specs.declared.body.Body.{Body}
 use Rattle.rasta_pdu.specs.declared.body.Body.TheVariants.{ConnectionRequest, ConnectionResponse, RetransmissionRequest, RetransmissionResponse, DisconnectionRequest, Heartbeat, Data, RetransmittedData}
 use Rattle.rasta_pdu.specs.declared.fault.PduFault.{PduFault}
@@ -10,9 +10,9 @@ use Rattle.rasta_pdu.specs.declared.pdu.Pdu.{Pdu}
 use Rattle.rasta_core.specs.Parameters.{quiet_time}
 use Rattle.rasta_core.specs.State.{LinkState, is_client, is_open}
 use Rattle.rasta_core.specs.Clock.{deadline, settled, state_at}
-use Rattle.rasta_core.specs.Sending.{Step, entered, limited, silent}
+use Rattle.rasta_core.specs.PdusHandedOut.{Step, entered, limited, silent}
 use Rattle.rasta_core.specs.Opening.{granting}
-use Rattle.rasta_core.specs.Receiving.{Receipt, accepting, by_state, hearing, refusing, resting}
+use Rattle.rasta_core.specs.Receipt.{Receipt, accepting, by_state, hearing, refusing, resting}
 use Rattle.rasta_core.specs.Calls.{hearing_bytes, receiving}
 use Rattle.rasta_core.specs.phase.State.TheVariants as state
 use Rattle.rasta_core.specs.verdict.Verdict.{Verdict}

@@ -7,7 +7,7 @@ use Rattle.std.proofs.lemmas.Option.{none-some}
 use Rattle.rasta_core.specs.Parameters.{window_size}
 use Rattle.rasta_core.specs.State.{LinkState, is_open, is_up}
 use Rattle.rasta_core.specs.Calls.{acceptance, answer_to_send, receiving}
-use Rattle.rasta_core.specs.Sending.{Step}
+use Rattle.rasta_core.specs.PdusHandedOut.{Step}
 use Rattle.rasta_core.specs.fault.SendFault.TheVariants as fault
 use Rattle.rasta_core.specs.phase.Phase.{Phase}
 use Rattle.rasta_core.specs.phase.Phase.TheVariants as phase

@@ -10,11 +10,11 @@ use Rattle.rasta_core_run.specs.Run.{Ends, end_of, called}
 use Rattle.rasta_core_run.specs.key.Key.{Key}
 use Rattle.rasta_core_run.specs.pdu_fault.PduFault.{PduFault}
 use Rattle.rasta_core_run.specs.pdu.Pdu.{Pdu}
-use Rattle.rasta_core_run.specs.Reading.{reading}
+use Rattle.rasta_core_run.specs.PduRead.{reading}
 use Rattle.rasta_core_run.specs.SafetyCode.{IsIntact}
 use Rattle.rasta_core_run.specs.Values.{IsPdu}
 use Rattle.rasta_core_run.specs.Each.{Each}
-use Rattle.rasta_core.specs.Standing.{Times, times_of}
+use Rattle.rasta_core.specs.TimedEnds.{Times, times_of}
 use Rattle.rasta_core.specs.Timely.{IsKnown}
 use Rattle.rasta_core_run.specs.Names.{Names, AreNames, identity_of}
 use Rattle.rasta_core.specs.Invariant.{InFlight, Timely}

@@ -3,7 +3,7 @@ use Rattle.std.proofs.Common.{◌≡◌, ℕ, ◌≤◌, length, Bool, true, fal
 use Rattle.std.specs.Prelude.{is_ok}
 use Rattle.rasta_core_run.specs.State.{LinkState, is_client}
 use Rattle.rasta_core_run.specs.Clock.{state_at}
-use Rattle.rasta_core_run.specs.Sending.{Step, entered}
+use Rattle.rasta_core_run.specs.PdusHandedOut.{Step, entered}
 use Rattle.rasta_core_run.specs.Opening.{may_open, is_down}
 use Rattle.rasta_core_run.specs.Calls.{answer_to_send, opens, opening, ticking, closing_by, sending_item}
 use Rattle.rasta_core_run.specs.identity.Identity.{Identity}
@@ -13,10 +13,10 @@ use Rattle.rasta_core_run.specs.reason.Reason.{Reason}
 use Rattle.rasta_core_run.specs.Ends.{Outcome, Ticks, Opens, Closes, Sends, outcome, reading_of, end_after, newer}
 use Rattle.rasta_core_run.specs.Run.{Ends, end_of, called}
 use Rattle.rasta_core.specs.Order.{InOrder}
-use Rattle.rasta_core.specs.Playing.{GoesOn}
+use Rattle.rasta_core.specs.LinkAndFlow.{GoesOn}
 use Rattle.rasta_core.specs.Beginning.{EarlyGoesOn}
 use Rattle.rasta_core_run.specs.Each.{Each}
-use Rattle.rasta_core.specs.Standing.{IsInside, standing}
+use Rattle.rasta_core.specs.TimedEnds.{IsInside, standing}
 use Rattle.rasta_core_run.specs.Names.{Names}
 use Rattle.rasta_core.specs.Invariant.{Timely}
 use Rattle.rasta_core_run.specs.Events.{MayCall}

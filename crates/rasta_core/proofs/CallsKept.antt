@@ -6,7 +6,7 @@ use Rattle.rasta_core_run.specs.identity.Role.TheVariants as role
 use Rattle.rasta_core_run.specs.Ends.{EndState, Outcome, reading_of}
 use Rattle.rasta_core_run.specs.Run.{Ends, end_of}
 use Rattle.rasta_core_run.specs.pdu.Pdu.{Pdu}
-use Rattle.rasta_core.specs.Standing.{Past, Times, IsInside, own_stamp, standing, timed, times_of}
+use Rattle.rasta_core.specs.TimedEnds.{Past, Times, IsInside, own_stamp, standing, timed, times_of}
 use Rattle.rasta_core.specs.Timely.{IsTimed}
 use Rattle.rasta_core_run.specs.Names.{Names, AreNames}
 use Rattle.rasta_core.specs.Invariant.{IsEnd, Timely}

@@ -5,17 +5,17 @@ use Rattle.std.specs.Cmp.Lexicographic.{pointwise}
 use Rattle.rasta_core_run.specs.Parameters.{sequence_range, connection_limit, heartbeat_interval, own_version, window_size}
 use Rattle.rasta_core_run.specs.State.{LinkState, is_open, is_up, is_client}
 use Rattle.rasta_core_run.specs.Clock.{open_state, settled, state_at}
-use Rattle.rasta_core_run.specs.Sending.{Step, silent, header_of, pdu_of, sending, telling, closing, is_told, closed, limited, entered, beating, giving}
+use Rattle.rasta_core_run.specs.PdusHandedOut.{Step, silent, header_of, pdu_of, sending, telling, closing, is_told, closed, limited, entered, beating, giving}
 use Rattle.rasta_core_run.specs.Opening.{own_opening, may_open, requesting, beginning, meeting, judging, granting, joining}
-use Rattle.rasta_core_run.specs.Receiving as hears
-use Rattle.rasta_core_run.specs.Receiving.{Receipt, accepting, refusing, violating, ahead, is_stale, confirms, taking, repeated, repeating, answering, missing, handing, bringing, in_turn, admission, admitting, testing, is_opening_again, connected, answers_request, asking, resting, by_state, hearing}
+use Rattle.rasta_core_run.specs.Receipt as hears
+use Rattle.rasta_core_run.specs.Receipt.{Receipt, accepting, refusing, violating, ahead, is_stale, confirms, taking, repeated, repeating, answering, missing, handing, bringing, in_turn, admission, admitting, testing, is_opening_again, connected, answers_request, asking, resting, by_state, hearing}
 use Rattle.rasta_core_run.specs.Calls.{opening, ticking, closing_by, acceptance, answer_to_send, sending_item, hearing_bytes, receiving}
 use Rattle.rasta_core_run.specs.phase.State.{State}
 use Rattle.rasta_core_run.specs.phase.State.TheVariants as state
 use Rattle.rasta_core_run.specs.reason.Reason.{Reason}
 use Rattle.rasta_core_run.specs.reason.Reason.TheVariants as reason
 use Rattle.rasta_core_run.specs.verdict.Verdict.TheVariants as verdict
-use Rattle.rasta_core_run.specs.Reading.{reading}
+use Rattle.rasta_core_run.specs.PduRead.{reading}
 use Rattle.rasta_core_run.specs.pdu.Pdu.{Pdu}
 use Rattle.rasta_core_run.specs.pdu_fault.PduFault.{PduFault}
 use Rattle.rasta_core_run.specs.body.Opening.{Opening}
@@ -25,7 +25,7 @@ use Rattle.rasta_core_run.specs.window.Unconfirmed.{Unconfirmed}
 use Rattle.rasta_core_run.specs.header.Header.{Header}
 use Rattle.rasta_core_run.specs.Given.{new_items}
 use Rattle.rasta_core.specs.Carried.{carried}
-use Rattle.rasta_core.specs.Playing.{accepted, reads}
+use Rattle.rasta_core.specs.LinkAndFlow.{accepted, reads}
 use Rattle.rasta_core.proofs.OrderTests.{by_test}
 use Rattle.rasta_core.proofs.OrderPhases.{response_violates, request_violates, disconnects, beat_turns, beat_discarded, data_turns, data_discarded, again_turns_up, again_discarded, asking_turns_up, asking_discarded, answer_violates, answer_comes}
 

@@ -3,7 +3,7 @@ use Rattle.std.proofs.Common.{◌≡◌, ℕ, ◌∙◌, ◌+◌, ◌*◌, ◌�
 use Rattle.rasta_core_run.specs.Parameters.{time_limit}
 use Rattle.rasta_core_run.specs.State.{LinkState, is_open, is_asking}
 use Rattle.rasta_core_run.specs.Clock.{settled, deadline}
-use Rattle.rasta_core_run.specs.Sending.{closed}
+use Rattle.rasta_core_run.specs.PdusHandedOut.{closed}
 use Rattle.rasta_core_run.specs.Calls.{created}
 use Rattle.rasta_core_run.specs.identity.Role.{Role}
 use Rattle.rasta_core_run.specs.identity.Role.TheVariants as role
@@ -11,7 +11,7 @@ use Rattle.rasta_core_run.specs.Bag.{without_oldest, is_copy}
 use Rattle.rasta_core_run.specs.Ends.{Sent, EndState, reading_of, end_later, end_restarted}
 use Rattle.rasta_core_run.specs.Run.{Ends, later, lost, restarted}
 use Rattle.rasta_core_run.specs.Each.{Each}
-use Rattle.rasta_core.specs.Standing.{Standing, Inside, Outside, Past, Timed, Times, IsInside, own_stamp, standing, timed, times_of}
+use Rattle.rasta_core.specs.TimedEnds.{Standing, Inside, Outside, Past, Timed, Times, IsInside, own_stamp, standing, timed, times_of}
 use Rattle.rasta_core.specs.Moves.{clock_on, time_on, outside}
 use Rattle.rasta_core.specs.Timely.{IsTimed, AreTimed}
 use Rattle.rasta_core_run.specs.Names.{Names, AreNames}

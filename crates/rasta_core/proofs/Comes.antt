@@ -8,7 +8,7 @@ use Rattle.rasta_core_run.specs.Ends.{Sent, Receives}
 use Rattle.rasta_core_run.specs.Run.{Ends}
 use Rattle.rasta_core.specs.EndFlow.{IsOf}
 use Rattle.rasta_core_run.specs.Each.{Each}
-use Rattle.rasta_core.specs.Standing.{Standing, IsInside, IsOutside, times_of, standing}
+use Rattle.rasta_core.specs.TimedEnds.{Standing, IsInside, IsOutside, times_of, standing}
 use Rattle.rasta_core_run.specs.Names.{partner_of, Names, AreNames, identity_of}
 use Rattle.rasta_core.specs.Timely.{IsKnown}
 use Rattle.rasta_core.specs.Invariant.{InFlight, Timely}
@@ -22,7 +22,7 @@ use Rattle.rasta_core.proofs.Conclusions.{of_datagram}
 use Rattle.rasta_core.specs.Ordered.{IsSpelledIn, IsAlone}
 use Rattle.rasta_core_run.specs.pdu.Pdu.{Pdu}
 use Rattle.rasta_core_run.specs.pdu_fault.PduFault.{PduFault}
-use Rattle.rasta_core_run.specs.Reading.{reading}
+use Rattle.rasta_core_run.specs.PduRead.{reading}
 use Rattle.rasta_core_run.specs.Values.{IsPdu}
 
 -- what a call hands out are PDUs

@@ -4,7 +4,7 @@ use native.Mathlib.Decide.{ℕ_discrete}
 use Rattle.rasta_core_run.specs.Parameters.{quiet_time}
 use Rattle.rasta_core_run.specs.State.{LinkState, is_open, is_up}
 use Rattle.rasta_core_run.specs.Clock.{settled, state_at}
-use Rattle.rasta_core_run.specs.Receiving.{Receipt}
+use Rattle.rasta_core_run.specs.Receipt.{Receipt}
 use Rattle.rasta_core_run.specs.identity.Identity.{Identity}
 use Rattle.rasta_core_run.specs.identity.Role.{Role}
 use Rattle.rasta_core_run.specs.identity.Role.TheVariants as role
@@ -14,9 +14,9 @@ use Rattle.rasta_core_run.specs.Ends.{Sent, Receives, outcome, end_after, is_tak
 use Rattle.rasta_core_run.specs.Run.{Ends, end_of, called}
 use Rattle.rasta_core_run.specs.pdu.Pdu.{Pdu}
 use Rattle.rasta_core_run.specs.pdu_fault.PduFault.{PduFault}
-use Rattle.rasta_core_run.specs.Reading.{reading}
+use Rattle.rasta_core_run.specs.PduRead.{reading}
 use Rattle.rasta_core_run.specs.Each.{Each}
-use Rattle.rasta_core.specs.Standing.{Times, IsInside, IsOutside, HasHeard, own_stamp, closed_at, standing, timed, times_of}
+use Rattle.rasta_core.specs.TimedEnds.{Times, IsInside, IsOutside, HasHeard, own_stamp, closed_at, standing, timed, times_of}
 use Rattle.rasta_core_run.specs.Names.{partner_of, Names, AreNames, name_of, identity_of}
 use Rattle.rasta_core.specs.Timely.{IsKnown, IsAnswering}
 use Rattle.rasta_core_run.specs.Sentences.{IsRequest, freshness, receipt_at, IsIn, IsOut, IsDownNow, IsOpening}

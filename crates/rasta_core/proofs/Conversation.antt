@@ -7,10 +7,10 @@ use Rattle.rasta_core_run.specs.Ends.{Sent, handed_out}
 use Rattle.rasta_core_run.specs.key.Key.{Key}
 use Rattle.rasta_core_run.specs.pdu.Pdu.{Pdu}
 use Rattle.rasta_core_run.specs.Values.{IsPdu}
-use Rattle.rasta_core_run.specs.Reading.{reading}
+use Rattle.rasta_core_run.specs.PduRead.{reading}
 use Rattle.rasta_core_run.specs.Spelling.{writing}
 use Rattle.rasta_core_run.specs.Each.{Each}
-use Rattle.rasta_core.specs.Standing.{Standing, Outside, Past, Times, IsInside, IsOutside, closed_at, at_role}
+use Rattle.rasta_core.specs.TimedEnds.{Standing, Outside, Past, Times, IsInside, IsOutside, closed_at, at_role}
 use Rattle.rasta_core.specs.Moves.{with_timed, sent_on}
 use Rattle.rasta_core.specs.Timely.{AreTimed, IsKnown}
 use Rattle.rasta_core_run.specs.Names.{Names, identity_of}

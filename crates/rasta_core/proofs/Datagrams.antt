@@ -5,7 +5,7 @@ use Rattle.rasta_core_run.specs.Sequence.{stamp}
 use Rattle.rasta_core_run.specs.identity.Role.{Role}
 use Rattle.rasta_core_run.specs.identity.Role.TheVariants as role
 use Rattle.rasta_core_run.specs.pdu.Pdu.{Pdu}
-use Rattle.rasta_core.specs.Standing.{Standing, Inside, Outside, Times, IsInside, IsOutside, HasHeard, heard_stamp, at_role}
+use Rattle.rasta_core.specs.TimedEnds.{Standing, Inside, Outside, Times, IsInside, IsOutside, HasHeard, heard_stamp, at_role}
 use Rattle.rasta_core.specs.Moves.{time_on, sent_on, outside, asking, granting, hearing}
 use Rattle.rasta_core.specs.Timely.{WasReadThen, AreTimed, IsAnswering, IsKnown}
 use Rattle.rasta_core_run.specs.Sentences.{IsRequest}

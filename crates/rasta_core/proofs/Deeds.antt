@@ -4,7 +4,7 @@ use Rattle.rasta_core_run.specs.Parameters.{heartbeat_interval}
 use Rattle.rasta_core_run.specs.Sequence.{stamp}
 use Rattle.rasta_core_run.specs.State.{LinkState, is_open, is_up, is_client}
 use Rattle.rasta_core_run.specs.Clock.{state_at}
-use Rattle.rasta_core_run.specs.Sending.{Step, silent, then_do, sending, telling, closing, beating, giving, entered, header_of, pdu_of}
+use Rattle.rasta_core_run.specs.PdusHandedOut.{Step, silent, then_do, sending, telling, closing, beating, giving, entered, header_of, pdu_of}
 use Rattle.rasta_core_run.specs.Opening.{own_opening, is_down, may_open, beginning, requesting}
 use Rattle.rasta_core_run.specs.Calls.{opens, opening, ticking, closing_by, acceptance, sending_item}
 use Rattle.rasta_core_run.specs.phase.State.{State}
@@ -20,7 +20,7 @@ use Rattle.rasta_core_run.specs.pdu.Pdu.{Pdu}
 use Rattle.rasta_core_run.specs.body.Body.TheVariants.{Heartbeat}
 use Rattle.rasta_core_run.specs.Values.{IsPdu, IsOpening}
 use Rattle.rasta_core_run.specs.Items.{IsItem}
-use Rattle.rasta_core.specs.Standing.{Standing, Inside, IsInside, own_stamp, standing}
+use Rattle.rasta_core.specs.TimedEnds.{Standing, Inside, IsInside, own_stamp, standing}
 use Rattle.rasta_core.specs.Timely.{IsAnswering}
 use Rattle.rasta_core_run.specs.Sentences.{IsRequest}
 use Rattle.rasta_core.proofs.Phases.{up_open, up_heard}

@@ -9,7 +9,7 @@ use Rattle.rasta_core_run.specs.Ends.{Sent, Outcome, end_after, handed_out, newe
 use Rattle.rasta_core_run.specs.Run.{Ends}
 use Rattle.rasta_core_run.specs.pdu.Pdu.{Pdu}
 use Rattle.rasta_core_run.specs.Each.{Each}
-use Rattle.rasta_core.specs.Standing.{Standing, Inside, Outside, Past, Times, IsInside, own_stamp, standing, timed, times_of}
+use Rattle.rasta_core.specs.TimedEnds.{Standing, Inside, Outside, Past, Times, IsInside, own_stamp, standing, timed, times_of}
 use Rattle.rasta_core_run.specs.Names.{partner_of, Names, AreNames, name_of, identity_of}
 use Rattle.rasta_core.specs.Timely.{AreTimed, IsKnown, IsAnswering}
 use Rattle.rasta_core.specs.Invariant.{InFlight, Timely}

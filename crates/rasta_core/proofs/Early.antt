@@ -4,14 +4,14 @@ use Rattle.std.proofs.lemmas.List.{length-append, append-nil}
 use Rattle.rasta_core_run.specs.Parameters.{most_sent}
 use Rattle.rasta_core_run.specs.Sequence.{wire}
 use Rattle.rasta_core_run.specs.State.{LinkState, is_asking}
-use Rattle.rasta_core_run.specs.Sending.{Step, silent, header_of, pdu_of, sending, closed, telling, closing, reason_number, is_told}
+use Rattle.rasta_core_run.specs.PdusHandedOut.{Step, silent, header_of, pdu_of, sending, closed, telling, closing, reason_number, is_told}
 use Rattle.rasta_core_run.specs.reason.Reason.{Reason}
 use Rattle.rasta_core_run.specs.pdu.Pdu.{Pdu}
 use Rattle.rasta_core_run.specs.body.Body.{Body}
 use Rattle.rasta_core_run.specs.body.Body.TheVariants.{RetransmissionRequest, RetransmissionResponse, DisconnectionRequest}
 use Rattle.rasta_core.specs.EndFlow.{IsAt, EndFlow, sent}
 use Rattle.rasta_core.specs.Order.{Brings, Carries, IsClosing, IsSent, Counts}
-use Rattle.rasta_core.specs.Playing.{IsInside, Plays, asking, left}
+use Rattle.rasta_core.specs.LinkAndFlow.{IsInside, Plays, asking, left}
 use Rattle.rasta_core.specs.Beginning.{IsEarly, PlaysEarly, asks, gone, EarlyGoesOn}
 use Rattle.rasta_core.proofs.OrderTests.{by_test}
 use Rattle.rasta_core.proofs.Places.{split, within, only_one, begins_before, IsAfter}

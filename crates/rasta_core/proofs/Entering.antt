@@ -5,8 +5,8 @@ use Rattle.std.specs.Cmp.Lexicographic.{pointwise}
 use Rattle.rasta_core_run.specs.Parameters.{heartbeat_interval, own_version, window_size}
 use Rattle.rasta_core_run.specs.State.{LinkState, is_open, is_up}
 use Rattle.rasta_core_run.specs.Opening.{granting, judging, may_open, requesting}
-use Rattle.rasta_core_run.specs.Sending.{Step, silent, then_do, entered, sending, telling, beating, giving, closing}
-use Rattle.rasta_core_run.specs.Receiving.{Receipt, hearing}
+use Rattle.rasta_core_run.specs.PdusHandedOut.{Step, silent, then_do, entered, sending, telling, beating, giving, closing}
+use Rattle.rasta_core_run.specs.Receipt.{Receipt, hearing}
 use Rattle.rasta_core_run.specs.Calls.{opens, opening, ticking, closing_by, acceptance, answer_to_send, sending_item, hearing_bytes, receiving}
 use Rattle.rasta_core_run.specs.phase.Phase.{Phase}
 use Rattle.rasta_core_run.specs.phase.Phase.TheVariants as phase
@@ -21,7 +21,7 @@ use Rattle.rasta_core_run.specs.body.Body.TheVariants.{Heartbeat}
 use Rattle.rasta_core_run.specs.body.Opening.{Opening}
 use Rattle.rasta_core_run.specs.pdu_fault.PduFault.{PduFault}
 use Rattle.rasta_core_run.specs.pdu.Pdu.{Pdu}
-use Rattle.rasta_core_run.specs.Reading.{reading}
+use Rattle.rasta_core_run.specs.PduRead.{reading}
 
 -- ---- nothing
 

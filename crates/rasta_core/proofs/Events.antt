@@ -13,7 +13,7 @@ use Rattle.rasta_core_run.specs.Ends.{Sent, EndState, Call, Ticks, Opens, Closes
 use Rattle.rasta_core_run.specs.Run.{Ends, called, later, lost, restarted}
 use Rattle.rasta_core.specs.Order.{InOrder}
 use Rattle.rasta_core.specs.EndFlow.{EndFlow}
-use Rattle.rasta_core.specs.Playing.{Keeps, Plays, joined, asking, left}
+use Rattle.rasta_core.specs.LinkAndFlow.{Keeps, Plays, joined, asking, left}
 use Rattle.rasta_core.specs.Beginning.{IsEarly, PlaysEarly, asks, gone}
 use Rattle.rasta_core_run.specs.Each.{Each}
 use Rattle.rasta_core_run.specs.Names.{Names, AreNames}

@@ -9,7 +9,7 @@ use Rattle.rasta_core_run.specs.Ends.{EndState, Outcome, reading_of, end_after, 
 use Rattle.rasta_core_run.specs.Run.{Ends, end_of, with_end}
 use Rattle.rasta_core_run.specs.key.Key.{Key}
 use Rattle.rasta_core_run.specs.Each.{Each}
-use Rattle.rasta_core.specs.Standing.{Standing, Inside, Outside, Past, Times, IsInside, IsOutside, closed_at, standing, timed, times_of}
+use Rattle.rasta_core.specs.TimedEnds.{Standing, Inside, Outside, Past, Times, IsInside, IsOutside, closed_at, standing, timed, times_of}
 use Rattle.rasta_core.specs.Timely.{AreTimed}
 use Rattle.rasta_core_run.specs.Names.{Names}
 use Rattle.rasta_core.specs.Invariant.{InFlight, IsEnd, Timely}

@@ -11,7 +11,7 @@ use Rattle.rasta_core.proofs.Conversation.{WrittenIsRead}
 use Rattle.rasta_core.specs.Ordered.{IsSpelledIn}
 use Rattle.rasta_core_run.specs.key.Key.{Key}
 use Rattle.rasta_core_run.specs.pdu.Pdu.{Pdu}
-use Rattle.rasta_core_run.specs.Reading.{reading}
+use Rattle.rasta_core_run.specs.PduRead.{reading}
 use Rattle.rasta_core_run.specs.Spelling.{writing}
 use Rattle.rasta_core_run.specs.Values.{IsPdu}
 

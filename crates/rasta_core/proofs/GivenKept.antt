@@ -10,7 +10,7 @@ use Rattle.rasta_core_run.specs.Ends.{Sent, Outcome, Call, Ticks, Opens, Closes,
 use Rattle.rasta_core_run.specs.Run.{Ends, end_of, called, later, lost, restarted}
 use Rattle.rasta_core.specs.Carried.{carried}
 use Rattle.rasta_core_run.specs.Each.{Each}
-use Rattle.rasta_core.specs.Standing.{standing, times_of}
+use Rattle.rasta_core.specs.TimedEnds.{standing, times_of}
 use Rattle.rasta_core_run.specs.Names.{Names, AreNames}
 use Rattle.rasta_core.specs.Invariant.{InFlight, Timely}
 use Rattle.rasta_core_run.specs.Events.{Event, Calls, Passes, Loses, Restarts, Elsewhere, May, MayCall, happened, run, MayRun, Start, started}
@@ -26,7 +26,7 @@ use Rattle.rasta_core.proofs.Called.{ReadIsIntact, read_is, bytes_do, bytes_brin
 use Rattle.rasta_core.proofs.Finishing.{made_at}
 use Rattle.rasta_core_run.specs.pdu.Pdu.{Pdu}
 use Rattle.rasta_core_run.specs.Items.{IsItem}
-use Rattle.rasta_core_run.specs.Reading.{reading}
+use Rattle.rasta_core_run.specs.PduRead.{reading}
 use Rattle.rasta_core_run.specs.Values.{IsPdu}
 use Rattle.rasta_core_run.specs.identity.Identity.{Identity}
 use Rattle.rasta_core_run.specs.Given.{IsGiven}

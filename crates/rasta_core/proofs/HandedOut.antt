@@ -1,7 +1,7 @@
 -- What an end hands out in a call are PDUs.
 use Rattle.std.proofs.Common.{◌≡◌, ℕ, Bool, false, List, [], subst}
 use Rattle.rasta_core_run.specs.State.{LinkState}
-use Rattle.rasta_core_run.specs.Sending.{Step}
+use Rattle.rasta_core_run.specs.PdusHandedOut.{Step}
 use Rattle.rasta_core_run.specs.Calls.{opens, opening, ticking, closing_by, sending_item}
 use Rattle.rasta_core_run.specs.identity.Role.{Role}
 use Rattle.rasta_core_run.specs.Ends.{Call, Ticks, Opens, Closes, Sends, Receives, outcome, reading_of}
@@ -10,7 +10,7 @@ use Rattle.rasta_core_run.specs.Each.{Each}
 use Rattle.rasta_core_run.specs.Events.{MayCall}
 use Rattle.rasta_core_run.specs.Names.{Names}
 use Rattle.rasta_core_run.specs.Values.{IsPdu}
-use Rattle.rasta_core.specs.Standing.{standing}
+use Rattle.rasta_core.specs.TimedEnds.{standing}
 use Rattle.rasta_core.specs.Invariant.{Timely}
 use Rattle.rasta_core.proofs.CallsKept.{ends_ready, ends_clock}
 use Rattle.rasta_core.proofs.Deeds.{Own, Steps, ticking_does, closing_does, sending_does, opening_does}

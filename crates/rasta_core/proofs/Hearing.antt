@@ -2,9 +2,9 @@
 use Rattle.std.proofs.Common.{◌≡◌, ℕ, inl, inr, ◌∙◌, ◌<◌, Bool, true, false, ◌&&◌, not, List, [], ◌++◌, Result, Ok, Err, ◌==◌, if◌then◌else◌, refl, sym, ap, subst, eqb-true, append-nil}
 use Rattle.rasta_core_run.specs.State.{LinkState, is_open, is_asking, is_client}
 use Rattle.rasta_core_run.specs.Clock.{state_at}
-use Rattle.rasta_core_run.specs.Sending.{Step, silent, sending, telling, closed}
+use Rattle.rasta_core_run.specs.PdusHandedOut.{Step, silent, sending, telling, closed}
 use Rattle.rasta_core_run.specs.Opening.{own_opening, beginning, meeting, granting, joining}
-use Rattle.rasta_core_run.specs.Receiving.{Receipt, refusing, accepting, connected, answers_request, asking, resting, by_state, hearing, up}
+use Rattle.rasta_core_run.specs.Receipt.{Receipt, refusing, accepting, connected, answers_request, asking, resting, by_state, hearing, up}
 use Rattle.rasta_core_run.specs.Calls.{hearing_bytes, receiving}
 use Rattle.rasta_core_run.specs.phase.State.{State}
 use Rattle.rasta_core_run.specs.phase.State.TheVariants as state
@@ -18,9 +18,9 @@ use Rattle.rasta_core_run.specs.pdu_fault.PduFault.{PduFault}
 use Rattle.rasta_core_run.specs.body.Opening.{Opening}
 use Rattle.rasta_core_run.specs.body.Body.{Body}
 use Rattle.rasta_core_run.specs.body.Body.TheVariants.{ConnectionRequest, ConnectionResponse, DisconnectionRequest, Heartbeat}
-use Rattle.rasta_core_run.specs.Reading.{reading}
+use Rattle.rasta_core_run.specs.PduRead.{reading}
 use Rattle.rasta_core_run.specs.Values.{IsPdu}
-use Rattle.rasta_core.specs.Standing.{Inside, Outside, own_stamp, standing}
+use Rattle.rasta_core.specs.TimedEnds.{Inside, Outside, own_stamp, standing}
 use Rattle.rasta_core_run.specs.Sentences.{IsRequest}
 use Rattle.rasta_core.proofs.Phases.{up_open, up_heard}
 use Rattle.rasta_core.specs.Invariant.{IsSound}

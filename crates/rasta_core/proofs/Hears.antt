@@ -6,10 +6,10 @@ use Rattle.rasta_core_run.specs.Parameters.{sequence_range, connection_limit, ow
 use Rattle.rasta_core_run.specs.Sequence.{wire}
 use Rattle.rasta_core_run.specs.State.{LinkState, is_open, is_up, is_asking, is_client}
 use Rattle.rasta_core_run.specs.Clock.{open_state, deadline, state_at}
-use Rattle.rasta_core_run.specs.Sending.{Step, silent, sending, telling, closed}
+use Rattle.rasta_core_run.specs.PdusHandedOut.{Step, silent, sending, telling, closed}
 use Rattle.rasta_core_run.specs.Opening.{meeting, judging, joining}
-use Rattle.rasta_core_run.specs.Receiving as receiving
-use Rattle.rasta_core_run.specs.Receiving.{Receipt, accepting, refusing, violating, ahead, is_stale, confirms, taking, admission, admitting, testing, is_opening_again, connected, answers_request, asking, by_state, hearing}
+use Rattle.rasta_core_run.specs.Receipt as receiving
+use Rattle.rasta_core_run.specs.Receipt.{Receipt, accepting, refusing, violating, ahead, is_stale, confirms, taking, admission, admitting, testing, is_opening_again, connected, answers_request, asking, by_state, hearing}
 use Rattle.rasta_core_run.specs.phase.State.{State}
 use Rattle.rasta_core_run.specs.phase.State.TheVariants as state
 use Rattle.rasta_core_run.specs.reason.Reason.TheVariants as reason
@@ -20,7 +20,7 @@ use Rattle.rasta_core_run.specs.body.Body.{Body}
 use Rattle.rasta_core_run.specs.body.Body.TheVariants.{ConnectionRequest, ConnectionResponse, RetransmissionRequest, RetransmissionResponse, DisconnectionRequest, Heartbeat, Data, RetransmittedData}
 use Rattle.rasta_core.specs.EndFlow.{IsAt, EndFlow, sent}
 use Rattle.rasta_core.specs.Order.{Carries, IsRequest, IsResponse, IsClosing, BeginsByResponse, OpensOn, IsUnanswered, InOrder}
-use Rattle.rasta_core.specs.Playing.{reads, HasJoined, IsStillAsking, Plays, GoesOn}
+use Rattle.rasta_core.specs.LinkAndFlow.{reads, HasJoined, IsStillAsking, Plays, GoesOn}
 use Rattle.rasta_core.proofs.OrderTests.{by_test}
 use Rattle.rasta_core.proofs.Numbers.{wire_0}
 use Rattle.rasta_core.proofs.OrderSteps.{stays, told_on, beat_on}

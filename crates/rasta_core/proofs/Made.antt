@@ -4,7 +4,7 @@ use Rattle.rasta_core_run.specs.Outbox.{spellings}
 use Rattle.rasta_core_run.specs.identity.Role.TheVariants as role
 use Rattle.rasta_core_run.specs.Ends.{Sent, Outcome, end_after, newer, kept}
 use Rattle.rasta_core_run.specs.Run.{Ends}
-use Rattle.rasta_core.specs.Playing.{GoesOn}
+use Rattle.rasta_core.specs.LinkAndFlow.{GoesOn}
 use Rattle.rasta_core.specs.Beginning.{EarlyGoesOn, Asks, Grants}
 use Rattle.rasta_core_run.specs.Each.{Each}
 use Rattle.rasta_core_run.specs.Names.{Names}

@@ -10,7 +10,7 @@ use Rattle.rasta_core_run.specs.Run.{Ends}
 use Rattle.rasta_core_run.specs.key.Key.{Key}
 use Rattle.rasta_core_run.specs.pdu.Pdu.{Pdu}
 use Rattle.rasta_core_run.specs.Each.{Each}
-use Rattle.rasta_core.specs.Standing.{Inside, Past, Times, IsInside, own_stamp, standing, timed, times_of}
+use Rattle.rasta_core.specs.TimedEnds.{Inside, Past, Times, IsInside, own_stamp, standing, timed, times_of}
 use Rattle.rasta_core.specs.Moves.{asking}
 use Rattle.rasta_core.specs.Timely.{AreTimed}
 use Rattle.rasta_core_run.specs.Sentences.{IsRequest}

@@ -6,8 +6,8 @@ use Rattle.std.proofs.lemmas.List.{append-nil}
 use Rattle.rasta_core_run.specs.Parameters.{connection_limit, heartbeat_interval, window_size}
 use Rattle.rasta_core_run.specs.State.{LinkState, is_open, is_up, is_asking}
 use Rattle.rasta_core_run.specs.Clock.{deadline, settled}
-use Rattle.rasta_core_run.specs.Sending.{Step, silent, then_do, sending, telling, closing, limited, entered, beating, giving}
-use Rattle.rasta_core_run.specs.Receiving.{Receipt, hearing, refusing}
+use Rattle.rasta_core_run.specs.PdusHandedOut.{Step, silent, then_do, sending, telling, closing, limited, entered, beating, giving}
+use Rattle.rasta_core_run.specs.Receipt.{Receipt, hearing, refusing}
 use Rattle.rasta_core_run.specs.Calls.{ticking, closing_by, acceptance, answer_to_send, sending_item, hearing_bytes, receiving}
 use Rattle.rasta_core_run.specs.identity.Identity.{Identity}
 use Rattle.rasta_core_run.specs.reason.Reason.{Reason}
@@ -17,10 +17,10 @@ use Rattle.rasta_core_run.specs.verdict.Verdict.{Verdict}
 use Rattle.rasta_core_run.specs.verdict.Verdict.TheVariants as verdict
 use Rattle.rasta_core_run.specs.pdu.Pdu.{Pdu}
 use Rattle.rasta_core_run.specs.pdu_fault.PduFault.{PduFault}
-use Rattle.rasta_core_run.specs.Reading.{reading}
+use Rattle.rasta_core_run.specs.PduRead.{reading}
 use Rattle.rasta_core.specs.EndFlow.{IsOf, EndFlow}
 use Rattle.rasta_core.specs.Order.{InOrder}
-use Rattle.rasta_core.specs.Playing.{HasJoined, IsStillAsking, Plays, GoesOn}
+use Rattle.rasta_core.specs.LinkAndFlow.{HasJoined, IsStillAsking, Plays, GoesOn}
 use Rattle.rasta_core.proofs.OrderTests.{by_test}
 use Rattle.rasta_core.proofs.OrderSteps.{stays, closed_on, beat_on, gave_on}
 use Rattle.rasta_core.proofs.Enters.{Enters, outside, inside, enters}

@@ -6,12 +6,12 @@ use Rattle.rasta_core_run.specs.Parameters.{sequence_range, stops_at_greatest}
 use Rattle.rasta_core_run.specs.Sequence.{wire, before, distance}
 use Rattle.rasta_core_run.specs.State.{LinkState, is_open, is_up, is_asking}
 use Rattle.rasta_core_run.specs.Clock.{open_state}
-use Rattle.rasta_core_run.specs.Receiving.{ahead, behind, taking, still_waiting}
+use Rattle.rasta_core_run.specs.Receipt.{ahead, behind, taking, still_waiting}
 use Rattle.rasta_core_run.specs.pdu.Pdu.{Pdu}
 use Rattle.rasta_core_run.specs.phase.Phase.{Phase}
 use Rattle.rasta_core.specs.EndFlow.{IsAt, EndFlow, sent}
 use Rattle.rasta_core.specs.Order.{IsSent, InOrder}
-use Rattle.rasta_core.specs.Playing.{reads, HaveCome, HasJoined}
+use Rattle.rasta_core.specs.LinkAndFlow.{reads, HaveCome, HasJoined}
 use Rattle.rasta_core.proofs.Numbers.{ahead_is, behind_is, next_is}
 use Rattle.rasta_core.proofs.Places.{within}
 use Rattle.rasta_core.proofs.OrderTaking.{taker_held}

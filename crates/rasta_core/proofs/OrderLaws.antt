@@ -3,9 +3,9 @@ use Rattle.std.proofs.Common.{◌≡◌, ◌≤◌, ◌<◌, ◌^◌, ℕ, true,
 use Rattle.std.specs.Prelude.{◌==◌, ◌&&◌}
 use Rattle.rasta_core_run.specs.State.{LinkState, confirmed_items, is_client, is_open}
 use Rattle.rasta_core_run.specs.Clock.{settled}
-use Rattle.rasta_core_run.specs.Sending.{entered, silent}
+use Rattle.rasta_core_run.specs.PdusHandedOut.{entered, silent}
 use Rattle.rasta_core_run.specs.Opening.{granting, own_opening}
-use Rattle.rasta_core_run.specs.Receiving.{hearing, refusing}
+use Rattle.rasta_core_run.specs.Receipt.{hearing, refusing}
 use Rattle.rasta_core_run.specs.Calls.{answer_to_send, closing_by, created, opening, opens, receiving, sending_item, ticking}
 use Rattle.rasta_core_run.specs.identity.Identity.{Identity}
 use Rattle.rasta_core_run.specs.reason.Reason.{Reason}
@@ -14,7 +14,7 @@ use Rattle.rasta_core.specs.Beginning.{Asks, EarlyGoesOn, Grants, HearsOutside, 
 use Rattle.rasta_core.specs.Carried.{carried}
 use Rattle.rasta_core.specs.Order.{InOrder, Way}
 use Rattle.rasta_core.specs.EndFlow.{IsAt, IsOf, EndFlow}
-use Rattle.rasta_core.specs.Playing.{accepted, Plays, ReceiptGoesOn, StepGoesOn}
+use Rattle.rasta_core.specs.LinkAndFlow.{accepted, Plays, ReceiptGoesOn, StepGoesOn}
 use Rattle.rasta_core_run.specs.identity.Role.{Role}
 use Rattle.rasta_core_run.specs.Ends.{Sent, is_taken}
 use Rattle.rasta_core_run.specs.Run.{Ends}
@@ -23,7 +23,7 @@ use Rattle.rasta_core_run.specs.Names.{AreNames, Names}
 use Rattle.rasta_core.specs.Invariant.{Timely}
 use Rattle.rasta_core_run.specs.Sentences.{IsOpening, IsOut, receipt_at}
 use Rattle.rasta_core.proofs.Conversation.{WrittenIsRead}
-use Rattle.rasta_core_run.specs.Reading.{reading}
+use Rattle.rasta_core_run.specs.PduRead.{reading}
 use Rattle.rasta_core_run.specs.pdu_fault.PduFault.{PduFault}
 use Rattle.rasta_core_run.specs.pdu.Pdu.{Pdu}
 

@@ -2,8 +2,8 @@
 use Rattle.std.proofs.Common.{◌≡◌, ℕ, Bool, true, false, List, refl, sym, subst, arith, ◌⊎◌, inl, inr}
 use Rattle.rasta_core_run.specs.State.{LinkState, is_open, is_up}
 use Rattle.rasta_core_run.specs.Clock.{open_state}
-use Rattle.rasta_core_run.specs.Sending.{silent, closed}
-use Rattle.rasta_core_run.specs.Receiving.{Receipt, accepting, refusing, violating, taking, admission, admitting, in_turn}
+use Rattle.rasta_core_run.specs.PdusHandedOut.{silent, closed}
+use Rattle.rasta_core_run.specs.Receipt.{Receipt, accepting, refusing, violating, taking, admission, admitting, in_turn}
 use Rattle.rasta_core_run.specs.phase.State.TheVariants as state
 use Rattle.rasta_core_run.specs.verdict.Verdict.TheVariants as verdict
 use Rattle.rasta_core_run.specs.body.Opening.{Opening}
@@ -12,7 +12,7 @@ use Rattle.rasta_core_run.specs.body.Body.TheVariants.{ConnectionRequest, Connec
 use Rattle.rasta_core_run.specs.pdu.Pdu.{Pdu}
 use Rattle.rasta_core_run.specs.phase.Phase.{Phase}
 use Rattle.rasta_core.specs.Order.{IsClosing}
-use Rattle.rasta_core.specs.Playing.{reads}
+use Rattle.rasta_core.specs.LinkAndFlow.{reads}
 
 -- what is taken at the expected number
 abbrev pub TakesTurns : Body → Type 0

@@ -3,13 +3,13 @@ use Rattle.std.proofs.Common.{◌≡◌, ◌-◌, [], ◌∷◌, length, ◌⊎�
 use Rattle.std.specs.Prelude.{if◌then◌else◌}
 use Rattle.rasta_core_run.specs.Sequence.{wire, before}
 use Rattle.rasta_core_run.specs.State.{LinkState}
-use Rattle.rasta_core_run.specs.Sending.{header_of, pdu_of}
+use Rattle.rasta_core_run.specs.PdusHandedOut.{header_of, pdu_of}
 use Rattle.rasta_core_run.specs.pdu.Pdu.{Pdu}
 use Rattle.rasta_core_run.specs.body.Body.{Body}
 use Rattle.rasta_core_run.specs.body.Body.TheVariants.{RetransmissionRequest, RetransmissionResponse}
 use Rattle.rasta_core.specs.EndFlow.{EndFlow, sent}
 use Rattle.rasta_core.specs.Order.{Brings, Carries, IsClosing, BeginsByResponse, InOrder}
-use Rattle.rasta_core.specs.Playing.{IsInside, HasJoined}
+use Rattle.rasta_core.specs.LinkAndFlow.{IsInside, HasJoined}
 use Rattle.rasta_core.proofs.Places.{only_one, begins_before, opens_after}
 use Rattle.rasta_core.proofs.Numbers.{before_is}
 use Rattle.rasta_core.proofs.OrderTaking.{taker_sent}

@@ -3,14 +3,14 @@ use Rattle.std.proofs.Common.{◌≡◌, ℕ, ◌+◌, ◌<◌, ◌≤◌, true,
 use Rattle.std.proofs.lemmas.List.{length-append, append-nil}
 use Rattle.rasta_core_run.specs.Parameters.{connection_limit}
 use Rattle.rasta_core_run.specs.State.{LinkState, is_up}
-use Rattle.rasta_core_run.specs.Sending.{Step, silent, header_of, pdu_of, sending, closed, telling, closing, reason_number, is_told, giving}
-use Rattle.rasta_core_run.specs.Receiving.{missing}
+use Rattle.rasta_core_run.specs.PdusHandedOut.{Step, silent, header_of, pdu_of, sending, closed, telling, closing, reason_number, is_told, giving}
+use Rattle.rasta_core_run.specs.Receipt.{missing}
 use Rattle.rasta_core_run.specs.reason.Reason.{Reason}
 use Rattle.rasta_core_run.specs.pdu.Pdu.{Pdu}
 use Rattle.rasta_core_run.specs.body.Body.TheVariants.{RetransmissionRequest, DisconnectionRequest, Heartbeat, Data}
 use Rattle.rasta_core.specs.EndFlow.{EndFlow, sent}
 use Rattle.rasta_core.specs.Order.{BeginsByResponse, OpensOn, InOrder}
-use Rattle.rasta_core.specs.Playing.{IsInside, HasJoined, IsStillAsking, Plays, joined, left, GoesOn}
+use Rattle.rasta_core.specs.LinkAndFlow.{IsInside, HasJoined, IsStillAsking, Plays, joined, left, GoesOn}
 use Rattle.rasta_core.proofs.OrderTests.{by_test}
 use Rattle.rasta_core.proofs.Places.{only_one, opens_more, close_one}
 use Rattle.rasta_core.proofs.OrderTaking.{taker_sent, taker_asked, waits_for}

@@ -2,8 +2,8 @@
 use Rattle.std.proofs.Common.{◌≡◌, ℕ, ◌⊎◌, inl, inr, Bool, true, false, ◌&&◌, not, List, Result, Ok, Err, refl, ap, subst, ◌∙◌}
 use Rattle.std.specs.Prelude.{◌==◌}
 use Rattle.rasta_core_run.specs.State.{LinkState}
-use Rattle.rasta_core_run.specs.Sending.{entered}
-use Rattle.rasta_core_run.specs.Receiving.{refusing, hearing}
+use Rattle.rasta_core_run.specs.PdusHandedOut.{entered}
+use Rattle.rasta_core_run.specs.Receipt.{refusing, hearing}
 use Rattle.rasta_core_run.specs.Calls.{receiving, hearing_bytes}
 use Rattle.rasta_core_run.specs.identity.Identity.{Identity}
 use Rattle.rasta_core_run.specs.identity.Role.{Role}
@@ -23,7 +23,7 @@ use Rattle.rasta_core_run.specs.Safe.{IsIdle}
 use Rattle.rasta_core_run.specs.key.Key.{Key}
 use Rattle.rasta_core_run.specs.pdu.Pdu.{Pdu}
 use Rattle.rasta_core_run.specs.pdu_fault.PduFault.{PduFault}
-use Rattle.rasta_core_run.specs.Reading.{reading}
+use Rattle.rasta_core_run.specs.PduRead.{reading}
 use Rattle.rasta_core_run.specs.SafetyCode.{IsIntact}
 
 both_not : (one other : Bool) → not one ≡ false → not other ≡ false → (one && other) ≡ true

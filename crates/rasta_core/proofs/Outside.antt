@@ -5,8 +5,8 @@ use Rattle.rasta_core_run.specs.Parameters.{connection_limit, heartbeat_interval
 use Rattle.rasta_core_run.specs.Clock.{deadline, settled, state_at}
 use Rattle.rasta_core_run.specs.State.{LinkState, is_client, is_open, is_up}
 use Rattle.rasta_core_run.specs.Opening.{is_down, may_open, requesting}
-use Rattle.rasta_core_run.specs.Sending.{Step, silent, then_do, entered, limited, sending, telling, beating, giving, closing}
-use Rattle.rasta_core_run.specs.Receiving.{Receipt, hearing}
+use Rattle.rasta_core_run.specs.PdusHandedOut.{Step, silent, then_do, entered, limited, sending, telling, beating, giving, closing}
+use Rattle.rasta_core_run.specs.Receipt.{Receipt, hearing}
 use Rattle.rasta_core_run.specs.Calls.{opens, opening, ticking, closing_by, acceptance, sending_item, hearing_bytes, receiving}
 use Rattle.rasta_core_run.specs.identity.Identity.{Identity}
 use Rattle.rasta_core_run.specs.identity.Role.{Role}
@@ -20,7 +20,7 @@ use Rattle.rasta_core.proofs.Tests.{by_test}
 use Rattle.rasta_core_run.specs.body.Body.TheVariants.{Heartbeat}
 use Rattle.rasta_core_run.specs.pdu_fault.PduFault.{PduFault}
 use Rattle.rasta_core_run.specs.pdu.Pdu.{Pdu}
-use Rattle.rasta_core_run.specs.Reading.{reading}
+use Rattle.rasta_core_run.specs.PduRead.{reading}
 
 abbrev pub IsShut : LinkState → Type 0
 IsShut link = is_open link.phase ≡ false

@@ -3,7 +3,7 @@
 use Rattle.std.proofs.Common.{◌≡◌, ℕ, ◌⊎◌, List, [], true, false, arith}
 use Rattle.rasta_core_run.specs.State.{LinkState, is_open, is_up, is_asking, is_client}
 use Rattle.rasta_core_run.specs.Clock.{open_state}
-use Rattle.rasta_core_run.specs.Receiving.{up, missing, admission}
+use Rattle.rasta_core_run.specs.Receipt.{up, missing, admission}
 use Rattle.rasta_core_run.specs.phase.State.TheVariants as state
 use Rattle.rasta_core_run.specs.body.Body.TheVariants.{ConnectionResponse, RetransmissionRequest, RetransmissionResponse, DisconnectionRequest, Heartbeat, Data, RetransmittedData}
 

@@ -7,11 +7,11 @@ use Rattle.rasta_core_run.specs.Bag.{is_copy}
 use Rattle.rasta_core_run.specs.Ends.{Sent, Call, Ticks, Opens, Closes, Sends, Receives}
 use Rattle.rasta_core_run.specs.Run.{Ends}
 use Rattle.rasta_core_run.specs.Each.{Each}
-use Rattle.rasta_core.specs.Standing.{Times, times_of}
+use Rattle.rasta_core.specs.TimedEnds.{Times, times_of}
 use Rattle.rasta_core_run.specs.Names.{partner_of, AreNames, Names, name_of}
 use Rattle.rasta_core.specs.Invariant.{InFlight, Timely}
 use Rattle.rasta_core_run.specs.Events.{AreForeign, Calls, Elsewhere, Event, IsAmong, IsDelivered, Loses, MayCall, MayRun, Restarts, Start, run, started}
-use Rattle.rasta_core_run.specs.Reading.{reading}
+use Rattle.rasta_core_run.specs.PduRead.{reading}
 use Rattle.rasta_core_run.specs.SafetyCode.{IsIntact}
 use Rattle.rasta_core.specs.EachLink.{AreTimely}
 use Rattle.rasta_core.specs.Links.{AreLinks, CallsOn, IsAmongAll, Links, LinksEvent, LinksStart, LosesAny, MayCallOn, MayHappenTo, MayRunLinks, OnLink, PassesFor, RestartsOn, WasSent, begun, events_on, happened_to, is_oldest_on, run_links, run_on, seen, sent_by, sent_on, start_of, without_oldest_of_all}

@@ -3,8 +3,8 @@ use Rattle.std.proofs.Common.{◌≡◌, ℕ, ◌⊎◌, inl, inr, ◌∙◌, �
 use Rattle.rasta_core_run.specs.Parameters.{sequence_range}
 use Rattle.rasta_core_run.specs.Sequence.{distance, stamp}
 use Rattle.rasta_core_run.specs.State.{LinkState, is_open, is_asking}
-use Rattle.rasta_core_run.specs.Sending.{Step, silent, sending, telling, closed}
-use Rattle.rasta_core_run.specs.Receiving.{Receipt, refusing, violating, age, ahead, confirms, taking, answering, missing, handing, up, bringing, in_turn, admission, admitting, testing, is_opening_again, connected}
+use Rattle.rasta_core_run.specs.PdusHandedOut.{Step, silent, sending, telling, closed}
+use Rattle.rasta_core_run.specs.Receipt.{Receipt, refusing, violating, age, ahead, confirms, taking, answering, missing, handing, up, bringing, in_turn, admission, admitting, testing, is_opening_again, connected}
 use Rattle.rasta_core_run.specs.reason.Reason.TheVariants as reason
 use Rattle.rasta_core_run.specs.verdict.Verdict.{Verdict}
 use Rattle.rasta_core_run.specs.verdict.Verdict.TheVariants as verdict
@@ -14,7 +14,7 @@ use Rattle.rasta_core_run.specs.pdu.Pdu.{Pdu}
 use Rattle.rasta_core_run.specs.body.Body.{Body}
 use Rattle.rasta_core_run.specs.body.Body.TheVariants.{ConnectionRequest, ConnectionResponse, RetransmissionRequest, RetransmissionResponse, DisconnectionRequest, Heartbeat, Data, RetransmittedData}
 use Rattle.rasta_core_run.specs.Values.{IsPdu}
-use Rattle.rasta_core.specs.Standing.{Standing, Inside, own_stamp, standing}
+use Rattle.rasta_core.specs.TimedEnds.{Standing, Inside, own_stamp, standing}
 use Rattle.rasta_core.specs.Timely.{IsAnswering}
 use Rattle.rasta_core.proofs.Phases.{Admits, violates, closes, in_turn_value, discards, resumes, heartbeat_admission, data_admission, again_admission, request_admission, response_admission}
 use Rattle.rasta_core.specs.Invariant.{IsSound}

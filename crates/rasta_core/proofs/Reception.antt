@@ -7,7 +7,7 @@ use Rattle.rasta_core_run.specs.identity.Role.{Role}
 use Rattle.rasta_core_run.specs.identity.Role.TheVariants as role
 use Rattle.rasta_core_run.specs.Bag.{lifetime}
 use Rattle.rasta_core_run.specs.pdu.Pdu.{Pdu}
-use Rattle.rasta_core.specs.Standing.{Standing, Inside, Outside, Timed, Times, IsInside, IsOutside, HasHeard, closed_at}
+use Rattle.rasta_core.specs.TimedEnds.{Standing, Inside, Outside, Timed, Times, IsInside, IsOutside, HasHeard, closed_at}
 use Rattle.rasta_core.specs.Moves.{asking}
 use Rattle.rasta_core.specs.Timely.{IsTimed, AreTimed, IsKnown}
 use Rattle.rasta_core_run.specs.Sentences.{IsRequest}

@@ -4,9 +4,9 @@ use Rattle.std.specs.Prelude.{◌==◌}
 use Rattle.std.proofs.lemmas.Bool.{eqb-true}
 use Rattle.rasta_core_run.specs.State.{LinkState, is_open, is_client}
 use Rattle.rasta_core_run.specs.Clock.{state_at}
-use Rattle.rasta_core_run.specs.Sending.{Step, silent, entered, telling, sending}
+use Rattle.rasta_core_run.specs.PdusHandedOut.{Step, silent, entered, telling, sending}
 use Rattle.rasta_core_run.specs.Opening.{granting, own_opening}
-use Rattle.rasta_core_run.specs.Receiving.{Receipt, accepting, hearing}
+use Rattle.rasta_core_run.specs.Receipt.{Receipt, accepting, hearing}
 use Rattle.rasta_core_run.specs.Calls.{receiving, hearing_bytes}
 use Rattle.rasta_core_run.specs.identity.Identity.{Identity}
 use Rattle.rasta_core_run.specs.identity.Role.TheVariants as role
@@ -18,9 +18,9 @@ use Rattle.rasta_core_run.specs.Ends.{Outcome, Receives, outcome, reading_of, en
 use Rattle.rasta_core_run.specs.Run.{Ends, called}
 use Rattle.rasta_core.specs.EndFlow.{EndFlow, IsOf, IsAt}
 use Rattle.rasta_core.specs.Order.{Carries}
-use Rattle.rasta_core.specs.Playing.{GoesOn}
+use Rattle.rasta_core.specs.LinkAndFlow.{GoesOn}
 use Rattle.rasta_core.specs.Beginning.{EarlyGoesOn, Grants, HearsOutside, refuses, grants}
-use Rattle.rasta_core.specs.Standing.{standing}
+use Rattle.rasta_core.specs.TimedEnds.{standing}
 use Rattle.rasta_core_run.specs.Names.{Names, AreNames}
 use Rattle.rasta_core.specs.Invariant.{Timely}
 use Rattle.rasta_core_run.specs.Events.{MayCall}
@@ -44,7 +44,7 @@ use Rattle.rasta_core_run.specs.body.Opening.{Opening}
 use Rattle.rasta_core_run.specs.body.Body.TheVariants.{ConnectionRequest}
 use Rattle.rasta_core_run.specs.pdu_fault.PduFault.{PduFault}
 use Rattle.rasta_core_run.specs.key.Key.{Key}
-use Rattle.rasta_core_run.specs.Reading.{reading}
+use Rattle.rasta_core_run.specs.PduRead.{reading}
 
 pub both_true : (one other : Bool) → (one && other) ≡ true → (one ≡ true) × (other ≡ true)
 both_true true true e = (refl, refl)

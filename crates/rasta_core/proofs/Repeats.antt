@@ -1,8 +1,8 @@
 -- The PDUs that repeat the items that wait.
 use Rattle.std.proofs.Common.{◌≡◌, ℕ, zero, suc, ◌+◌, List, [], ◌∷◌, ◌++◌, length, take, refl, sym, ap, ◌∙◌, arith, append_assoc}
 use Rattle.std.proofs.lemmas.List.{length-append, take_at}
-use Rattle.rasta_core_run.specs.Sending.{pdu_of}
-use Rattle.rasta_core_run.specs.Receiving.{repeated}
+use Rattle.rasta_core_run.specs.PdusHandedOut.{pdu_of}
+use Rattle.rasta_core_run.specs.Receipt.{repeated}
 use Rattle.rasta_core_run.specs.pdu.Pdu.{Pdu}
 use Rattle.rasta_core_run.specs.body.Body.TheVariants.{RetransmittedData}
 use Rattle.rasta_core_run.specs.window.Unconfirmed.{Unconfirmed}

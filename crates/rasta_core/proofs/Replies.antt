@@ -3,14 +3,14 @@ use Rattle.std.proofs.Common.{◌≡◌, ℕ, ◌+◌, ◌^◌, ◌<◌, ◌≤�
 use Rattle.std.proofs.lemmas.List.{append-nil}
 use Rattle.rasta_core_run.specs.Parameters.{connection_limit}
 use Rattle.rasta_core_run.specs.State.{LinkState, is_up}
-use Rattle.rasta_core_run.specs.Sending.{header_of, pdu_of, sending}
-use Rattle.rasta_core_run.specs.Receiving.{retagged, repeating, answering}
+use Rattle.rasta_core_run.specs.PdusHandedOut.{header_of, pdu_of, sending}
+use Rattle.rasta_core_run.specs.Receipt.{retagged, repeating, answering}
 use Rattle.rasta_core_run.specs.pdu.Pdu.{Pdu}
 use Rattle.rasta_core_run.specs.body.Body.TheVariants.{RetransmissionRequest, RetransmissionResponse}
 use Rattle.rasta_core_run.specs.header.Header.{Header}
 use Rattle.rasta_core.specs.EndFlow.{IsAt, EndFlow, sent, later}
 use Rattle.rasta_core.specs.Order.{InOrder}
-use Rattle.rasta_core.specs.Playing.{HasJoined, joined, GoesOn}
+use Rattle.rasta_core.specs.LinkAndFlow.{HasJoined, joined, GoesOn}
 use Rattle.rasta_core.proofs.Answers.{answer, answer_goes_on, answered, IsHeader, giver_answered, partner_answered, sent_answered}
 use Rattle.rasta_core.proofs.Places.{opens_more}
 use Rattle.rasta_core.proofs.OrderSpeaking.{joined_confirms}

@@ -6,7 +6,7 @@ use Rattle.rasta_core_run.specs.Calls.{created}
 use Rattle.rasta_core_run.specs.identity.Identity.{Identity}
 use Rattle.rasta_core_run.specs.State.{LinkState, confirmed_items}
 use Rattle.rasta_core.specs.Order.{Way, InOrder}
-use Rattle.rasta_core.specs.Playing.{Keeps, Plays, joined, asking, left}
+use Rattle.rasta_core.specs.LinkAndFlow.{Keeps, Plays, joined, asking, left}
 use Rattle.rasta_core.proofs.Tags.{later_most}
 
 pub beginning : (giver taker : EndFlow) → Way giver taker → (others : List (List ℕ)) × (giver.given ≡ taker.taken ++ others)

@@ -3,12 +3,12 @@ use Rattle.std.proofs.Common.{◌≡◌, ℕ, zero, suc, ◌+◌, ◌≤◌, inl
 use Rattle.md4.specs.Md4.{padding, block_words, sequence, after_block, after_blocks, digest}
 use Rattle.rasta_core_run.specs.SafetyCode.{code}
 use Rattle.rasta_core_run.specs.Spelling.{payload, fields, text, writing}
-use Rattle.rasta_core_run.specs.Reading.{text_of, opening_of, disconnection_of, nothing_of, item_of, items_to_end, items_of, body_of, pdu_of as pdu_read, reading}
+use Rattle.rasta_core_run.specs.PduRead.{text_of, opening_of, disconnection_of, nothing_of, item_of, items_to_end, items_of, body_of, pdu_of as pdu_read, reading}
 use Rattle.rasta_core_run.specs.Calls.{created, opens, opening, ticking, sending_item, acceptance, answer_to_send, hearing_bytes, receiving}
 use Rattle.rasta_core_run.specs.Clock.{settled, deadline, quiet_until, state_at}
-use Rattle.rasta_core_run.specs.Sending.{header_of, pdu_of, sending, telling, limited, entered, beating, giving}
+use Rattle.rasta_core_run.specs.PdusHandedOut.{header_of, pdu_of, sending, telling, limited, entered, beating, giving}
 use Rattle.rasta_core_run.specs.Opening.{beginning, requesting, meeting, judging, granting, joining}
-use Rattle.rasta_core_run.specs.Receiving.{age, ahead, behind, still_waiting, taking, missing, handing, bringing, in_turn, admitting, testing, connected, asking, resting, by_state, hearing}
+use Rattle.rasta_core_run.specs.Receipt.{age, ahead, behind, still_waiting, taking, missing, handing, bringing, in_turn, admitting, testing, connected, asking, resting, by_state, hearing}
 use Rattle.rasta_core_run.specs.identity.Role.{Role}
 use Rattle.rasta_core_run.specs.identity.Role.TheVariants as role
 use Rattle.rasta_core_run.specs.Bag.{lifetime}

@@ -3,9 +3,9 @@ use Rattle.std.proofs.Common.{◌≡◌, ℕ, ◌⊎◌, inl, inr, ◌+◌, ◌^
 use Rattle.std.specs.Cmp.Lexicographic.{pointwise}
 use Rattle.rasta_core_run.specs.Parameters.{window_size, own_version}
 use Rattle.rasta_core_run.specs.State.{LinkState, is_open, is_asking, is_client}
-use Rattle.rasta_core_run.specs.Sending.{Step, silent, then_do, sending, telling, closed, closing, reason_number, is_told, giving}
+use Rattle.rasta_core_run.specs.PdusHandedOut.{Step, silent, then_do, sending, telling, closed, closing, reason_number, is_told, giving}
 use Rattle.rasta_core_run.specs.Opening.{judging}
-use Rattle.rasta_core_run.specs.Receiving.{answering, repeating}
+use Rattle.rasta_core_run.specs.Receipt.{answering, repeating}
 use Rattle.rasta_core_run.specs.reason.Reason.{Reason}
 use Rattle.rasta_core_run.specs.reason.Reason.TheVariants as reason
 use Rattle.rasta_core_run.specs.identity.Identity.{Identity}
@@ -18,7 +18,7 @@ use Rattle.rasta_core_run.specs.body.Body.TheVariants.{RetransmissionResponse, D
 use Rattle.rasta_core_run.specs.Values.{IsBody}
 use Rattle.rasta_core_run.specs.Items.{IsItem}
 use Rattle.rasta_core_run.specs.Each.{Each}
-use Rattle.rasta_core.specs.Standing.{Standing, Outside, standing}
+use Rattle.rasta_core.specs.TimedEnds.{Standing, Outside, standing}
 use Rattle.rasta_core.specs.Timely.{IsAnswering}
 use Rattle.rasta_core_run.specs.Sentences.{IsRequest}
 use Rattle.rasta_core.proofs.EachLaws.{each_join}

@@ -4,7 +4,7 @@ use Rattle.std.proofs.lemmas.Option.{same_Some}
 use Rattle.rasta_core_run.specs.Sequence.{distance, stamp}
 use Rattle.rasta_core_run.specs.identity.Role.TheVariants as role
 use Rattle.rasta_core_run.specs.pdu.Pdu.{Pdu}
-use Rattle.rasta_core.specs.Standing.{Standing, Inside, Outside, Timed, Times, IsInside, HasHeard, own_stamp}
+use Rattle.rasta_core.specs.TimedEnds.{Standing, Inside, Outside, Timed, Times, IsInside, HasHeard, own_stamp}
 use Rattle.rasta_core.specs.Moves.{asking, granting, hearing}
 use Rattle.rasta_core.specs.Timely.{WasRead, WasReadThen, IsTimed, AreTimed, IsAnswering, IsKnown}
 use Rattle.rasta_core_run.specs.Sentences.{IsRequest}

@@ -7,8 +7,8 @@ use Rattle.rasta_core_run.specs.Parameters.{sequence_range, stops_at_greatest, c
 use Rattle.rasta_core_run.specs.Sequence.{wire}
 use Rattle.rasta_core_run.specs.State.{LinkState, is_open, is_up, is_asking}
 use Rattle.rasta_core_run.specs.Clock.{open_state}
-use Rattle.rasta_core_run.specs.Sending.{closed}
-use Rattle.rasta_core_run.specs.Receiving.{Receipt, ahead, behind, taking, still_waiting, answering, missing, handing, up, bringing, in_turn}
+use Rattle.rasta_core_run.specs.PdusHandedOut.{closed}
+use Rattle.rasta_core_run.specs.Receipt.{Receipt, ahead, behind, taking, still_waiting, answering, missing, handing, up, bringing, in_turn}
 use Rattle.rasta_core_run.specs.phase.State.TheVariants as state
 use Rattle.rasta_core_run.specs.pdu.Pdu.{Pdu}
 use Rattle.rasta_core_run.specs.body.Body.{Body}
@@ -16,7 +16,7 @@ use Rattle.rasta_core_run.specs.body.Body.TheVariants.{ConnectionRequest, Connec
 use Rattle.rasta_core_run.specs.phase.Phase.{Phase}
 use Rattle.rasta_core.specs.EndFlow.{IsAt, EndFlow, sent}
 use Rattle.rasta_core.specs.Order.{Brings, Carries, IsClosing, BeginsByResponse, OpensOn, IsAsking, InOrder}
-use Rattle.rasta_core.specs.Playing.{reads, HasJoined, joined, left, GoesOn}
+use Rattle.rasta_core.specs.LinkAndFlow.{reads, HasJoined, joined, left, GoesOn}
 use Rattle.rasta_core.proofs.OrderTests.{by_test}
 use Rattle.rasta_core.proofs.Places.{within, same_at}
 use Rattle.rasta_core.proofs.Tags.{still_above, later_all}

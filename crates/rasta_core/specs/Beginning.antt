@@ -5,13 +5,13 @@ use Rattle.rasta_core_run.specs.State.{LinkState, is_open, is_asking, is_client}
 use Rattle.rasta_core_run.specs.Clock.{state_at}
 use Rattle.rasta_core_run.specs.Opening.{granting}
 use Rattle.rasta_core_run.specs.phase.State.TheVariants as state
-use Rattle.rasta_core_run.specs.Receiving.{Receipt, refusing, accepting}
+use Rattle.rasta_core_run.specs.Receipt.{Receipt, refusing, accepting}
 use Rattle.rasta_core_run.specs.verdict.Verdict.{Verdict}
 use Rattle.rasta_core_run.specs.verdict.Verdict.TheVariants as verdict
 use Rattle.rasta_core_run.specs.body.Opening.{Opening}
 use Rattle.rasta_core.specs.EndFlow.{IsAt, EndFlow, sent}
 use Rattle.rasta_core.specs.Order.{BeginsByResponse, IsSent, InOrder}
-use Rattle.rasta_core.specs.Playing.{Keeps, IsNew, IsInside, Plays}
+use Rattle.rasta_core.specs.LinkAndFlow.{Keeps, IsNew, IsInside, Plays}
 use Rattle.rasta_core_run.specs.pdu.Pdu.{Pdu}
 use Rattle.rasta_core_run.specs.body.Body.TheVariants.{ConnectionRequest, RetransmissionRequest, RetransmissionResponse}
 

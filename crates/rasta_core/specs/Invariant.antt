@@ -8,9 +8,9 @@ use Rattle.rasta_core_run.specs.Run.{Ends}
 use Rattle.rasta_core_run.specs.pdu.Pdu.{Pdu}
 use Rattle.rasta_core_run.specs.Values.{IsPdu}
 use Rattle.rasta_core_run.specs.Items.{IsItem}
-use Rattle.rasta_core_run.specs.Reading.{reading}
+use Rattle.rasta_core_run.specs.PduRead.{reading}
 use Rattle.rasta_core_run.specs.Each.{Each}
-use Rattle.rasta_core.specs.Standing.{Past, Times, times_of}
+use Rattle.rasta_core.specs.TimedEnds.{Past, Times, times_of}
 use Rattle.rasta_core_run.specs.Names.{Names, identity_of, name_of, partner_of}
 use Rattle.rasta_core_run.specs.Sentences.{IsOut}
 use Rattle.rasta_core.specs.Timely.{AreTimed, IsKnown}

@@ -1,10 +1,10 @@
 -- Invariants, for the proofs: what is believed of runs is in rasta_core_run.
 pub mod EndFlow
 pub mod Order
-pub mod Playing
+pub mod LinkAndFlow
 pub mod Beginning
 pub mod Carried
-pub mod Standing
+pub mod TimedEnds
 pub mod Timely
 pub mod Moves
 pub mod Invariant
@@ -18,9 +18,9 @@ pub use Rattle.rasta_core_run.specs.Parameters
 pub use Rattle.rasta_core_run.specs.Sequence
 pub use Rattle.rasta_core_run.specs.State
 pub use Rattle.rasta_core_run.specs.Clock
-pub use Rattle.rasta_core_run.specs.Sending
+pub use Rattle.rasta_core_run.specs.PdusHandedOut
 pub use Rattle.rasta_core_run.specs.Opening
-pub use Rattle.rasta_core_run.specs.Receiving
+pub use Rattle.rasta_core_run.specs.Receipt
 pub use Rattle.rasta_core_run.specs.Verdicts
 pub use Rattle.rasta_core_run.specs.Calls
 pub use Rattle.rasta_core_run.specs.Outbox

@@ -2,7 +2,7 @@
 use Rattle.std.specs.Prelude.{ℕ, ◌+◌, true, false, Some}
 use Rattle.rasta_core_run.specs.identity.Role.{Role}
 use Rattle.rasta_core_run.specs.identity.Role.TheVariants as role
-use Rattle.rasta_core.specs.Standing.{Inside, Outside, Timed, Times}
+use Rattle.rasta_core.specs.TimedEnds.{Inside, Outside, Timed, Times}
 
 abbrev pub with_timed : Role → Timed → Times → Times
 with_timed role.Client end times = record times { client = end }

@@ -6,12 +6,12 @@ use Rattle.rasta_core_run.specs.Ends.{Sent}
 use Rattle.rasta_core_run.specs.Run.{Ends}
 use Rattle.rasta_core.specs.EndFlow.{EndFlow, IsOf}
 use Rattle.rasta_core.specs.Order.{InOrder}
-use Rattle.rasta_core.specs.Playing.{Plays}
+use Rattle.rasta_core.specs.LinkAndFlow.{Plays}
 use Rattle.rasta_core.specs.Beginning.{IsEarly, PlaysEarly}
 use Rattle.rasta_core_run.specs.Each.{Each}
 use Rattle.rasta_core_run.specs.Names.{Names}
 use Rattle.rasta_core_run.specs.pdu.Pdu.{Pdu}
-use Rattle.rasta_core_run.specs.Reading.{reading}
+use Rattle.rasta_core_run.specs.PduRead.{reading}
 
 -- a datagram that this end sent in this connection spells a PDU of this flow
 abbrev pub IsSpelledIn : Names → Role → ℕ → List Pdu → Sent → Type 0

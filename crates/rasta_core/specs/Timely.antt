@@ -8,7 +8,7 @@ use Rattle.rasta_core_run.specs.Bag.{lifetime}
 use Rattle.rasta_core_run.specs.pdu.Pdu.{Pdu}
 use Rattle.rasta_core_run.specs.body.Body.{Body}
 use Rattle.rasta_core_run.specs.body.Body.TheVariants.{ConnectionRequest, DisconnectionRequest}
-use Rattle.rasta_core.specs.Standing.{Timed, Times, IsInside, IsOutside, HasHeard, own_stamp, heard_stamp, closed_at, at_role}
+use Rattle.rasta_core.specs.TimedEnds.{Timed, Times, IsInside, IsOutside, HasHeard, own_stamp, heard_stamp, closed_at, at_role}
 use Rattle.rasta_core_run.specs.Names.{partner_of}
 use Rattle.rasta_core_run.specs.Sentences.{IsRequest}
 

@@ -4,8 +4,8 @@ ghost use Rattle.std.specs.Prelude.{◌≡◌, ◌≤◌, ◌<◌, ◌^◌, ◌&
 ghost use Rattle.rasta_core_run.specs.Calls.{answer_to_send, closing_by, created, opening, opens, receiving, sending_item, ticking};
 ghost use Rattle.rasta_core_run.specs.Clock.{settled};
 ghost use Rattle.rasta_core_run.specs.Opening.{granting, own_opening};
-ghost use Rattle.rasta_core_run.specs.Receiving.{hearing, refusing};
-ghost use Rattle.rasta_core_run.specs.Sending.{entered, silent};
+ghost use Rattle.rasta_core_run.specs.Receipt.{hearing, refusing};
+ghost use Rattle.rasta_core_run.specs.PdusHandedOut.{entered, silent};
 ghost use Rattle.rasta_core_run.specs.State.{LinkState, confirmed_items, is_client, is_open};
 ghost use Rattle.rasta_core_run.specs.identity.Identity.{Identity};
 ghost use Rattle.rasta_core_run.specs.reason.Reason.{Reason};
@@ -14,8 +14,8 @@ ghost use Rattle.rasta_core.specs.Beginning.{Asks, EarlyGoesOn, Grants, HearsOut
 ghost use Rattle.rasta_core.specs.Carried.{carried};
 ghost use Rattle.rasta_core.specs.Order.{InOrder, Way};
 ghost use Rattle.rasta_core.specs.EndFlow.{IsAt, IsOf, EndFlow};
-ghost use Rattle.rasta_core.specs.Playing.{accepted, Plays, ReceiptGoesOn, StepGoesOn};
-ghost use Rattle.rasta_core_run.specs.Reading.{reading};
+ghost use Rattle.rasta_core.specs.LinkAndFlow.{accepted, Plays, ReceiptGoesOn, StepGoesOn};
+ghost use Rattle.rasta_core_run.specs.PduRead.{reading};
 ghost use Rattle.rasta_core_run.specs.pdu_fault.PduFault.{PduFault};
 ghost use Rattle.rasta_core_run.specs.pdu.Pdu.{Pdu};
 

@@ -5,9 +5,9 @@ use Rattle.std.proofs.lemmas.Bool.{cases_lt, lt-ltb}
 use Rattle.rasta_core_link.specs.Parameters.{quiet_time, sequence_range}
 use Rattle.rasta_core_link.specs.State.{LinkState, is_open, is_client}
 use Rattle.rasta_core_link.specs.Clock.{deadline, state_at}
-use Rattle.rasta_core_link.specs.Sending.{Step, silent, then_do, closed, sending, telling, closing, limited, entered, beating, giving}
+use Rattle.rasta_core_link.specs.PdusHandedOut.{Step, silent, then_do, closed, sending, telling, closing, limited, entered, beating, giving}
 use Rattle.rasta_core_link.specs.Opening.{is_down, may_open, requesting, judging, granting, joining}
-use Rattle.rasta_core_link.specs.Receiving.{Receipt, refusing, violating, accepting, ahead, is_stale, confirms, answers_request, taking, repeating, answering, missing, handing, bringing, in_turn, admission, admitting, testing, connected, asking, resting, by_state, hearing}
+use Rattle.rasta_core_link.specs.Receipt.{Receipt, refusing, violating, accepting, ahead, is_stale, confirms, answers_request, taking, repeating, answering, missing, handing, bringing, in_turn, admission, admitting, testing, connected, asking, resting, by_state, hearing}
 use Rattle.rasta_core_link.specs.Calls.{opening, ticking, closing_by, acceptance, sending_item, hearing_bytes, receiving}
 use Rattle.rasta_core_link.specs.declared.admission.Admission.{Admission}
 use Rattle.rasta_core_link.specs.declared.admission.Admission.TheVariants as admits
@@ -21,7 +21,7 @@ use Rattle.rasta_core_link.specs.declared.verdict.Verdict.TheVariants as verdict
 use Rattle.rasta_core_link.proofs.Posting.{posting}
 use Rattle.rasta_core_link.proofs.Steps.{one-telling, few-entered}
 use Rattle.rasta_core_link.proofs.Waiting.{length-repeated, length-still_waiting}
-use Rattle.rasta_pdu.specs.Reading.{reading}
+use Rattle.rasta_pdu.specs.PduRead.{reading}
 use Rattle.rasta_pdu.specs.declared.fault.PduFault.{PduFault}
 use Rattle.rasta_pdu.specs.declared.pdu.Pdu.{Pdu}
 use Rattle.rasta_pdu.specs.declared.body.Body.{Body}

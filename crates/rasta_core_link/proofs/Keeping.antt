@@ -4,9 +4,9 @@ use Rattle.std.specs.Prelude.{if◌then◌else◌, nat_lt, ◌==◌, not}
 use Rattle.rasta_core_link.specs.Parameters.{sequence_range}
 use Rattle.rasta_core_link.specs.State.{LinkState}
 use Rattle.rasta_core_link.specs.Clock.{settled, state_at}
-use Rattle.rasta_core_link.specs.Sending.{Step, sending, telling, closing, limited, entered, beating, giving, is_told}
+use Rattle.rasta_core_link.specs.PdusHandedOut.{Step, sending, telling, closing, limited, entered, beating, giving, is_told}
 use Rattle.rasta_core_link.specs.Opening.{own_opening, beginning, requesting, meeting, judging, granting, joining}
-use Rattle.rasta_core_link.specs.Receiving.{Receipt, refusing, ahead, taking, repeating, answering, missing, handing, bringing, in_turn, admission, admitting, is_stale, confirms, testing, connected, asking, resting, by_state, hearing}
+use Rattle.rasta_core_link.specs.Receipt.{Receipt, refusing, ahead, taking, repeating, answering, missing, handing, bringing, in_turn, admission, admitting, is_stale, confirms, testing, connected, asking, resting, by_state, hearing}
 use Rattle.rasta_core_link.specs.Calls.{IsAt, opening, ticking, closing_by, sending_item, hearing_bytes, receiving}
 use Rattle.rasta_core_link.specs.declared.phase.State.{State}
 use Rattle.rasta_core_link.specs.declared.phase.State.TheVariants as state
@@ -20,7 +20,7 @@ use Rattle.rasta_pdu.specs.declared.fault.PduFault.{PduFault}
 use Rattle.rasta_pdu.specs.declared.body.Opening.{Opening}
 use Rattle.rasta_pdu.specs.declared.body.Body.{Body}
 use Rattle.rasta_pdu.specs.declared.body.Body.TheVariants.{ConnectionRequest, ConnectionResponse, RetransmissionRequest, RetransmissionResponse, DisconnectionRequest, Heartbeat, Data, RetransmittedData, Heartbeat}
-use Rattle.rasta_pdu.specs.Reading.{reading}
+use Rattle.rasta_pdu.specs.PduRead.{reading}
 
 -- the same clock and the same identity
 pub record Keeps (old new : LinkState) : Type 0 where

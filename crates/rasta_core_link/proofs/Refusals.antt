@@ -4,9 +4,9 @@ use Rattle.std.specs.Prelude.{if◌then◌else◌, nat_lt, ◌==◌, not}
 use Rattle.rasta_core_link.specs.Parameters.{sequence_range}
 use Rattle.rasta_core_link.specs.State.{LinkState, is_client}
 use Rattle.rasta_core_link.specs.Clock.{state_at}
-use Rattle.rasta_core_link.specs.Sending.{silent, entered, closed}
+use Rattle.rasta_core_link.specs.PdusHandedOut.{silent, entered, closed}
 use Rattle.rasta_core_link.specs.Opening.{granting, joining}
-use Rattle.rasta_core_link.specs.Receiving.{Receipt, refusing, violating, accepting, ahead, missing, handing, bringing, in_turn, admission, admitting, is_stale, confirms, testing, is_opening_again, connected, answers_request, asking, resting, by_state, hearing, taking}
+use Rattle.rasta_core_link.specs.Receipt.{Receipt, refusing, violating, accepting, ahead, missing, handing, bringing, in_turn, admission, admitting, is_stale, confirms, testing, is_opening_again, connected, answers_request, asking, resting, by_state, hearing, taking}
 use Rattle.rasta_core_link.specs.Calls.{hearing_bytes, receiving}
 use Rattle.rasta_core_link.specs.Verdicts.{is_refusal, refusal_leaves, refused}
 use Rattle.rasta_core_link.specs.declared.admission.Admission.{Admission}
@@ -19,7 +19,7 @@ use Rattle.rasta_pdu.specs.declared.pdu.Pdu.{Pdu}
 use Rattle.rasta_pdu.specs.declared.fault.PduFault.{PduFault}
 use Rattle.rasta_pdu.specs.declared.body.Body.{Body}
 use Rattle.rasta_pdu.specs.declared.body.Body.TheVariants.{ConnectionRequest, ConnectionResponse, RetransmissionRequest, RetransmissionResponse, DisconnectionRequest, Heartbeat, Data, RetransmittedData}
-use Rattle.rasta_pdu.specs.Reading.{reading}
+use Rattle.rasta_pdu.specs.PduRead.{reading}
 
 -- what a refusal leaves, in a part of a call
 abbrev left_by : Verdict → State → LinkState → Receipt

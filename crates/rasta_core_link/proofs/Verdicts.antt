@@ -6,9 +6,9 @@ use Rattle.rasta_core_link.specs.Parameters.{sequence_range, quiet_time}
 use Rattle.rasta_core_link.specs.Sequence.{stamp}
 use Rattle.rasta_core_link.specs.State.{LinkState, is_open, is_client}
 use Rattle.rasta_core_link.specs.Clock.{state_at, open_state, deadline}
-use Rattle.rasta_core_link.specs.Receiving.{Receipt, refusing, violating, ahead, missing, handing, bringing, in_turn, admission, admitting, is_stale, confirms, testing, is_opening_again, connected, answers_request, asking, resting, by_state, hearing, taking}
+use Rattle.rasta_core_link.specs.Receipt.{Receipt, refusing, violating, ahead, missing, handing, bringing, in_turn, admission, admitting, is_stale, confirms, testing, is_opening_again, connected, answers_request, asking, resting, by_state, hearing, taking}
 use Rattle.rasta_core_link.specs.Calls.{hearing_bytes, receiving}
-use Rattle.rasta_core_link.specs.Sending.{entered}
+use Rattle.rasta_core_link.specs.PdusHandedOut.{entered}
 use Rattle.rasta_core_link.specs.Verdicts.{Test, ForAnother, FromAnother, InQuiet, OutOfPlace, OpensAgain, OpensAnew, AnswersAnother, TooFar, TooOld, ConfirmsAnother, NotAllowed, NotAwaited, AfterMissing, tests, tests_in_connection, verdict_of, IsRequest, IsClient, IsTested, IsOutOfPlace, IsInTurn, Fails, IsFirst, IsVerdict}
 use Rattle.rasta_core_link.specs.declared.identity.Role.{Role}
 use Rattle.rasta_core_link.specs.declared.identity.Role.TheVariants as role
@@ -23,7 +23,7 @@ use Rattle.rasta_pdu.specs.declared.fault.PduFault.{PduFault}
 use Rattle.rasta_pdu.specs.declared.body.Body.{Body}
 use Rattle.rasta_pdu.specs.declared.body.Opening.{Opening}
 use Rattle.rasta_pdu.specs.declared.body.Body.TheVariants.{ConnectionRequest, ConnectionResponse, RetransmissionRequest, RetransmissionResponse, DisconnectionRequest, Heartbeat, Data, RetransmittedData}
-use Rattle.rasta_pdu.specs.Reading.{reading}
+use Rattle.rasta_pdu.specs.PduRead.{reading}
 
 -- one test, and those behind it
 tested : (F : Test → Type 0) (test : Test) (others : List Test) (b : Bool) (link : LinkState) (other : Receipt)

@@ -6,8 +6,8 @@ use Rattle.std.proofs.lemmas.Grind.{common_steps}
 use Rattle.std.proofs.lemmas.Bool.Decides.{nat_tests}
 use Rattle.rasta_core_link.specs.declared.window.Unconfirmed.{Unconfirmed}
 use Rattle.rasta_core_link.specs.declared.header.Header.{Header}
-use Rattle.rasta_core_link.specs.Sending.{pdu_of}
-use Rattle.rasta_core_link.specs.Receiving.{still_waiting, repeated, retagged}
+use Rattle.rasta_core_link.specs.PdusHandedOut.{pdu_of}
+use Rattle.rasta_core_link.specs.Receipt.{still_waiting, repeated, retagged}
 use Rattle.rasta_core_link.specs.Outbox.{OutboxState, posted}
 use Rattle.rasta_core_link.proofs.Posting.{posted_nothing, posted_more, length-posted, capacity-posted, posting}
 use Rattle.rasta_pdu.specs.declared.key.Key.{Key}

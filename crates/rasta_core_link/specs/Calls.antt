@@ -2,16 +2,16 @@
 use Rattle.std.specs.Prelude.{◌≡◌, ℕ, ◌≤◌, nat_lt, Bool, List, [], ◌++◌, length, Result, Ok, Err, is_ok, if◌then◌else◌}
 use Rattle.rasta_core_link.specs.Parameters.{window_size}
 use Rattle.rasta_core_link.specs.State.{LinkState, is_open, is_up}
-use Rattle.rasta_core_link.specs.Sending.{Step, silent, then_do, entered, beating, giving, closing}
+use Rattle.rasta_core_link.specs.PdusHandedOut.{Step, silent, then_do, entered, beating, giving, closing}
 use Rattle.rasta_core_link.specs.Opening.{may_open, requesting}
-use Rattle.rasta_core_link.specs.Receiving.{Receipt, refusing, hearing}
+use Rattle.rasta_core_link.specs.Receipt.{Receipt, refusing, hearing}
 use Rattle.rasta_core_link.specs.declared.identity.Identity.{Identity}
 use Rattle.rasta_core_link.specs.declared.phase.Phase.TheVariants as phase
 use Rattle.rasta_core_link.specs.declared.reason.Reason.{Reason}
 use Rattle.rasta_core_link.specs.declared.verdict.Verdict.TheVariants as verdict
 use Rattle.rasta_core_link.specs.declared.fault.SendFault.{SendFault}
 use Rattle.rasta_core_link.specs.declared.fault.SendFault.TheVariants as fault
-use Rattle.rasta_pdu.specs.Reading.{reading}
+use Rattle.rasta_pdu.specs.PduRead.{reading}
 use Rattle.rasta_pdu.specs.declared.pdu.Pdu.{Pdu}
 use Rattle.rasta_pdu.specs.declared.fault.PduFault.{PduFault}
 

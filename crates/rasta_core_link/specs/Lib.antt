@@ -2,9 +2,9 @@ pub mod Parameters
 pub mod Sequence
 pub mod State
 pub mod Clock
-pub mod Sending
+pub mod PdusHandedOut
 pub mod Opening
-pub mod Receiving
+pub mod Receipt
 pub mod Verdicts
 pub mod Calls
 pub mod Outbox

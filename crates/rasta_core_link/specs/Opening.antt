@@ -5,7 +5,7 @@ use Rattle.rasta_core_link.specs.Parameters.{own_version, no_reserved, window_si
 use Rattle.rasta_core_link.specs.Sequence.{wire}
 use Rattle.rasta_core_link.specs.State.{LinkState, is_client}
 use Rattle.rasta_core_link.specs.Clock.{state_at}
-use Rattle.rasta_core_link.specs.Sending.{Step, sending, telling}
+use Rattle.rasta_core_link.specs.PdusHandedOut.{Step, sending, telling}
 use Rattle.rasta_core_link.specs.declared.phase.Phase.TheVariants as phase
 use Rattle.rasta_core_link.specs.declared.phase.State.{State}
 use Rattle.rasta_core_link.specs.declared.phase.State.TheVariants as state

@@ -4,8 +4,8 @@ use Rattle.rasta_core_link.specs.Parameters.{sequence_range}
 use Rattle.rasta_core_link.specs.Sequence.{stamp}
 use Rattle.rasta_core_link.specs.State.{LinkState}
 use Rattle.rasta_core_link.specs.Clock.{state_at}
-use Rattle.rasta_core_link.specs.Sending.{Step, silent, then_do, telling}
-use Rattle.rasta_core_link.specs.Receiving.{Receipt, age, ahead, behind}
+use Rattle.rasta_core_link.specs.PdusHandedOut.{Step, silent, then_do, telling}
+use Rattle.rasta_core_link.specs.Receipt.{Receipt, age, ahead, behind}
 use Rattle.rasta_core_link.specs.declared.identity.Role.{Role}
 use Rattle.rasta_core_link.specs.declared.identity.Role.TheVariants as role
 use Rattle.rasta_core_link.specs.declared.phase.State.{State}

@@ -1,2 +1,2 @@
 -- What the code has inside a link. No promise of `Link` names any of it.
-pub mod Hearing
+pub mod PduHeard

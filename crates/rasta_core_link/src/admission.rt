@@ -21,7 +21,7 @@ pub(crate) enum Admission {
 }
 
 impl Admission {
-    ghost use Rattle.rasta_core_link.specs.Receiving.{admission};
+    ghost use Rattle.rasta_core_link.specs.Receipt.{admission};
 
     pub(crate) fn of(body: &Body, phase: Phase) -> Admission
         ensures { result ≡ admission body.now phase }

@@ -3,9 +3,9 @@
 
 ghost use Rattle.std.specs.Prelude.{◌≡◌, ◌≤◌, true, [], length};
 ghost use Rattle.rasta_core_link.specs.Outbox.{HasRoomFor, posted};
-ghost use Rattle.rasta_core_link.specs.Sending.{entered};
+ghost use Rattle.rasta_core_link.specs.PdusHandedOut.{entered};
 ghost use Rattle.rasta_core_link.specs.Verdicts.{IsVerdict, is_refusal, refused};
-ghost use Rattle.rasta_pdu.specs.Reading.{reading};
+ghost use Rattle.rasta_pdu.specs.PduRead.{reading};
 
 use crate::fault::SendFault;
 use crate::link::{Link, Millis};

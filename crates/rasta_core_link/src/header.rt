@@ -17,10 +17,10 @@ pub struct Header {
 }
 
 impl Header {
-    ghost use Rattle.rasta_core_link.specs.Sending.{pdu_of};
+    ghost use Rattle.rasta_core_link.specs.PdusHandedOut.{pdu_of};
 
     /// The PDU of this count in the connection.
-    #[tactic(auto, unfolding(crate::specs::Sending::pdu_of))]
+    #[tactic(auto, unfolding(crate::specs::PdusHandedOut::pdu_of))]
     pub(crate) fn pdu(self, count: u32, body: Body) -> Pdu
         ensures { result ≡ pdu_of self count body }
     {

@@ -26,7 +26,7 @@ fn own_opening() -> Opening
 
 impl Link {
     ghost use Rattle.rasta_core_link.specs.Opening.{may_open, beginning, requesting, meeting, judging, granting, joining};
-    ghost use Rattle.rasta_core_link.specs.Sending.{sending};
+    ghost use Rattle.rasta_core_link.specs.PdusHandedOut.{sending};
     ghost use Rattle.rasta_core_link.specs.State.{is_open};
     ghost use Rattle.rasta_pdu.specs.declared.body.Body.TheVariants.{ConnectionRequest, ConnectionResponse, Heartbeat};
 

@@ -20,7 +20,7 @@ pub enum Reason {
 }
 
 impl Reason {
-    ghost use Rattle.rasta_core_link.specs.Sending.{reason_number, is_told};
+    ghost use Rattle.rasta_core_link.specs.PdusHandedOut.{reason_number, is_told};
 
     /// Its number in a disconnection request, 0 to 5.
     pub fn number(self) -> u16

@@ -26,8 +26,8 @@ pub(crate) fn stamp(clock: Millis) -> u32
 
 impl Link {
     ghost use Rattle.rasta_core_link.specs.State.{is_asking, is_open};
-    ghost use Rattle.rasta_core_link.specs.Sending.{header_of, sending, closed, telling, closing, limited, entered, beating, giving};
-    ghost use Rattle.rasta_core_link.specs.Receiving.{repeating};
+    ghost use Rattle.rasta_core_link.specs.PdusHandedOut.{header_of, sending, closed, telling, closing, limited, entered, beating, giving};
+    ghost use Rattle.rasta_core_link.specs.Receipt.{repeating};
 
     /// Whether it has asked for a connection and taken nothing in it yet.
     fn is_asking(&self) -> bool
@@ -40,7 +40,7 @@ impl Link {
     }
 
     /// What all PDUs of this step have in common.
-    #[tactic(auto, unfolding(crate::specs::Sending::header_of))]
+    #[tactic(auto, unfolding(crate::specs::PdusHandedOut::header_of))]
     pub(crate) fn header(&self) -> Header
         ensures { result ≡ header_of self.now }
     {
@@ -59,7 +59,7 @@ impl Link {
     }
 
     /// The next PDU goes out.
-    #[tactic(auto, unfolding(crate::specs::Sending::sending))]
+    #[tactic(auto, unfolding(crate::specs::PdusHandedOut::sending))]
     pub(crate) fn dispatch(&mut self, body: Body, outbox: &mut Outbox)
         requires below { self.old.sent < connection_limit + 22 }
         requires room { HasRoomFor 1 outbox.old }
@@ -80,7 +80,7 @@ impl Link {
     }
 
     /// Closes, and tells the partner why.
-    #[tactic(auto, unfolding(crate::specs::Sending::telling, crate::specs::Sending::sending))]
+    #[tactic(auto, unfolding(crate::specs::PdusHandedOut::telling, crate::specs::PdusHandedOut::sending))]
     pub(crate) fn tell(&mut self, why: Reason, outbox: &mut Outbox)
         requires open { IsTrue (is_open self.old.phase) }
         requires room { HasRoomFor 1 outbox.old }
@@ -99,7 +99,7 @@ impl Link {
     }
 
     /// Closes, and tells the partner where the reason is one that is told.
-    #[tactic(auto, using(crate::proofs::Posting::posting), unfolding(crate::specs::Sending::closing))]
+    #[tactic(auto, using(crate::proofs::Posting::posting), unfolding(crate::specs::PdusHandedOut::closing))]
     pub(crate) fn shut(&mut self, why: Reason, outbox: &mut Outbox)
         requires open { IsTrue (is_open self.old.phase) }
         requires room { HasRoomFor 1 outbox.old }
@@ -114,7 +114,7 @@ impl Link {
     }
 
     /// An end that has sent so many PDUs in its connection closes it.
-    #[tactic(auto, using(crate::proofs::Posting::posting), unfolding(crate::specs::Sending::limited))]
+    #[tactic(auto, using(crate::proofs::Posting::posting), unfolding(crate::specs::PdusHandedOut::limited))]
     fn limit(&mut self, outbox: &mut Outbox)
         requires room { HasRoomFor 1 outbox.old }
         ensures link { self.new ≡ (limited self.old).link }
@@ -126,7 +126,7 @@ impl Link {
     }
 
     /// How each call begins: the clock rules, and then the limit of PDUs in a connection.
-    #[tactic(auto, using(crate::proofs::Steps::entering), unfolding(crate::specs::Sending::entered))]
+    #[tactic(auto, using(crate::proofs::Steps::entering), unfolding(crate::specs::PdusHandedOut::entered))]
     pub(crate) fn enter(&mut self, now: Millis, outbox: &mut Outbox)
         requires room { HasRoomFor 24 outbox.old }
         ensures link { self.new ≡ (entered now self.old).link }
@@ -140,7 +140,7 @@ impl Link {
     }
 
     /// A heartbeat, where it is up and was silent for 300 ms.
-    #[tactic(auto, using(crate::proofs::Posting::posting), unfolding(crate::specs::Sending::beating))]
+    #[tactic(auto, using(crate::proofs::Posting::posting), unfolding(crate::specs::PdusHandedOut::beating))]
     pub(crate) fn beat(&mut self, outbox: &mut Outbox)
         requires below { IsTrue (is_open self.old.phase) → self.old.sent < connection_limit }
         requires room { HasRoomFor 1 outbox.old }
@@ -153,7 +153,7 @@ impl Link {
     }
 
     /// A new item goes out, and waits under the count of its PDU.
-    #[tactic(auto, using(crate::proofs::Posting::posting), unfolding(crate::specs::Sending::sending, crate::specs::Sending::giving))]
+    #[tactic(auto, using(crate::proofs::Posting::posting), unfolding(crate::specs::PdusHandedOut::sending, crate::specs::PdusHandedOut::giving))]
     pub(crate) fn give(&mut self, item: &Item, outbox: &mut Outbox)
         requires below { self.old.sent < connection_limit }
         requires window { length self.old.waiting < window_size }
@@ -171,7 +171,7 @@ impl Link {
     }
 
     /// The unconfirmed items go out again.
-    #[tactic(auto, using(crate::proofs::Waiting::repeating), unfolding(crate::specs::Receiving::repeating))]
+    #[tactic(auto, using(crate::proofs::Waiting::repeating), unfolding(crate::specs::Receipt::repeating))]
     pub(crate) fn repeat(&mut self, outbox: &mut Outbox)
         requires below { self.old.sent ≤ connection_limit }
         requires room { HasRoomFor 20 outbox.old }

@@ -3,7 +3,7 @@
 ghost use Rattle.std.specs.Prelude.{◌≡◌, ◌+◌, ◌-◌, ◌^◌, ◌<◌, ◌≤◌, length};
 ghost use Rattle.circular_buffer.specs.Buffer.{buffer};
 ghost use Rattle.rasta_core_link.specs.Outbox.{HasRoomFor, posted};
-ghost use Rattle.rasta_core_link.specs.Receiving.{still_waiting, repeated, retagged};
+ghost use Rattle.rasta_core_link.specs.Receipt.{still_waiting, repeated, retagged};
 
 use crate::header::Header;
 use crate::outbox::Outbox;

@@ -5,9 +5,9 @@ use Rattle.std.specs.Cmp.Lexicographic.{pointwise}
 use Rattle.rasta_core_run.specs.Parameters.{own_version, window_size}
 use Rattle.rasta_core_run.specs.State.{LinkState, is_open, is_asking, is_client, is_up}
 use Rattle.rasta_core_run.specs.Clock.{settled, state_at, open_state}
-use Rattle.rasta_core_run.specs.Sending.{Step, silent, then_do, sending, telling, closed, entered, limited, beating, pdu_of}
+use Rattle.rasta_core_run.specs.PdusHandedOut.{Step, silent, then_do, sending, telling, closed, entered, limited, beating, pdu_of}
 use Rattle.rasta_core_run.specs.Opening.{meeting, judging, joining}
-use Rattle.rasta_core_run.specs.Receiving.{refusing, violating, accepting, answers_request, connected, asking, by_state, hearing}
+use Rattle.rasta_core_run.specs.Receipt.{refusing, violating, accepting, answers_request, connected, asking, by_state, hearing}
 use Rattle.rasta_core_run.specs.Calls.{ticking}
 use Rattle.rasta_core_run.specs.verdict.Verdict.TheVariants as verdict
 use Rattle.rasta_core_run.specs.reason.Reason.TheVariants as reason

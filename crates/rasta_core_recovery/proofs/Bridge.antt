@@ -2,11 +2,11 @@
 use Rattle.std.proofs.Common.{◌≡◌, ℕ, zero, suc, ◌∙◌, ◌+◌, Bool, true, false, ◌&&◌, not, nat_le, if◌then◌else◌, List, [], ◌∷◌, ◌++◌, length, drop, Option, Result, Ok, append_assoc, append-nil, refl, sym, ap, subst, arith}
 use Rattle.rasta_core_run.specs.State.{LinkState}
 use Rattle.rasta_core_run.specs.Clock.{settled}
-use Rattle.rasta_core_run.specs.Sending.{Step, entered}
+use Rattle.rasta_core_run.specs.PdusHandedOut.{Step, entered}
 use Rattle.rasta_core_run.specs.Calls.{hearing_bytes, receiving}
 use Rattle.rasta_core_run.specs.Outbox.{spellings}
 use Rattle.rasta_core_run.specs.Spelling.{writing}
-use Rattle.rasta_core_run.specs.Reading.{reading}
+use Rattle.rasta_core_run.specs.PduRead.{reading}
 use Rattle.rasta_core_run.specs.Values.{IsPdu}
 use Rattle.rasta_core_run.specs.key.Key.{Key}
 use Rattle.rasta_core_run.specs.identity.Identity.{Identity}
@@ -20,7 +20,7 @@ use Rattle.rasta_core_run.specs.Run.{Ends, end_of, called, later}
 use Rattle.rasta_core_run.specs.Events.{Event, Calls, Passes, May, MayCall, MayRun, happened, run}
 use Rattle.rasta_core_run.specs.Names.{Names, AreNames, partner_of, identity_of}
 use Rattle.rasta_core.specs.Invariant.{InFlight, Timely}
-use Rattle.rasta_core.specs.Standing.{Times, times_of}
+use Rattle.rasta_core.specs.TimedEnds.{Times, times_of}
 use Rattle.rasta_core_recovery.proofs.Links.{Pair, heard, all_heard, worked, end_round, pair_round}
 use Rattle.rasta_core_recovery.proofs.Mirror.{Mirrors, AreRead, arriving, pending, bytes_from, chosen}
 use Rattle.rasta_core_recovery.specs.Rounds.{Flow, can_come, comings, own_work, round_events, good_round}

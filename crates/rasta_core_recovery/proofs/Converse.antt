@@ -2,7 +2,7 @@
 use Rattle.std.proofs.Common.{◌≡◌, ℕ, ◌∙◌, ◌+◌, ◌-◌, ◌^◌, ◌≤◌, ◌<◌, ◌⊎◌, inl, inr, Bool, true, false, List, [], refl, sym, ap, subst, arith}
 use Rattle.rasta_core_run.specs.Sequence.{stamp}
 use Rattle.rasta_core_run.specs.State.{LinkState, is_open, is_up}
-use Rattle.rasta_core_run.specs.Sending.{Step}
+use Rattle.rasta_core_run.specs.PdusHandedOut.{Step}
 use Rattle.rasta_core_run.specs.identity.Role.{Role}
 use Rattle.rasta_core_run.specs.identity.Role.TheVariants as role
 use Rattle.rasta_core_run.specs.identity.Identity.{Identity}

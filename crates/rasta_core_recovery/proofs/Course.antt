@@ -2,8 +2,8 @@
 use Rattle.std.proofs.Common.{◌≡◌, ℕ, ◌∙◌, ◌+◌, ◌-◌, ◌^◌, ◌≤◌, ◌<◌, ◌⊎◌, inl, inr, true, false, nat_lt, List, [], ◌∷◌, ◌++◌, refl, sym, ap, subst, arith, ltb-false}
 use Rattle.rasta_core_run.specs.Sequence.{wire, stamp, distance}
 use Rattle.rasta_core_run.specs.State.{LinkState, is_open, is_asking}
-use Rattle.rasta_core_run.specs.Sending.{header_of, pdu_of}
-use Rattle.rasta_core_run.specs.Receiving.{age, ahead, behind, is_stale, taking}
+use Rattle.rasta_core_run.specs.PdusHandedOut.{header_of, pdu_of}
+use Rattle.rasta_core_run.specs.Receipt.{age, ahead, behind, is_stale, taking}
 use Rattle.rasta_core_run.specs.identity.Identity.{Identity}
 use Rattle.rasta_core_run.specs.pdu.Pdu.{Pdu}
 use Rattle.rasta_core_run.specs.body.Body.TheVariants.{RetransmissionRequest}

@@ -5,8 +5,8 @@ use Rattle.rasta_core_run.specs.Parameters.{sequence_range}
 use Rattle.rasta_core_run.specs.Sequence.{wire}
 use Rattle.rasta_core_run.specs.State.{LinkState, is_open, is_asking, is_client}
 use Rattle.rasta_core_run.specs.Clock.{state_at, deadline, open_state}
-use Rattle.rasta_core_run.specs.Sending.{sending, telling, header_of, pdu_of}
-use Rattle.rasta_core_run.specs.Receiving.{Receipt, refusing, violating, age, ahead, behind, is_stale, confirms, taking, answering, repeating, retagged, repeated, missing, handing, bringing, in_turn, admission, admitting, testing, is_opening_again, connected, asking, by_state, hearing}
+use Rattle.rasta_core_run.specs.PdusHandedOut.{sending, telling, header_of, pdu_of}
+use Rattle.rasta_core_run.specs.Receipt.{Receipt, refusing, violating, age, ahead, behind, is_stale, confirms, taking, answering, repeating, retagged, repeated, missing, handing, bringing, in_turn, admission, admitting, testing, is_opening_again, connected, asking, by_state, hearing}
 use Rattle.rasta_core_run.specs.header.Header.{Header}
 use Rattle.rasta_core_run.specs.verdict.Verdict.TheVariants as verdict
 use Rattle.rasta_core_run.specs.phase.Phase.{Phase}

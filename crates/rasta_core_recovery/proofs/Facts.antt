@@ -10,12 +10,12 @@ use Rattle.rasta_core_run.specs.Bag.{lifetime}
 use Rattle.rasta_core_run.specs.Each.{Each}
 use Rattle.rasta_core_run.specs.Ends.{Sent}
 use Rattle.rasta_core_run.specs.Names.{Names, identity_of}
-use Rattle.rasta_core.specs.Standing.{Inside, Outside, IsInside, IsOutside, HasHeard, own_stamp, heard_stamp, closed_at, standing, Times, times_of}
+use Rattle.rasta_core.specs.TimedEnds.{Inside, Outside, IsInside, IsOutside, HasHeard, own_stamp, heard_stamp, closed_at, standing, Times, times_of}
 use Rattle.rasta_core.specs.Timely.{IsKnown}
 use Rattle.rasta_core.specs.Invariant.{InFlight, Timely}
 use Rattle.rasta_core.specs.Ordered.{Ordered, unbegun, alone, together}
 use Rattle.rasta_core.specs.EndFlow.{EndFlow}
-use Rattle.rasta_core.specs.Playing.{Plays, joined, asking, left, HasJoined}
+use Rattle.rasta_core.specs.LinkAndFlow.{Plays, joined, asking, left, HasJoined}
 use Rattle.rasta_core_recovery.proofs.Links.{Pair}
 use Rattle.rasta_core_recovery.proofs.Mirror.{Mirrors, AreRead, arriving, pending, bytes_from}
 use Rattle.rasta_core_recovery.specs.Rounds.{Flow, can_come}

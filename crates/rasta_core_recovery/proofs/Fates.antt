@@ -4,7 +4,7 @@ use Rattle.std.proofs.lemmas.Bool.Decides.{nat_tests}
 use Rattle.rasta_core_run.specs.Sequence.{wire}
 use Rattle.rasta_core_run.specs.State.{LinkState, is_open, is_asking}
 use Rattle.rasta_core_run.specs.Clock.{settled, deadline}
-use Rattle.rasta_core_run.specs.Sending.{Step, silent}
+use Rattle.rasta_core_run.specs.PdusHandedOut.{Step, silent}
 use Rattle.rasta_core_run.specs.identity.Role.TheVariants as role
 use Rattle.rasta_core_run.specs.pdu.Pdu.{Pdu}
 use Rattle.rasta_core_run.specs.Each.{Each}

@@ -3,8 +3,8 @@ use Rattle.std.proofs.Common.{◌≡◌, ℕ, ◌∙◌, ◌+◌, ◌-◌, ◌<�
 use Rattle.std.proofs.lemmas.Bool.Decides.{nat_tests}
 use Rattle.rasta_core_run.specs.State.{LinkState, is_open, is_up}
 use Rattle.rasta_core_run.specs.Clock.{settled, deadline}
-use Rattle.rasta_core_run.specs.Sending.{Step, silent, then_do, sending, telling, limited, entered, beating}
-use Rattle.rasta_core_run.specs.Receiving.{hearing}
+use Rattle.rasta_core_run.specs.PdusHandedOut.{Step, silent, then_do, sending, telling, limited, entered, beating}
+use Rattle.rasta_core_run.specs.Receipt.{hearing}
 use Rattle.rasta_core_run.specs.Calls.{opening, ticking}
 use Rattle.rasta_core_run.specs.identity.Role.{Role}
 use Rattle.rasta_core_run.specs.identity.Role.TheVariants as role

@@ -2,8 +2,8 @@
 use Rattle.std.proofs.Common.{◌≡◌, ℕ, zero, suc, ◌∙◌, ◌+◌, ◌*◌, ◌-◌, ◌≤◌, ◌<◌, ◌⊎◌, inl, inr, Bool, true, false, nat_le, List, [], ◌∷◌, ◌++◌, refl, sym, ap, subst, arith, leb-true, leb-false}
 use Rattle.rasta_core_run.specs.Sequence.{stamp}
 use Rattle.rasta_core_run.specs.State.{LinkState, is_open}
-use Rattle.rasta_core_run.specs.Sending.{Step}
-use Rattle.rasta_core_run.specs.Receiving.{Receipt}
+use Rattle.rasta_core_run.specs.PdusHandedOut.{Step}
+use Rattle.rasta_core_run.specs.Receipt.{Receipt}
 use Rattle.rasta_core_run.specs.identity.Role.{Role}
 use Rattle.rasta_core_run.specs.identity.Role.TheVariants as role
 use Rattle.rasta_core_run.specs.identity.Identity.{Identity}

@@ -4,8 +4,8 @@ use Rattle.std.proofs.lemmas.Bool.Decides.{nat_tests}
 use Rattle.rasta_core_run.specs.Sequence.{wire, stamp, distance, before}
 use Rattle.rasta_core_run.specs.State.{LinkState, is_open, is_up, is_asking}
 use Rattle.rasta_core_run.specs.Clock.{deadline, state_at}
-use Rattle.rasta_core_run.specs.Sending.{Step, silent, then_do, header_of, pdu_of, sending}
-use Rattle.rasta_core_run.specs.Receiving.{Receipt, age, ahead, behind, still_waiting, taking, bringing, in_turn, admitting, testing, connected, by_state, hearing}
+use Rattle.rasta_core_run.specs.PdusHandedOut.{Step, silent, then_do, header_of, pdu_of, sending}
+use Rattle.rasta_core_run.specs.Receipt.{Receipt, age, ahead, behind, still_waiting, taking, bringing, in_turn, admitting, testing, connected, by_state, hearing}
 use Rattle.rasta_core_run.specs.Calls.{opening, ticking}
 use Rattle.rasta_core_run.specs.identity.Role.{Role}
 use Rattle.rasta_core_run.specs.identity.Role.TheVariants as role

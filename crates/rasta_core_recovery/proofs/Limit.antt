@@ -3,10 +3,10 @@ use Rattle.std.proofs.Common.{◌≡◌, ℕ, ◌∙◌, ◌+◌, ◌-◌, ◌^�
 use Rattle.std.proofs.lemmas.Bool.Decides.{nat_tests}
 use Rattle.rasta_core_run.specs.Sequence.{wire, stamp}
 use Rattle.rasta_core_run.specs.State.{LinkState, is_open}
-use Rattle.rasta_core_run.specs.Sending.{Step, silent, then_do, sending, telling, limited, entered, beating, header_of, pdu_of}
+use Rattle.rasta_core_run.specs.PdusHandedOut.{Step, silent, then_do, sending, telling, limited, entered, beating, header_of, pdu_of}
 use Rattle.rasta_core_run.specs.Clock.{settled}
 use Rattle.rasta_core_run.specs.Opening.{requesting, may_open}
-use Rattle.rasta_core_run.specs.Receiving.{hearing}
+use Rattle.rasta_core_run.specs.Receipt.{hearing}
 use Rattle.rasta_core_run.specs.Calls.{opening, ticking}
 use Rattle.rasta_core_run.specs.identity.Role.{Role}
 use Rattle.rasta_core_run.specs.identity.Role.TheVariants as role

@@ -2,8 +2,8 @@
 use Rattle.std.specs.Prelude.{ℕ, zero, suc, ◌+◌, List, [], ◌∷◌}
 use Rattle.rasta_core_run.specs.State.{LinkState}
 use Rattle.rasta_core_run.specs.Clock.{settled}
-use Rattle.rasta_core_run.specs.Sending.{Step, silent, then_do, entered}
-use Rattle.rasta_core_run.specs.Receiving.{hearing}
+use Rattle.rasta_core_run.specs.PdusHandedOut.{Step, silent, then_do, entered}
+use Rattle.rasta_core_run.specs.Receipt.{hearing}
 use Rattle.rasta_core_run.specs.Calls.{ticking, opening}
 use Rattle.rasta_core_run.specs.identity.Role.{Role}
 use Rattle.rasta_core_run.specs.identity.Role.TheVariants as role

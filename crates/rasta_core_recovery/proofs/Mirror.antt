@@ -4,7 +4,7 @@ use Rattle.rasta_core_run.specs.identity.Role.{Role}
 use Rattle.rasta_core_run.specs.identity.Role.TheVariants as role
 use Rattle.rasta_core_run.specs.Ends.{Sent}
 use Rattle.rasta_core_run.specs.Names.{Names}
-use Rattle.rasta_core_run.specs.Reading.{reading}
+use Rattle.rasta_core_run.specs.PduRead.{reading}
 use Rattle.rasta_core_run.specs.key.Key.{Key}
 use Rattle.rasta_core_run.specs.pdu.Pdu.{Pdu}
 use Rattle.rasta_core.specs.Invariant.{Timely}

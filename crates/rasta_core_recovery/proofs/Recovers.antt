@@ -6,7 +6,7 @@ use Rattle.rasta_core_run.specs.phase.Phase.TheVariants as phase
 use Rattle.rasta_core_run.specs.Run.{Ends}
 use Rattle.rasta_core_run.specs.Events.{Event, May, MayRun, Start, happened, run, started}
 use Rattle.rasta_core_run.specs.Names.{Names, AreNames}
-use Rattle.rasta_core.specs.Standing.{Inside, Outside, IsInside, own_stamp, standing}
+use Rattle.rasta_core.specs.TimedEnds.{Inside, Outside, IsInside, own_stamp, standing}
 use Rattle.rasta_core.specs.Invariant.{Timely}
 use Rattle.rasta_core.specs.Ordered.{Ordered}
 use Rattle.rasta_core_recovery.proofs.Links.{Pair, pair_rounds}

@@ -1,7 +1,7 @@
 -- Two ends through good rounds: what is so after each of them, and how a connection that both stay in becomes healthy.
 use Rattle.std.proofs.Common.{◌≡◌, ℕ, zero, suc, ◌∙◌, ◌+◌, ◌*◌, ◌-◌, ◌^◌, ◌≤◌, ◌<◌, Bool, true, false, List, [], refl, sym, ap, subst, arith}
 use Rattle.rasta_core_run.specs.State.{LinkState, is_open, is_asking, is_up}
-use Rattle.rasta_core_run.specs.Sending.{Step}
+use Rattle.rasta_core_run.specs.PdusHandedOut.{Step}
 use Rattle.rasta_core_run.specs.identity.Role.TheVariants as role
 use Rattle.rasta_core_run.specs.pdu.Pdu.{Pdu}
 use Rattle.rasta_core_run.specs.Names.{Names, identity_of}

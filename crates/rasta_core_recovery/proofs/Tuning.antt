@@ -3,8 +3,8 @@ use Rattle.std.proofs.Common.{◌≡◌, ℕ, ◌∙◌, ◌+◌, ◌-◌, ◌^�
 use Rattle.std.proofs.lemmas.Bool.Decides.{nat_tests}
 use Rattle.rasta_core_run.specs.Sequence.{wire, stamp}
 use Rattle.rasta_core_run.specs.State.{LinkState}
-use Rattle.rasta_core_run.specs.Sending.{header_of, pdu_of}
-use Rattle.rasta_core_run.specs.Receiving.{age, ahead, behind, hearing}
+use Rattle.rasta_core_run.specs.PdusHandedOut.{header_of, pdu_of}
+use Rattle.rasta_core_run.specs.Receipt.{age, ahead, behind, hearing}
 use Rattle.rasta_core_run.specs.header.Header.{Header}
 use Rattle.rasta_core_run.specs.identity.Identity.{Identity}
 use Rattle.rasta_core_run.specs.phase.Phase.{Phase}

@@ -2,8 +2,8 @@
 use Rattle.std.proofs.Common.{◌≡◌, ℕ, ◌∙◌, ◌+◌, ◌-◌, ◌^◌, ◌≤◌, ◌<◌, ◌⊎◌, inl, inr, Bool, true, false, List, [], ◌∷◌, ◌++◌, refl, sym, ap, subst, arith}
 use Rattle.rasta_core_run.specs.Sequence.{stamp}
 use Rattle.rasta_core_run.specs.State.{LinkState, is_up}
-use Rattle.rasta_core_run.specs.Sending.{Step, then_do, sending, header_of, pdu_of}
-use Rattle.rasta_core_run.specs.Receiving.{taking, hearing}
+use Rattle.rasta_core_run.specs.PdusHandedOut.{Step, then_do, sending, header_of, pdu_of}
+use Rattle.rasta_core_run.specs.Receipt.{taking, hearing}
 use Rattle.rasta_core_run.specs.identity.Role.{Role}
 use Rattle.rasta_core_run.specs.phase.Phase.{Phase}
 use Rattle.rasta_core_run.specs.phase.Phase.TheVariants as phase

@@ -2,8 +2,8 @@
 use Rattle.std.proofs.Common.{◌≡◌, ℕ, suc, ◌∙◌, ◌+◌, ◌^◌, ◌≤◌, ◌<◌, Bool, true, false, List, [], ◌∷◌, ◌++◌, length, if◌then◌else◌, refl, sym, ap, subst, arith}
 use Rattle.rasta_core_run.specs.Sequence.{wire, before, stamp}
 use Rattle.rasta_core_run.specs.State.{LinkState, is_asking}
-use Rattle.rasta_core_run.specs.Sending.{header_of, pdu_of}
-use Rattle.rasta_core_run.specs.Receiving.{repeated}
+use Rattle.rasta_core_run.specs.PdusHandedOut.{header_of, pdu_of}
+use Rattle.rasta_core_run.specs.Receipt.{repeated}
 use Rattle.rasta_core_run.specs.header.Header.{Header}
 use Rattle.rasta_core_run.specs.window.Unconfirmed.{Unconfirmed}
 use Rattle.rasta_core_run.specs.pdu.Pdu.{Pdu}

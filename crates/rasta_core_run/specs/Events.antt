@@ -8,7 +8,7 @@ use Rattle.rasta_core_run.specs.Ends.{Sent, EndState, Call, Ticks, Opens, Closes
 use Rattle.rasta_core_run.specs.Run.{Ends, called, later, lost, restarted}
 use Rattle.rasta_pdu.specs.declared.pdu.Pdu.{Pdu}
 use Rattle.rasta_pdu.specs.Items.{IsItem}
-use Rattle.rasta_pdu.specs.Reading.{reading}
+use Rattle.rasta_pdu.specs.PduRead.{reading}
 use Rattle.rasta_pdu.specs.SafetyCode.{IsIntact}
 use Rattle.rasta_pdu.specs.Values.{IsPdu}
 use Rattle.rasta_core_run.specs.Names.{Names, name_of, identity_of, partner_of}

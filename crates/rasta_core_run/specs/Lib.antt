@@ -14,9 +14,9 @@ pub use Rattle.rasta_core_link.specs.Parameters
 pub use Rattle.rasta_core_link.specs.Sequence
 pub use Rattle.rasta_core_link.specs.State
 pub use Rattle.rasta_core_link.specs.Clock
-pub use Rattle.rasta_core_link.specs.Sending
+pub use Rattle.rasta_core_link.specs.PdusHandedOut
 pub use Rattle.rasta_core_link.specs.Opening
-pub use Rattle.rasta_core_link.specs.Receiving
+pub use Rattle.rasta_core_link.specs.Receipt
 pub use Rattle.rasta_core_link.specs.Verdicts
 pub use Rattle.rasta_core_link.specs.Calls
 pub use Rattle.rasta_core_link.specs.Outbox
@@ -30,7 +30,7 @@ pub use Rattle.rasta_core_link.specs.declared.window
 pub use Rattle.rasta_pdu.specs.Values
 pub use Rattle.rasta_pdu.specs.SafetyCode
 pub use Rattle.rasta_pdu.specs.Spelling
-pub use Rattle.rasta_pdu.specs.Reading
+pub use Rattle.rasta_pdu.specs.PduRead
 pub use Rattle.rasta_pdu.specs.Items
 pub use Rattle.rasta_pdu.specs.declared.body
 pub use Rattle.rasta_pdu.specs.declared.key

@@ -1,7 +1,7 @@
 -- When a link is safe: in the connection that is the last of both ends.
 use Rattle.std.specs.Prelude.{◌≡◌, ℕ, ◌≤◌, ◌<◌, ◌^◌, false, List, [], ◌++◌, length, Some}
 use Rattle.rasta_core_link.specs.State.{confirmed_items, is_open}
-use Rattle.rasta_core_link.specs.Receiving.{Receipt}
+use Rattle.rasta_core_link.specs.Receipt.{Receipt}
 use Rattle.rasta_core_run.specs.Ends.{EndState, Outcome, is_taken}
 use Rattle.rasta_core_run.specs.Run.{Ends}
 

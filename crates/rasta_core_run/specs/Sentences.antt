@@ -2,7 +2,7 @@
 use Rattle.std.specs.Prelude.{◌≡◌, ℕ, ◌≤◌, ◌<◌, true, false, List, Some, Ok}
 use Rattle.rasta_core_link.specs.State.{is_open}
 use Rattle.rasta_core_link.specs.Clock.{state_at}
-use Rattle.rasta_core_link.specs.Receiving.{Receipt}
+use Rattle.rasta_core_link.specs.Receipt.{Receipt}
 use Rattle.rasta_core_link.specs.Calls.{receiving}
 use Rattle.rasta_core_link.specs.declared.identity.Role.{Role}
 use Rattle.rasta_core_link.specs.declared.identity.Role.TheVariants as role
@@ -10,7 +10,7 @@ use Rattle.rasta_core_link.specs.declared.phase.State.TheVariants as state
 use Rattle.rasta_core_run.specs.Ends.{Sent, reading_of}
 use Rattle.rasta_core_run.specs.Run.{Ends, end_of}
 use Rattle.rasta_pdu.specs.declared.pdu.Pdu.{Pdu}
-use Rattle.rasta_pdu.specs.Reading.{reading}
+use Rattle.rasta_pdu.specs.PduRead.{reading}
 use Rattle.rasta_core_run.specs.Events.{Event, Restarts}
 use Rattle.rasta_core_run.specs.Names.{Names}
 use Rattle.rasta_pdu.specs.declared.body.Body.{Body}

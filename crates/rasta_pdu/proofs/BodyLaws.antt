@@ -10,7 +10,7 @@ use Rattle.rasta_pdu.specs.declared.body.Body.TheVariants.{DisconnectionRequest}
 use Rattle.rasta_pdu.specs.declared.fault.PduFault.TheVariants as faults
 use Rattle.rasta_pdu.specs.Values.{IsBody, IsOpening}
 use Rattle.rasta_pdu.specs.Spelling.{opening_bytes, payload, type_of}
-use Rattle.rasta_pdu.specs.Reading.{disconnection_of, nothing_of, opening_of, u16_at}
+use Rattle.rasta_pdu.specs.PduRead.{disconnection_of, nothing_of, opening_of, u16_at}
 use Rattle.rasta_pdu.proofs.Steps.{guard_ok, ok_is}
 use Rattle.rasta_pdu.specs.Values.{IsBytes}
 use Rattle.rasta_pdu.proofs.Bytes.{IsBytes-drop, front_16, below_16}

@@ -10,7 +10,7 @@ use Rattle.rasta_pdu.specs.declared.pdu.Pdu.{Pdu}
 use Rattle.rasta_pdu.specs.Values.{IsPdu}
 use Rattle.rasta_pdu.specs.SafetyCode.{IsIntact, code, before_code, last_8, length_field}
 use Rattle.rasta_pdu.specs.Spelling.{payload, text, writing, Spells}
-use Rattle.rasta_pdu.specs.Reading.{◌>>=◌, pdu_of, reading, text_of}
+use Rattle.rasta_pdu.specs.PduRead.{◌>>=◌, pdu_of, reading, text_of}
 use Rattle.rasta_pdu.proofs.Steps.{bind_ok, ok_is}
 use Rattle.rasta_pdu.specs.Values.{IsBytes}
 use Rattle.rasta_pdu.proofs.Bytes.{IsBytes-take}

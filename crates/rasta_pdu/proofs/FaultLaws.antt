@@ -8,7 +8,7 @@ use Rattle.rasta_pdu.specs.declared.fault.PduFault.{PduFault}
 use Rattle.rasta_pdu.specs.declared.fault.PduFault.TheVariants as faults
 use Rattle.rasta_pdu.specs.declared.key.Key.{Key}
 use Rattle.rasta_pdu.specs.SafetyCode.{IsIntact, code, before_code, last_8, length_field}
-use Rattle.rasta_pdu.specs.Reading.{◌>>=◌, body_of, pdu_of, reading, text_of, u16_at, u32_at}
+use Rattle.rasta_pdu.specs.PduRead.{◌>>=◌, body_of, pdu_of, reading, text_of, u16_at, u32_at}
 use Rattle.rasta_pdu.specs.Faults.{IsFault, type_field, payload_field}
 use Rattle.rasta_pdu.proofs.Steps.{bind_err, err_is}
 use Rattle.rasta_pdu.specs.Values.{IsBytes}

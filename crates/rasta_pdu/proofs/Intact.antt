@@ -8,7 +8,7 @@ use Rattle.rasta_pdu.specs.declared.fault.PduFault.{PduFault}
 use Rattle.rasta_pdu.specs.declared.fault.PduFault.TheVariants as faults
 use Rattle.rasta_pdu.specs.declared.key.Key.{Key}
 use Rattle.rasta_pdu.specs.SafetyCode.{IsIntact, intact, code, before_code, last_8, length_field}
-use Rattle.rasta_pdu.specs.Reading.{Gives, text_of}
+use Rattle.rasta_pdu.specs.PduRead.{Gives, text_of}
 
 -- a function that gives what reading gives succeeds where reading does
 gives_is_ok : {X Y : Type 0} (view : X → Y) (r : Result X PduFault) (read : Result Y PduFault) → Gives view r read → is_ok r ≡ is_ok read

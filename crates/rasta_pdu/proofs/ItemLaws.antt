@@ -8,7 +8,7 @@ use Rattle.rasta_pdu.specs.declared.fault.PduFault.{PduFault}
 use Rattle.rasta_pdu.specs.declared.fault.PduFault.TheVariants as faults
 use Rattle.rasta_pdu.specs.Items.{IsItem}
 use Rattle.rasta_pdu.specs.Spelling.{item_bytes}
-use Rattle.rasta_pdu.specs.Reading.{item_of}
+use Rattle.rasta_pdu.specs.PduRead.{item_of}
 use Rattle.rasta_pdu.proofs.Steps.{guard_ok, guard_err, ok_is, err_is}
 use Rattle.rasta_pdu.specs.Values.{IsBytes}
 use Rattle.rasta_pdu.proofs.Bytes.{IsBytes-drop, front_16}

@@ -8,7 +8,7 @@ use Rattle.std.proofs.lemmas.Bool.{cases_lt, eq-eqb, ne_eqb, false≢true}
 use Rattle.rasta_pdu.specs.declared.fault.PduFault.{PduFault}
 use Rattle.rasta_pdu.specs.declared.fault.PduFault.TheVariants as faults
 use Rattle.rasta_pdu.specs.Items.{IsItem}
-use Rattle.rasta_pdu.specs.Reading.{◌>>=◌, item_of, items_to_end, items_of, some_items}
+use Rattle.rasta_pdu.specs.PduRead.{◌>>=◌, item_of, items_to_end, items_of, some_items}
 use Rattle.rasta_pdu.proofs.ItemLaws.{read_item}
 
 -- what was read before, and what is still read

@@ -9,7 +9,7 @@ use Rattle.rasta_pdu.specs.declared.fault.PduFault.{PduFault}
 use Rattle.rasta_pdu.specs.declared.fault.PduFault.TheVariants as faults
 use Rattle.rasta_pdu.specs.Items.{IsItem, AreItems}
 use Rattle.rasta_pdu.specs.Spelling.{item_bytes}
-use Rattle.rasta_pdu.specs.Reading.{◌>>=◌, item_of, items_to_end, items_of, some_items}
+use Rattle.rasta_pdu.specs.PduRead.{◌>>=◌, item_of, items_to_end, items_of, some_items}
 use Rattle.rasta_pdu.proofs.Steps.{bind_ok, ok_is, guard_ok, err_is, bind_err, guard_err}
 use Rattle.rasta_pdu.specs.Values.{IsBytes}
 use Rattle.rasta_pdu.proofs.ItemLaws.{read_item, item_found, item_again, item_fault}

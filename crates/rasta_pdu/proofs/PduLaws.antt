@@ -10,7 +10,7 @@ use Rattle.rasta_pdu.specs.declared.fault.PduFault.{PduFault}
 use Rattle.rasta_pdu.specs.declared.pdu.Pdu.{Pdu}
 use Rattle.rasta_pdu.specs.Values.{IsBody, IsOpening, IsPdu}
 use Rattle.rasta_pdu.specs.Spelling.{fields, opening_bytes, payload, text, type_of}
-use Rattle.rasta_pdu.specs.Reading.{◌>>=◌, body_of, pdu_of, u16_at, u32_at}
+use Rattle.rasta_pdu.specs.PduRead.{◌>>=◌, body_of, pdu_of, u16_at, u32_at}
 use Rattle.rasta_pdu.proofs.Steps.{bind_ok, ok_is}
 use Rattle.rasta_pdu.specs.Values.{IsBytes}
 use Rattle.rasta_pdu.proofs.Bytes.{IsBytes-drop, front_16, front_32, below_32}

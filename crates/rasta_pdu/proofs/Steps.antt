@@ -1,7 +1,7 @@
 -- Steps of reading that gave a value, and tests that passed.
 use Rattle.std.proofs.Common.{◌≡◌, ◌⊎◌, Bool, true, false, not, cond, Result, Ok, Err, refl, sym, ap, inl, inr}
 use Rattle.rasta_pdu.specs.declared.fault.PduFault.{PduFault}
-use Rattle.rasta_pdu.specs.Reading.{◌>>=◌}
+use Rattle.rasta_pdu.specs.PduRead.{◌>>=◌}
 
 -- the value of a step that did not fail
 pub bind_ok : {A B : Type 0} (r : Result A PduFault) (f : A → Result B PduFault) (y : B) → (r >>= f) ≡ Ok y → (x : A) × (r ≡ Ok x) × (f x ≡ Ok y)

@@ -10,7 +10,7 @@ use Rattle.rasta_pdu.specs.declared.fault.PduFault.TheVariants as faults
 use Rattle.rasta_pdu.specs.Items.{AreItems}
 use Rattle.rasta_pdu.specs.Values.{IsBody}
 use Rattle.rasta_pdu.specs.Spelling.{item_bytes, payload, type_of}
-use Rattle.rasta_pdu.specs.Reading.{◌>>=◌, body_of, disconnection_of, items_of, nothing_of, opening_of, u16_at}
+use Rattle.rasta_pdu.specs.PduRead.{◌>>=◌, body_of, disconnection_of, items_of, nothing_of, opening_of, u16_at}
 use Rattle.rasta_pdu.specs.Faults.{HasFixedPayload, HasItems}
 use Rattle.rasta_pdu.specs.Faults as table
 use Rattle.rasta_pdu.proofs.Steps.{bind_ok, bind_err, sized_err, ok_is, err_is}

@@ -7,7 +7,7 @@ use Rattle.rasta_pdu.specs.declared.key.Key.{Key}
 use Rattle.rasta_pdu.specs.Items.{AreItems}
 use Rattle.rasta_pdu.specs.Spelling.{item_bytes}
 use Rattle.rasta_pdu.specs.SafetyCode.{IsIntact, code, before_code, last_8, length_field}
-use Rattle.rasta_pdu.specs.Reading.{u16_at}
+use Rattle.rasta_pdu.specs.PduRead.{u16_at}
 
 -- The types whose payload always has the same length, and that length.
 pub data HasFixedPayload : ℕ → ℕ → Type 0 where

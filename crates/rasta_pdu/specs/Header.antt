@@ -2,7 +2,7 @@
 use Rattle.std.specs.Prelude.{◌≡◌, ℕ, ◌==◌, Bool, List}
 use Rattle.rasta_pdu.specs.declared.key.Key.{Key}
 use Rattle.rasta_pdu.specs.declared.pdu.Pdu.{Pdu}
-use Rattle.rasta_pdu.specs.Reading.{u16_at, u32_at}
+use Rattle.rasta_pdu.specs.PduRead.{u16_at, u32_at}
 use Rattle.rasta_pdu.specs.Spelling.{writing}
 use Rattle.rasta_pdu.specs.Values.{IsPdu}
 

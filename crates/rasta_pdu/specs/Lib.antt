@@ -2,6 +2,6 @@ pub mod Items
 pub mod Values
 pub mod SafetyCode
 pub mod Spelling
-pub mod Reading
+pub mod PduRead
 pub mod Faults
 pub mod Header

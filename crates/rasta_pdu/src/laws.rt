@@ -2,7 +2,7 @@
 
 ghost use Rattle.std.specs.Prelude.{◌≡◌, ◌≤◌, ◌↔◌, ℕ, List, length, Ok, Err, IsTrue};
 ghost use Rattle.rasta_pdu.specs.Faults.{IsFault};
-ghost use Rattle.rasta_pdu.specs.Reading.{reading};
+ghost use Rattle.rasta_pdu.specs.PduRead.{reading};
 ghost use Rattle.rasta_pdu.specs.SafetyCode.{IsIntact, intact};
 ghost use Rattle.rasta_pdu.specs.Spelling.{Spells, writing};
 ghost use Rattle.rasta_pdu.specs.Values.{IsBytes, IsPdu};

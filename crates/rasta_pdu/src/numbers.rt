@@ -1,7 +1,7 @@
 //! Numbers at a place of some bytes, low-order byte first.
 
 ghost use Rattle.std.specs.Prelude.{◌≡◌, ◌+◌, ◌≤◌, length};
-ghost use Rattle.rasta_pdu.specs.Reading.{u16_at, u32_at};
+ghost use Rattle.rasta_pdu.specs.PduRead.{u16_at, u32_at};
 
 use byteorder::{ByteOrder, LittleEndian};
 

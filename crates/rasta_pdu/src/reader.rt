@@ -2,7 +2,7 @@
 
 ghost use Rattle.std.specs.Prelude.{◌≡◌, ◌≤◌, IfOk, IfErr, Ok, Err, length};
 ghost use Rattle.rasta_pdu.specs.Faults.{IsFault};
-ghost use Rattle.rasta_pdu.specs.Reading.{Gives, body_of, disconnection_of, item_of, items_of, nothing_of, opening_of, pdu_of, reading};
+ghost use Rattle.rasta_pdu.specs.PduRead.{Gives, body_of, disconnection_of, item_of, items_of, nothing_of, opening_of, pdu_of, reading};
 ghost use Rattle.rasta_pdu.specs.Spelling.{writing};
 ghost use Rattle.rasta_pdu.specs.Values.{IsPdu};
 ghost use Rattle.rasta_pdu.specs.declared.fault.PduFault.{PduFault};
@@ -20,7 +20,7 @@ use crate::types;
 use arrayvec::ArrayVec;
 
 /// Version, window and reserved bytes.
-#[tactic(auto, unfolding(crate::specs::Reading::opening_of))]
+#[tactic(auto, unfolding(crate::specs::PduRead::opening_of))]
 fn opening(payload: &[u8]) -> Result<Opening, PduFault>
     ensures { result ≡ opening_of payload.now }
 {
@@ -41,7 +41,7 @@ fn opening(payload: &[u8]) -> Result<Opening, PduFault>
 }
 
 /// Detail and reason.
-#[tactic(auto, unfolding(crate::specs::Reading::disconnection_of))]
+#[tactic(auto, unfolding(crate::specs::PduRead::disconnection_of))]
 fn disconnection(payload: &[u8]) -> Result<Body, PduFault>
     ensures { result ≡ disconnection_of payload.now }
 {
@@ -55,7 +55,7 @@ fn disconnection(payload: &[u8]) -> Result<Body, PduFault>
 }
 
 /// A type without payload.
-#[tactic(auto, unfolding(crate::specs::Reading::nothing_of))]
+#[tactic(auto, unfolding(crate::specs::PduRead::nothing_of))]
 fn nothing(body: Body, payload: &[u8]) -> Result<Body, PduFault>
     ensures { result ≡ nothing_of body payload.now }
 {
@@ -66,7 +66,7 @@ fn nothing(body: Body, payload: &[u8]) -> Result<Body, PduFault>
 }
 
 /// The item at the front, and the bytes after it.
-#[tactic(auto, unfolding(crate::specs::Reading::item_of))]
+#[tactic(auto, unfolding(crate::specs::PduRead::item_of))]
 fn item(bytes: &[u8]) -> Result<(Item, &[u8]), PduFault>
     ensures { Gives (λ x. (x.0, x.1.now)) result (item_of bytes.now) }
 {
@@ -101,7 +101,7 @@ fn items(payload: &[u8]) -> Result<Items, PduFault>
 }
 
 /// What a PDU of a type carries.
-#[tactic(auto, unfolding(crate::specs::Reading::body_of))]
+#[tactic(auto, unfolding(crate::specs::PduRead::body_of))]
 fn body(number: u16, payload: &[u8]) -> Result<Body, PduFault>
     ensures { result ≡ body_of number payload.now }
 {
@@ -119,7 +119,7 @@ fn body(number: u16, payload: &[u8]) -> Result<Body, PduFault>
 }
 
 /// The PDU of a text whose length and code are right.
-#[tactic(auto, unfolding(crate::specs::Reading::pdu_of))]
+#[tactic(auto, unfolding(crate::specs::PduRead::pdu_of))]
 fn pdu(text: &[u8]) -> Result<Pdu, PduFault>
     requires { 28 ≤ length text.now }
     ensures { result ≡ pdu_of text.now }
@@ -138,7 +138,7 @@ fn pdu(text: &[u8]) -> Result<Pdu, PduFault>
 }
 
 /// The PDU of intact bytes, or the first fault.
-#[tactic(auto, unfolding(crate::specs::Reading::reading))]
+#[tactic(auto, unfolding(crate::specs::PduRead::reading))]
 fn read_value(key: &Key, bytes: &[u8]) -> Result<Pdu, PduFault>
     ensures { result ≡ reading key.now bytes.now }
 {

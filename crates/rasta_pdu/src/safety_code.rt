@@ -1,7 +1,7 @@
 //! The safety code at the end of each PDU, and which bytes are intact.
 
 ghost use Rattle.std.specs.Prelude.{◌≡◌, ◌≤◌, ◌↔◌, IsTrue, IfOk, length};
-ghost use Rattle.rasta_pdu.specs.Reading.{Gives, text_of};
+ghost use Rattle.rasta_pdu.specs.PduRead.{Gives, text_of};
 ghost use Rattle.rasta_pdu.specs.SafetyCode.{IsIntact, code, intact};
 
 use crate::fault::PduFault;
@@ -29,7 +29,7 @@ pub(crate) fn code_of(key: &Key, text: &[u8]) -> [u8; 8]
 }
 
 /// Intact bytes without their safety code.
-#[tactic(auto, unfolding(crate::specs::Reading::text_of))]
+#[tactic(auto, unfolding(crate::specs::PduRead::text_of))]
 pub(crate) fn text<'a>(key: &Key, bytes: &'a [u8]) -> Result<&'a [u8], PduFault>
     ensures value { Gives (λ text. text.now) result (text_of key.now bytes.now) }
     ensures fits { IfOk result (λ text. 28 ≤ length text.now) }

@@ -4,7 +4,7 @@ ghost use Rattle.std.specs.Prelude.{◌≡◌, ◌+◌, ◌<◌, ◌≤◌, ◌+
 ghost use Rattle.std.specs.List.{flat_map};
 ghost use Rattle.arrayvec.specs.ArrayVec.{array_vec_len};
 ghost use Rattle.rasta_pdu.specs.Items.{AreItems};
-ghost use Rattle.rasta_pdu.specs.Reading.{reading};
+ghost use Rattle.rasta_pdu.specs.PduRead.{reading};
 ghost use Rattle.rasta_pdu.specs.SafetyCode.{IsIntact};
 ghost use Rattle.rasta_pdu.specs.Spelling.{fields, item_bytes, opening_bytes, payload, type_of, writing};
 ghost use Rattle.rasta_pdu.specs.Values.{IsBody, IsOpening, IsPdu};

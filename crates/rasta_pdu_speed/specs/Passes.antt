@@ -5,7 +5,7 @@ use Rattle.md4.specs.Md4.{digest}
 use Rattle.rasta_pdu.specs.declared.body.Body.TheVariants.{Data}
 use Rattle.rasta_pdu.specs.declared.key.Key.{Key}
 use Rattle.rasta_pdu.specs.declared.pdu.Pdu.{Pdu}
-use Rattle.rasta_pdu.specs.Reading.{u32_at}
+use Rattle.rasta_pdu.specs.PduRead.{u32_at}
 use Rattle.rasta_pdu.specs.SafetyCode.{code}
 use Rattle.rasta_pdu.specs.Spelling.{text}
 

@@ -16,9 +16,9 @@ use std::alloc::{AllocError, Global};
 struct ReplayedWorld(World);
 
 impl Apply for ReplayedWorld {
-    ghost Picture = { Played };
+    ghost State = { Played };
 
-    ghost picture = { λ w. played w.0 };
+    ghost state = { λ w. played w.0 };
 
     ghost answer = { answer };
 

@@ -8,7 +8,7 @@ pub mod Text
 pub mod Written
 pub mod inside
 pub mod Answers
-pub mod Reading
+pub mod AnswerRead
 pub mod Replay
 pub mod Script
 pub mod Session

@@ -10,23 +10,23 @@ use Rattle.replay_lines.specs.declared.session.Entry.{Entry}
 use Rattle.replay_lines.specs.declared.agreement.Replayed.{Replayed as Verdict}
 use Rattle.replay_lines.specs.declared.agreement.Replayed.TheVariants.{Same, Differs}
 
-module _ {Picture : Type 0} (answer : Picture → Event → Result Answer Refused) (after : Picture → Event → Picture) where
+module _ {State : Type 0} (answer : State → Event → Result Answer Refused) (after : State → Event → State) where
   -- an event is answered and happens, or memory is lacking and nothing happens
-  abbrev pub Applies : Event → Picture → Result Reply Refused → Picture → Type 0
+  abbrev pub Applies : Event → State → Result Reply Refused → State → Type 0
   Applies event old reply new =
       ((recorded reply ≡ answer old event) × (new ≡ after old event)) ⊎ ((reply ≡ Err OutOfMemory) × (new ≡ old))
 
   -- each event answers as it was recorded
-  pub data AllAgree : Picture → List Entry → Type 0 where
-    none : {old : Picture} → AllAgree old []
-    agrees : {old : Picture} {entry : Entry} {more : List Entry} → answer old entry.event ≡ entry.answer → AllAgree (after old entry.event) more → AllAgree old (entry ∷ more)
+  pub data AllAgree : State → List Entry → Type 0 where
+    none : {old : State} → AllAgree old []
+    agrees : {old : State} {entry : Entry} {more : List Entry} → answer old entry.event ≡ entry.answer → AllAgree (after old entry.event) more → AllAgree old (entry ∷ more)
 
   -- the event behind so many answers otherwise, and each before it as it was recorded
-  pub data DiffersBehind : ℕ → Picture → List Entry → Type 0 where
-    differs : {old : Picture} {entry : Entry} {more : List Entry} → answer old entry.event ≢ entry.answer → DiffersBehind 0 old (entry ∷ more)
-    behind : {n : ℕ} {old : Picture} {entry : Entry} {more : List Entry} → answer old entry.event ≡ entry.answer → DiffersBehind n (after old entry.event) more → DiffersBehind (suc n) old (entry ∷ more)
+  pub data DiffersBehind : ℕ → State → List Entry → Type 0 where
+    differs : {old : State} {entry : Entry} {more : List Entry} → answer old entry.event ≢ entry.answer → DiffersBehind 0 old (entry ∷ more)
+    behind : {n : ℕ} {old : State} {entry : Entry} {more : List Entry} → answer old entry.event ≡ entry.answer → DiffersBehind n (after old entry.event) more → DiffersBehind (suc n) old (entry ∷ more)
 
   -- what is told of a session: lines count from 1
-  abbrev pub Judges : Picture → List Entry → Verdict → Type 0
+  abbrev pub Judges : State → List Entry → Verdict → Type 0
   Judges old entries Same = AllAgree old entries
   Judges old entries (Differs number) = (n : ℕ) × (number ≡ n + 1) × DiffersBehind n old entries

@@ -8,7 +8,7 @@ use Rattle.ixl_rules.specs.layout.Entries.{Site}
 use Rattle.replay_lines.specs.declared.text.SessionFault.{SessionFault}
 use Rattle.replay_lines.specs.Events.{event}
 use Rattle.replay_lines.specs.Text.{at_line}
-use Rattle.replay_lines.specs.Reading.{answer}
+use Rattle.replay_lines.specs.AnswerRead.{answer}
 use Rattle.replay_lines.specs.declared.session.Entry.{Entry}
 
 -- the entry of a line, or its lowest fault

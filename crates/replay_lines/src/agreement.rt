@@ -16,20 +16,20 @@ pub trait Apply {
     ghost use Rattle.simulator_event.specs.declared.reply.Answer.{Answer};
 
     /// What answers depend on.
-    ghost Picture: { Type 0 };
+    ghost State: { Type 0 };
 
     /// How it is now.
-    ghost picture: { Self → Picture };
+    ghost state: { Self → State };
 
     /// What it answers to an event.
-    ghost answer: { Picture → Event → Result Answer Refused };
+    ghost answer: { State → Event → Result Answer Refused };
 
     /// How it is after an event.
-    ghost after: { Picture → Event → Picture };
+    ghost after: { State → Event → State };
 
     /// Applies an event. Want of memory is answered instead where it is lacking, and nothing has happened then.
     fn apply(&mut self, event: &Event) -> Result<Reply, Refused>
-        ensures { Applies answer after event.now (picture self.old) result (picture self.new) };
+        ensures { Applies answer after event.now (state self.old) result (state self.new) };
 }
 
 /// Whether a replay answers as it was recorded.
@@ -44,7 +44,7 @@ pub enum Replayed {
 /// Applies the events of a session, until one answers otherwise than it was recorded. Want of memory is
 /// told instead where it is lacking.
 pub fn replay<S: Apply>(station: &mut S, entries: &[Entry]) -> Result<Replayed, AllocError>
-    ensures { IfOk result (Judges S.answer S.after (S.picture station.old) entries.now) }
+    ensures { IfOk result (Judges S.answer S.after (S.state station.old) entries.now) }
 {
     for (place, entry) in entries.iter().enumerate() {
         if !agrees(station, entry)? {
@@ -57,7 +57,7 @@ pub fn replay<S: Apply>(station: &mut S, entries: &[Entry]) -> Result<Replayed, 
 
 // Applies the event of an entry, and tells whether it answers as it was recorded.
 fn agrees<S: Apply>(station: &mut S, entry: &Entry) -> Result<bool, AllocError>
-    ensures { IfOk result (λ same. (IsTrue same ↔ (S.answer (S.picture station.old) entry.now.event ≡ entry.now.answer)) × (S.picture station.new ≡ S.after (S.picture station.old) entry.now.event)) }
+    ensures { IfOk result (λ same. (IsTrue same ↔ (S.answer (S.state station.old) entry.now.event ≡ entry.now.answer)) × (S.state station.new ≡ S.after (S.state station.old) entry.now.event)) }
 {
     let answer = recorded(station.apply(&entry.event));
     if let Err(Refused::OutOfMemory) = answer {

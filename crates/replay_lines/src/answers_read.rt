@@ -1,7 +1,7 @@
 //! The answer that the words of a line say.
 
 ghost use Rattle.std.specs.Prelude.{◌≡◌};
-ghost use Rattle.replay_lines.specs.Reading.{accepted, answer, can_answer, named_refusal, no, ok, refused, route_in_table, said, unnamed_refusal};
+ghost use Rattle.replay_lines.specs.AnswerRead.{accepted, answer, can_answer, named_refusal, no, ok, refused, route_in_table, said, unnamed_refusal};
 
 use crate::{point_named, route_named, section_named};
 use ixl_rules::Refusal;

@@ -135,9 +135,9 @@ impl Apply for Obliging {
     ghost use Rattle.std.specs.Prelude.{Ok};
     ghost use Rattle.simulator_event.specs.declared.reply.Answer.TheVariants.{Done};
 
-    ghost Picture = { Unit {0} };
+    ghost State = { Unit {0} };
 
-    ghost picture = { λ _. tt };
+    ghost state = { λ _. tt };
 
     ghost answer = { λ _ _. Ok Done };
 

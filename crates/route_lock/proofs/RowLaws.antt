@@ -17,7 +17,7 @@ use Rattle.control_table.specs.layout.Entries.{Site}
 use Rattle.control_table.specs.bit_row.Places.{Places, Has, Meet}
 use Rattle.control_table.specs.declared.masks.RouteMasks.{RouteMasks}
 use Rattle.control_table.specs.Table.{AreRequired}
-use Rattle.control_table.specs.Freeing.{Awaits}
+use Rattle.control_table.specs.AwaitedSections.{Awaits}
 use Rattle.route_lock.specs.declared.rows.Locked.{Locked}
 use Rattle.route_lock.specs.Rows.{AwaitsOne, HoldsBy, RowsBlock, all_of, join, none}
 

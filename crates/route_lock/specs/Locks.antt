@@ -8,7 +8,7 @@ use Rattle.control_table.specs.layout.declared.ids.RouteId.{RouteId}
 use Rattle.control_table.specs.layout.Entries.{Site}
 use Rattle.control_table.specs.bit_row.Places.{Places, Has}
 use Rattle.control_table.specs.Table.{AreSections, LeadsOver, Lists, RouteRequires, SameEntry}
-use Rattle.control_table.specs.Freeing.{Awaits}
+use Rattle.control_table.specs.AwaitedSections.{Awaits}
 use Rattle.route_lock.specs.declared.locks.LockFault.{LockFault}
 use Rattle.route_lock.specs.declared.locks.LockFault.TheVariants.{Conflict, PointHeld}
 

@@ -14,7 +14,7 @@ use Rattle.control_table.specs.bit_row.Places.{Places, Has, IsLeast, Meet}
 use Rattle.control_table.specs.declared.masks.RouteMasks.{RouteMasks}
 use Rattle.control_table.specs.Topology.{IsRoute}
 use Rattle.control_table.specs.Table.{LeadsOver, RouteRequires, Sound}
-use Rattle.control_table.specs.Freeing.{Awaits}
+use Rattle.control_table.specs.AwaitedSections.{Awaits}
 use Rattle.route_lock.specs.declared.rows.Locked.{Locked}
 use Rattle.route_lock.specs.declared.locks.LockFault.{LockFault}
 use Rattle.route_lock.specs.declared.locks.LockFault.TheVariants.{Conflict, PointHeld}

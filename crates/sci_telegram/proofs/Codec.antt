@@ -12,7 +12,7 @@ use Rattle.sci_telegram.specs.declared.telegram.Telegram.{Telegram}
 use Rattle.sci_telegram.specs.Names.{IsName, name_field}
 use Rattle.sci_telegram.specs.Messages.{protocol_of, protocol_byte, type_number, payload}
 use Rattle.sci_telegram.specs.Telegrams.{IsMessage, IsTelegram, Spells, writing}
-use Rattle.sci_telegram.specs.Reading.{protocol_field, type_field, sender_field, receiver_field, payload_field, protocol_at, kind_at, payload_length, name_spelled, message_in, telegram_in, reading}
+use Rattle.sci_telegram.specs.TelegramRead.{protocol_field, type_field, sender_field, receiver_field, payload_field, protocol_at, kind_at, payload_length, name_spelled, message_in, telegram_in, reading}
 use Rattle.sci_telegram.specs.Faults.{HasType}
 use Rattle.sci_telegram.proofs.Steps.{ok_is, bind_ok, bind_some, guard_ok}
 use Rattle.sci_telegram.proofs.NameFields.{spelled_takes, spelled_again, length-name_field}

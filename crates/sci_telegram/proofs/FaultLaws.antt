@@ -7,7 +7,7 @@ use Rattle.sci_telegram.specs.declared.kind.Kind.{Kind}
 use Rattle.sci_telegram.specs.declared.message.Message.{Message}
 use Rattle.sci_telegram.specs.declared.message.Protocol.{Protocol}
 use Rattle.sci_telegram.specs.Messages.{protocol_of, protocol_byte, payload}
-use Rattle.sci_telegram.specs.Reading.{protocol_field, type_field, sender_field, receiver_field, payload_field, protocol_at, kind_at, payload_length, name_spelled, message_in, telegram_in, reading}
+use Rattle.sci_telegram.specs.TelegramRead.{protocol_field, type_field, sender_field, receiver_field, payload_field, protocol_at, kind_at, payload_length, name_spelled, message_in, telegram_in, reading}
 use Rattle.sci_telegram.specs.Faults.{HasProtocol, HasType, HasLength, HasNames, IsFault}
 use Rattle.sci_telegram.proofs.Steps.{bind_some, bind_none, is_none, cases_option, bind_err, guard_err, some_or_none, same_some}
 use Rattle.sci_telegram.proofs.NameFields.{spelled_takes, spelled_again, spells_none}

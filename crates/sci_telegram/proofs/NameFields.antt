@@ -6,7 +6,7 @@ use Rattle.std.proofs.lemmas.List.{length-append, length-replicate}
 use Rattle.std.proofs.lemmas.Slice.Eq.{bytes_eq-Decides}
 use Rattle.std.proofs.lemmas.Option.{same_Some}
 use Rattle.sci_telegram.specs.Names.{is_name, IsName, name_field, name_in}
-use Rattle.sci_telegram.specs.Reading.{name_spelled}
+use Rattle.sci_telegram.specs.TelegramRead.{name_spelled}
 use Rattle.sci_telegram.proofs.Names.{name_in-name_field}
 use Rattle.sci_telegram.proofs.Steps.{test_some, some_or_none}
 

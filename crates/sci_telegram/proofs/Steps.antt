@@ -3,7 +3,7 @@ use Rattle.std.proofs.Common.{◌≡◌, ◌⊎◌, ℕ, Bool, true, false, cond
 use Rattle.std.specs.Option.{ok_or, option_map}
 use Rattle.std.proofs.lemmas.Bool.{eqb-true}
 use Rattle.sci_telegram.specs.declared.fault.SciFault.{SciFault}
-use Rattle.sci_telegram.specs.Reading.{◌>>=◌}
+use Rattle.sci_telegram.specs.TelegramRead.{◌>>=◌}
 
 -- the value of a step that did not fail
 pub bind_ok : {A B : Type 0} (o : Option A) (own : SciFault) (f : A → Result B SciFault) (y : B) → (ok_or o own >>= f) ≡ Ok y → (x : A) × (o ≡ Some x) × (f x ≡ Ok y)

@@ -27,7 +27,7 @@ use Rattle.sci_telegram.specs.declared.message.Message.{Message}
 use Rattle.sci_telegram.specs.declared.message.Message.TheVariants.{Initialisation, Point, Signal, Detection}
 use Rattle.sci_telegram.specs.Messages.{protocol_of, protocol_byte, type_number, agreement_byte, side_byte, position_byte, aspect_byte, occupancy_byte, payload}
 use Rattle.sci_telegram.specs.Telegrams.{IsMessage}
-use Rattle.sci_telegram.specs.Reading.{protocol_at, agreement_at, side_at, position_at, aspect_at, occupancy_at, own_kind_at, kind_at, payload_length, aspect_in, message_in}
+use Rattle.sci_telegram.specs.TelegramRead.{protocol_at, agreement_at, side_at, position_at, aspect_at, occupancy_at, own_kind_at, kind_at, payload_length, aspect_in, message_in}
 use Rattle.sci_telegram.proofs.Steps.{map_some, test_some, row, no_row}
 
 -- ---- bytes

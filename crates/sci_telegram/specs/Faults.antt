@@ -6,7 +6,7 @@ use Rattle.sci_telegram.specs.declared.message.Protocol.{Protocol}
 use Rattle.sci_telegram.specs.declared.message.Message.{Message}
 use Rattle.sci_telegram.specs.Names.{IsName, name_field}
 use Rattle.sci_telegram.specs.Messages.{protocol_of, protocol_byte, type_number, payload}
-use Rattle.sci_telegram.specs.Reading.{protocol_field, type_field, sender_field, receiver_field, payload_field}
+use Rattle.sci_telegram.specs.TelegramRead.{protocol_field, type_field, sender_field, receiver_field, payload_field}
 
 -- bytes begin with this protocol
 abbrev pub HasProtocol : List ℕ → Protocol → Type 0

@@ -1,5 +1,5 @@
 pub mod Names
 pub mod Messages
 pub mod Telegrams
-pub mod Reading
+pub mod TelegramRead
 pub mod Faults

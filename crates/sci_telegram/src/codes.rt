@@ -2,7 +2,7 @@
 
 ghost use Rattle.std.specs.Prelude.{◌≡◌};
 ghost use Rattle.sci_telegram.specs.Messages.{agreement_byte, aspect_byte, occupancy_byte, position_byte, protocol_byte, side_byte};
-ghost use Rattle.sci_telegram.specs.Reading.{agreement_at, aspect_at, occupancy_at, position_at, protocol_at, side_at};
+ghost use Rattle.sci_telegram.specs.TelegramRead.{agreement_at, aspect_at, occupancy_at, position_at, protocol_at, side_at};
 
 use crate::message::{Agreement, Aspect, Occupancy, Position, Protocol, Side};
 

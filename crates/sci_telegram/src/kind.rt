@@ -1,7 +1,7 @@
 //! The rows of the table of telegrams.
 
 ghost use Rattle.std.specs.Prelude.{◌≡◌};
-ghost use Rattle.sci_telegram.specs.Reading.{kind_at, own_kind_at, payload_length};
+ghost use Rattle.sci_telegram.specs.TelegramRead.{kind_at, own_kind_at, payload_length};
 
 use crate::message::Protocol;
 use crate::types;
@@ -46,7 +46,7 @@ fn own_kind_at(protocol: Protocol, number: u16) -> Option<Kind>
 }
 
 /// The row of a type number under a protocol.
-#[tactic(auto, unfolding(crate::specs::Reading::kind_at))]
+#[tactic(auto, unfolding(crate::specs::TelegramRead::kind_at))]
 pub(crate) fn kind_at(protocol: Protocol, number: u16) -> Option<Kind>
     ensures { result ≡ kind_at protocol number }
 {

@@ -4,7 +4,7 @@ ghost use Rattle.std.specs.Prelude.{◌≡◌, ◌≤◌, ℕ, List, length, Ok,
 ghost use Rattle.rasta_pdu.specs.Items.{IsItem};
 ghost use Rattle.rasta_pdu.specs.Values.{IsBytes};
 ghost use Rattle.sci_telegram.specs.Faults.{IsFault};
-ghost use Rattle.sci_telegram.specs.Reading.{reading};
+ghost use Rattle.sci_telegram.specs.TelegramRead.{reading};
 ghost use Rattle.sci_telegram.specs.Telegrams.{IsTelegram, Spells, writing};
 ghost use Rattle.sci_telegram.specs.declared.fault.SciFault.{SciFault};
 ghost use Rattle.sci_telegram.specs.declared.telegram.Telegram.{Telegram};

@@ -3,7 +3,7 @@
 ghost use Rattle.std.specs.Prelude.{◌≡◌, ◌↔◌, IsTrue, IsSome, IfSome};
 ghost use Rattle.std.specs.List.{list_all, position, before_first};
 ghost use Rattle.sci_telegram.specs.Names.{IsName, is_name_byte, is_padding, name_field};
-ghost use Rattle.sci_telegram.specs.Reading.{name_spelled};
+ghost use Rattle.sci_telegram.specs.TelegramRead.{name_spelled};
 
 use std::marker::Model;
 
@@ -84,7 +84,7 @@ impl Name {
     }
 
     /// The name that a field spells: what stands before the first padding, if only padding follows.
-    #[tactic(auto, unfolding(crate::specs::Reading::name_spelled))]
+    #[tactic(auto, unfolding(crate::specs::TelegramRead::name_spelled))]
     pub(crate) fn spelled(field: &[u8]) -> Option<Name>
         ensures { result ≡ name_spelled field.now }
     {

@@ -2,7 +2,7 @@
 
 ghost use Rattle.std.specs.Prelude.{◌≡◌, ◌+◌, ◌≤◌, Ok, Err, IfOk, IfErr, length, take, drop};
 ghost use Rattle.sci_telegram.specs.Faults.{IsFault};
-ghost use Rattle.sci_telegram.specs.Reading.{aspect_in, message_in, name_spelled, payload_length, reading};
+ghost use Rattle.sci_telegram.specs.TelegramRead.{aspect_in, message_in, name_spelled, payload_length, reading};
 ghost use Rattle.sci_telegram.specs.Telegrams.{IsTelegram, writing};
 
 use crate::codes::{agreement_at, aspect_at, occupancy_at, position_at, protocol_at, side_at};
@@ -36,7 +36,7 @@ fn name_at(place: usize, bytes: &[u8]) -> Option<Name>
 }
 
 /// An aspect and what stands behind it.
-#[tactic(auto, unfolding(crate::specs::Reading::aspect_in))]
+#[tactic(auto, unfolding(crate::specs::TelegramRead::aspect_in))]
 fn aspect_in(payload: &[u8]) -> Option<Aspect>
     requires { length payload.now ≡ 18 }
     ensures { result ≡ aspect_in payload.now }
@@ -49,7 +49,7 @@ fn aspect_in(payload: &[u8]) -> Option<Aspect>
 }
 
 /// What the telegram of a row carries.
-#[tactic(auto, unfolding(crate::specs::Reading::message_in))]
+#[tactic(auto, unfolding(crate::specs::TelegramRead::message_in))]
 fn message_in(protocol: Protocol, kind: Kind, payload: &[u8]) -> Option<Message>
     requires { length payload.now ≡ payload_length kind }
     ensures { result ≡ message_in protocol kind payload.now }
@@ -101,7 +101,7 @@ fn message_in(protocol: Protocol, kind: Kind, payload: &[u8]) -> Option<Message>
 }
 
 /// The telegram that bytes spell, or the first fault.
-#[tactic(auto, unfolding(crate::specs::Reading::reading, crate::specs::Reading::telegram_in))]
+#[tactic(auto, unfolding(crate::specs::TelegramRead::reading, crate::specs::TelegramRead::telegram_in))]
 fn read_value(bytes: &[u8]) -> Result<Telegram, SciFault>
     ensures { result ≡ reading bytes.now }
 {

@@ -4,7 +4,7 @@ ghost use Rattle.std.specs.Prelude.{◌≡◌, ◌+◌, ◌≤◌, ◌++◌, Ok,
 ghost use Rattle.arrayvec.specs.ArrayVec.{array_vec_len};
 ghost use Rattle.rasta_pdu.specs.Items.{IsItem};
 ghost use Rattle.sci_telegram.specs.Messages.{aspect_payload, payload, type_number};
-ghost use Rattle.sci_telegram.specs.Reading.{reading};
+ghost use Rattle.sci_telegram.specs.TelegramRead.{reading};
 ghost use Rattle.sci_telegram.specs.Telegrams.{IsMessage, IsTelegram, writing};
 
 use crate::codes::{

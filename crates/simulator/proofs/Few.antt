@@ -11,10 +11,10 @@ use Rattle.simulator_ixl.specs.signal_ctl.Signal.{SignalState}
 use Rattle.simulator_ixl.specs.simulator_snapshot.declared.snapshot.Shown.{Shown}
 use Rattle.simulator_ixl.specs.simulator_run.Refusals.{driven_at, driven_by}
 use Rattle.simulator_ixl.specs.simulator_run.Seen.{as_shown, shown_by}
-use Rattle.simulator_ixl.specs.simulator_run.State.{ServerState}
+use Rattle.simulator_ixl.specs.simulator_run.State.{ClockedControllerState}
 
 -- the next signal
-pub shown_next : (servers : List (ServerState SignalState)) (shows : List Shown) (place : ℕ) (aspect : Aspect) → place < length servers → option_map shown_by (slice_get servers place) ≡ Some aspect → shows ≡ map as_shown (take place servers)
+pub shown_next : (servers : List (ClockedControllerState SignalState)) (shows : List Shown) (place : ℕ) (aspect : Aspect) → place < length servers → option_map shown_by (slice_get servers place) ≡ Some aspect → shows ≡ map as_shown (take place servers)
     → shows ++ record { 0 = aspect } ∷ [] ≡ map as_shown (take (place + 1) servers)
 shown_next [] shows place aspect below is so_far = absurd (omega (arith, below))
 shown_next (first ∷ others) shows place aspect below is so_far =
@@ -23,13 +23,13 @@ shown_next (first ∷ others) shows place aspect below is so_far =
     in let shown : aspect ≡ shown_by (get_or servers place first) = sym (same_Some _ _ (ap (option_map shown_by) (sym (slice_get-get_or servers place first below)) ∙ is))
     in ap (λ all. all ++ As aspect ∷ []) so_far ∙ ap (λ a. map as_shown (take place servers) ++ As a ∷ []) shown ∙ sym (map_more as_shown servers place first below)
 
-driven_get : (place : ℕ) (servers : List (ServerState PointState)) (server : ServerState PointState) → place < length servers → driven_at place servers ≡ driven_by (get_or servers place server)
+driven_get : (place : ℕ) (servers : List (ClockedControllerState PointState)) (server : ClockedControllerState PointState) → place < length servers → driven_at place servers ≡ driven_by (get_or servers place server)
 driven_get place [] server below = absurd (omega (arith, below))
 driven_get zero (first ∷ others) server below = refl
 driven_get (suc place) (first ∷ others) server below = driven_get place others server (omega (arith, below))
 
 -- the next point
-pub driven_next : (servers : List (ServerState PointState)) (drives : List (Option Side)) (place : ℕ) (side : Option Side) → place < length servers → side ≡ driven_at place servers → drives ≡ map driven_by (take place servers)
+pub driven_next : (servers : List (ClockedControllerState PointState)) (drives : List (Option Side)) (place : ℕ) (side : Option Side) → place < length servers → side ≡ driven_at place servers → drives ≡ map driven_by (take place servers)
     → drives ++ side ∷ [] ≡ map driven_by (take (place + 1) servers)
 driven_next [] drives place side below is so_far = absurd (omega (arith, below))
 driven_next (first ∷ others) drives place side below is so_far =

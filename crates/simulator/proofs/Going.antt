@@ -14,14 +14,14 @@ use Rattle.simulator_ixl.specs.point_ctl.Controlled.{point_behaviour}
 use Rattle.simulator_ixl.specs.tds_ctl.Controlled.{detection_behaviour}
 use Rattle.simulator_ixl.specs.simulator_field.Network.{NetworkState}
 use Rattle.simulator_ixl.specs.simulator_field.Controllers.{AreOf, world_of}
-use Rattle.simulator_ixl.specs.simulator_run.Happens.{Stepped, coming, delivered_to, detector_stepped, point_stepped, signal_stepped, station_stepped, stepped_at}
+use Rattle.simulator_ixl.specs.simulator_run.Happens.{Stepped, coming, delivered_to, detector_stepped, interlocking_stepped, point_stepped, signal_stepped, stepped_at}
 use Rattle.simulator_ixl.specs.simulator_run.Nodes.{Detector, Node, Point, Signal, detector_link, point_link}
 use Rattle.simulator_ixl.specs.signal_ctl.Signal.{SignalState}
 use Rattle.simulator_ixl.specs.point_ctl.Drive.{PointState}
 use Rattle.simulator_ixl.specs.tds_ctl.declared.section.Section.{Section}
 use Rattle.std.specs.Prelude.{slice_get}
-use Rattle.simulator_ixl.specs.simulator_run.State.{ServerState, StationState, WorldState}
-use Rattle.simulator_ixl.specs.Station.{HasStepped, StationView, done_by, sending_after}
+use Rattle.simulator_ixl.specs.simulator_run.State.{ClockedControllerState, ClockedInterlockingState, WorldState}
+use Rattle.simulator_ixl.specs.Interlocking.{ClockedInterlockingView, HasSteppedAndSent, done_by, sending_after}
 use Rattle.simulator.specs.inside.Parts.{Goes, IsWhole, site_of, room_of, seen, table_of}
 use Rattle.simulator.specs.declared.parts.Parts.{Parts}
 
@@ -41,14 +41,14 @@ goes_behind first does old middle new before sited room goes = record {
 
 -- ---- the interlocking
 
-stepped_world : (input : ixl.Input) (old new : StationView) (before after : NetworkState) (answer : ixl.Reply) (world : WorldState) → old.station ≡ world.station → before.time ≡ world.time → before.sent ≡ world.sent
-    → HasStepped input old before new after answer
-    → record world { time = after.time; station = new.station; sent = after.sent } ≡ station_stepped old.sited.site old.sited.table input world
-unfolding station_stepped
+stepped_world : (input : ixl.Input) (old new : ClockedInterlockingView) (before after : NetworkState) (answer : ixl.Reply) (world : WorldState) → old.station ≡ world.station → before.time ≡ world.time → before.sent ≡ world.sent
+    → HasSteppedAndSent input old before new after answer
+    → record world { time = after.time; station = new.station; sent = after.sent } ≡ interlocking_stepped old.sited.site old.sited.table input world
+unfolding interlocking_stepped
 stepped_world input old new before after answer world is_station is_time is_sent stepped =
-    let Made : ℕ → StationState → List OnLink → WorldState = λ t s n. record world { time = t; station = s; sent = n }
-    in let Done : StationState → ℕ → List OnLink → WorldState = λ s t n.
-    let view : StationView = record { sited = old.sited; station = s }
+    let Made : ℕ → ClockedInterlockingState → List OnLink → WorldState = λ t s n. record world { time = t; station = s; sent = n }
+    in let Done : ClockedInterlockingState → ℕ → List OnLink → WorldState = λ s t n.
+    let view : ClockedInterlockingView = record { sited = old.sited; station = s }
     in let network : NetworkState = record { time = t; sent = n; room = before.room }
     in record world { station = record s { ixl = (done_by input view).ixl; connections = (sending_after input view network).connections }; sent = (sending_after input view network).sent }
     in ap (λ t. Made t new.station after.sent) (stepped.time ∙ is_time)
@@ -63,8 +63,8 @@ same_whole sited other parts network same whole =
     let Of : SitedTable → Type 0 = λ p. AreOf p.site (record parts.controllers { network = network })
     in subst Of (sym same) (record { signals = whole.signals; points = whole.points; detectors = whole.detectors; positions = whole.positions; occupancies = whole.occupancies })
 
-pub station_goes : (input : ixl.Input) (old : Parts) (station : StationView) (network : NetworkState) (answer : ixl.Reply) → IsWhole old → HasStepped input old.station old.controllers.network station network answer
-    → Goes (station_stepped (site_of old) (table_of old) input) old (record old { station = station; controllers = record old.controllers { network = network } })
+pub station_goes : (input : ixl.Input) (old : Parts) (station : ClockedInterlockingView) (network : NetworkState) (answer : ixl.Reply) → IsWhole old → HasSteppedAndSent input old.station old.controllers.network station network answer
+    → Goes (interlocking_stepped (site_of old) (table_of old) input) old (record old { station = station; controllers = record old.controllers { network = network } })
 unfolding world_of
 station_goes input old station network answer whole stepped = record {
   world = stepped_world input old.station station old.controllers.network network answer (world_of old.station.station old.frozen.items old.controllers) refl refl refl stepped;
@@ -75,7 +75,7 @@ station_goes input old station network answer whole stepped = record {
 
 -- ---- what comes to a controller
 
-same_coming : {Object : Type 0} (does : Behaviour Object) (bytes : List ℕ) (pointer : ℕ × ℕ) (connection time link place : ℕ) (found : Option (ServerState Object)) (all : Stepped Object)
+same_coming : {Object : Type 0} (does : Behaviour Object) (bytes : List ℕ) (pointer : ℕ × ℕ) (connection time link place : ℕ) (found : Option (ClockedControllerState Object)) (all : Stepped Object)
     → stepped_at does (inputs.Datagram (record { ref_ptr = pointer; now = bytes })) connection time link place found all ≡ stepped_at does (coming bytes) connection time link place found all
 unfolding stepped_at host_step given beating
 same_coming does bytes pointer connection time link place None all = refl

@@ -19,7 +19,7 @@ use Rattle.simulator_ixl.specs.simulator_snapshot.declared.snapshot.Held.{Held}
 use Rattle.simulator_ixl.specs.simulator_run.Picture.{aspect_text, authority_text, driven_text, occupancy_text, point_lines, position_text, route_lines, route_name, section_lines, set_text, signal_lines}
 use Rattle.simulator_ixl.specs.simulator_run.Refusals.{driven_at, driven_by}
 use Rattle.simulator_ixl.specs.simulator_run.Seen.{shown_by}
-use Rattle.simulator_ixl.specs.simulator_run.State.{ServerState}
+use Rattle.simulator_ixl.specs.simulator_run.State.{ClockedControllerState}
 use Rattle.simulator.specs.inside.Lines.{point_line, route_line, section_line, signal_line}
 
 one_more : (n : ℕ) → suc n ≡ n + 1
@@ -60,7 +60,7 @@ six a b c d e f l = append_assoc a (b ++ (c ++ (d ++ (e ++ f)))) l ∙ ap (λ t.
 
 -- ---- signals
 
-pub signals-add : (site : Site) (held : List Held) (place : ℕ) (signals : List Signal) (servers : List (ServerState SignalState)) (signal : Signal) (aspect : Aspect) (old new whole : List ℕ)
+pub signals-add : (site : Site) (held : List Held) (place : ℕ) (signals : List Signal) (servers : List (ClockedControllerState SignalState)) (signal : Signal) (aspect : Aspect) (old new whole : List ℕ)
     → place < length signals → signal ≡ get_or signals place signal → option_map shown_by (slice_get servers place) ≡ Some aspect
     → new ≡ old ++ signal_line signal.name aspect (authority_text site place held)
     → old ++ signal_lines site held place (drop place signals) (drop place servers) ≡ whole
@@ -77,7 +77,7 @@ signals-add site held place signals servers signal aspect old new whole within a
     ∙ sym (six (codes "\nsignal ") signal.name (codes " ") (aspect_text aspect) (codes " ") route later)
     in then_added old (signal_line signal.name aspect route) later whole (signal_lines site held place (drop place signals) (drop place servers)) new split e before
 
-pub signals-all : (site : Site) (held : List Held) (place : ℕ) (signals : List Signal) (servers : List (ServerState SignalState)) (old whole : List ℕ)
+pub signals-all : (site : Site) (held : List Held) (place : ℕ) (signals : List Signal) (servers : List (ClockedControllerState SignalState)) (old whole : List ℕ)
     → length signals ≤ place → old ++ signal_lines site held place (drop place signals) (drop place servers) ≡ whole → old ≡ whole
 signals-all site held place signals servers old whole past before =
     all_added old (signal_lines site held place (drop place signals) (drop place servers)) whole
@@ -85,7 +85,7 @@ signals-all site held place signals servers old whole past before =
 
 -- ---- points
 
-driven_is : (servers : List (ServerState PointState)) (place : ℕ) (server : ServerState PointState) → slice_get servers place ≡ Some server → driven_at place servers ≡ driven_by server
+driven_is : (servers : List (ClockedControllerState PointState)) (place : ℕ) (server : ClockedControllerState PointState) → slice_get servers place ≡ Some server → driven_at place servers ≡ driven_by server
 driven_is [] place server e = absurd (let within = slice_get_within [] place server e in omega (arith, within))
 driven_is (first ∷ others) zero server e = ap driven_by (same_Some first server e)
 driven_is (first ∷ others) (suc place) server e = driven_is others place server e
@@ -95,7 +95,7 @@ there [] n below = absurd (omega (arith, below))
 there (x ∷ xs) zero below = (x, refl)
 there (x ∷ xs) (suc n) below = there xs n (omega (arith, below))
 
-pub points-add : (place : ℕ) (points : List Point) (positions : List Position) (servers : List (ServerState PointState)) (point : Point) (position : Position) (driven : Option Side) (old new whole : List ℕ)
+pub points-add : (place : ℕ) (points : List Point) (positions : List Position) (servers : List (ClockedControllerState PointState)) (point : Point) (position : Position) (driven : Option Side) (old new whole : List ℕ)
     → place < length points → length servers ≡ length points → point ≡ get_or points place point → slice_get positions place ≡ Some position → driven ≡ driven_at place servers
     → new ≡ old ++ point_line point.name position driven
     → old ++ point_lines (drop place points) (drop place positions) (drop place servers) ≡ whole
@@ -111,7 +111,7 @@ points-add place points positions servers point position driven old new whole wi
     ∙ sym (five (codes "\npoint ") point.name (codes " ") (position_text position) (driven_text driven) later)
     in then_added old (point_line point.name position driven) later whole (point_lines (drop place points) (drop place positions) (drop place servers)) new split e before
 
-pub points-all : (place : ℕ) (points : List Point) (positions : List Position) (servers : List (ServerState PointState)) (old whole : List ℕ)
+pub points-all : (place : ℕ) (points : List Point) (positions : List Position) (servers : List (ClockedControllerState PointState)) (old whole : List ℕ)
     → length points ≤ place → old ++ point_lines (drop place points) (drop place positions) (drop place servers) ≡ whole → old ≡ whole
 points-all place points positions servers old whole past before =
     all_added old (point_lines (drop place points) (drop place positions) (drop place servers)) whole

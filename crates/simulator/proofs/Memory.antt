@@ -25,13 +25,13 @@ use Rattle.simulator_ixl.specs.simulator_event.refused.Refused.{Refused}
 use Rattle.simulator_ixl.specs.simulator_event.refused.Refused.TheVariants as refused
 use Rattle.simulator_ixl.specs.simulator_field.Controllers.{world_of}
 use Rattle.simulator_ixl.specs.simulator_run.First.{Beginning}
-use Rattle.simulator_ixl.specs.simulator_run.Happens.{Stepped, coming, delivered_to, detector_anew, detector_stepped, happens, made_anew, passed, point_anew, point_stepped, sensed_by, signal_anew, signal_stepped, station_stepped, stepped_at, ticked_at}
+use Rattle.simulator_ixl.specs.simulator_run.Happens.{Stepped, coming, delivered_to, detector_anew, detector_stepped, happens, interlocking_stepped, made_anew, passed, point_anew, point_stepped, sensed_by, signal_anew, signal_stepped, stepped_at, ticked_at}
 use Rattle.simulator_ixl.specs.simulator_run.Network.{connection_of, copy_of, datagrams_of}
-use Rattle.simulator_ixl.specs.simulator_run.Nodes.{Node, Station, Signal, Point, Detector, detector_link, key_of, node_at, nodes, point_link}
+use Rattle.simulator_ixl.specs.simulator_run.Nodes.{Node, Interlocking, Signal, Point, Detector, detector_link, key_of, node_at, nodes, point_link}
 use Rattle.simulator_ixl.specs.simulator_run.Refusals.{all_within, clock_limit, driven_at, is_missing, keeps_time, may_reach, refusal, refusal_of_time, refused_where}
-use Rattle.simulator_ixl.specs.simulator_run.Servers.{sent_by_server, server_after, step_of}
-use Rattle.simulator_ixl.specs.simulator_run.State.{ServerState, WorldState}
-use Rattle.simulator_ixl.specs.simulator_run.Station.{Sending, sending_all, sending_one, station_step}
+use Rattle.simulator_ixl.specs.simulator_run.Controllers.{controller_after, sent_by_controller, step_of}
+use Rattle.simulator_ixl.specs.simulator_run.State.{ClockedControllerState, WorldState}
+use Rattle.simulator_ixl.specs.simulator_run.Interlocking.{Sending, interlocking_step, sending_all, sending_one}
 use Rattle.simulator.specs.inside.Parts.{Goes, seen}
 use Rattle.simulator.specs.declared.parts.Parts.{Parts}
 
@@ -89,13 +89,13 @@ then_more a b c less more = omega (arith, less, more)
 more_sent : (sent added : List OnLink) → length sent ≤ length (sent ++ added)
 more_sent sent added = omega (arith, length-append sent added)
 
-step_sends : {Object : Type 0} (does : Behaviour Object) (input : Input) (connection time link place : ℕ) (found : Option (ServerState Object)) (all : Stepped Object)
+step_sends : {Object : Type 0} (does : Behaviour Object) (input : Input) (connection time link place : ℕ) (found : Option (ClockedControllerState Object)) (all : Stepped Object)
     → length all.sent ≤ length (stepped_at does input connection time link place found all).sent
 unfolding stepped_at
 step_sends does input connection time link place None all = least (length all.sent)
 step_sends does input connection time link place (Some server) all =
     let done = step_of does input server
-    in more_sent all.sent (sent_by_server done time link server (server_after done connection (length all.sent) server))
+    in more_sent all.sent (sent_by_controller done time link server (controller_after done connection (length all.sent) server))
 
 signal_sends : (site : Site) (input : Input) (connection place : ℕ) (world : WorldState) → length world.sent ≤ length (signal_stepped site input connection place world).sent
 unfolding signal_stepped
@@ -123,21 +123,21 @@ all_sent site time (first ∷ others) sending =
     let next = sending_one site time first sending
     in then_more (length sending.sent) (length next.sent) (length (sending_all site time others next).sent) (one_sent site time first sending) (all_sent site time others next)
 
-station_sends : (site : Site) (table : Table) (input : ixl.Input) (world : WorldState) → length world.sent ≤ length (station_stepped site table input world).sent
-unfolding station_stepped
+station_sends : (site : Site) (table : Table) (input : ixl.Input) (world : WorldState) → length world.sent ≤ length (interlocking_stepped site table input world).sent
+unfolding interlocking_stepped
 station_sends site table input world =
-    all_sent site world.time (station_step site table input world.station).outbox.datagrams (record { connections = world.station.connections; sent = world.sent })
+    all_sent site world.time (interlocking_step site table input world.station).outbox.datagrams (record { connections = world.station.connections; sent = world.sent })
 
 tick_sends : (site : Site) (table : Table) (at : Option Node) (world : WorldState) → length world.sent ≤ length (ticked_at site table at world).sent
 tick_sends site table None world = least (length world.sent)
-tick_sends site table (Some Station) world = station_sends site table ixl.Tick world
+tick_sends site table (Some Interlocking) world = station_sends site table ixl.Tick world
 tick_sends site table (Some (Signal place)) world = signal_sends site inputs.Tick 0 place world
 tick_sends site table (Some (Point place)) world = point_sends site inputs.Tick 0 place world
 tick_sends site table (Some (Detector place)) world = detector_sends site inputs.Tick 0 place world
 
 delivery_sends : (site : Site) (table : Table) (bytes : List ℕ) (connection : ℕ) (at : Option Node) (world : WorldState) → length world.sent ≤ length (delivered_to site table bytes connection at world).sent
 delivery_sends site table bytes connection None world = least (length world.sent)
-delivery_sends site table bytes connection (Some Station) world = station_sends site table (ixl.Datagram bytes) world
+delivery_sends site table bytes connection (Some Interlocking) world = station_sends site table (ixl.Datagram bytes) world
 delivery_sends site table bytes connection (Some (Signal place)) world = signal_sends site (coming bytes) connection place world
 delivery_sends site table bytes connection (Some (Point place)) world = point_sends site (coming bytes) connection place world
 delivery_sends site table bytes connection (Some (Detector place)) world = detector_sends site (coming bytes) connection place world
@@ -176,7 +176,7 @@ detector_anew_keeps site begins place (Some entry) world = least (length world.s
 
 anew_keeps : (site : Site) (table : Table) (begins : Beginning) (at : Option Node) (world : WorldState) → length world.sent ≤ length (made_anew site table begins at world).sent
 anew_keeps site table begins None world = least (length world.sent)
-anew_keeps site table begins (Some Station) world = least (length world.sent)
+anew_keeps site table begins (Some Interlocking) world = least (length world.sent)
 anew_keeps site table begins (Some (Signal place)) world = signal_anew_keeps site begins place (slice_get site.signals place) world
 anew_keeps site table begins (Some (Point place)) world = point_anew_keeps site begins place (slice_get site.points place) world
 anew_keeps site table begins (Some (Detector place)) world = detector_anew_keeps site begins place (slice_get site.detectors place) world

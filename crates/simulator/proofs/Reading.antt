@@ -2,9 +2,9 @@
 use Rattle.std.proofs.Common.{◌≡◌, sym, ap, ℕ, zero, suc, ◌<◌, List, [], ◌∷◌, length, get_or, arith}
 use Rattle.simulator_ixl.specs.point_ctl.Drive.{PointState}
 use Rattle.simulator_ixl.specs.simulator_run.Refusals.{driven_at, driven_by}
-use Rattle.simulator_ixl.specs.simulator_run.State.{ServerState}
+use Rattle.simulator_ixl.specs.simulator_run.State.{ClockedControllerState}
 
-pub driven_read : (place : ℕ) (servers : List (ServerState PointState)) (server : ServerState PointState) → place < length servers → server ≡ get_or servers place server → driven_at place servers ≡ driven_by server
+pub driven_read : (place : ℕ) (servers : List (ClockedControllerState PointState)) (server : ClockedControllerState PointState) → place < length servers → server ≡ get_or servers place server → driven_at place servers ≡ driven_by server
 driven_read place [] server below is = absurd (omega (arith, below))
 driven_read zero (first ∷ others) server below is = ap driven_by (sym is)
 driven_read (suc place) (first ∷ others) server below is = driven_read place others server (omega (arith, below)) is

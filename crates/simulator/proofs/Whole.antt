@@ -8,7 +8,7 @@ use Rattle.simulator_ixl.specs.simulator_run.Picture.{picture_text, point_lines,
 use Rattle.simulator_ixl.specs.simulator_run.Refusals.{driven_by}
 use Rattle.simulator_ixl.specs.simulator_run.Seen.{IsSnapshotOf}
 use Rattle.simulator_ixl.specs.simulator_run.State.{WorldState}
-use Rattle.simulator_ixl.specs.simulator_run.Station.{held_of}
+use Rattle.simulator_ixl.specs.simulator_run.Interlocking.{held_of}
 use Rattle.simulator_ixl.specs.simulator_snapshot.Safe.{Safe}
 use Rattle.simulator_ixl.specs.simulator_snapshot.declared.snapshot.Snapshot.{Snapshot}
 

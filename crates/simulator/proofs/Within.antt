@@ -9,7 +9,7 @@ use Rattle.simulator_ixl.specs.layout.Entries.{Site}
 use Rattle.simulator_ixl.specs.simulator_event.refused.Refused.{Refused}
 use Rattle.simulator_ixl.specs.simulator_run.Nodes.{nodes}
 use Rattle.simulator_ixl.specs.simulator_run.Refusals.{all_within, are_within, clock_limit, keeps_time, refusal_of_time, refused_where}
-use Rattle.simulator_ixl.specs.simulator_run.State.{ServerState, WorldState}
+use Rattle.simulator_ixl.specs.simulator_run.State.{ClockedControllerState, WorldState}
 
 -- ---- tests
 
@@ -41,7 +41,7 @@ le_told a b is = grind (arith, nat_tests)
 -- ---- clocks of one kind
 
 module _ {Object : Type 0} where
-  pub within_then : (servers : List (ServerState Object)) (steps : List ℕ) (others : List ℕ → Bool) → length servers ≤ length steps
+  pub within_then : (servers : List (ClockedControllerState Object)) (steps : List ℕ) (others : List ℕ → Bool) → length servers ≤ length steps
       → are_within servers steps others ≡ (are_within servers steps (λ rest. true) && others (drop (length servers) steps))
   within_then [] steps others enough = refl
   within_then (server ∷ servers) [] others enough = absurd (omega (arith, enough))
@@ -51,31 +51,31 @@ module _ {Object : Type 0} where
       ∙ and_assoc here (are_within servers steps (λ rest. true)) (others (drop (length servers) steps))
 
   -- the clocks from a place on
-  abbrev pub within_from : ℕ → List (ServerState Object) → List ℕ → Bool
+  abbrev pub within_from : ℕ → List (ClockedControllerState Object) → List ℕ → Bool
   within_from place servers steps = are_within (drop place servers) (drop place steps) (λ rest. true)
 
-  within_next : (place : ℕ) (servers : List (ServerState Object)) (steps : List ℕ) (server : ServerState Object) → place < length servers → place < length steps → server ≡ get_or servers place server
+  within_next : (place : ℕ) (servers : List (ClockedControllerState Object)) (steps : List ℕ) (server : ClockedControllerState Object) → place < length servers → place < length steps → server ≡ get_or servers place server
       → within_from place servers steps ≡ (nat_le (server.clock + get_or steps place 0) clock_limit && within_from (place + 1) servers steps)
   within_next place servers steps server below enough is =
       ap (λ all. are_within all (drop place steps) (λ rest. true)) (drop_more servers place server below)
       ∙ ap (λ all. are_within (get_or servers place server ∷ drop (place + 1) servers) all (λ rest. true)) (drop_more steps place 0 enough)
-      ∙ ap (λ (one : ServerState Object). nat_le (one.clock + get_or steps place 0) clock_limit && within_from (place + 1) servers steps) (sym is)
+      ∙ ap (λ (one : ClockedControllerState Object). nat_le (one.clock + get_or steps place 0) clock_limit && within_from (place + 1) servers steps) (sym is)
 
   -- a clock that passes the limit
-  pub one_past : (place : ℕ) (servers : List (ServerState Object)) (steps : List ℕ) (server : ServerState Object) (is_within : Bool) → place < length servers → length servers ≤ length steps → server ≡ get_or servers place server
+  pub one_past : (place : ℕ) (servers : List (ClockedControllerState Object)) (steps : List ℕ) (server : ClockedControllerState Object) (is_within : Bool) → place < length servers → length servers ≤ length steps → server ≡ get_or servers place server
       → is_within ≡ nat_le (server.clock + get_or steps place 0) clock_limit → is_within ≡ false → within_from place servers steps ≡ are_within servers steps (λ rest. true)
       → false ≡ are_within servers steps (λ rest. true)
   one_past place servers steps server is_within below enough is test fails so_far =
       ap (λ b. b && within_from (place + 1) servers steps) (sym fails ∙ test) ∙ sym (within_next place servers steps server below (omega (arith, below, enough)) is) ∙ so_far
 
   -- one that doesn't
-  pub one_within : (place : ℕ) (servers : List (ServerState Object)) (steps : List ℕ) (server : ServerState Object) (is_within : Bool) → place < length servers → length servers ≤ length steps → server ≡ get_or servers place server
+  pub one_within : (place : ℕ) (servers : List (ClockedControllerState Object)) (steps : List ℕ) (server : ClockedControllerState Object) (is_within : Bool) → place < length servers → length servers ≤ length steps → server ≡ get_or servers place server
       → is_within ≡ nat_le (server.clock + get_or steps place 0) clock_limit → is_within ≡ true → within_from place servers steps ≡ are_within servers steps (λ rest. true)
       → within_from (place + 1) servers steps ≡ are_within servers steps (λ rest. true)
   one_within place servers steps server is_within below enough is test holds so_far =
       ap (λ b. b && within_from (place + 1) servers steps) (sym holds ∙ test) ∙ sym (within_next place servers steps server below (omega (arith, below, enough)) is) ∙ so_far
 
-  pub none_left : (place : ℕ) (servers : List (ServerState Object)) (steps : List ℕ) → length servers ≤ place → within_from place servers steps ≡ are_within servers steps (λ rest. true) → true ≡ are_within servers steps (λ rest. true)
+  pub none_left : (place : ℕ) (servers : List (ClockedControllerState Object)) (steps : List ℕ) → length servers ≤ place → within_from place servers steps ≡ are_within servers steps (λ rest. true) → true ≡ are_within servers steps (λ rest. true)
   none_left place servers steps over so_far = ap (λ all. are_within all (drop place steps) (λ rest. true)) (sym (drop_all place servers over)) ∙ so_far
 
 -- ---- all clocks

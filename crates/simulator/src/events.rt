@@ -8,7 +8,7 @@ ghost use Rattle.simulator_ixl.specs.simulator_run.Network.{connection_of, copy_
 ghost use Rattle.simulator_ixl.specs.simulator_run.Nodes.{node_at};
 ghost use Rattle.simulator_ixl.specs.simulator_run.Refusals.{refusal, refusal_of_time};
 ghost use Rattle.simulator_ixl.specs.simulator_run.State.{WorldState};
-ghost use Rattle.simulator.specs.inside.Finding.{Finds};
+ghost use Rattle.simulator.specs.inside.EventTest.{Finds};
 ghost use Rattle.simulator.specs.inside.Parts.{Goes, IsWhole, site_of, room_of, seen, table_of};
 
 use crate::found::Found;

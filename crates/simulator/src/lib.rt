@@ -30,7 +30,7 @@ pub use simulator_pair::{Pair, PairAnswer, PairEvent, PairReply};
 // What crates above need of the crates below.
 pub use simulator_headline;
 pub use simulator_ixl::{
-    control_table, ixl_rules, ixl_state, ixl_table, layout, rasta_core, sci_telegram, simulator_event,
-    simulator_field, simulator_run, simulator_snapshot,
+    control_table, ixl_rules, ixl_state, ixl_table, layout, rasta_core, sci_telegram,
+    simulator_event, simulator_field, simulator_run, simulator_snapshot,
 };
 pub use simulator_pair;

@@ -5,10 +5,10 @@ ghost use Rattle.simulator_ixl.specs.ixl.Interlocking.{meant, told};
 ghost use Rattle.simulator_ixl.specs.ixl_rules.Step.{Commands};
 ghost use Rattle.simulator_ixl.specs.object_host.declared.input.Input.TheVariants as inputs;
 ghost use Rattle.simulator_ixl.specs.object_host.declared.sense.Sense.TheVariants as sense;
-ghost use Rattle.simulator_ixl.specs.simulator_run.Happens.{answered_by, delivered_to, detector_stepped, point_stepped, sensed_by, signal_stepped, station_stepped, ticked_at};
+ghost use Rattle.simulator_ixl.specs.simulator_run.Happens.{answered_by, delivered_to, detector_stepped, interlocking_stepped, point_stepped, sensed_by, signal_stepped, ticked_at};
 ghost use Rattle.simulator_ixl.specs.simulator_run.Nodes.{node_at};
 ghost use Rattle.simulator_ixl.specs.simulator_run.State.{WorldState};
-ghost use Rattle.simulator_ixl.specs.simulator_run.Station.{station_reply};
+ghost use Rattle.simulator_ixl.specs.simulator_run.Interlocking.{interlocking_reply};
 ghost use Rattle.simulator.specs.inside.Parts.{Goes, IsWhole, site_of, room_of, table_of};
 
 use crate::nodes::{Node, node_at};
@@ -31,11 +31,11 @@ fn answered_by(reply: StationReply) -> Answer
 
 impl Parts {
     /// The interlocking makes a step.
-    fn step_station(&mut self, input: StationInput<'_>) -> StationReply
+    fn step_interlocking(&mut self, input: StationInput<'_>) -> StationReply
         requires whole { IsWhole self.old }
         requires room { 5120 ≤ room_of self.old }
-        ensures goes { Goes (station_stepped (site_of self.old) (table_of self.old) (meant input.entry)) self.old self.new }
-        ensures answer { told result ≡ station_reply (site_of self.old) (table_of self.old) (meant input.entry) self.old.station.station }
+        ensures goes { Goes (interlocking_stepped (site_of self.old) (table_of self.old) (meant input.entry)) self.old self.new }
+        ensures answer { told result ≡ interlocking_reply (site_of self.old) (table_of self.old) (meant input.entry) self.old.station.station }
     {
         self.station.step(input, &mut self.controllers.network)
     }
@@ -78,10 +78,10 @@ impl Parts {
     pub(crate) fn request(&mut self, command: Command) -> Answer
         requires whole { IsWhole self.old }
         requires room { 5120 ≤ room_of self.old }
-        ensures goes { Goes (station_stepped (site_of self.old) (table_of self.old) (Commands command)) self.old self.new }
-        ensures answer { result ≡ answered_by (station_reply (site_of self.old) (table_of self.old) (Commands command) self.old.station.station) }
+        ensures goes { Goes (interlocking_stepped (site_of self.old) (table_of self.old) (Commands command)) self.old self.new }
+        ensures answer { result ≡ answered_by (interlocking_reply (site_of self.old) (table_of self.old) (Commands command) self.old.station.station) }
     {
-        answered_by(self.step_station(StationInput::Command(command)))
+        answered_by(self.step_interlocking(StationInput::Command(command)))
     }
 
     /// A node is called by its timer.
@@ -91,8 +91,8 @@ impl Parts {
         ensures { Goes (ticked_at (site_of self.old) (table_of self.old) (node_at (site_of self.old) node.0)) self.old self.new }
     {
         match node_at(self.layout(), node) {
-            Some(Node::Station) => {
-                self.step_station(StationInput::Tick);
+            Some(Node::Interlocking) => {
+                self.step_interlocking(StationInput::Tick);
             }
             Some(Node::Signal(place)) => self.step_signal(place, Input::Tick, 0),
             Some(Node::Point(place)) => self.step_point(place, Input::Tick, 0),
@@ -109,8 +109,8 @@ impl Parts {
     {
         let input = Input::Datagram(bytes);
         match node_at(self.layout(), node) {
-            Some(Node::Station) => {
-                self.step_station(StationInput::Datagram(bytes));
+            Some(Node::Interlocking) => {
+                self.step_interlocking(StationInput::Datagram(bytes));
             }
             Some(Node::Signal(place)) => self.step_signal(place, input, connection),
             Some(Node::Point(place)) => self.step_point(place, input, connection),

@@ -9,10 +9,10 @@ use simulator_ixl::layout::Layout;
 use simulator_ixl::simulator_event::NodeId;
 use simulator_ixl::simulator_run::links;
 
-/// A node: the station, or a controller by its place among those of its kind.
+/// A node: the interlocking, or a controller by its place among those of its kind.
 #[derive(Clone, Copy, Debug)]
 pub(crate) enum Node {
-    Station,
+    Interlocking,
     Signal(usize),
     Point(usize),
     Detector(usize),
@@ -36,12 +36,12 @@ fn controller_at(layout: &Layout, link: usize) -> Option<Node>
     None
 }
 
-/// The node of a number: the station is 0, then come the controllers in the order of their links.
+/// The node of a number: the interlocking is 0, then come the controllers in the order of their links.
 pub(crate) fn node_at(layout: &Layout, node: NodeId) -> Option<Node>
     ensures { option_map meant_node result ≡ node_at layout.now node.0 }
 {
     match node.0 {
-        0 => Some(Node::Station),
+        0 => Some(Node::Interlocking),
         number => controller_at(layout, number - 1),
     }
 }

@@ -8,7 +8,7 @@ ghost use Rattle.simulator_ixl.specs.ixl_table.Table.{IsTableOf};
 ghost use Rattle.simulator_ixl.specs.simulator_run.First.{world_at};
 ghost use Rattle.simulator_ixl.specs.simulator_run.Refusals.{driven_at};
 ghost use Rattle.simulator_ixl.specs.simulator_run.Seen.{shown_by};
-ghost use Rattle.simulator_ixl.specs.simulator_run.Station.{held_of};
+ghost use Rattle.simulator_ixl.specs.simulator_run.Interlocking.{held_of};
 ghost use Rattle.simulator.specs.inside.Parts.{IsWhole, site_of, seen, table_of};
 
 use arrayvec::ArrayVec;

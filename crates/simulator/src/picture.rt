@@ -2,7 +2,7 @@
 
 ghost use Rattle.std.specs.Prelude.{◌≡◌, ◌++◌, IfOk, OnOk, length, string_bytes};
 ghost use Rattle.simulator_ixl.specs.simulator_run.Picture.{point_lines, route_lines, section_lines, signal_lines};
-ghost use Rattle.simulator_ixl.specs.simulator_run.Station.{held_of};
+ghost use Rattle.simulator_ixl.specs.simulator_run.Interlocking.{held_of};
 ghost use Rattle.simulator.specs.World.{IsPicture};
 ghost use Rattle.simulator.specs.inside.Lines.{point_line, route_line, section_line, signal_line};
 

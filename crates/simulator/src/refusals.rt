@@ -4,7 +4,7 @@ ghost use Rattle.std.specs.Prelude.{◌≡◌};
 ghost use Rattle.simulator_ixl.specs.sci_telegram.declared.message.Occupancy.{Occupancy};
 ghost use Rattle.simulator_ixl.specs.simulator_event.declared.event.Event.TheVariants as events;
 ghost use Rattle.simulator_ixl.specs.simulator_run.Refusals.{is_missing, may_reach};
-ghost use Rattle.simulator.specs.inside.Finding.{Tells};
+ghost use Rattle.simulator.specs.inside.EventTest.{Tells};
 ghost use Rattle.simulator.specs.inside.Parts.{IsWhole, site_of, seen};
 
 use crate::found::Found;

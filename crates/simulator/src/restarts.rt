@@ -2,7 +2,7 @@
 
 ghost use Rattle.std.specs.Prelude.{◌≡◌, ◌≤◌, ◌*◌, OnErr, OnOk, Some};
 ghost use Rattle.simulator_ixl.specs.simulator_run.Happens.{made_anew};
-ghost use Rattle.simulator_ixl.specs.simulator_run.Nodes.{Station, node_at};
+ghost use Rattle.simulator_ixl.specs.simulator_run.Nodes.{Interlocking, node_at};
 ghost use Rattle.simulator_ixl.specs.simulator_run.Refusals.{clock_limit};
 ghost use Rattle.simulator.specs.inside.Parts.{IsWhole, Restarts, site_of, table_of};
 
@@ -15,10 +15,10 @@ use std::alloc::AllocError;
 impl Parts {
     /// The interlocking is made anew. What was held stands for its locks in its hold.
     #[tactic(auto, unfolding(crate::proofs::Below::world_of))]
-    fn restart_station(&mut self, clock: Millis, first: u32) -> Result<(), AllocError>
+    fn restart_interlocking(&mut self, clock: Millis, first: u32) -> Result<(), AllocError>
         requires whole { IsWhole self.old }
         requires fits { clock * 1000 ≤ clock_limit }
-        ensures made { OnOk result (Restarts (made_anew (site_of self.old) (table_of self.old) (record { clock = clock; first = first }) (Some Station)) self.old self.new) }
+        ensures made { OnOk result (Restarts (made_anew (site_of self.old) (table_of self.old) (record { clock = clock; first = first }) (Some Interlocking)) self.old self.new) }
         ensures same { OnErr result (self.new ≡ self.old) }
     {
         let held = self.held();
@@ -43,7 +43,7 @@ impl Parts {
         let table = self.station.table().checked();
         let controllers = &mut self.controllers;
         match node_at(table.layout(), node) {
-            Some(Node::Station) => self.restart_station(clock, first),
+            Some(Node::Interlocking) => self.restart_interlocking(clock, first),
             Some(Node::Signal(place)) => {
                 controllers.restart_signal(alloc, table, place, clock, first)
             }

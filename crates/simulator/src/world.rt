@@ -12,7 +12,7 @@ ghost use Rattle.simulator_ixl.specs.simulator_run.First.{first_world, world_at}
 ghost use Rattle.simulator_ixl.specs.simulator_run.Happens.{happens, is_restart, reply_to};
 ghost use Rattle.simulator_ixl.specs.simulator_run.Refusals.{driven_at, refusal};
 ghost use Rattle.simulator_ixl.specs.simulator_run.Seen.{IsSnapshotOf, shown_by};
-ghost use Rattle.simulator_ixl.specs.simulator_run.Station.{held_of};
+ghost use Rattle.simulator_ixl.specs.simulator_run.Interlocking.{held_of};
 ghost use Rattle.simulator_ixl.specs.simulator_snapshot.Safe.{Safe};
 ghost use Rattle.simulator_ixl.specs.simulator_snapshot.declared.snapshot.Snapshot.{Snapshot};
 ghost use Rattle.simulator.specs.Runs.{Runs};

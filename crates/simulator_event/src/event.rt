@@ -6,7 +6,7 @@ use ixl_rules::layout::{PointId, SectionId};
 use ixl_rules::rasta_core::Millis;
 use ixl_rules::sci_telegram::{Occupancy, Position};
 
-/// A node, by its place among all: the station is 0, then come the signals, the points and the
+/// A node, by its place among all: the interlocking is 0, then come the signals, the points and the
 /// detectors, each in layout order.
 #[derive(Clone, Copy, Debug, PartialEq, Eq)]
 pub struct NodeId(pub usize);

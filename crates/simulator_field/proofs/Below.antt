@@ -4,4 +4,4 @@ unfoldable pub use Rattle.simulator_run.specs.rasta_core.Clock.{alive_until, dea
 unfoldable pub use Rattle.simulator_run.specs.rasta_core.Outbox.{posted}
 unfoldable pub use Rattle.simulator_run.specs.object_host.Host.{keeping}
 unfoldable pub use Rattle.simulator_run.specs.object_host.Hosted.{new_host}
-unfoldable pub use Rattle.simulator_run.specs.Servers.{sent_by_server, server_after, server_anew, server_later}
+unfoldable pub use Rattle.simulator_run.specs.Controllers.{controller_after, controller_anew, controller_later, sent_by_controller}

@@ -11,8 +11,8 @@ use Rattle.simulator_run.specs.signal_ctl.Signal.{SignalState}
 use Rattle.simulator_run.specs.point_ctl.Drive.{PointState}
 use Rattle.simulator_run.specs.tds_ctl.declared.section.Section.{Section}
 use Rattle.simulator_run.specs.ixl_rules.Table.{Table}
-use Rattle.simulator_run.specs.First.{Outset, at_zero, first_server, first_station, new_detector, new_signal, point_standing, world_at}
-use Rattle.simulator_run.specs.State.{ServerState, WorldState}
+use Rattle.simulator_run.specs.First.{Outset, at_zero, first_controller, first_interlocking, new_detector, new_signal, point_standing, world_at}
+use Rattle.simulator_run.specs.State.{ClockedControllerState, WorldState}
 
 -- one more is made
 pub next_made : {A B : Type 0} (make : A → B) (entries same : List A) (index : ℕ) (entry : A) (made new : List B) (one : B) → entries ≡ same → index < length entries → entry ≡ get_or entries index entry
@@ -29,7 +29,7 @@ pub length_zipped : {A B : Type 0} (xs : List A) (ys : List B) → length ys ≡
 length_zipped xs ys same = sym (length-map (zip xs ys) (λ (p : _ × _). p.0)) ∙ ap length (firsts-zip xs ys same)
 
 -- one more point is made where it stands
-pub next_point : (site : Site) (points : List Point) (positions : List Position) (index : ℕ) (entry : Point) (position : Position) (made new : List (ServerState PointState)) (one : ServerState PointState)
+pub next_point : (site : Site) (points : List Point) (positions : List Position) (index : ℕ) (entry : Point) (position : Position) (made new : List (ClockedControllerState PointState)) (one : ClockedControllerState PointState)
     → points ≡ site.points → length positions ≡ length site.points → index < length points → entry ≡ get_or points index entry → position ≡ get_or positions index position
     → made ≡ map (point_standing site) (take index (zip site.points positions)) → one ≡ point_standing site (entry, position) → new ≡ made ++ one ∷ []
     → new ≡ map (point_standing site) (take (index + 1) (zip site.points positions))
@@ -44,21 +44,21 @@ pub all_points_made : (site : Site) (positions : List Position) (count : ℕ) �
 all_points_made site positions count same enough =
     ap (map (point_standing site)) (take_all count (zip site.points positions) (omega (arith, enough, length_zipped site.points positions same)))
 
-pub outset_seen : (site : Site) (table : Table) (outset : Outset) (signals : List (ServerState SignalState)) (points : List (ServerState PointState)) (detectors : List (ServerState (List Section)))
+pub outset_seen : (site : Site) (table : Table) (outset : Outset) (signals : List (ClockedControllerState SignalState)) (points : List (ClockedControllerState PointState)) (detectors : List (ClockedControllerState (List Section)))
     (stands : List Position) (occupied : List Occupancy)
-    → signals ≡ map (λ entry. first_server (new_signal site at_zero entry)) site.signals
+    → signals ≡ map (λ entry. first_controller (new_signal site at_zero entry)) site.signals
     → points ≡ map (point_standing site) (zip site.points outset.positions)
-    → detectors ≡ map (λ entry. first_server (new_detector site at_zero outset.occupancies entry)) site.detectors
+    → detectors ≡ map (λ entry. first_controller (new_detector site at_zero outset.occupancies entry)) site.detectors
     → stands ≡ outset.positions
     → occupied ≡ outset.occupancies
-    → (record { time = 0; station = first_station site table; signals = signals; points = points; detectors = detectors; positions = stands; occupancies = occupied; sent = []; frozen = [] }) ≡ world_at site table outset
+    → (record { time = 0; station = first_interlocking site table; signals = signals; points = points; detectors = detectors; positions = stands; occupancies = occupied; sent = []; frozen = [] }) ≡ world_at site table outset
 unfolding world_at
 outset_seen site table outset signals points detectors stands occupied signals_are points_are detectors_are stands_are occupied_are =
-    let made : List (ServerState SignalState) → List (ServerState PointState) → List (ServerState (List Section)) → List Position → List Occupancy → WorldState =
-    λ s p d l o. record { time = 0; station = first_station site table; signals = s; points = p; detectors = d; positions = l; occupancies = o; sent = []; frozen = [] }
-    in let all_signals = map (λ entry. first_server (new_signal site at_zero entry)) site.signals
+    let made : List (ClockedControllerState SignalState) → List (ClockedControllerState PointState) → List (ClockedControllerState (List Section)) → List Position → List Occupancy → WorldState =
+    λ s p d l o. record { time = 0; station = first_interlocking site table; signals = s; points = p; detectors = d; positions = l; occupancies = o; sent = []; frozen = [] }
+    in let all_signals = map (λ entry. first_controller (new_signal site at_zero entry)) site.signals
     in let all_points = map (point_standing site) (zip site.points outset.positions)
-    in let all_detectors = map (λ entry. first_server (new_detector site at_zero outset.occupancies entry)) site.detectors
+    in let all_detectors = map (λ entry. first_controller (new_detector site at_zero outset.occupancies entry)) site.detectors
     in ap (λ s. made s points detectors stands occupied) signals_are
     ∙ ap (λ p. made all_signals p detectors stands occupied) points_are
     ∙ ap (λ d. made all_signals all_points d stands occupied) detectors_are

@@ -17,8 +17,8 @@ use Rattle.simulator_run.specs.object_host.Hosted.{empty_outbox}
 use Rattle.simulator_run.specs.object_host.Behaviour.{Behaviour}
 use Rattle.simulator_run.specs.object_host.Step.{host_step}
 use Rattle.simulator_run.specs.object_host.declared.input.Input.{Input}
-use Rattle.simulator_run.specs.Servers.{is_inside_at, is_some_sent, sent_by_server, server_after, step_of}
-use Rattle.simulator_run.specs.State.{ServerState}
+use Rattle.simulator_run.specs.Controllers.{controller_after, is_inside_at, is_some_sent, sent_by_controller, step_of}
+use Rattle.simulator_run.specs.State.{ClockedControllerState}
 use Rattle.simulator_field.specs.declared.stay.Stay.{Stay}
 use Rattle.simulator_field.specs.inside.Stay.{noted}
 use Rattle.simulator_field.proofs.Taking.{by_server}
@@ -85,7 +85,7 @@ pub counted : (key : Key) (pdus : List Pdu) (outbox : OutboxState) (sends : ℕ)
 counted key pdus outbox sends is_posted sends_are = sends_are ∙ ap length (datagrams_posted key pdus outbox is_posted) ∙ length-map pdus (writing key)
 
 module _ {Object : Type 0} where
-  made : HostState Object → Bool → Bool → ℕ → Bool → ℕ → ℕ → ServerState Object → ServerState Object
+  made : HostState Object → Bool → Bool → ℕ → Bool → ℕ → ℕ → ClockedControllerState Object → ClockedControllerState Object
   made host was_inside opened sends some connection moment old = record {
     host = host;
     clock = old.clock;
@@ -93,18 +93,18 @@ module _ {Object : Type 0} where
     left = if (was_inside || (not was_inside && some)) && not opened then moment + sends else old.left;
   }
 
-  as_made : (done : HostSoFar Object) (connection moment : ℕ) (old : ServerState Object)
-      → made done.host (is_inside_at old.clock old.host.link) (is_open done.host.link.phase) (length done.pdus) (is_some_sent done.pdus) connection moment old ≡ server_after done connection moment old
-  unfolding made server_after
+  as_made : (done : HostSoFar Object) (connection moment : ℕ) (old : ClockedControllerState Object)
+      → made done.host (is_inside_at old.clock old.host.link) (is_open done.host.link.phase) (length done.pdus) (is_some_sent done.pdus) connection moment old ≡ controller_after done connection moment old
+  unfolding made controller_after
   as_made done connection moment old = refl
 
-  as_noted : (host : HostState Object) (was_inside opened : Bool) (sends connection moment : ℕ) (old : ServerState Object) (stay new_stay : Stay) → stay.connection ≡ old.connection → stay.left ≡ old.left
+  as_noted : (host : HostState Object) (was_inside opened : Bool) (sends connection moment : ℕ) (old : ClockedControllerState Object) (stay new_stay : Stay) → stay.connection ≡ old.connection → stay.left ≡ old.left
       → new_stay ≡ noted was_inside sends opened connection moment stay
       → (record { host = host; clock = old.clock; connection = new_stay.connection; left = new_stay.left }) ≡ made host was_inside opened sends (not (sends == 0)) connection moment old
   unfolding made
   as_noted host was_inside opened sends connection moment old stay new_stay same_connection same_left stay_is =
-      let After : Stay → ServerState Object = λ s. record { host = host; clock = old.clock; connection = s.connection; left = s.left }
-      in let Made : Option ℕ → ℕ → ServerState Object = λ c l. record {
+      let After : Stay → ClockedControllerState Object = λ s. record { host = host; clock = old.clock; connection = s.connection; left = s.left }
+      in let Made : Option ℕ → ℕ → ClockedControllerState Object = λ c l. record {
         host = host;
         clock = old.clock;
         connection = if not was_inside && not (sends == 0) then Some connection else c;
@@ -112,10 +112,10 @@ module _ {Object : Type 0} where
       }
       in ap After stay_is ∙ ap (λ c. Made c stay.left) same_connection ∙ ap (Made old.connection) same_left
 
-  pub step_noted : (done : HostSoFar Object) (connection moment sends : ℕ) (old : ServerState Object) (host : HostState Object) (was_inside opened : Bool) (stay new_stay : Stay)
+  pub step_noted : (done : HostSoFar Object) (connection moment sends : ℕ) (old : ClockedControllerState Object) (host : HostState Object) (was_inside opened : Bool) (stay new_stay : Stay)
       → stay.connection ≡ old.connection → stay.left ≡ old.left → host ≡ done.host → was_inside ≡ is_inside_at old.clock old.host.link → opened ≡ is_open done.host.link.phase → sends ≡ length done.pdus
       → new_stay ≡ noted was_inside sends opened connection moment stay
-      → (record { host = host; clock = old.clock; connection = new_stay.connection; left = new_stay.left }) ≡ server_after done connection moment old
+      → (record { host = host; clock = old.clock; connection = new_stay.connection; left = new_stay.left }) ≡ controller_after done connection moment old
   step_noted done connection moment sends old host was_inside opened stay new_stay same_connection same_left host_is inside_is open_is sends_are stay_is =
       as_noted host was_inside opened sends connection moment old stay new_stay same_connection same_left stay_is
       ∙ ap (λ h. made h was_inside opened sends (not (sends == 0)) connection moment old) host_is
@@ -125,36 +125,36 @@ module _ {Object : Type 0} where
       ∙ ap (λ s. made done.host (is_inside_at old.clock old.host.link) (is_open done.host.link.phase) (length done.pdus) s connection moment old) (some_counted done.pdus)
       ∙ as_made done connection moment old
 
-  pub step_sent : (done : HostSoFar Object) (link time : ℕ) (connection : Option ℕ) (datagrams : List (List ℕ)) (old new : ServerState Object) → datagrams ≡ spellings old.host.link.identity.key done.pdus → connection ≡ new.connection
-      → by_server link time connection datagrams ≡ sent_by_server done time link old new
-  unfolding sent_by_server
+  pub step_sent : (done : HostSoFar Object) (link time : ℕ) (connection : Option ℕ) (datagrams : List (List ℕ)) (old new : ClockedControllerState Object) → datagrams ≡ spellings old.host.link.identity.key done.pdus → connection ≡ new.connection
+      → by_server link time connection datagrams ≡ sent_by_controller done time link old new
+  unfolding sent_by_controller
   step_sent done link time connection datagrams old new datagrams_are connection_is =
       ap (by_server link time connection) datagrams_are ∙ ap (λ c. by_server link time c (spellings old.host.link.identity.key done.pdus)) connection_is
 
   -- what the code has at the end of a step, of a controller that was seen so before it
-  abbrev server_of : HostState Object → ℕ → Stay → ServerState Object
+  abbrev server_of : HostState Object → ℕ → Stay → ClockedControllerState Object
   server_of host clock stay = record { host = host; clock = clock; connection = stay.connection; left = stay.left }
 
   done_at : (does : Behaviour Object) (input : Input) (now clock : ℕ) (host : HostState Object) (stay : Stay) → now ≡ reading_of clock → host_step does now input host ≡ step_of does input (server_of host clock stay)
   done_at does input now clock host stay now_is = ap (λ n. host_step does n input host) now_is
 
-  pub step_performed : (does : Behaviour Object) (input : Input) (host host_after host_last : HostState Object) (clock now connection moment sends : ℕ) (was_inside opened : Bool) (stay new_stay : Stay) (outbox : OutboxState) (old : ServerState Object)
+  pub step_performed : (does : Behaviour Object) (input : Input) (host host_after host_last : HostState Object) (clock now connection moment sends : ℕ) (was_inside opened : Bool) (stay new_stay : Stay) (outbox : OutboxState) (old : ClockedControllerState Object)
       → server_of host clock stay ≡ old → was_inside ≡ is_inside_at clock old.host.link → now ≡ reading_of old.clock → host_after ≡ (host_step does now input host).host
       → outbox ≡ posted host.link.identity.key (host_step does now input host).pdus empty_outbox → opened ≡ is_open host_after.link.phase → sends ≡ length outbox.datagrams
       → new_stay ≡ noted was_inside sends opened connection moment stay → host_last ≡ host_after
-      → server_of host_last clock new_stay ≡ server_after (step_of does input old) connection moment old
+      → server_of host_last clock new_stay ≡ controller_after (step_of does input old) connection moment old
   step_performed does input host host_after host_last clock now connection moment sends was_inside opened stay new_stay outbox old is_old =
-      let Performed : ServerState Object → Type 0 = λ seen.
+      let Performed : ClockedControllerState Object → Type 0 = λ seen.
       was_inside ≡ is_inside_at clock seen.host.link → now ≡ reading_of seen.clock → host_after ≡ (host_step does now input host).host
       → outbox ≡ posted host.link.identity.key (host_step does now input host).pdus empty_outbox → opened ≡ is_open host_after.link.phase → sends ≡ length outbox.datagrams
       → new_stay ≡ noted was_inside sends opened connection moment stay → host_last ≡ host_after
-      → server_of host_last clock new_stay ≡ server_after (step_of does input seen) connection moment seen
+      → server_of host_last clock new_stay ≡ controller_after (step_of does input seen) connection moment seen
       in subst Performed is_old performed
     where
       performed : was_inside ≡ is_inside_at clock host.link → now ≡ reading_of clock → host_after ≡ (host_step does now input host).host
           → outbox ≡ posted host.link.identity.key (host_step does now input host).pdus empty_outbox → opened ≡ is_open host_after.link.phase → sends ≡ length outbox.datagrams
           → new_stay ≡ noted was_inside sends opened connection moment stay → host_last ≡ host_after
-          → server_of host_last clock new_stay ≡ server_after (step_of does input (server_of host clock stay)) connection moment (server_of host clock stay)
+          → server_of host_last clock new_stay ≡ controller_after (step_of does input (server_of host clock stay)) connection moment (server_of host clock stay)
       performed inside_is now_is after_is outbox_is opened_is sends_are stay_is last_is =
           let done = done_at does input now clock host stay now_is
           in let after : host_after ≡ (step_of does input (server_of host clock stay)).host = after_is ∙ ap (λ (d : HostSoFar Object). d.host) done
@@ -162,17 +162,17 @@ module _ {Object : Type 0} where
           (last_is ∙ after) inside_is (opened_is ∙ ap (λ (h : HostState Object). is_open h.link.phase) after)
           (counted host.link.identity.key (host_step does now input host).pdus outbox sends outbox_is sends_are ∙ ap (λ (d : HostSoFar Object). length d.pdus) done) stay_is
 
-  pub step_handed_out : (does : Behaviour Object) (input : Input) (host : HostState Object) (clock now link time : ℕ) (stay : Stay) (outbox : OutboxState) (old new : ServerState Object)
+  pub step_handed_out : (does : Behaviour Object) (input : Input) (host : HostState Object) (clock now link time : ℕ) (stay : Stay) (outbox : OutboxState) (old new : ClockedControllerState Object)
       → server_of host clock stay ≡ old → now ≡ reading_of old.clock → outbox ≡ posted host.link.identity.key (host_step does now input host).pdus empty_outbox
-      → by_server link time new.connection outbox.datagrams ≡ sent_by_server (step_of does input old) time link old new
+      → by_server link time new.connection outbox.datagrams ≡ sent_by_controller (step_of does input old) time link old new
   step_handed_out does input host clock now link time stay outbox old new is_old =
-      let HandedOut : ServerState Object → Type 0 = λ seen.
+      let HandedOut : ClockedControllerState Object → Type 0 = λ seen.
       now ≡ reading_of seen.clock → outbox ≡ posted host.link.identity.key (host_step does now input host).pdus empty_outbox
-      → by_server link time new.connection outbox.datagrams ≡ sent_by_server (step_of does input seen) time link seen new
+      → by_server link time new.connection outbox.datagrams ≡ sent_by_controller (step_of does input seen) time link seen new
       in subst HandedOut is_old handed
     where
       handed : now ≡ reading_of clock → outbox ≡ posted host.link.identity.key (host_step does now input host).pdus empty_outbox
-          → by_server link time new.connection outbox.datagrams ≡ sent_by_server (step_of does input (server_of host clock stay)) time link (server_of host clock stay) new
+          → by_server link time new.connection outbox.datagrams ≡ sent_by_controller (step_of does input (server_of host clock stay)) time link (server_of host clock stay) new
       handed now_is outbox_is =
           step_sent (step_of does input (server_of host clock stay)) link time new.connection outbox.datagrams (server_of host clock stay) new
           (datagrams_posted host.link.identity.key (host_step does now input host).pdus outbox outbox_is ∙ ap (λ (d : HostSoFar Object). spellings host.link.identity.key d.pdus) (done_at does input now clock host stay now_is)) refl

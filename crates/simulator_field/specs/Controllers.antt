@@ -3,13 +3,13 @@ use Rattle.std.specs.Prelude.{◌≡◌, ℕ, ◌+◌, ◌≤◌, true, List, []
 use Rattle.simulator_run.specs.layout.Entries.{Site}
 use Rattle.simulator_run.specs.ixl_rules.Table.{Table}
 use Rattle.simulator_run.specs.simulator_snapshot.declared.snapshot.Held.{Held}
-use Rattle.simulator_run.specs.First.{Outset, first_station, world_at}
+use Rattle.simulator_run.specs.First.{Outset, first_interlocking, world_at}
 use Rattle.simulator_run.specs.Refusals.{are_within, clock_limit}
-use Rattle.simulator_run.specs.State.{StationState, WorldState}
+use Rattle.simulator_run.specs.State.{ClockedInterlockingState, WorldState}
 use Rattle.simulator_field.specs.declared.controllers.Controllers.{Controllers}
 
 -- with an interlocking, and the rows that stand for its locks in its hold, they are a world
-unfoldable pub world_of : StationState → List Held → Controllers → WorldState
+unfoldable pub world_of : ClockedInterlockingState → List Held → Controllers → WorldState
 world_of station frozen controllers = record {
   time = controllers.network.time;
   station = station;
@@ -32,7 +32,7 @@ pub record AreOf (site : Site) (controllers : Controllers) : Type 0 where
 
 -- They are those of a station as it lies when it is started.
 abbrev pub AreAt : Site → Outset → Controllers → Type 0
-AreAt site outset controllers = (table : Table) → world_of (first_station site table) [] controllers ≡ world_at site table outset
+AreAt site outset controllers = (table : Table) → world_of (first_interlocking site table) [] controllers ≡ world_at site table outset
 
 -- True time and the clocks of all controllers may go on by these steps: there is one for each, and none passes the limit.
 pub record MayPass (elapsed : ℕ) (steps : List ℕ) (controllers : Controllers) : Type 0 where

@@ -3,7 +3,7 @@
 ghost use Rattle.std.specs.Prelude.{◌≡◌, ◌≢◌, ◌+◌, ◌*◌, ◌^◌, ◌<◌, ◌≤◌, ◌++◌, None, length};
 ghost use Rattle.simulator_run.specs.rasta_core.Calls.{MayStep};
 ghost use Rattle.simulator_run.specs.rasta_core.Ends.{reading_of};
-ghost use Rattle.simulator_run.specs.Servers.{is_inside_at, sent_by_server, server_after, server_anew, server_later, step_of};
+ghost use Rattle.simulator_run.specs.Controllers.{controller_after, controller_anew, controller_later, is_inside_at, sent_by_controller, step_of};
 
 use crate::Network;
 use crate::datagrams_sent::send_all;
@@ -18,7 +18,7 @@ const MICROS: u64 = 1000;
 /// How many datagrams a step of a controller sends at most.
 pub const MOST_SENT: usize = 128;
 
-/// An object controller, the server of its link to the interlocking. Contracts see it as a `ServerState`.
+/// An object controller, the server of its link to the interlocking. Contracts see it as a `ClockedControllerState`.
 #[derive(Drop)]
 pub struct ClockedController<C: Controller> {
     hosted: Hosted<C>,
@@ -30,9 +30,9 @@ pub struct ClockedController<C: Controller> {
 impl<C: Controller> Model for ClockedController<C> {
     ghost use Rattle.simulator_run.specs.rasta_core.Calls.{MayStep};
     ghost use Rattle.simulator_run.specs.rasta_core.Ends.{reading_of};
-    ghost use Rattle.simulator_run.specs.State.{ServerState};
+    ghost use Rattle.simulator_run.specs.State.{ClockedControllerState};
 
-    ghost Value = { ServerState C };
+    ghost Value = { ClockedControllerState C };
 
     ghost view = { λ s. record { host = s.hosted.host; clock = s.clock; connection = s.stay.connection; left = s.stay.left } };
 
@@ -57,11 +57,11 @@ impl<C: Controller> ClockedController<C> {
     }
 
     /// It is made anew, with its clock in milliseconds, when this many datagrams were sent.
-    #[tactic(auto, unfolding(crate::proofs::Below::server_anew))]
+    #[tactic(auto, unfolding(crate::proofs::Below::controller_anew))]
     pub fn restart(&mut self, hosted: Hosted<C>, clock: Millis, moment: usize)
         requires clock { MayStep clock hosted.host.link }
         requires fits { clock * 1000 < 2 ^ 64 }
-        ensures { self.new ≡ server_anew hosted.host clock moment self.old }
+        ensures { self.new ≡ controller_anew hosted.host clock moment self.old }
     {
         self.hosted = hosted;
         self.clock = clock * MICROS;
@@ -98,10 +98,10 @@ impl<C: Controller> ClockedController<C> {
     }
 
     /// Its clock goes on, in microseconds, when this many datagrams were sent. Its link may close by time.
-    #[tactic(auto, unfolding(crate::proofs::Below::server_later))]
+    #[tactic(auto, unfolding(crate::proofs::Below::controller_later))]
     pub fn pass(&mut self, elapsed: u64, moment: usize)
         requires { self.old.clock + elapsed < 2 ^ 64 }
-        ensures { self.new ≡ server_later elapsed moment self.old }
+        ensures { self.new ≡ controller_later elapsed moment self.old }
     {
         let clock = self.clock + elapsed;
         if self.is_inside_at(self.clock) && !self.is_inside_at(clock) {
@@ -111,11 +111,11 @@ impl<C: Controller> ClockedController<C> {
     }
 
     /// A step at its clock, which sends on this link. A datagram that comes was sent in this connection.
-    #[tactic(auto, unfolding(crate::proofs::Below::server_after, crate::proofs::Below::sent_by_server))]
+    #[tactic(auto, unfolding(crate::proofs::Below::controller_after, crate::proofs::Below::sent_by_controller))]
     pub fn step(&mut self, input: Input<'_>, connection: usize, link: usize, network: &mut Network)
         requires { 128 ≤ network.old.room }
-        ensures server { self.new ≡ server_after (step_of C.behaviour input.entry self.old) connection (length network.old.sent) self.old }
-        ensures sent { network.new.sent ≡ network.old.sent ++ sent_by_server (step_of C.behaviour input.entry self.old) network.old.time link self.old self.new }
+        ensures server { self.new ≡ controller_after (step_of C.behaviour input.entry self.old) connection (length network.old.sent) self.old }
+        ensures sent { network.new.sent ≡ network.old.sent ++ sent_by_controller (step_of C.behaviour input.entry self.old) network.old.time link self.old self.new }
         ensures time { network.new.time ≡ network.old.time }
         ensures room { network.old.room ≤ network.new.room + 128 }
     {

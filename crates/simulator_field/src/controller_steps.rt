@@ -4,7 +4,7 @@ ghost use Rattle.std.specs.Prelude.{◌≡◌, ◌<◌, ◌≤◌, ◌+◌, leng
 ghost use Rattle.simulator_run.specs.layout.Entries.{Site};
 ghost use Rattle.simulator_run.specs.simulator_snapshot.declared.snapshot.Held.{Held};
 ghost use Rattle.simulator_run.specs.Happens.{detector_stepped, point_stepped, signal_stepped};
-ghost use Rattle.simulator_run.specs.State.{StationState};
+ghost use Rattle.simulator_run.specs.State.{ClockedInterlockingState};
 ghost use Rattle.simulator_field.specs.Controllers.{AreOf, world_of};
 
 use crate::controllers::Controllers;
@@ -16,7 +16,7 @@ impl Controllers {
     pub fn step_signal(&mut self, place: usize, input: Input<'_>, connection: usize)
         requires there { place < length self.old.signals.items }
         requires room { 128 ≤ self.old.network.room }
-        ensures world { (site : Site) (station : StationState) (frozen : List Held) → world_of station frozen self.new ≡ signal_stepped site input.entry connection place (world_of station frozen self.old) }
+        ensures world { (site : Site) (station : ClockedInterlockingState) (frozen : List Held) → world_of station frozen self.new ≡ signal_stepped site input.entry connection place (world_of station frozen self.old) }
         ensures each { (site : Site) → AreOf site self.old → AreOf site self.new }
         ensures room { self.old.network.room ≤ self.new.network.room + 128 }
     {
@@ -27,7 +27,7 @@ impl Controllers {
     pub fn step_point(&mut self, place: usize, link: usize, input: Input<'_>, connection: usize)
         requires there { place < length self.old.points.items }
         requires room { 128 ≤ self.old.network.room }
-        ensures world { (site : Site) (station : StationState) (frozen : List Held) → link ≡ length site.signals + place → world_of station frozen self.new ≡ point_stepped site input.entry connection place (world_of station frozen self.old) }
+        ensures world { (site : Site) (station : ClockedInterlockingState) (frozen : List Held) → link ≡ length site.signals + place → world_of station frozen self.new ≡ point_stepped site input.entry connection place (world_of station frozen self.old) }
         ensures each { (site : Site) → AreOf site self.old → AreOf site self.new }
         ensures room { self.old.network.room ≤ self.new.network.room + 128 }
     {
@@ -38,7 +38,7 @@ impl Controllers {
     pub fn step_detector(&mut self, place: usize, link: usize, input: Input<'_>, connection: usize)
         requires there { place < length self.old.detectors.items }
         requires room { 128 ≤ self.old.network.room }
-        ensures world { (site : Site) (station : StationState) (frozen : List Held) → link ≡ length site.signals + length site.points + place → world_of station frozen self.new ≡ detector_stepped site input.entry connection place (world_of station frozen self.old) }
+        ensures world { (site : Site) (station : ClockedInterlockingState) (frozen : List Held) → link ≡ length site.signals + length site.points + place → world_of station frozen self.new ≡ detector_stepped site input.entry connection place (world_of station frozen self.old) }
         ensures each { (site : Site) → AreOf site self.old → AreOf site self.new }
         ensures room { self.old.network.room ≤ self.new.network.room + 128 }
     {
@@ -49,7 +49,7 @@ impl Controllers {
     #[tactic(auto, unfolding(crate::specs::Controllers::world_of))]
     pub fn lay(&mut self, place: usize, position: Position)
         requires { place < length self.old.positions.items }
-        ensures world { (station : StationState) (frozen : List Held) → world_of station frozen self.new ≡ record (world_of station frozen self.old) { positions = slice_set self.old.positions.items place position } }
+        ensures world { (station : ClockedInterlockingState) (frozen : List Held) → world_of station frozen self.new ≡ record (world_of station frozen self.old) { positions = slice_set self.old.positions.items place position } }
         ensures each { (site : Site) → AreOf site self.old → AreOf site self.new }
         ensures network { self.new.network ≡ self.old.network }
     {
@@ -60,7 +60,7 @@ impl Controllers {
     #[tactic(auto, unfolding(crate::specs::Controllers::world_of))]
     pub fn occupy(&mut self, place: usize, occupancy: Occupancy)
         requires { place < length self.old.occupancies.items }
-        ensures world { (station : StationState) (frozen : List Held) → world_of station frozen self.new ≡ record (world_of station frozen self.old) { occupancies = slice_set self.old.occupancies.items place occupancy } }
+        ensures world { (station : ClockedInterlockingState) (frozen : List Held) → world_of station frozen self.new ≡ record (world_of station frozen self.old) { occupancies = slice_set self.old.occupancies.items place occupancy } }
         ensures each { (site : Site) → AreOf site self.old → AreOf site self.new }
         ensures network { self.new.network ≡ self.old.network }
     {

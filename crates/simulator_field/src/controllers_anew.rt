@@ -4,7 +4,7 @@ ghost use Rattle.std.specs.Prelude.{◌≡◌, ◌<◌, ◌≤◌, ◌*◌, ◌^
 ghost use Rattle.simulator_run.specs.layout.Entries.{Site};
 ghost use Rattle.simulator_run.specs.simulator_snapshot.declared.snapshot.Held.{Held};
 ghost use Rattle.simulator_run.specs.Happens.{detector_anew, point_anew, signal_anew};
-ghost use Rattle.simulator_run.specs.State.{StationState};
+ghost use Rattle.simulator_run.specs.State.{ClockedInterlockingState};
 ghost use Rattle.simulator_field.specs.Controllers.{AreOf, world_of};
 
 use crate::controllers::Controllers;
@@ -26,7 +26,7 @@ impl Controllers {
         requires of { AreOf table.now self.old }
         requires there { place < length table.now.signals }
         requires fits { clock * 1000 < 2 ^ 64 }
-        ensures world { OnOk result ((station : StationState) (frozen : List Held) → world_of station frozen self.new ≡ signal_anew table.now (record { clock = clock; first = first_sequence_number }) place (slice_get table.now.signals place) (world_of station frozen self.old)) }
+        ensures world { OnOk result ((station : ClockedInterlockingState) (frozen : List Held) → world_of station frozen self.new ≡ signal_anew table.now (record { clock = clock; first = first_sequence_number }) place (slice_get table.now.signals place) (world_of station frozen self.old)) }
         ensures each { OnOk result (AreOf table.now self.new) }
         ensures network { OnOk result (self.new.network ≡ self.old.network) }
         ensures same { OnErr result (self.new ≡ self.old) }
@@ -50,7 +50,7 @@ impl Controllers {
         requires of { AreOf table.now self.old }
         requires there { place < length table.now.points }
         requires fits { clock * 1000 < 2 ^ 64 }
-        ensures world { OnOk result ((station : StationState) (frozen : List Held) → world_of station frozen self.new ≡ point_anew table.now (record { clock = clock; first = first_sequence_number }) place (slice_get table.now.points place) (world_of station frozen self.old)) }
+        ensures world { OnOk result ((station : ClockedInterlockingState) (frozen : List Held) → world_of station frozen self.new ≡ point_anew table.now (record { clock = clock; first = first_sequence_number }) place (slice_get table.now.points place) (world_of station frozen self.old)) }
         ensures each { OnOk result (AreOf table.now self.new) }
         ensures network { OnOk result (self.new.network ≡ self.old.network) }
         ensures same { OnErr result (self.new ≡ self.old) }
@@ -75,7 +75,7 @@ impl Controllers {
         requires of { AreOf table.now self.old }
         requires there { place < length table.now.detectors }
         requires fits { clock * 1000 < 2 ^ 64 }
-        ensures world { OnOk result ((station : StationState) (frozen : List Held) → world_of station frozen self.new ≡ detector_anew table.now (record { clock = clock; first = first_sequence_number }) place (slice_get table.now.detectors place) (world_of station frozen self.old)) }
+        ensures world { OnOk result ((station : ClockedInterlockingState) (frozen : List Held) → world_of station frozen self.new ≡ detector_anew table.now (record { clock = clock; first = first_sequence_number }) place (slice_get table.now.detectors place) (world_of station frozen self.old)) }
         ensures each { OnOk result (AreOf table.now self.new) }
         ensures network { OnOk result (self.new.network ≡ self.old.network) }
         ensures same { OnErr result (self.new ≡ self.old) }

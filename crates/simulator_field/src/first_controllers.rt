@@ -18,7 +18,7 @@ fn first_signals(
     alloc: Global,
     table: &Checked,
 ) -> Result<Vec<ClockedController<Signal>>, AllocError>
-    ensures { IfOk result (λ v. v.items ≡ map (λ entry. first.first_server (first.new_signal table.now first.at_zero entry)) table.now.signals) }
+    ensures { IfOk result (λ v. v.items ≡ map (λ entry. first.first_controller (first.new_signal table.now first.at_zero entry)) table.now.signals) }
 {
     let mut signals = Vec::new(alloc);
     for entry in table.layout().signals() {
@@ -50,7 +50,7 @@ fn first_detectors(
     table: &Checked,
     occupied: &[Occupancy],
 ) -> Result<Vec<ClockedController<Detection>>, AllocError>
-    ensures { IfOk result (λ v. v.items ≡ map (λ entry. first.first_server (first.new_detector table.now first.at_zero occupied.now entry)) table.now.detectors) }
+    ensures { IfOk result (λ v. v.items ≡ map (λ entry. first.first_controller (first.new_detector table.now first.at_zero occupied.now entry)) table.now.detectors) }
 {
     let mut detectors = Vec::new(alloc);
     for entry in table.layout().detectors() {

@@ -5,7 +5,7 @@ ghost use Rattle.simulator_run.specs.layout.Entries.{Site};
 ghost use Rattle.simulator_run.specs.simulator_snapshot.declared.snapshot.Held.{Held};
 ghost use Rattle.simulator_run.specs.Happens.{all_later, passed};
 ghost use Rattle.simulator_run.specs.Refusals.{are_within};
-ghost use Rattle.simulator_run.specs.State.{StationState};
+ghost use Rattle.simulator_run.specs.State.{ClockedInterlockingState};
 ghost use Rattle.simulator_field.specs.Controllers.{AreOf, MayPass, world_of};
 
 use crate::ClockedController;
@@ -28,7 +28,7 @@ impl Controllers {
     /// True time and the clocks of all controllers go on by their steps, in microseconds.
     pub fn pass(&mut self, elapsed: u64, steps: &[u64])
         requires { MayPass elapsed steps.now self.old }
-        ensures world { (station : StationState) (frozen : List Held) (all : List ℕ) → drop 1 all ≡ steps.now → world_of (record station { clock = station.clock + slice_index_or all 0 0 }) frozen self.new ≡ passed elapsed all (world_of station frozen self.old) }
+        ensures world { (station : ClockedInterlockingState) (frozen : List Held) (all : List ℕ) → drop 1 all ≡ steps.now → world_of (record station { clock = station.clock + slice_index_or all 0 0 }) frozen self.new ≡ passed elapsed all (world_of station frozen self.old) }
         ensures each { (site : Site) → AreOf site self.old → AreOf site self.new }
         ensures room { self.new.network.room ≡ self.old.network.room }
     {

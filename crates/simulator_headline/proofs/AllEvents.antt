@@ -15,7 +15,7 @@ use Rattle.simulator_machine.specs.Machine.{Machine, made_anew}
 use Rattle.simulator_machine_interlocking.specs.Rows.{machine_table}
 use Rattle.simulator_run.specs.Run.{CanHappen, after_all}
 use Rattle.simulator_run.specs.Happens.{happens}
-use Rattle.simulator_run.specs.Nodes.{Station, node_at}
+use Rattle.simulator_run.specs.Nodes.{Interlocking, node_at}
 use Rattle.simulator_run.specs.Refusals.{refusal}
 use Rattle.simulator_run.specs.State.{WorldState}
 use Rattle.simulator_headline.specs.Represents.{Represents, RepresentsAfter}
@@ -28,15 +28,15 @@ pub record KeepingLaws : Type 0 where
   pub request : (site : Site) (table : Table) (command : Command) (world : WorldState) (machine : Machine) → Once site → IsStation site → IsTableOf site table
       → Represents site table world machine → RepresentsAfter site table machine (happens site table (event.Request command) world)
   pub tick : (site : Site) (table : Table) (node : NodeId) (world : WorldState) (machine : Machine) → Once site → IsStation site → IsTableOf site table
-      → Represents site table world machine → refusal site (event.Tick node) world ≡ None → node_at site node.0 ≡ Some Station
+      → Represents site table world machine → refusal site (event.Tick node) world ≡ None → node_at site node.0 ≡ Some Interlocking
       → RepresentsAfter site table machine (happens site table (event.Tick node) world)
   pub delivery : (site : Site) (table : Table) (node : NodeId) (bytes : List ℕ) (world : WorldState) (machine : Machine) → Once site → IsStation site
-      → IsTableOf site table → Represents site table world machine → refusal site (event.Deliver node bytes) world ≡ None → node_at site node.0 ≡ Some Station
+      → IsTableOf site table → Represents site table world machine → refusal site (event.Deliver node bytes) world ≡ None → node_at site node.0 ≡ Some Interlocking
       → RepresentsAfter site table machine (happens site table (event.Deliver node bytes) world)
   pub time : (site : Site) (table : Table) (elapsed : ℕ) (clocks : List ℕ) (world : WorldState) (machine : Machine) → Once site → IsStation site
       → Represents site table world machine → refusal site (event.Time elapsed clocks) world ≡ None → RepresentsAfter site table machine (happens site table (event.Time elapsed clocks) world)
   pub restart : (site : Site) (table : Table) (node : NodeId) (clock first : ℕ) (world : WorldState) (machine : Machine) → Once site → IsStation site → IsTableOf site table
-      → Represents site table world machine → refusal site (event.Restart node clock first) world ≡ None → node_at site node.0 ≡ Some Station
+      → Represents site table world machine → refusal site (event.Restart node clock first) world ≡ None → node_at site node.0 ≡ Some Interlocking
       → (after : RepresentsAfter site table machine (happens site table (event.Restart node clock first) world)) × (after.machine ≡ made_anew machine)
 
 -- the station has the number 0
@@ -45,7 +45,7 @@ station_or_other zero = inl refl
 station_or_other (suc node) = inr (λ e. cc (e))
 
 module _ (laws : KeepingLaws) (site : Site) (table : Table) (once : Once site) (station : IsStation site) (is : IsTableOf site table) where
-  at_station : (node : NodeId) → node.0 ≡ 0 → node_at site node.0 ≡ Some Station
+  at_station : (node : NodeId) → node.0 ≡ 0 → node_at site node.0 ≡ Some Interlocking
   at_station node zero_is = ap (node_at site) zero_is
 
   module _ (world : WorldState) (machine : Machine) (represented : Represents site table world machine) where

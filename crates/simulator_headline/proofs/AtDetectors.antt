@@ -14,8 +14,8 @@ use Rattle.simulator_run_links.specs.Events.{anew_events, contact_events, host_e
 use Rattle.simulator_run.specs.First.{Beginning}
 use Rattle.simulator_run.specs.Happens.{detector_anew, detector_stepped, sensed_by, stepped_at}
 use Rattle.simulator_run.specs.Nodes.{detector_link}
-use Rattle.simulator_run.specs.Servers.{sent_by_server, server_after, step_of}
-use Rattle.simulator_run.specs.State.{ServerState, WorldState}
+use Rattle.simulator_run.specs.Controllers.{controller_after, sent_by_controller, step_of}
+use Rattle.simulator_run.specs.State.{ClockedControllerState, WorldState}
 use Rattle.simulator_headline.specs.Represents.{IsNetworkOf, Represents, RepresentsAfter}
 use Rattle.simulator_headline.specs.Change.{NoneChanges}
 use Rattle.simulator_headline.proofs.ControllerStepping.{CallLaws, SeesAnew, clients_anew, clients_stepped, servers_anew, servers_stepped}
@@ -30,9 +30,9 @@ pub record DetectorLaws : Type 0 where
   pub anew : SeesAnew
   pub change : NoneLaw
 
-detector_is : (site : Site) (world : WorldState) (input : Input) (connection place : ℕ) (server : ServerState (List Section)) → slice_get world.detectors place ≡ Some server → detector_stepped site input connection place world ≡ record world {
-  detectors = slice_set world.detectors place (server_after (step_of detection_behaviour input server) connection (length world.sent) server);
-  sent = world.sent ++ sent_by_server (step_of detection_behaviour input server) world.time (detector_link site place) server (server_after (step_of detection_behaviour input server) connection (length world.sent) server);
+detector_is : (site : Site) (world : WorldState) (input : Input) (connection place : ℕ) (server : ClockedControllerState (List Section)) → slice_get world.detectors place ≡ Some server → detector_stepped site input connection place world ≡ record world {
+  detectors = slice_set world.detectors place (controller_after (step_of detection_behaviour input server) connection (length world.sent) server);
+  sent = world.sent ++ sent_by_controller (step_of detection_behaviour input server) world.time (detector_link site place) server (controller_after (step_of detection_behaviour input server) connection (length world.sent) server);
 }
 unfolding detector_stepped stepped_at
 detector_is site world input connection place server is = rw is refl
@@ -78,13 +78,13 @@ module _ (laws : DetectorLaws) (site : Site) (table : Table) (world : WorldState
     abbrev moved : WorldState
     moved = record world { occupancies = occupancies }
 
-    abbrev events : Option (ServerState (List Section)) → Links
+    abbrev events : Option (ClockedControllerState (List Section)) → Links
     events found = run_links (host_events detection_behaviour input connection (detector_link site place) found) before
 
     pub detector_steps : IsNetworkOf site (detector_stepped site input connection place moved) (events (slice_get world.detectors place))
         → RepresentsAfter site table machine (detector_stepped site input connection place moved)
     detector_steps linked = cases (slice_get world.detectors place) refl linked where
-      step : (server : ServerState (List Section)) → (new : WorldState) → new.station ≡ world.station → new.frozen ≡ world.frozen → new.signals ≡ world.signals → new.points ≡ world.points → new.positions ≡ world.positions
+      step : (server : ClockedControllerState (List Section)) → (new : WorldState) → new.station ≡ world.station → new.frozen ≡ world.frozen → new.signals ≡ world.signals → new.points ≡ world.points → new.positions ≡ world.positions
           → IsNetworkOf site new (events (Some server)) → RepresentsAfter site table machine new
       step server new station frozen signals points positions linked = laws.change site table world new machine represented (events (Some server)) (record {
         leaves = record { linked = linked; station = station; frozen = frozen; clients = clients_stepped laws.calling (detector_link site place) connection (step_of detection_behaviour input server).calls before };
@@ -94,7 +94,7 @@ module _ (laws : DetectorLaws) (site : Site) (table : Table) (world : WorldState
         servers = λ link below. servers_stepped laws.calling (detector_link site place) connection (step_of detection_behaviour input server).calls before link (other_link site place link below);
       })
 
-      cases : (found : Option (ServerState (List Section))) → slice_get world.detectors place ≡ found → IsNetworkOf site (detector_stepped site input connection place moved) (events found)
+      cases : (found : Option (ClockedControllerState (List Section))) → slice_get world.detectors place ≡ found → IsNetworkOf site (detector_stepped site input connection place moved) (events found)
           → RepresentsAfter site table machine (detector_stepped site input connection place moved)
       cases None is linked = subst (RepresentsAfter site table machine) (sym (detector_none site moved input connection place is))
           (nothing_is_unseen laws.change site table world machine represented occupancies (subst (λ w. IsNetworkOf site w before) (detector_none site moved input connection place is) linked))

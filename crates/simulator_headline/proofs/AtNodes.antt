@@ -17,7 +17,7 @@ use Rattle.simulator_machine.specs.Machine.{Machine}
 use Rattle.simulator_machine.specs.Table.{Table as MachineTable}
 use Rattle.simulator_run.specs.Happens.{delivered_to, happens, made_anew, ticked_at}
 use Rattle.simulator_run.specs.Network.{connection_of, copy_of}
-use Rattle.simulator_run.specs.Nodes.{Node, Station, Signal, Point, Detector, detector_link, links, node_at, point_link}
+use Rattle.simulator_run.specs.Nodes.{Node, Interlocking, Signal, Point, Detector, detector_link, links, node_at, point_link}
 use Rattle.simulator_run.specs.Refusals.{refusal}
 use Rattle.simulator_run.specs.State.{WorldState}
 use Rattle.simulator_headline.specs.Represents.{Represents, RepresentsAfter}
@@ -50,14 +50,14 @@ no_restart : (clock first : ℕ) → HappensNowhere (λ node. event.Restart node
 unfolding happens
 no_restart clock first site table node world none = subst (λ o. made_anew site table (record { clock = clock; first = first }) o world ≡ world) (sym none) refl
 
-no_station : (a b c : Bool) (x y z : ℕ) → (if a then Some (Signal x) else if b then Some (Point y) else if c then Some (Detector z) else None) ≡ Some Station → ⊥
+no_station : (a b c : Bool) (x y z : ℕ) → (if a then Some (Signal x) else if b then Some (Point y) else if c then Some (Detector z) else None) ≡ Some Interlocking → ⊥
 no_station true b c x y z e = cc (e)
 no_station false true c x y z e = cc (e)
 no_station false false true x y z e = cc (e)
 no_station false false false x y z e = cc (e)
 
 -- the station is the node 0 alone
-is_controller : (site : Site) (number : ℕ) → number ≢ 0 → node_at site number ≡ Some Station → ⊥
+is_controller : (site : Site) (number : ℕ) → number ≢ 0 → node_at site number ≡ Some Interlocking → ⊥
 is_controller site zero differs is = differs refl
 is_controller site (suc link) differs is =
     no_station (nat_lt link (length site.signals)) (nat_lt link (point_link site (length site.points))) (nat_lt link (links site)) link (link - length site.signals) (link - detector_link site 0) is
@@ -73,7 +73,7 @@ module _ (no_moves : (table : MachineTable) (machine : Machine) → MovesTo tabl
   at_controller happening nowhere kinds node differs site table world machine station once none represented = cases (node_at site node.0) refl where
     cases : (found : Option Node) → node_at site node.0 ≡ found → RepresentsAfter site table machine (happens site table (happening node) world)
     cases None is = subst (RepresentsAfter site table machine) (sym (nowhere site table node world is)) (record { machine = machine; moves = no_moves _ machine; represented = represented })
-    cases (Some Station) is = absurd (is_controller site node.0 differs is)
+    cases (Some Interlocking) is = absurd (is_controller site node.0 differs is)
     cases (Some (Signal place)) is = kinds.signal site table node place world machine station once is none represented
     cases (Some (Point place)) is = kinds.point site table node place world machine station once is none represented
     cases (Some (Detector place)) is = kinds.detector site table node place world machine station once is none represented

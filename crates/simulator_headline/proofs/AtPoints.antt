@@ -46,8 +46,8 @@ use Rattle.simulator_run.specs.Happens.{point_anew, point_stepped, stepped_at}
 use Rattle.simulator_run.specs.Links.{AreLinksOf, names_at}
 use Rattle.simulator_run.specs.Nodes.{links, names_of, point_link}
 use Rattle.simulator_run.specs.Refusals.{driven_by}
-use Rattle.simulator_run.specs.Servers.{sent_by_server, server_after, server_anew, step_of}
-use Rattle.simulator_run.specs.State.{ServerState, WorldState}
+use Rattle.simulator_run.specs.Controllers.{controller_after, controller_anew, sent_by_controller, step_of}
+use Rattle.simulator_run.specs.State.{ClockedControllerState, WorldState}
 use Rattle.simulator_headline.specs.Represents.{IsHostOf, IsNetworkOf, Represents, RepresentsAfter}
 use Rattle.simulator_headline.specs.Change.{PointChanges}
 use Rattle.simulator_headline.proofs.AtSignals.{named_still}
@@ -58,13 +58,13 @@ use Rattle.simulator_headline.proofs.ControllerStepping.{LinkLaws, clients_anew,
 pub record PointLaws : Type 0 where
   pub link : LinkLaws
   pub change : (site : Site) (table : Table) (world new : WorldState) (machine : Machine) (represented : Represents site table world machine) (after : Links)
-      (place : ℕ) (next : ServerState PointState) → place < length site.points → PointChanges site world new represented.network after place next
+      (place : ℕ) (next : ClockedControllerState PointState) → place < length site.points → PointChanges site world new represented.network after place next
       → PointGoes (machine.points place) (IsPointSeen (seen (point_link site place) after) next.host) → RepresentsAfter site table machine new
   pub none : (table : MachineTable) (machine : Machine) → MovesTo table machine machine
-  pub end : (site : Site) (world : WorldState) (network : Links) → IsWhole site world → AreLinksOf site world network → (place : ℕ) (server : ServerState PointState)
+  pub end : (site : Site) (world : WorldState) (network : Links) → IsWhole site world → AreLinksOf site world network → (place : ℕ) (server : ClockedControllerState PointState)
       → slice_get world.points place ≡ Some server → (point_link site place < links site) × IsEndOfServer server (network.ends (point_link site place)).server
   pub named : (site : Site) (place : ℕ) (entry : Point) → slice_get site.points place ≡ Some entry → (point_link site place < links site) × (names_at site (point_link site place) ≡ names_of site entry.id)
-  pub items : (site : Site) (world : WorldState) → IsWhole site world → (place : ℕ) (server : ServerState PointState) → slice_get world.points place ≡ Some server
+  pub items : (site : Site) (world : WorldState) → IsWhole site world → (place : ℕ) (server : ClockedControllerState PointState) → slice_get world.points place ≡ Some server
       → (input : Input) → AreItems (step_of point_behaviour input server).calls
   pub calls_for : (now : ℕ) (input : Input) (host : HostState PointState) → AreCallsFor input (host_step point_behaviour now input host).calls
   pub names : (now : ℕ) (input : Input) (host : HostState PointState) → IsNamedAs host (host_step point_behaviour now input host).host
@@ -78,9 +78,9 @@ pub record PointLaws : Type 0 where
       (new_host point_behaviour ends.server.link.identity host.own_name host.peer_name first clock object host.version))
   pub step : (now : ℕ) (input : Input) (host : HostState PointState) → IsPointStep now input host (host_step point_behaviour now input host)
 
-point_is : (site : Site) (world : WorldState) (input : Input) (connection place : ℕ) (server : ServerState PointState) → slice_get world.points place ≡ Some server → point_stepped site input connection place world ≡ record world {
-  points = slice_set world.points place (server_after (step_of point_behaviour input server) connection (length world.sent) server);
-  sent = world.sent ++ sent_by_server (step_of point_behaviour input server) world.time (point_link site place) server (server_after (step_of point_behaviour input server) connection (length world.sent) server);
+point_is : (site : Site) (world : WorldState) (input : Input) (connection place : ℕ) (server : ClockedControllerState PointState) → slice_get world.points place ≡ Some server → point_stepped site input connection place world ≡ record world {
+  points = slice_set world.points place (controller_after (step_of point_behaviour input server) connection (length world.sent) server);
+  sent = world.sent ++ sent_by_controller (step_of point_behaviour input server) world.time (point_link site place) server (controller_after (step_of point_behaviour input server) connection (length world.sent) server);
 }
 unfolding point_stepped stepped_at
 point_is site world input connection place server is = rw is refl
@@ -102,18 +102,18 @@ module _ (laws : PointLaws) (site : Site) (table : Table) (world : WorldState) (
     abbrev link : ℕ
     link = point_link site place
 
-    module _ (positions : List Position) (server : ServerState PointState) (is : slice_get world.points place ≡ Some server) where
+    module _ (positions : List Position) (server : ClockedControllerState PointState) (is : slice_get world.points place ≡ Some server) where
       abbrev calls : List LinkCall
       calls = (step_of point_behaviour input server).calls
 
-      abbrev next : ServerState PointState
-      next = server_after (step_of point_behaviour input server) connection (length world.sent) server
+      abbrev next : ClockedControllerState PointState
+      next = controller_after (step_of point_behaviour input server) connection (length world.sent) server
 
       abbrev new : WorldState
       new = record world {
         points = slice_set world.points place next;
         positions = positions;
-        sent = world.sent ++ sent_by_server (step_of point_behaviour input server) world.time link server next;
+        sent = world.sent ++ sent_by_controller (step_of point_behaviour input server) world.time link server next;
       }
 
       abbrev after : Links
@@ -173,7 +173,7 @@ module _ (laws : PointLaws) (site : Site) (table : Table) (world : WorldState) (
     pub point_steps : ((stood : Position) → position_told input stood ≡ stood) → IsNetworkOf site (point_stepped site input connection place world) (run_links (point_events site input connection place world) before)
         → RepresentsAfter site table machine (point_stepped site input connection place world)
     point_steps untold linked = cases (slice_get world.points place) refl linked where
-      cases : (found : Option (ServerState PointState)) → slice_get world.points place ≡ found
+      cases : (found : Option (ClockedControllerState PointState)) → slice_get world.points place ≡ found
           → IsNetworkOf site (point_stepped site input connection place world) (run_links (host_events point_behaviour input connection (point_link site place) found) before)
           → RepresentsAfter site table machine (point_stepped site input connection place world)
       cases None is linked = subst (RepresentsAfter site table machine) (sym (point_none site world input connection place is)) unchanged
@@ -183,7 +183,7 @@ module _ (laws : PointLaws) (site : Site) (table : Table) (world : WorldState) (
 
   -- ---- a point that is driven reaches a position
 
-  module _ (place : ℕ) (position : Position) (below : place < length site.points) (driven : (server : ServerState PointState) → slice_get world.points place ≡ Some server → is_some (driven_by server) ≡ true) where
+  module _ (place : ℕ) (position : Position) (below : place < length site.points) (driven : (server : ClockedControllerState PointState) → slice_get world.points place ≡ Some server → is_some (driven_by server) ≡ true) where
     abbrev contact : Input
     contact = inputs.Sense (sense.Position position)
 
@@ -198,7 +198,7 @@ module _ (laws : PointLaws) (site : Site) (table : Table) (world : WorldState) (
     pub point_reaches : IsNetworkOf site (point_stepped site contact 0 place reached) (run_links (point_events site contact 0 place world) before)
         → RepresentsAfter site table machine (point_stepped site contact 0 place reached)
     point_reaches linked = cases (slice_get world.points place) refl linked where
-      cases : (found : Option (ServerState PointState)) → slice_get world.points place ≡ found
+      cases : (found : Option (ClockedControllerState PointState)) → slice_get world.points place ≡ found
           → IsNetworkOf site (point_stepped site contact 0 place reached) (run_links (host_events point_behaviour contact 0 (point_link site place) found) before)
           → RepresentsAfter site table machine (point_stepped site contact 0 place reached)
       cases None is linked =
@@ -238,9 +238,9 @@ module _ (laws : PointLaws) (site : Site) (table : Table) (world : WorldState) (
       unfolding new_host keeping
       new_stands = refl
 
-      module _ (server : ServerState PointState) (is : slice_get world.points place ≡ Some server) where
-        abbrev next_anew : ServerState PointState
-        next_anew = server_anew (new_point site begins position entry) begins.clock (length world.sent) server
+      module _ (server : ClockedControllerState PointState) (is : slice_get world.points place ≡ Some server) where
+        abbrev next_anew : ClockedControllerState PointState
+        next_anew = controller_anew (new_point site begins position entry) begins.clock (length world.sent) server
 
         anew_below : point_link site place < links site
         anew_below = (laws.named site place entry at).0
@@ -271,7 +271,7 @@ module _ (laws : PointLaws) (site : Site) (table : Table) (world : WorldState) (
         anew_represented linked = laws.change site table world (point_anew site begins place (Some entry) world) machine represented anew_after place next_anew (within_some site.points place entry at) (record {
           leaves = record { linked = linked; station = refl; frozen = refl; clients = clients_anew laws.link.anew (point_link site place) begins.clock begins.first before };
           signals = refl;
-          points = changed_one (server_anew (new_point site begins position entry) begins.clock (length world.sent)) place world.points server is;
+          points = changed_one (controller_anew (new_point site begins position entry) begins.clock (length world.sent)) place world.points server is;
           others = servers_anew laws.link.anew (point_link site place) begins.clock begins.first before;
           host = λ other that. subst (λ (e : Point). IsHostOf site e.name next_anew.host) (same_Some entry other (sym at ∙ that))
               (subst (IsHostOf site entry.name) (sym (host_anew (new_point site begins position entry) begins.clock (length world.sent) server)) new_is_host);

@@ -38,8 +38,8 @@ use Rattle.simulator_run.specs.First.{Beginning, new_signal}
 use Rattle.simulator_run.specs.Happens.{signal_anew, signal_stepped, stepped_at}
 use Rattle.simulator_run.specs.Links.{AreLinksOf, names_at}
 use Rattle.simulator_run.specs.Nodes.{links, names_of}
-use Rattle.simulator_run.specs.Servers.{sent_by_server, server_after, server_anew, step_of}
-use Rattle.simulator_run.specs.State.{ServerState, WorldState}
+use Rattle.simulator_run.specs.Controllers.{controller_after, controller_anew, sent_by_controller, step_of}
+use Rattle.simulator_run.specs.State.{ClockedControllerState, WorldState}
 use Rattle.simulator_headline.specs.Represents.{IsHostOf, IsNetworkOf, Represents, RepresentsAfter}
 use Rattle.simulator_headline.specs.Change.{SignalChanges}
 use Rattle.simulator_headline.proofs.ControllerLists.{changed_one, some_within, within_some}
@@ -49,13 +49,13 @@ use Rattle.simulator_headline.proofs.ControllerStepping.{LinkLaws, clients_anew,
 pub record SignalLaws : Type 0 where
   pub link : LinkLaws
   pub change : (site : Site) (table : Table) (world new : WorldState) (machine : Machine) (represented : Represents site table world machine) (after : Links)
-      (place : ℕ) (next : ServerState SignalState) → place < length site.signals → SignalChanges site world new represented.network after place next
+      (place : ℕ) (next : ClockedControllerState SignalState) → place < length site.signals → SignalChanges site world new represented.network after place next
       → SignalGoes (machine.signals place) (IsSignalSeen (seen place after) next.host) → RepresentsAfter site table machine new
   pub none : (table : MachineTable) (machine : Machine) → MovesTo table machine machine
-  pub end : (site : Site) (world : WorldState) (network : Links) → IsWhole site world → AreLinksOf site world network → (place : ℕ) (server : ServerState SignalState)
+  pub end : (site : Site) (world : WorldState) (network : Links) → IsWhole site world → AreLinksOf site world network → (place : ℕ) (server : ClockedControllerState SignalState)
       → slice_get world.signals place ≡ Some server → (place < links site) × IsEndOfServer server (network.ends place).server
   pub named : (site : Site) (place : ℕ) (entry : Signal) → slice_get site.signals place ≡ Some entry → (place < links site) × (names_at site place ≡ names_of site entry.id)
-  pub items : (site : Site) (world : WorldState) → IsWhole site world → (place : ℕ) (server : ServerState SignalState) → slice_get world.signals place ≡ Some server
+  pub items : (site : Site) (world : WorldState) → IsWhole site world → (place : ℕ) (server : ClockedControllerState SignalState) → slice_get world.signals place ≡ Some server
       → (input : Input) → AreItems (step_of signal_behaviour input server).calls
   pub calls_for : (now : ℕ) (input : Input) (host : HostState SignalState) → AreCallsFor input (host_step signal_behaviour now input host).calls
   pub names : (now : ℕ) (input : Input) (host : HostState SignalState) → IsNamedAs host (host_step signal_behaviour now input host).host
@@ -76,9 +76,9 @@ named_still site name old new named is = record {
   version = named.version ∙ is.version;
 }
 
-signal_is : (site : Site) (world : WorldState) (input : Input) (connection place : ℕ) (server : ServerState SignalState) → slice_get world.signals place ≡ Some server → signal_stepped site input connection place world ≡ record world {
-  signals = slice_set world.signals place (server_after (step_of signal_behaviour input server) connection (length world.sent) server);
-  sent = world.sent ++ sent_by_server (step_of signal_behaviour input server) world.time place server (server_after (step_of signal_behaviour input server) connection (length world.sent) server);
+signal_is : (site : Site) (world : WorldState) (input : Input) (connection place : ℕ) (server : ClockedControllerState SignalState) → slice_get world.signals place ≡ Some server → signal_stepped site input connection place world ≡ record world {
+  signals = slice_set world.signals place (controller_after (step_of signal_behaviour input server) connection (length world.sent) server);
+  sent = world.sent ++ sent_by_controller (step_of signal_behaviour input server) world.time place server (controller_after (step_of signal_behaviour input server) connection (length world.sent) server);
 }
 unfolding signal_stepped stepped_at
 signal_is site world input connection place server is = rw is refl
@@ -97,14 +97,14 @@ module _ (laws : SignalLaws) (site : Site) (table : Table) (world : WorldState) 
   -- ---- a step
 
   module _ (input : Input) (connection place : ℕ) (hears : place < links site → MayHear (names_at site place) input connection (seen place before)) where
-    module _ (server : ServerState SignalState) (is : slice_get world.signals place ≡ Some server) where
-      abbrev next : ServerState SignalState
-      next = server_after (step_of signal_behaviour input server) connection (length world.sent) server
+    module _ (server : ClockedControllerState SignalState) (is : slice_get world.signals place ≡ Some server) where
+      abbrev next : ClockedControllerState SignalState
+      next = controller_after (step_of signal_behaviour input server) connection (length world.sent) server
 
       abbrev new : WorldState
       new = record world {
         signals = slice_set world.signals place next;
-        sent = world.sent ++ sent_by_server (step_of signal_behaviour input server) world.time place server next;
+        sent = world.sent ++ sent_by_controller (step_of signal_behaviour input server) world.time place server next;
       }
 
       abbrev after : Links
@@ -151,7 +151,7 @@ module _ (laws : SignalLaws) (site : Site) (table : Table) (world : WorldState) 
     pub signal_steps : IsNetworkOf site (signal_stepped site input connection place world) (run_links (signal_events input connection place world) before)
         → RepresentsAfter site table machine (signal_stepped site input connection place world)
     signal_steps linked = cases (slice_get world.signals place) refl linked where
-      cases : (found : Option (ServerState SignalState)) → slice_get world.signals place ≡ found
+      cases : (found : Option (ClockedControllerState SignalState)) → slice_get world.signals place ≡ found
           → IsNetworkOf site (signal_stepped site input connection place world) (run_links (host_events signal_behaviour input connection place found) before)
           → RepresentsAfter site table machine (signal_stepped site input connection place world)
       cases None is linked = subst (RepresentsAfter site table machine) (sym (signal_none site world input connection place is)) unchanged
@@ -180,9 +180,9 @@ module _ (laws : SignalLaws) (site : Site) (table : Table) (world : WorldState) 
       unfolding new_host keeping
       new_is_host = record { own_name = refl; peer_name = refl; version = refl }
 
-      module _ (server : ServerState SignalState) (is : slice_get world.signals place ≡ Some server) where
-        abbrev next_anew : ServerState SignalState
-        next_anew = server_anew (new_signal site begins entry) begins.clock (length world.sent) server
+      module _ (server : ClockedControllerState SignalState) (is : slice_get world.signals place ≡ Some server) where
+        abbrev next_anew : ClockedControllerState SignalState
+        next_anew = controller_anew (new_signal site begins entry) begins.clock (length world.sent) server
 
         anew_below : place < links site
         anew_below = (laws.named site place entry at).0
@@ -207,7 +207,7 @@ module _ (laws : SignalLaws) (site : Site) (table : Table) (world : WorldState) 
         anew_represented : IsNetworkOf site (signal_anew site begins place (Some entry) world) anew_after → RepresentsAfter site table machine (signal_anew site begins place (Some entry) world)
         anew_represented linked = laws.change site table world (signal_anew site begins place (Some entry) world) machine represented anew_after place next_anew (within_some site.signals place entry at) (record {
           leaves = record { linked = linked; station = refl; frozen = refl; clients = clients_anew laws.link.anew place begins.clock begins.first before };
-          signals = changed_one (server_anew (new_signal site begins entry) begins.clock (length world.sent)) place world.signals server is;
+          signals = changed_one (controller_anew (new_signal site begins entry) begins.clock (length world.sent)) place world.signals server is;
           points = refl;
           positions = refl;
           others = servers_anew laws.link.anew place begins.clock begins.first before;

@@ -26,12 +26,12 @@ use Rattle.simulator_machine_controllers.specs.Signal.{IsSignalSeen, SignalGoes}
 use Rattle.simulator_machine_interlocking.specs.Onward.{LooksAlike, PointLooksAlike, SignalLooksAlike}
 use Rattle.simulator_machine_interlocking.specs.Rows.{machine_table}
 use Rattle.simulator_run.specs.Nodes.{point_link}
-use Rattle.simulator_run.specs.State.{ServerState, WorldState}
+use Rattle.simulator_run.specs.State.{ClockedControllerState, WorldState}
 use Rattle.simulator_run.specs.simulator_snapshot.Safe.{IsThere}
 use Rattle.simulator_run.specs.simulator_snapshot.declared.snapshot.Held.{Held}
-use Rattle.simulator_headline.specs.Represents.{AreFrozen, ArePointsSeen, AreSignalsSeen, IsHostOf, Represents, RepresentsAfter, IsStationSeen}
+use Rattle.simulator_headline.specs.Represents.{AreFrozen, ArePointsSeen, AreSignalsSeen, IsHostOf, Represents, RepresentsAfter, IsInterlockingSeen}
 use Rattle.simulator_headline.specs.Seen.{AreHeldPairs}
-use Rattle.simulator_headline.specs.Change.{LeavesStation}
+use Rattle.simulator_headline.specs.Change.{LeavesInterlocking}
 use Rattle.simulator_headline.proofs.Elsewhere.{StayLaws, client_seen, point_stays, signal_stays, station_stays}
 use Rattle.simulator_headline.proofs.ControllerLists.{at_other, at_place, get_set, get_set_other, none_some, same_or_other, some_within, within_some}
 
@@ -49,7 +49,7 @@ pub record ChangeLaws : Type 0 where
   pub other : (a b : ℕ) → a ≢ b → is_same a b ≡ false
 
 module _ (laws : ChangeLaws) (site : Site) (table : Table) (world new : WorldState) (machine : Machine) (represented : Represents site table world machine) (after : Links)
-    (leaves : LeavesStation site world new represented.network after) where
+    (leaves : LeavesInterlocking site world new represented.network after) where
   abbrev before : Links
   before = represented.network
 
@@ -72,7 +72,7 @@ module _ (laws : ChangeLaws) (site : Site) (table : Table) (world new : WorldSta
       linked = leaves.linked;
       signals = signals;
       points = points;
-      station = subst (λ station. IsStationSeen site table after station other) (sym leaves.station)
+      station = subst (λ station. IsInterlockingSeen site table after station other) (sym leaves.station)
           (station_stays laws.stays site table before after leaves.clients world.station machine other alike represented.station);
       frozen = frozen_stays other alike.frozen;
       invariant = laws.reached (machine_table table) machine other (laws.sound table) represented.invariant moves;
@@ -81,18 +81,18 @@ module _ (laws : ChangeLaws) (site : Site) (table : Table) (world new : WorldSta
 
   -- ---- what is elsewhere
 
-  signal_there : (place : ℕ) (server : ServerState SignalState) → slice_get world.signals place ≡ Some server → place < length site.signals
+  signal_there : (place : ℕ) (server : ClockedControllerState SignalState) → slice_get world.signals place ≡ Some server → place < length site.signals
   signal_there place server at = subst (λ n. place < n) represented.linked.whole.signals (within_some world.signals place server at)
 
-  point_there : (place : ℕ) (server : ServerState PointState) → slice_get world.points place ≡ Some server → place < length site.points
+  point_there : (place : ℕ) (server : ClockedControllerState PointState) → slice_get world.points place ≡ Some server → place < length site.points
   point_there place server at = subst (λ n. place < n) represented.linked.whole.points (within_some world.points place server at)
 
-  one_signal_stays : (place : ℕ) (server : ServerState SignalState) → slice_get world.signals place ≡ Some server → (after.ends place).server ≡ (before.ends place).server
+  one_signal_stays : (place : ℕ) (server : ClockedControllerState SignalState) → slice_get world.signals place ≡ Some server → (after.ends place).server ≡ (before.ends place).server
       → IsSignalSeen (seen place after) server.host (machine.signals place)
   one_signal_stays place server at same =
       signal_stays laws.stays (seen place before) (seen place after) server.host (machine.signals place) (leaves.clients place) same (represented.signals.each place server at)
 
-  one_point_stays : (place : ℕ) (server : ServerState PointState) → slice_get world.points place ≡ Some server → (after.ends (point_link site place)).server ≡ (before.ends (point_link site place)).server
+  one_point_stays : (place : ℕ) (server : ClockedControllerState PointState) → slice_get world.points place ≡ Some server → (after.ends (point_link site place)).server ≡ (before.ends (point_link site place)).server
       → IsPointSeen (seen (point_link site place) after) server.host (machine.points place)
   one_point_stays place server at same =
       point_stays laws.stays (seen (point_link site place) before) (seen (point_link site place) after) server.host (machine.points place) (leaves.clients (point_link site place)) same (represented.points.each place server at)
@@ -142,7 +142,7 @@ module _ (laws : ChangeLaws) (site : Site) (table : Table) (world new : WorldSta
 
   -- ---- one signal is changed
 
-  module _ (place : ℕ) (next : ServerState SignalState) (below : place < length site.signals)
+  module _ (place : ℕ) (next : ClockedControllerState SignalState) (below : place < length site.signals)
       (goes : SignalGoes (machine.signals place) (IsSignalSeen (seen place after) next.host)) where
     abbrev new_signal : MachineSignal
     new_signal = signal_chained goes.moves (machine.signals place)
@@ -191,26 +191,26 @@ module _ (laws : ChangeLaws) (site : Site) (table : Table) (world new : WorldSta
 
     module _ (signals : new.signals ≡ slice_set world.signals place next) (others : (link : ℕ) → link ≢ place → (after.ends link).server ≡ (before.ends link).server)
         (host : (entry : Signal) → slice_get site.signals place ≡ Some entry → IsHostOf site entry.name next.host) where
-      next_there : (server : ServerState SignalState) → slice_get new.signals place ≡ Some server → next ≡ server
+      next_there : (server : ClockedControllerState SignalState) → slice_get new.signals place ≡ Some server → next ≡ server
       next_there server at = same_Some next server (sym (ap (λ l. slice_get l place) signals ∙ get_set world.signals place next within_signals) ∙ at)
 
-      other_there : (other : ℕ) (server : ServerState SignalState) → other ≢ place → slice_get new.signals other ≡ Some server → slice_get world.signals other ≡ Some server
+      other_there : (other : ℕ) (server : ClockedControllerState SignalState) → other ≢ place → slice_get new.signals other ≡ Some server → slice_get world.signals other ≡ Some server
       other_there other server differ at = sym (ap (λ l. slice_get l other) signals ∙ get_set_other world.signals place other next differ) ∙ at
 
-      each_signal : (other : ℕ) (server : ServerState SignalState) → (other ≡ place) ⊎ (other ≢ place) → slice_get new.signals other ≡ Some server
+      each_signal : (other : ℕ) (server : ClockedControllerState SignalState) → (other ≡ place) ⊎ (other ≢ place) → slice_get new.signals other ≡ Some server
           → IsSignalSeen (seen other after) server.host (with_one_signal.signals other)
       each_signal other server (inl same) at =
           subst (λ n. IsSignalSeen (seen n after) server.host (with_one_signal.signals n)) (sym same)
-          (subst (λ (s : ServerState SignalState). IsSignalSeen (seen place after) s.host (with_one_signal.signals place)) (next_there server (ap (slice_get new.signals) (sym same) ∙ at))
+          (subst (λ (s : ClockedControllerState SignalState). IsSignalSeen (seen place after) s.host (with_one_signal.signals place)) (next_there server (ap (slice_get new.signals) (sym same) ∙ at))
           (subst (IsSignalSeen (seen place after) next.host) (sym signal_here) goes.sees))
       each_signal other server (inr differ) at =
           let there = other_there other server differ at
           in subst (IsSignalSeen (seen other after) server.host) (sym (signal_elsewhere other differ)) (one_signal_stays other server there (others other differ))
 
-      each_signal_host : (other : ℕ) (entry : Signal) (server : ServerState SignalState) → (other ≡ place) ⊎ (other ≢ place) → slice_get site.signals other ≡ Some entry → slice_get new.signals other ≡ Some server
+      each_signal_host : (other : ℕ) (entry : Signal) (server : ClockedControllerState SignalState) → (other ≡ place) ⊎ (other ≢ place) → slice_get site.signals other ≡ Some entry → slice_get new.signals other ≡ Some server
           → IsHostOf site entry.name server.host
       each_signal_host other entry server (inl same) is at =
-          subst (λ (s : ServerState SignalState). IsHostOf site entry.name s.host) (next_there server (ap (slice_get new.signals) (sym same) ∙ at)) (host entry (ap (slice_get site.signals) (sym same) ∙ is))
+          subst (λ (s : ClockedControllerState SignalState). IsHostOf site entry.name s.host) (next_there server (ap (slice_get new.signals) (sym same) ∙ at)) (host entry (ap (slice_get site.signals) (sym same) ∙ is))
       each_signal_host other entry server (inr differ) is at = represented.signals.hosts other entry server is (other_there other server differ at)
 
       pub signal_changed : new.points ≡ world.points → new.positions ≡ world.positions → RepresentsAfter site table machine new
@@ -224,7 +224,7 @@ module _ (laws : ChangeLaws) (site : Site) (table : Table) (world new : WorldSta
 
   -- ---- one point is changed
 
-  module _ (place : ℕ) (next : ServerState PointState) (below : place < length site.points)
+  module _ (place : ℕ) (next : ClockedControllerState PointState) (below : place < length site.points)
       (goes : PointGoes (machine.points place) (IsPointSeen (seen (point_link site place) after) next.host)) where
     abbrev new_point : MachinePoint
     new_point = point_chained goes.moves (machine.points place)
@@ -270,35 +270,35 @@ module _ (laws : ChangeLaws) (site : Site) (table : Table) (world new : WorldSta
         (host : (entry : Point) → slice_get site.points place ≡ Some entry → IsHostOf site entry.name next.host)
         (stands : (position : Position) → slice_get new.positions place ≡ Some position → next.host.object.sensed ≡ position)
         (elsewhere : (other : ℕ) → other ≢ place → slice_get new.positions other ≡ slice_get world.positions other) where
-      next_point_there : (server : ServerState PointState) → slice_get new.points place ≡ Some server → next ≡ server
+      next_point_there : (server : ClockedControllerState PointState) → slice_get new.points place ≡ Some server → next ≡ server
       next_point_there server at = same_Some next server (sym (ap (λ l. slice_get l place) points ∙ get_set world.points place next within_points) ∙ at)
 
-      other_point_there : (other : ℕ) (server : ServerState PointState) → other ≢ place → slice_get new.points other ≡ Some server → slice_get world.points other ≡ Some server
+      other_point_there : (other : ℕ) (server : ClockedControllerState PointState) → other ≢ place → slice_get new.points other ≡ Some server → slice_get world.points other ≡ Some server
       other_point_there other server differ at = sym (ap (λ l. slice_get l other) points ∙ get_set_other world.points place other next differ) ∙ at
 
       other_link : (other : ℕ) → other ≢ place → point_link site other ≢ point_link site place
       other_link other differ same = differ (omega (arith, same))
 
-      each_point : (other : ℕ) (server : ServerState PointState) → (other ≡ place) ⊎ (other ≢ place) → slice_get new.points other ≡ Some server
+      each_point : (other : ℕ) (server : ClockedControllerState PointState) → (other ≡ place) ⊎ (other ≢ place) → slice_get new.points other ≡ Some server
           → IsPointSeen (seen (point_link site other) after) server.host (with_one_point.points other)
       each_point other server (inl same) at =
           subst (λ n. IsPointSeen (seen (point_link site n) after) server.host (with_one_point.points n)) (sym same)
-          (subst (λ (s : ServerState PointState). IsPointSeen (seen (point_link site place) after) s.host (with_one_point.points place)) (next_point_there server (ap (slice_get new.points) (sym same) ∙ at))
+          (subst (λ (s : ClockedControllerState PointState). IsPointSeen (seen (point_link site place) after) s.host (with_one_point.points place)) (next_point_there server (ap (slice_get new.points) (sym same) ∙ at))
           (subst (IsPointSeen (seen (point_link site place) after) next.host) (sym point_here) goes.sees))
       each_point other server (inr differ) at =
           let there = other_point_there other server differ at
           in subst (IsPointSeen (seen (point_link site other) after) server.host) (sym (point_elsewhere other differ)) (one_point_stays other server there (others (point_link site other) (other_link other differ)))
 
-      each_point_host : (other : ℕ) (entry : Point) (server : ServerState PointState) → (other ≡ place) ⊎ (other ≢ place) → slice_get site.points other ≡ Some entry → slice_get new.points other ≡ Some server
+      each_point_host : (other : ℕ) (entry : Point) (server : ClockedControllerState PointState) → (other ≡ place) ⊎ (other ≢ place) → slice_get site.points other ≡ Some entry → slice_get new.points other ≡ Some server
           → IsHostOf site entry.name server.host
       each_point_host other entry server (inl same) is at =
-          subst (λ (s : ServerState PointState). IsHostOf site entry.name s.host) (next_point_there server (ap (slice_get new.points) (sym same) ∙ at)) (host entry (ap (slice_get site.points) (sym same) ∙ is))
+          subst (λ (s : ClockedControllerState PointState). IsHostOf site entry.name s.host) (next_point_there server (ap (slice_get new.points) (sym same) ∙ at)) (host entry (ap (slice_get site.points) (sym same) ∙ is))
       each_point_host other entry server (inr differ) is at = represented.points.hosts other entry server is (other_point_there other server differ at)
 
-      each_sensed : (other : ℕ) (server : ServerState PointState) (position : Position) → (other ≡ place) ⊎ (other ≢ place) → slice_get new.points other ≡ Some server → slice_get new.positions other ≡ Some position
+      each_sensed : (other : ℕ) (server : ClockedControllerState PointState) (position : Position) → (other ≡ place) ⊎ (other ≢ place) → slice_get new.points other ≡ Some server → slice_get new.positions other ≡ Some position
           → server.host.object.sensed ≡ position
       each_sensed other server position (inl same) at is =
-          subst (λ (s : ServerState PointState). s.host.object.sensed ≡ position) (next_point_there server (ap (slice_get new.points) (sym same) ∙ at)) (stands position (ap (slice_get new.positions) (sym same) ∙ is))
+          subst (λ (s : ClockedControllerState PointState). s.host.object.sensed ≡ position) (next_point_there server (ap (slice_get new.points) (sym same) ∙ at)) (stands position (ap (slice_get new.positions) (sym same) ∙ is))
       each_sensed other server position (inr differ) at is = represented.points.sensed other server position (other_point_there other server differ at) (sym (elsewhere other differ) ∙ is)
 
       pub point_changed : new.signals ≡ world.signals → length new.positions ≡ length world.positions → RepresentsAfter site table machine new

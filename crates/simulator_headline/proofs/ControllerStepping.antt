@@ -25,8 +25,8 @@ use Rattle.simulator_machine_links.specs.EndsSeen.{represented}
 use Rattle.simulator_machine_controllers.specs.Ends.{AreFit, Steps}
 use Rattle.simulator_run.specs.Links.{names_at}
 use Rattle.simulator_run.specs.Nodes.{links}
-use Rattle.simulator_run.specs.Servers.{server_after, server_anew}
-use Rattle.simulator_run.specs.State.{ServerState}
+use Rattle.simulator_run.specs.Controllers.{controller_after, controller_anew}
+use Rattle.simulator_run.specs.State.{ClockedControllerState}
 use Rattle.simulator_headline.proofs.ControllerLists.{itself, same_or_other, unequal}
 
 -- what calls at one end leave of every end
@@ -117,10 +117,10 @@ module _ (law : SeesAnew) (link clock first : ℕ) (before : Links) where
 -- ---- the host of a server
 
 module _ {Object : Type 0} where
-  pub host_after : (done : HostSoFar Object) (connection moment : ℕ) (server : ServerState Object) → (server_after done connection moment server).host ≡ done.host
-  unfolding server_after
+  pub host_after : (done : HostSoFar Object) (connection moment : ℕ) (server : ClockedControllerState Object) → (controller_after done connection moment server).host ≡ done.host
+  unfolding controller_after
   host_after done connection moment server = refl
 
-  pub host_anew : (host : HostState Object) (clock moment : ℕ) (server : ServerState Object) → (server_anew host clock moment server).host ≡ host
-  unfolding server_anew
+  pub host_anew : (host : HostState Object) (clock moment : ℕ) (server : ClockedControllerState Object) → (controller_anew host clock moment server).host ≡ host
+  unfolding controller_anew
   host_anew host clock moment server = refl

@@ -12,7 +12,7 @@ use Rattle.simulator_run.specs.simulator_event.declared.event.Event.TheVariants 
 use Rattle.simulator_run.specs.simulator_event.refused.Refused.{Refused}
 use Rattle.simulator_run.specs.simulator_event.refused.Refused.TheVariants as refused
 use Rattle.simulator_run.specs.Refusals.{driven_at, driven_by, may_reach, refusal, refused_where}
-use Rattle.simulator_run.specs.State.{ServerState, WorldState}
+use Rattle.simulator_run.specs.State.{ClockedControllerState, WorldState}
 use Rattle.simulator_headline.proofs.ControllerLists.{none_some}
 
 not_refused : (fails : Bool) (why : Refused) (otherwise : Option Refused) → refused_where fails why otherwise ≡ None → (fails ≡ false) × (otherwise ≡ None)
@@ -24,13 +24,13 @@ is_driven : (side : Option Side) (position : Position) → not (may_reach side p
 is_driven None position e = absurd (cc (e))
 is_driven (Some side) position e = refl
 
-drive_there : (place : ℕ) (servers : List (ServerState PointState)) (server : ServerState PointState) → slice_get servers place ≡ Some server → driven_at place servers ≡ driven_by server
+drive_there : (place : ℕ) (servers : List (ClockedControllerState PointState)) (server : ClockedControllerState PointState) → slice_get servers place ≡ Some server → driven_at place servers ≡ driven_by server
 drive_there place [] server is = absurd (none_some server is)
 drive_there zero (first ∷ others) server is = ap driven_by (same_Some first server is)
 drive_there (suc place) (first ∷ others) server is = drive_there place others server is
 
 pub reachable : (site : Site) (point : PointId) (position : Position) (world : WorldState) → refusal site (event.Reach point position) world ≡ None
-    → (point.0 < length site.points) × ((server : ServerState PointState) → slice_get world.points point.0 ≡ Some server → is_some (driven_by server) ≡ true)
+    → (point.0 < length site.points) × ((server : ClockedControllerState PointState) → slice_get world.points point.0 ≡ Some server → is_some (driven_by server) ≡ true)
 unfolding refusal
 reachable site point position world none =
     let first = not_refused (nat_le (length site.points) point.0) refused.NoSuchNode _ none

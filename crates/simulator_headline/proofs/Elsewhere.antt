@@ -24,8 +24,8 @@ use Rattle.simulator_machine_interlocking.specs.Onward.{LooksAlike}
 use Rattle.simulator_machine_interlocking.specs.Calls.{Items}
 use Rattle.simulator_machine_interlocking.specs.Sees.{Given, Sees, SeesPoint, SeesSignal}
 use Rattle.simulator_run.specs.Nodes.{point_link}
-use Rattle.simulator_run.specs.State.{StationState}
-use Rattle.simulator_headline.specs.Represents.{IsStationSeen, given_in, items_of}
+use Rattle.simulator_run.specs.State.{ClockedInterlockingState}
+use Rattle.simulator_headline.specs.Represents.{IsInterlockingSeen, given_in, items_of}
 
 -- the laws of what stays
 pub record StayLaws : Type 0 where
@@ -83,7 +83,7 @@ module _ (laws : StayLaws) (site : Site) (table : Table) (before after : Links) 
   same_items : (link : ℕ) → items_of (before.ends link).client ≡ items_of (after.ends link).client
   same_items link = ap items_of (sym (clients link))
 
-  pub station_stays : (station : StationState) (machine other : Machine) → LooksAlike station.ixl machine other → IsStationSeen site table before station machine → IsStationSeen site table after station other
+  pub station_stays : (station : ClockedInterlockingState) (machine other : Machine) → LooksAlike station.ixl machine other → IsInterlockingSeen site table before station machine → IsInterlockingSeen site table after station other
   station_stays station machine other alike is =
       let sees = laws.station (reading_of station.clock) station.ixl (given_in site before) machine other is.sees alike
       in record {

@@ -42,12 +42,12 @@ use Rattle.simulator_machine_interlocking.specs.Made.{IsJustMade, IsMadeClient, 
 use Rattle.simulator_machine_interlocking.specs.Nodes.{IsOfPoint, phase_seen}
 use Rattle.simulator_machine_interlocking.specs.Rows.{machine_table}
 use Rattle.simulator_machine_interlocking.specs.Sees.{Given, Sees}
-use Rattle.simulator_run.specs.First.{Beginning, IsOutsetOf, Outset, at_zero, first_server, host_of, new_ixl, new_known_signal_of, new_point, new_route_of, new_signal, new_known_point_of, point_standing, world_at}
+use Rattle.simulator_run.specs.First.{Beginning, IsOutsetOf, Outset, at_zero, first_controller, host_of, new_ixl, new_known_signal_of, new_point, new_route_of, new_signal, new_known_point_of, point_standing, world_at}
 use Rattle.simulator_run.specs.Links.{names_at, starts_at_zero}
 use Rattle.simulator_run.specs.Nodes.{links, names_of, point_link}
-use Rattle.simulator_run.specs.State.{ServerState}
+use Rattle.simulator_run.specs.State.{ClockedControllerState}
 use Rattle.simulator_run_links.specs.Whole.{IsNamed, IsWhole}
-use Rattle.simulator_headline.specs.Represents.{AreFrozen, ArePointsSeen, AreSignalsSeen, IsHostOf, IsStationSeen, given_in}
+use Rattle.simulator_headline.specs.Represents.{AreFrozen, ArePointsSeen, AreSignalsSeen, IsHostOf, IsInterlockingSeen, given_in}
 use Rattle.simulator_headline.specs.Seen.{AreHeldPairs, positions_at}
 use Rattle.simulator_headline.proofs.WorldLists.{contains_none, get_map, map_length, some_injective}
 
@@ -111,8 +111,8 @@ module _ (laws : FirstLaws) (site : Site) (table : Table) (outset : Outset) (lie
   unfolding new_host keeping
   host_is does name id object = record { own_name = refl; peer_name = refl; version = refl }
 
-  abbrev signal_made : Signal → ServerState SignalState
-  signal_made entry = first_server (new_signal site at_zero entry)
+  abbrev signal_made : Signal → ClockedControllerState SignalState
+  signal_made entry = first_controller (new_signal site at_zero entry)
 
   one_signal : (place : ℕ) (entry : Signal) → slice_get site.signals place ≡ Some entry → IsSignalSeen (seen place network) (new_signal site at_zero entry) (begins.signals place)
   one_signal place entry at =
@@ -125,11 +125,11 @@ module _ (laws : FirstLaws) (site : Site) (table : Table) (outset : Outset) (lie
   first_signals = record {
     each = λ place server at.
         let found = get_map signal_made site.signals place server at
-        in subst (λ (s : ServerState SignalState). IsSignalSeen (seen place network) s.host (begins.signals place)) found.2 (one_signal place found.0 found.1);
+        in subst (λ (s : ClockedControllerState SignalState). IsSignalSeen (seen place network) s.host (begins.signals place)) found.2 (one_signal place found.0 found.1);
     hosts = λ place entry server is at.
         let found = get_map signal_made site.signals place server at
         in let same : found.0 ≡ entry = some_injective found.0 entry (sym found.1 ∙ is)
-        in subst (λ (s : ServerState SignalState). IsHostOf site entry.name s.host) (ap signal_made (sym same) ∙ found.2) (host_is signal_behaviour entry.name entry.id (record { lamp = new_lamp; owes = false }));
+        in subst (λ (s : ClockedControllerState SignalState). IsHostOf site entry.name s.host) (ap signal_made (sym same) ∙ found.2) (host_is signal_behaviour entry.name entry.id (record { lamp = new_lamp; owes = false }));
   }
 
   abbrev stood : List (Point × Position)
@@ -155,26 +155,26 @@ module _ (laws : FirstLaws) (site : Site) (table : Table) (outset : Outset) (lie
       named.1 (laws.points (names_at site (point_link site place)) (start_of (point_link site place) starts_at_zero) entry.name site.station.name (made both.1) (telegram_version site) place (positions_at outset)
       (fit_at (point_link site place) named.0) names.own_name names.peer_name names.version (position_is place both at))
 
-  each_point : (place : ℕ) (server : ServerState PointState) → slice_get (map (point_standing site) stood) place ≡ Some server → IsPointSeen (seen (point_link site place) network) server.host (begins.points place)
+  each_point : (place : ℕ) (server : ClockedControllerState PointState) → slice_get (map (point_standing site) stood) place ≡ Some server → IsPointSeen (seen (point_link site place) network) server.host (begins.points place)
   each_point place server at =
       let found = get_map (point_standing site) stood place server at
-      in subst (λ (s : ServerState PointState). IsPointSeen (seen (point_link site place) network) s.host (begins.points place)) found.2
+      in subst (λ (s : ClockedControllerState PointState). IsPointSeen (seen (point_link site place) network) s.host (begins.points place)) found.2
       (one_point place found.0 found.1 (point_names place found.0 (at ∙ ap (λ s. Some s) (sym found.2))))
 
-  point_host : (place : ℕ) (entry : Point) (server : ServerState PointState) → slice_get site.points place ≡ Some entry → slice_get (map (point_standing site) stood) place ≡ Some server
+  point_host : (place : ℕ) (entry : Point) (server : ClockedControllerState PointState) → slice_get site.points place ≡ Some entry → slice_get (map (point_standing site) stood) place ≡ Some server
       → IsHostOf site entry.name server.host
   point_host place entry server is at =
       let found = get_map (point_standing site) stood place server at
       in let same : found.0.0 ≡ entry = some_injective found.0.0 entry (sym (first_of_pair site.points outset.positions lies.positions place found.0 found.1) ∙ is)
       in subst (λ (p : Point). IsHostOf site p.name server.host) same
-      (subst (λ (s : ServerState PointState). IsHostOf site found.0.0.name s.host) found.2 (host_is point_behaviour found.0.0.name found.0.0.id (made found.0.1)))
+      (subst (λ (s : ClockedControllerState PointState). IsHostOf site found.0.0.name s.host) found.2 (host_is point_behaviour found.0.0.name found.0.0.id (made found.0.1)))
 
-  point_sensed : (place : ℕ) (server : ServerState PointState) (position : Position) → slice_get (map (point_standing site) stood) place ≡ Some server → slice_get outset.positions place ≡ Some position
+  point_sensed : (place : ℕ) (server : ClockedControllerState PointState) (position : Position) → slice_get (map (point_standing site) stood) place ≡ Some server → slice_get outset.positions place ≡ Some position
       → server.host.object.sensed ≡ position
   unfolding new_host keeping
   point_sensed place server position at is =
       let found = get_map (point_standing site) stood place server at
-      in ap (λ (s : ServerState PointState). s.host.object.sensed) (sym found.2)
+      in ap (λ (s : ClockedControllerState PointState). s.host.object.sensed) (sym found.2)
       ∙ some_injective found.0.1 position (sym (second_of_pair site.points outset.positions lies.positions place found.0 found.1) ∙ is)
 
   pub first_points : ArePointsSeen site network (world_at site table outset).points (world_at site table outset).positions begins
@@ -183,7 +183,7 @@ module _ (laws : FirstLaws) (site : Site) (table : Table) (outset : Outset) (lie
 
   -- ---- the interlocking
 
-  pub first_station : IsStationSeen site table network (world_at site table outset).station begins
+  pub first_station : IsInterlockingSeen site table network (world_at site table outset).station begins
   unfolding world_at new_ixl new_client
   first_station = record {
     sees = laws.made_seen 0 (new_ixl site table at_zero) (given_in site network) begins (laws.holds site table at_zero (omega arith)) (just_made site table at_zero) (laws.quiet (new_ixl site table at_zero) (positions_at outset));

@@ -25,16 +25,16 @@ use Rattle.simulator_run_links.specs.Nodes.{IsEndOfServer}
 use Rattle.simulator_run_links.specs.Whole.{IsWhole}
 use Rattle.simulator_run.specs.Links.{AreLinksOf, names_at}
 use Rattle.simulator_run.specs.Nodes.{links, point_link}
-use Rattle.simulator_run.specs.State.{ServerState, WorldState}
+use Rattle.simulator_run.specs.State.{ClockedControllerState, WorldState}
 use Rattle.simulator_headline.specs.InFlight.{IsInFlight, given_on}
 use Rattle.simulator_headline.specs.Represents.{IsNetworkOf}
 use Rattle.simulator_headline.proofs.WorldLists.{get_contains, none_some, some_injective}
 
 -- the laws of links that this stands on
 pub record FlightLaws : Type 0 where
-  pub signal_end : (site : Site) (world : WorldState) (network : Links) → IsWhole site world → AreLinksOf site world network → (place : ℕ) (server : ServerState SignalState)
+  pub signal_end : (site : Site) (world : WorldState) (network : Links) → IsWhole site world → AreLinksOf site world network → (place : ℕ) (server : ClockedControllerState SignalState)
       → slice_get world.signals place ≡ Some server → (place < links site) × IsEndOfServer server (network.ends place).server
-  pub point_end : (site : Site) (world : WorldState) (network : Links) → IsWhole site world → AreLinksOf site world network → (place : ℕ) (server : ServerState PointState)
+  pub point_end : (site : Site) (world : WorldState) (network : Links) → IsWhole site world → AreLinksOf site world network → (place : ℕ) (server : ClockedControllerState PointState)
       → slice_get world.points place ≡ Some server → (point_link site place < links site) × IsEndOfServer server (network.ends (point_link site place)).server
   pub begun : (site : Site) (world : WorldState) (network : Links) → IsWhole site world → AreLinksOf site world network → (link : ℕ) → link < links site
       → slice_get world.station.connections link ≡ Some (network.ends link).client.connection
@@ -72,7 +72,7 @@ same_connection : (connection : ℕ) (other : Option ℕ) → is_same_connection
 same_connection connection None e = absurd (false≢true e)
 same_connection connection (Some other) e = ap (λ (n : ℕ). Some n) (same_number connection other e)
 
-module _ {Object : Type 0} (laws : FlightLaws) (site : Site) (world : WorldState) (network : Links) (linked : IsNetworkOf site world network) (link : ℕ) (below : link < links site) (controller : ServerState Object)
+module _ {Object : Type 0} (laws : FlightLaws) (site : Site) (world : WorldState) (network : Links) (linked : IsNetworkOf site world network) (link : ℕ) (below : link < links site) (controller : ClockedControllerState Object)
     (end : IsEndOfServer controller (network.ends link).server) (item : List ℕ) (flies : IsInFlight site world link controller item) where
   abbrev ends : Ends
   ends = seen link network

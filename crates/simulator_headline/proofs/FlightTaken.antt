@@ -21,7 +21,7 @@ use Rattle.simulator_machine_links.specs.Lawful.{IsLawful}
 use Rattle.simulator_run_links.specs.Nodes.{IsEndOfServer}
 use Rattle.simulator_run.specs.Links.{names_at}
 use Rattle.simulator_run.specs.Nodes.{links}
-use Rattle.simulator_run.specs.State.{ServerState, WorldState}
+use Rattle.simulator_run.specs.State.{ClockedControllerState, WorldState}
 use Rattle.simulator_headline.specs.InFlight.{IsInFlight, given_on, items_taken}
 use Rattle.simulator_headline.specs.Represents.{IsNetworkOf}
 use Rattle.simulator_headline.proofs.FlightEnds.{FlightLaws, settled_taken}
@@ -79,7 +79,7 @@ unfolding outcome
 items_of bytes connection moment end = refl
 
 module _ {Object : Type 0} (laws : TakingLaws) (site : Site) (world : WorldState) (network : Links) (linked : IsNetworkOf site world network) (link : ℕ) (below : link < links site) (names_are : AreNames (names_at site link))
-    (controller : ServerState Object) (end : IsEndOfServer controller (network.ends link).server) (bytes : List ℕ) (connection : ℕ)
+    (controller : ClockedControllerState Object) (end : IsEndOfServer controller (network.ends link).server) (bytes : List ℕ) (connection : ℕ)
     (may : MayCall (names_at site link) role.Server (Receives bytes connection) (seen link network)) (item : List ℕ) (takes : Contains (items_taken bytes controller) item) where
   abbrev ends : Ends
   ends = seen link network

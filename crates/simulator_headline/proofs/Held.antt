@@ -17,8 +17,8 @@ use Rattle.simulator_machine.specs.Route as machine
 use Rattle.simulator_machine.specs.Table.{IsSound}
 use Rattle.simulator_machine_interlocking.specs.Nodes.{phase_seen, route_seen}
 use Rattle.simulator_machine_interlocking.specs.Rows.{machine_table, row_at}
-use Rattle.simulator_run.specs.State.{StationState}
-use Rattle.simulator_run.specs.Station.{authorities, held_of, pair_then}
+use Rattle.simulator_run.specs.State.{ClockedInterlockingState}
+use Rattle.simulator_run.specs.Interlocking.{authorities, held_of, pair_then}
 use Rattle.simulator_run.specs.simulator_snapshot.declared.snapshot.Held.{Held}
 use Rattle.simulator_headline.specs.Seen.{AreHeldPairs, pair_of}
 use Rattle.simulator_headline.proofs.WorldLists.{contains_cases, contains_here, contains_none, contains_there, get_below, get_contains, get_inside, none_some, some_injective}
@@ -114,7 +114,7 @@ authority_whole machine.Waiting is = absurd (false≢true is)
 authority_whole machine.Authorised is = refl
 authority_whole (machine.Ended whole) is = absurd (false≢true is)
 
-module _ (table : Table) (station : StationState) (frozen : List Held) (kept : Machine) (sound : IsSound (machine_table table)) (is : Invariant (machine_table table) kept)
+module _ (table : Table) (station : ClockedInterlockingState) (frozen : List Held) (kept : Machine) (sound : IsSound (machine_table table)) (is : Invariant (machine_table table) kept)
     (holding : kept.holding ≡ is_holding (reading_of station.clock) station.ixl) (seen : (route : ℕ) → kept.routes route ≡ route_seen (slice_get station.ixl.routes route))
     (counted : length station.ixl.routes ≡ length table.rows) (entries : All (λ (row : Row). row.entry < length station.ixl.known_signals) table.rows) (frozen_are : AreHeldPairs (machine_table table) frozen kept.frozen) where
   abbrev routes : List RouteState

@@ -4,7 +4,7 @@ use Rattle.std.specs.Prelude.{◌≢◌, ◌⊎◌, Ok, is_some, slice_get}
 use Rattle.std.specs.List.{Contains}
 use Rattle.std.proofs.lemmas.Bool.{true≢false}
 use Rattle.std.proofs.lemmas.List.{append_cancel_left}
-use Rattle.simulator_run.specs.sci_telegram.Reading.{reading}
+use Rattle.simulator_run.specs.sci_telegram.TelegramRead.{reading}
 use Rattle.simulator_run.specs.sci_telegram.declared.message.Aspect.{Aspect}
 use Rattle.simulator_run.specs.sci_telegram.declared.message.Aspect.TheVariants as aspects
 use Rattle.simulator_run.specs.sci_telegram.declared.message.Message.{Message}
@@ -34,8 +34,8 @@ use Rattle.simulator_machine_links.specs.Items as items
 use Rattle.simulator_machine_interlocking.specs.Telegrams.{side_seen}
 use Rattle.simulator_run.specs.Nodes.{point_link}
 use Rattle.simulator_run.specs.Seen.{shown_by}
-use Rattle.simulator_run.specs.State.{ServerState, WorldState}
-use Rattle.simulator_run.specs.Station.{held_of}
+use Rattle.simulator_run.specs.State.{ClockedControllerState, WorldState}
+use Rattle.simulator_run.specs.Interlocking.{held_of}
 use Rattle.simulator_run.specs.simulator_snapshot.Safe.{position_at}
 use Rattle.simulator_run.specs.simulator_snapshot.declared.snapshot.Held.{Held}
 use Rattle.simulator_headline.specs.InFlight.{Indicates, IsInFlight, IsMovingTo, Moves, MovesOrMayMove, ShowsOrMayShow}
@@ -100,7 +100,7 @@ module _ (laws : FlightLaws) (saying : SayingLaws) (site : Site) (table : Table)
 
   -- ---- aspects
 
-  module _ (signal : SignalId) (aspect : Aspect) (other : aspect ≢ aspects.Stop) (controller : ServerState SignalState) (at : slice_get world.signals signal.0 ≡ Some controller) where
+  module _ (signal : SignalId) (aspect : Aspect) (other : aspect ≢ aspects.Stop) (controller : ClockedControllerState SignalState) (at : slice_get world.signals signal.0 ≡ Some controller) where
     abbrev of_machine : machine_signal.Signal
     of_machine = machine.signals signal.0
 
@@ -143,7 +143,7 @@ module _ (laws : FlightLaws) (saying : SayingLaws) (site : Site) (table : Table)
 
   -- ---- points
 
-  module _ (point : PointId) (controller : ServerState PointState) (at : slice_get world.points point.0 ≡ Some controller) where
+  module _ (point : PointId) (controller : ClockedControllerState PointState) (at : slice_get world.points point.0 ≡ Some controller) where
     abbrev machine_at : machine_point.Point
     machine_at = machine.points point.0
 

@@ -5,7 +5,7 @@ use Rattle.std.proofs.lemmas.Bool.{false≢true}
 use Rattle.std.proofs.lemmas.Bool.Decides.{nat_tests}
 use Rattle.std.proofs.lemmas.List.{append-nil, length-append, length-map}
 use Rattle.std.proofs.lemmas.List.Elements.{All-nil}
-use Rattle.simulator_run.specs.sci_telegram.Reading.{reading}
+use Rattle.simulator_run.specs.sci_telegram.TelegramRead.{reading}
 use Rattle.simulator_run.specs.sci_telegram.Telegrams.{IsTelegram, writing}
 use Rattle.simulator_run.specs.sci_telegram.declared.fault.SciFault.{SciFault}
 use Rattle.simulator_run.specs.sci_telegram.declared.message.Message.{Message}

@@ -1,6 +1,6 @@
 -- What is written to a peer with names is read as it was meant.
 use Rattle.std.proofs.Common.{◌≡◌, ◌<◌, Ok}
-use Rattle.simulator_run.specs.sci_telegram.Reading.{reading}
+use Rattle.simulator_run.specs.sci_telegram.TelegramRead.{reading}
 use Rattle.simulator_run.specs.sci_telegram.Telegrams.{IsMessage, IsTelegram, writing}
 use Rattle.simulator_run.specs.sci_telegram.declared.message.Initialisation.TheVariants.{InitialisationRequest, VersionCheck}
 use Rattle.simulator_run.specs.sci_telegram.declared.message.Message.{Message}

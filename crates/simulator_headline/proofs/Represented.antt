@@ -35,8 +35,8 @@ use Rattle.simulator_run.specs.Links.{AreLinksOf, names_at}
 use Rattle.simulator_run.specs.Nodes.{links, point_link}
 use Rattle.simulator_run.specs.Refusals.{driven_by}
 use Rattle.simulator_run.specs.Seen.{shown_by}
-use Rattle.simulator_run.specs.State.{ServerState, StationState, WorldState}
-use Rattle.simulator_run.specs.Station.{held_of}
+use Rattle.simulator_run.specs.State.{ClockedControllerState, ClockedInterlockingState, WorldState}
+use Rattle.simulator_run.specs.Interlocking.{held_of}
 use Rattle.simulator_run.specs.simulator_snapshot.declared.snapshot.Held.{Held}
 use Rattle.simulator_headline.specs.Represents.{Represents}
 use Rattle.simulator_headline.specs.Seen.{AreHeldPairs, IsSeen}
@@ -45,9 +45,9 @@ use Rattle.simulator_headline.proofs.There.{entries_there, held_there}
 
 -- the laws that this stands on
 pub record SeeingLaws : Type 0 where
-  pub signal_end : (site : Site) (world : WorldState) (network : Links) → IsWhole site world → AreLinksOf site world network → (place : ℕ) (server : ServerState SignalState)
+  pub signal_end : (site : Site) (world : WorldState) (network : Links) → IsWhole site world → AreLinksOf site world network → (place : ℕ) (server : ClockedControllerState SignalState)
       → slice_get world.signals place ≡ Some server → (place < links site) × IsEndOfServer server (network.ends place).server
-  pub point_end : (site : Site) (world : WorldState) (network : Links) → IsWhole site world → AreLinksOf site world network → (place : ℕ) (server : ServerState PointState)
+  pub point_end : (site : Site) (world : WorldState) (network : Links) → IsWhole site world → AreLinksOf site world network → (place : ℕ) (server : ClockedControllerState PointState)
       → slice_get world.points place ≡ Some server → (point_link site place < links site) × IsEndOfServer server (network.ends (point_link site place)).server
   pub each : (count : ℕ) (names : ℕ → Names) (network : Links) → AreLawful count names network → (link : ℕ) → link < count → IsLawful (names link) (seen link network)
   pub fit : (names : Names) (ends : Ends) → IsLawful names ends → AreFit ends
@@ -55,7 +55,7 @@ pub record SeeingLaws : Type 0 where
       → aspect_shown host.object.lamp (reading_of ends.server.clock) ≢ aspects.Stop → shown signal ≡ aspect_seen (aspect_shown host.object.lamp (reading_of ends.server.clock))
   pub driven : (ends : Ends) (host : HostState PointState) (point : MachinePoint) → IsPointSeen ends host point → (side : Side)
       → drives (reading_of ends.server.clock) host.object ≡ Some side → point.driven ≡ true
-  pub held : (table : Table) (station : StationState) (frozen : List Held) (machine : Machine) → Invariant (machine_table table) machine
+  pub held : (table : Table) (station : ClockedInterlockingState) (frozen : List Held) (machine : Machine) → Invariant (machine_table table) machine
       → machine.holding ≡ is_holding (reading_of station.clock) station.ixl → ((route : ℕ) → machine.routes route ≡ route_seen (slice_get station.ixl.routes route))
       → length station.ixl.routes ≡ length table.rows → All (λ (row : Row). row.entry < length station.ixl.known_signals) table.rows
       → AreHeldPairs (machine_table table) frozen machine.frozen → AreHeldPairs (machine_table table) (held_of table station frozen) (is_held machine)
@@ -64,7 +64,7 @@ module _ (laws : SeeingLaws) (site : Site) (table : Table) (world : WorldState) 
   abbrev network : Links
   network = represented.network
 
-  shows : (place : ℕ) (server : ServerState SignalState) → slice_get world.signals place ≡ Some server → shown_by server ≢ aspects.Stop → shown (machine.signals place) ≡ aspect_seen (shown_by server)
+  shows : (place : ℕ) (server : ClockedControllerState SignalState) → slice_get world.signals place ≡ Some server → shown_by server ≢ aspects.Stop → shown (machine.signals place) ≡ aspect_seen (shown_by server)
   shows place server at other =
       let end = laws.signal_end site world network represented.linked.whole represented.linked.are place server at in
       let fit : AreFit (seen place network) = laws.fit (names_at site place) (seen place network) (laws.each (links site) (names_at site) network represented.linked.lawful place end.0)
@@ -77,7 +77,7 @@ module _ (laws : SeeingLaws) (site : Site) (table : Table) (world : WorldState) 
       let server = get_below world.points place within
       in (represented.points.each place server.0 server.1).position ∙ ap position_seen (represented.points.sensed place server.0 position server.1 at)
 
-  driven : (place : ℕ) (server : ServerState PointState) (side : Side) → slice_get world.points place ≡ Some server → driven_by server ≡ Some side → (machine.points place).driven ≡ true
+  driven : (place : ℕ) (server : ClockedControllerState PointState) (side : Side) → slice_get world.points place ≡ Some server → driven_by server ≡ Some side → (machine.points place).driven ≡ true
   driven place server side at drives_it =
       let end = laws.point_end site world network represented.linked.whole represented.linked.are place server at
       in laws.driven (seen (point_link site place) network) server.host (machine.points place) (represented.points.each place server at) side

@@ -43,10 +43,10 @@ use Rattle.simulator_machine_interlocking.specs.Rows.{machine_table}
 use Rattle.simulator_machine_interlocking.specs.Sees.{Given, Sees}
 use Rattle.simulator_run_links.specs.Events.{numbers_below, restart_events}
 use Rattle.simulator_run.specs.First.{Beginning, new_ixl, new_known_signal_of, new_route_of, new_known_point_of}
-use Rattle.simulator_run.specs.Nodes.{Station, links, point_link}
+use Rattle.simulator_run.specs.Nodes.{Interlocking, links, point_link}
 use Rattle.simulator_run.specs.Refusals.{is_missing, refused_where}
 use Rattle.simulator_run.specs.State.{WorldState}
-use Rattle.simulator_run.specs.Station.{held_of}
+use Rattle.simulator_run.specs.Interlocking.{held_of}
 use Rattle.simulator_run.specs.Happens as world_run
 use Rattle.simulator_headline.specs.Represents.{AreFrozen, ArePointsSeen, AreSignalsSeen, IsNetworkOf, Represents, RepresentsAfter, given_in}
 use Rattle.simulator_headline.proofs.StationEnds.{EndLaws, server_represented}
@@ -131,13 +131,13 @@ module _ (laws : AnewLaws) (site : Site) (table : Table) (once : Once site) (sta
   network = represented_is.network
 
   abbrev after : Links
-  after = run_links (restart_events site begins.clock begins.first (Some Station)) network
+  after = run_links (restart_events site begins.clock begins.first (Some Interlocking)) network
 
   abbrev fresh : IxlState
   fresh = new_ixl site table begins
 
   abbrev anew : WorldState
-  anew = world_run.made_anew site table begins (Some Station) world
+  anew = world_run.made_anew site table begins (Some Interlocking) world
 
   link_anew : (link : ℕ) → link < links site → seen link after ≡ restarted role.Client begins.clock begins.first (seen link network)
   link_anew link below = laws.node role.Client begins.clock (λ link. begins.first) (numbers_below (links site)) network link

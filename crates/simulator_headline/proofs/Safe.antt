@@ -30,7 +30,7 @@ use Rattle.simulator_machine_interlocking.specs.Rows.{machine_table}
 use Rattle.simulator_machine_interlocking.specs.Telegrams.{side_seen}
 use Rattle.simulator_run.specs.Refusals.{driven_by}
 use Rattle.simulator_run.specs.Seen.{IsSnapshotOf, as_shown, as_stands, shown_by}
-use Rattle.simulator_run.specs.State.{ServerState, WorldState}
+use Rattle.simulator_run.specs.State.{ClockedControllerState, WorldState}
 use Rattle.simulator_run.specs.simulator_snapshot.Safe.{IsHeldFor, IsProtected, IsThere, Safe, Shows, ShowsOther, StandsUndriven, position_at}
 use Rattle.simulator_run.specs.simulator_snapshot.declared.snapshot.Held.{Held}
 use Rattle.simulator_run.specs.simulator_snapshot.declared.snapshot.Snapshot.{Snapshot}
@@ -58,7 +58,7 @@ module _ (site : Site) (table : Table) (world : WorldState) (machine : Machine) 
     (points_there : (a : RouteId) (p : PointId) (s : Side) → RouteRequires site a p s → HasPoint site p) (promise : promised.Promise (machine_table table) machine)
     (sees : IsSeen site table world machine) (of : IsSnapshotOf table world snapshot) where
   -- the controller of a signal that shows an aspect
-  showing : (signal : SignalId) (aspect : Aspect) → Shows snapshot signal aspect → (server : ServerState SignalState) × (slice_get world.signals signal.0 ≡ Some server) × (shown_by server ≡ aspect)
+  showing : (signal : SignalId) (aspect : Aspect) → Shows snapshot signal aspect → (server : ClockedControllerState SignalState) × (slice_get world.signals signal.0 ≡ Some server) × (shown_by server ≡ aspect)
   showing signal aspect shows =
       let found = get_map as_shown world.signals signal.0 (record { 0 = aspect }) (ap (λ xs. slice_get xs signal.0) (sym of.shows) ∙ shows) in (found.0, found.1, ap (λ x. x.0) found.2)
 
@@ -90,7 +90,7 @@ module _ (site : Site) (table : Table) (world : WorldState) (machine : Machine) 
     position : (found : Position) × (slice_get world.positions point.0 ≡ Some found)
     position = get_below world.positions point.0 place_there
 
-    server : (found : ServerState PointState) × (slice_get world.points point.0 ≡ Some found)
+    server : (found : ClockedControllerState PointState) × (slice_get world.points point.0 ≡ Some found)
     server = get_below world.points point.0 server_there
 
     is_position : position.0 ≡ position_at side

@@ -15,16 +15,16 @@ use Rattle.simulator_run.specs.simulator_event.declared.event.Event.TheVariants 
 use Rattle.simulator_run.specs.simulator_event.declared.event.NodeId.{NodeId}
 use Rattle.simulator_machine.specs.Machine.{Machine}
 use Rattle.simulator_run_links.specs.Calls.{AreOfNodes}
-use Rattle.simulator_run_links.specs.Events.{FollowsBy, delivery_events, events_of, station_events, tick_events}
+use Rattle.simulator_run_links.specs.Events.{FollowsBy, delivery_events, events_of, interlocking_events, tick_events}
 use Rattle.simulator_run_links.specs.Nodes.{MayComeWith}
 use Rattle.simulator_run_links.specs.Whole.{IsWhole}
-use Rattle.simulator_run.specs.Happens.{delivered_to, happens, station_stepped, ticked_at}
+use Rattle.simulator_run.specs.Happens.{delivered_to, happens, interlocking_stepped, ticked_at}
 use Rattle.simulator_run.specs.Links.{AreLinksOf, names_at}
 use Rattle.simulator_run.specs.Network.{connection_of, copy_of}
-use Rattle.simulator_run.specs.Nodes.{Node, Station, links, node_at}
+use Rattle.simulator_run.specs.Nodes.{Interlocking, Node, links, node_at}
 use Rattle.simulator_run.specs.Refusals.{refusal}
 use Rattle.simulator_run.specs.State.{WorldState}
-use Rattle.simulator_run.specs.Station.{station_step}
+use Rattle.simulator_run.specs.Interlocking.{interlocking_step}
 use Rattle.simulator_headline.specs.Represents.{IsNetworkOf, Represents, RepresentsAfter}
 use Rattle.simulator_headline.proofs.Step.{StepLaws, goes, step_represented}
 
@@ -39,7 +39,7 @@ pub record EventLaws : Type 0 where
       → refusal site happening world ≡ None → IsNetworkOf site (happens site table happening world) (run_links (events_of site table happening world) network)
   pub of_nodes : (site : Site) (table : Table) (input : ixl.Input) (connection : ℕ) (world : WorldState) (before : Links) → AreLinks (links site) (names_at site) → IsWhole site world
       → AreTimely (links site) (names_at site) before → AreLinksOf site world before → MayComeWith site input connection before
-      → AreOfNodes site (station_step site table input world.station).calls
+      → AreOfNodes site (interlocking_step site table input world.station).calls
   pub delivered : (site : Site) (node : NodeId) (bytes : List ℕ) (world : WorldState) (before : Links) → AreLinksOf site world before
       → refusal site (event.Deliver node bytes) world ≡ None → (link : ℕ) → MayCallOn (names_at site link) (Receives bytes (connection_of (copy_of bytes world))) before
 
@@ -55,9 +55,9 @@ module _ (laws : EventLaws) (site : Site) (table : Table) (once : Once site) (st
   are = laws.named site station once
 
   stepped : (input : ixl.Input) (connection : ℕ) → MayComeWith site input connection represented.network
-      → FollowsBy site (station_events site table input connection world.station) (station_stepped site table input world) represented.network
-      → IsNetworkOf site (station_stepped site table input world) (run_links (station_events site table input connection world.station) represented.network)
-      → RepresentsAfter site table machine (station_stepped site table input world)
+      → FollowsBy site (interlocking_events site table input connection world.station) (interlocking_stepped site table input world) represented.network
+      → IsNetworkOf site (interlocking_stepped site table input world) (run_links (interlocking_events site table input connection world.station) represented.network)
+      → RepresentsAfter site table machine (interlocking_stepped site table input world)
   stepped input connection comes follows linked =
       let done = goes laws.step site table input connection world machine are is represented comes
       in record {
@@ -78,14 +78,14 @@ module _ (laws : EventLaws) (site : Site) (table : Table) (once : Once site) (st
   request_represented command = stepped (ixl.Commands command) 0 (λ bytes same link below. absurd (cc (same))) (follows_by (event.Request command) refl) (linked_by (event.Request command) refl)
 
   -- what is so where a node is the station
-  pub tick_represented : (node : NodeId) → refusal site (event.Tick node) world ≡ None → node_at site node.0 ≡ Some Station → RepresentsAfter site table machine (happens site table (event.Tick node) world)
+  pub tick_represented : (node : NodeId) → refusal site (event.Tick node) world ≡ None → node_at site node.0 ≡ Some Interlocking → RepresentsAfter site table machine (happens site table (event.Tick node) world)
   unfolding happens events_of
   tick_represented node none at = subst (λ (n : Option Node). RepresentsAfter site table machine (ticked_at site table n world)) (sym at)
       (stepped ixl.Tick 0 (λ bytes same link below. absurd (cc (same)))
       (subst (λ (n : Option Node). FollowsBy site (tick_events site table n world) (ticked_at site table n world) represented.network) at (follows_by (event.Tick node) none))
       (subst (λ (n : Option Node). IsNetworkOf site (ticked_at site table n world) (run_links (tick_events site table n world) represented.network)) at (linked_by (event.Tick node) none)))
 
-  pub delivery_represented : (node : NodeId) (bytes : List ℕ) → refusal site (event.Deliver node bytes) world ≡ None → node_at site node.0 ≡ Some Station
+  pub delivery_represented : (node : NodeId) (bytes : List ℕ) → refusal site (event.Deliver node bytes) world ≡ None → node_at site node.0 ≡ Some Interlocking
       → RepresentsAfter site table machine (happens site table (event.Deliver node bytes) world)
   unfolding happens events_of
   delivery_represented node bytes none at =

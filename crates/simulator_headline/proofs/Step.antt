@@ -43,14 +43,14 @@ use Rattle.simulator_machine_interlocking.specs.Rows.{AreHeldAtFirst, machine_ta
 use Rattle.simulator_machine_interlocking.specs.Sees.{Given, Sees, SeesPoint, SeesSignal}
 use Rattle.simulator_machine_interlocking.specs.Totals.{IsReadable}
 use Rattle.simulator_run_links.specs.Calls.{AreOfNodes, node_call}
-use Rattle.simulator_run_links.specs.Events.{FollowsBy, station_events}
+use Rattle.simulator_run_links.specs.Events.{FollowsBy, interlocking_events}
 use Rattle.simulator_run_links.specs.Nodes.{IsEndOfClient, MayComeWith}
 use Rattle.simulator_run_links.specs.Whole.{IsWhole}
-use Rattle.simulator_run.specs.Happens.{station_stepped}
+use Rattle.simulator_run.specs.Happens.{interlocking_stepped}
 use Rattle.simulator_run.specs.Links.{AreLinksOf, names_at}
 use Rattle.simulator_run.specs.Nodes.{key_of, links, point_link}
-use Rattle.simulator_run.specs.State.{ServerState, WorldState}
-use Rattle.simulator_run.specs.Station.{station_step}
+use Rattle.simulator_run.specs.State.{ClockedControllerState, WorldState}
+use Rattle.simulator_run.specs.Interlocking.{interlocking_step}
 use Rattle.simulator_headline.specs.Represents.{AreFrozen, ArePointsSeen, AreSignalsSeen, IsNetworkOf, Represents, given_in, items_of}
 use Rattle.simulator_headline.specs.Seen.{AreHeldPairs}
 use Rattle.simulator_headline.proofs.StationCalls.{point_calls, signal_calls}
@@ -124,13 +124,13 @@ module _ (laws : StepLaws) (site : Site) (table : Table) (input : ixl.Input) (co
   kept = world.station.ixl
 
   abbrev part : StepSoFar
-  part = station_step site table input world.station
+  part = interlocking_step site table input world.station
 
   abbrev calls : List NodeCall
   calls = map (node_call site connection) part.calls
 
   abbrev after : Links
-  after = run_links (station_events site table input connection world.station) network
+  after = run_links (interlocking_events site table input connection world.station) network
 
   signals_long : (place : ℕ) → place < length kept.known_signals → place < length world.signals
   signals_long place within = subst (λ n. place < n) (represented.linked.whole.clients.known_signals ∙ sym represented.linked.whole.signals) within
@@ -190,29 +190,29 @@ module _ (laws : StepLaws) (site : Site) (table : Table) (input : ixl.Input) (co
 
   -- ---- behind it
 
-  module _ (follows : FollowsBy site (station_events site table input connection world.station) (station_stepped site table input world) network)
-      (linked : IsNetworkOf site (station_stepped site table input world) after) (of_nodes : AreOfNodes site part.calls)
+  module _ (follows : FollowsBy site (interlocking_events site table input connection world.station) (interlocking_stepped site table input world) network)
+      (linked : IsNetworkOf site (interlocking_stepped site table input world) after) (of_nodes : AreOfNodes site part.calls)
       (new : Machine) (stepped : IsStepped now input (machine_table table) kept (given_in site network) machine part new) where
     client_after : (link : ℕ) → link < links site → ClientIsAfter (at_link link calls) (seen link network) (seen link after)
     client_after link below = laws.client (links site) (names_at site) calls network are represented.linked.lawful.timely follows.may link below
 
     known_signals_same : length part.ixl.known_signals ≡ length site.signals
-    unfolding station_stepped
+    unfolding interlocking_stepped
     known_signals_same = linked.whole.clients.known_signals
 
     known_points_same : length part.ixl.known_points ≡ length site.points
-    unfolding station_stepped
+    unfolding interlocking_stepped
     known_points_same = linked.whole.clients.known_points
 
     known_signal_after : (place : ℕ) (known_signal : KnownSignalState) → slice_get part.ixl.known_signals place ≡ Some known_signal
         → ((after.ends place).client.link ≡ settled now known_signal.client.link) × ((after.ends place).client.clock ≡ world.station.clock)
-    unfolding station_stepped
-    known_signal_after place known_signal at = let end = laws.known_signal_end site (station_stepped site table input world) after linked.whole linked.are place known_signal at in (end.1.link_is, end.1.clock_is)
+    unfolding interlocking_stepped
+    known_signal_after place known_signal at = let end = laws.known_signal_end site (interlocking_stepped site table input world) after linked.whole linked.are place known_signal at in (end.1.link_is, end.1.clock_is)
 
     known_point_after : (place : ℕ) (known_point : KnownPointState) → slice_get part.ixl.known_points place ≡ Some known_point
         → ((after.ends (point_link site place)).client.link ≡ settled now known_point.client.link) × ((after.ends (point_link site place)).client.clock ≡ world.station.clock)
-    unfolding station_stepped
-    known_point_after place known_point at = let end = laws.known_point_end site (station_stepped site table input world) after linked.whole linked.are place known_point at in (end.1.link_is, end.1.clock_is)
+    unfolding interlocking_stepped
+    known_point_after place known_point at = let end = laws.known_point_end site (interlocking_stepped site table input world) after linked.whole linked.are place known_point at in (end.1.link_is, end.1.clock_is)
 
     known_signal_behind : (place : ℕ) (first known_signal : KnownSignalState) → slice_get kept.known_signals place ≡ Some first → slice_get part.ixl.known_signals place ≡ Some known_signal
         → KnownSignalBehind now input (machine_table table) kept (given_in site network) machine first (items_of (network.ends place).client) (calls_at (Signal place) part.calls) known_signal (machine.signals place) (new.signals place)
@@ -242,7 +242,7 @@ module _ (laws : StepLaws) (site : Site) (table : Table) (input : ixl.Input) (co
       known_signal_items_are = items_are laws.ends now connection (names_at site place) (calls_at (Signal place) part.calls) first.client.link known_signal.client.link (seen place network) (seen place after)
           (ap reading_of first_end.1.clock_is) first_end.1.link_is (ap reading_of (known_signal_after place known_signal there).1) (known_signal_after place known_signal there).0 (linked.lawful.timely.each place first_end.0) known_signal_calls (laws.partner calls network place)
 
-      one_signal : (server : ServerState SignalState) → slice_get world.signals place ≡ Some server → IsSignalSeen (seen place after) server.host (new.signals place)
+      one_signal : (server : ClockedControllerState SignalState) → slice_get world.signals place ≡ Some server → IsSignalSeen (seen place after) server.host (new.signals place)
       one_signal server server_at = signal_stepped laws.ends now connection (names_at site place) (calls_at (Signal place) part.calls) first.client.link known_signal.client.link (seen place network) (seen place after)
           (ap reading_of first_end.1.clock_is) first_end.1.link_is (ap reading_of (known_signal_after place known_signal there).1) (known_signal_after place known_signal there).0 (linked.lawful.timely.each place first_end.0) known_signal_calls (laws.partner calls network place)
           input (machine_table table) kept (given_in site network) machine first known_signal server.host (machine.signals place) (new.signals place) refl refl
@@ -262,7 +262,7 @@ module _ (laws : StepLaws) (site : Site) (table : Table) (input : ixl.Input) (co
           (ap reading_of first_point.1.clock_is) first_point.1.link_is (ap reading_of (known_point_after place known_point there).1) (known_point_after place known_point there).0 (linked.lawful.timely.each (point_link site place) first_point.0) known_point_calls
           (laws.partner calls network (point_link site place))
 
-      one_point : (server : ServerState PointState) → slice_get world.points place ≡ Some server → IsPointSeen (seen (point_link site place) after) server.host (new.points place)
+      one_point : (server : ClockedControllerState PointState) → slice_get world.points place ≡ Some server → IsPointSeen (seen (point_link site place) after) server.host (new.points place)
       one_point server server_at = point_stepped laws.ends now connection (names_at site (point_link site place)) (calls_at (Point place) part.calls) first.client.link known_point.client.link (seen (point_link site place) network) (seen (point_link site place) after)
           (ap reading_of first_point.1.clock_is) first_point.1.link_is (ap reading_of (known_point_after place known_point there).1) (known_point_after place known_point there).0 (linked.lawful.timely.each (point_link site place) first_point.0) known_point_calls
           (laws.partner calls network (point_link site place))
@@ -328,8 +328,8 @@ module _ (laws : StepLaws) (site : Site) (table : Table) (input : ixl.Input) (co
     pub frozen_after : AreFrozen site table world.frozen new
     frozen_after = record { pairs = subst (λ f. AreHeldPairs (machine_table table) world.frozen f) (sym stepped.behind.frozen) represented.frozen.pairs; there = represented.frozen.there }
 
-    pub step_represented : Represents site table (station_stepped site table input world) new
-    unfolding station_stepped
+    pub step_represented : Represents site table (interlocking_stepped site table input world) new
+    unfolding interlocking_stepped
     step_represented = record {
       network = after;
       linked = linked;

@@ -11,8 +11,8 @@ use Rattle.simulator_run.specs.ixl_rules.State.{IxlState}
 use Rattle.simulator_run.specs.ixl_rules.Table.{Row, Table}
 use Rattle.simulator_run.specs.ixl_rules.View.{is_holding}
 use Rattle.ixl_table.specs.Table.{IsRowOf, IsTableOf}
-use Rattle.simulator_run.specs.State.{StationState}
-use Rattle.simulator_run.specs.Station.{authorities, held_of}
+use Rattle.simulator_run.specs.State.{ClockedInterlockingState}
+use Rattle.simulator_run.specs.Interlocking.{authorities, held_of}
 use Rattle.simulator_run.specs.simulator_snapshot.Safe.{IsThere}
 use Rattle.simulator_run.specs.simulator_snapshot.declared.snapshot.Held.{Held}
 use Rattle.simulator_headline.proofs.Held.{HasFrom, found_has, pairs_have}
@@ -47,7 +47,7 @@ module _ (site : Site) (table : Table) (station : IsStation site) (is : IsTableO
             route = omega (arith, inside, many, same);
           }
 
-  pub held_there : (kept : StationState) (frozen : List Held) → ((pair : Held) → Contains frozen pair → IsThere site pair) → (pair : Held) → Contains (held_of table kept frozen) pair → IsThere site pair
+  pub held_there : (kept : ClockedInterlockingState) (frozen : List Held) → ((pair : Held) → Contains frozen pair → IsThere site pair) → (pair : Held) → Contains (held_of table kept frozen) pair → IsThere site pair
   unfolding held_of
   held_there kept frozen there pair contained = cases (is_holding (reading_of kept.clock) kept.ixl) contained where
     cases : (holds : Bool) → Contains (if holds then frozen else authorities table kept.ixl 0 (length kept.ixl.known_signals)) pair → IsThere site pair

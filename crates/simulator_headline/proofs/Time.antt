@@ -41,10 +41,10 @@ use Rattle.simulator_run_links.specs.Whole.{IsWhole}
 use Rattle.simulator_run.specs.Happens.{all_later, passed}
 use Rattle.simulator_run.specs.Links.{AreLinksOf, names_at}
 use Rattle.simulator_run.specs.Nodes.{links, nodes, point_link}
-use Rattle.simulator_run.specs.Refusals.{all_within, keeps_time, refusal_of_time, refused_where, station_within}
-use Rattle.simulator_run.specs.Servers as servers_of
-use Rattle.simulator_run.specs.State.{ServerState, WorldState}
-use Rattle.simulator_headline.specs.Represents.{AreFrozen, ArePointsSeen, AreSignalsSeen, IsHostOf, IsNetworkOf, Represents, RepresentsAfter, IsStationSeen, given_in}
+use Rattle.simulator_run.specs.Refusals.{all_within, interlocking_within, keeps_time, refusal_of_time, refused_where}
+use Rattle.simulator_run.specs.Controllers as servers_of
+use Rattle.simulator_run.specs.State.{ClockedControllerState, WorldState}
+use Rattle.simulator_headline.specs.Represents.{AreFrozen, ArePointsSeen, AreSignalsSeen, IsHostOf, IsNetworkOf, Represents, RepresentsAfter, IsInterlockingSeen, given_in}
 use Rattle.simulator_headline.specs.Seen.{AreHeldPairs}
 use Rattle.simulator_headline.proofs.Passing.{client_seen, point_passed, server_seen, signal_passed}
 use Rattle.simulator_headline.proofs.StationEnds.{EndLaws, server_represented}
@@ -71,7 +71,7 @@ second_true false b is = absurd (true≢false (sym is))
 within_limit : (a b : ℕ) → nat_le a b ≡ true → a ≤ b
 within_limit a b e = grind (arith, nat_tests)
 
-station_kept : (clock : ℕ) (steps : List ℕ) (others : List ℕ → Bool) (count : ℕ) → length steps ≡ suc count → station_within clock steps others ≡ true → clock + slice_index_or steps 0 0 ≤ 9000000000000000
+station_kept : (clock : ℕ) (steps : List ℕ) (others : List ℕ → Bool) (count : ℕ) → length steps ≡ suc count → interlocking_within clock steps others ≡ true → clock + slice_index_or steps 0 0 ≤ 9000000000000000
 station_kept clock [] others count many is = absurd (omega arith)
 station_kept clock (step ∷ steps) others count many is = within_limit (clock + step) 9000000000000000 (first_true (nat_le (clock + step) 9000000000000000) (others steps) is)
 
@@ -95,13 +95,13 @@ below_greatest clock within = omega arith
 
 -- ---- the hosts stay as they are
 
-pub host_later : {Object : Type 0} (moment : ℕ) (steps : List ℕ) (servers : List (ServerState Object)) (place : ℕ) (server : ServerState Object) → slice_get (all_later moment steps servers) place ≡ Some server
-    → (before : ServerState Object) × (slice_get servers place ≡ Some before) × (server.host ≡ before.host)
-unfolding servers_of.server_later
+pub host_later : {Object : Type 0} (moment : ℕ) (steps : List ℕ) (servers : List (ClockedControllerState Object)) (place : ℕ) (server : ClockedControllerState Object) → slice_get (all_later moment steps servers) place ≡ Some server
+    → (before : ClockedControllerState Object) × (slice_get servers place ≡ Some before) × (server.host ≡ before.host)
+unfolding servers_of.controller_later
 host_later moment steps [] place server at = absurd (cc (at))
 host_later moment [] (first ∷ others) place server at = (server, at, refl)
 host_later {Object = Object} moment (step ∷ steps) (first ∷ others) zero server at = (first, refl, ap host_in (sym at)) where
-  host_in : Option (ServerState Object) → HostState Object
+  host_in : Option (ClockedControllerState Object) → HostState Object
   host_in None = first.host
   host_in (Some one) = one.host
 host_later moment (step ∷ steps) (first ∷ others) (suc place) server at = host_later moment steps others place server at
@@ -183,17 +183,17 @@ module _ (laws : TimeLaws) (site : Site) (table : Table) (elapsed : ℕ) (steps 
   fit_after link below = subst AreFit (sym (whole_is link)) (laws.fit (names_at site link) (seen link after) (laws.each (links site) (names_at site) after linked.lawful link below))
 
   -- what becomes of a signal of the machine, where there is one at the place
-  abbrev SignalBetween : ℕ → Option (ServerState SignalState) → MachineSignal → Type 0
+  abbrev SignalBetween : ℕ → Option (ClockedControllerState SignalState) → MachineSignal → Type 0
   SignalBetween place None signal = signal ≡ machine.signals place
   SignalBetween place (Some server) signal = IsSignalSeen (half place) server.host signal × (signal.confirmed ≡ (machine.signals place).confirmed)
 
-  record SignalMoves (place : ℕ) (found : Option (ServerState SignalState)) : Type 0 where
+  record SignalMoves (place : ℕ) (found : Option (ClockedControllerState SignalState)) : Type 0 where
     moves : List SignalMove
     may : SignalMayChain moves (machine.signals place)
     between : SignalBetween place found (signal_chained moves (machine.signals place))
     none : found ≡ None → moves ≡ []
 
-  signal_moves : (place : ℕ) (found : Option (ServerState SignalState)) → slice_get world.signals place ≡ found → SignalMoves place found
+  signal_moves : (place : ℕ) (found : Option (ClockedControllerState SignalState)) → slice_get world.signals place ≡ found → SignalMoves place found
   signal_moves place None at = record { moves = []; may = tt; between = refl; none = λ e. refl }
   signal_moves place (Some server) at =
       let below = signal_below place (subst (λ n. place < n) represented_is.linked.whole.signals (within_some world.signals place server at))
@@ -202,17 +202,17 @@ module _ (laws : TimeLaws) (site : Site) (table : Table) (elapsed : ℕ) (steps 
       (represented_is.signals.each place server at)
       in record { moves = goes.moves; may = goes.may; between = (goes.sees, goes.confirmed); none = λ e. absurd (cc (e)) }
 
-  abbrev PointBetween : ℕ → Option (ServerState PointState) → MachinePoint → Type 0
+  abbrev PointBetween : ℕ → Option (ClockedControllerState PointState) → MachinePoint → Type 0
   PointBetween place None point = point ≡ machine.points place
   PointBetween place (Some server) point = IsPointSeen (half (point_link site place)) server.host point × (point.heard ≡ (machine.points place).heard)
 
-  record PointMoves (place : ℕ) (found : Option (ServerState PointState)) : Type 0 where
+  record PointMoves (place : ℕ) (found : Option (ClockedControllerState PointState)) : Type 0 where
     moves : List PointMove
     may : PointMayChain moves (machine.points place)
     between : PointBetween place found (point_chained moves (machine.points place))
     none : found ≡ None → moves ≡ []
 
-  point_moves : (place : ℕ) (found : Option (ServerState PointState)) → slice_get world.points place ≡ found → PointMoves place found
+  point_moves : (place : ℕ) (found : Option (ClockedControllerState PointState)) → slice_get world.points place ≡ found → PointMoves place found
   point_moves place None at = record { moves = []; may = tt; between = refl; none = λ e. refl }
   point_moves place (Some server) at =
       let below = point_below place (subst (λ n. place < n) represented_is.linked.whole.points (within_some world.points place server at))
@@ -242,21 +242,21 @@ module _ (laws : TimeLaws) (site : Site) (table : Table) (elapsed : ℕ) (steps 
       (laws.points_move (machine_table table) signals_between (length world.points) of_points (λ place. (point_moves place (slice_get world.points place) refl).may)
       (λ place above. (point_moves place (slice_get world.points place) refl).none (none_above world.points place above)))
 
-  signal_between : (place : ℕ) (server : ServerState SignalState) → slice_get world.signals place ≡ Some server
+  signal_between : (place : ℕ) (server : ClockedControllerState SignalState) → slice_get world.signals place ≡ Some server
       → IsSignalSeen (half place) server.host (between.signals place) × ((between.signals place).confirmed ≡ (machine.signals place).confirmed)
   signal_between place server at = subst (λ o. SignalBetween place o (between.signals place)) at (signal_moves place (slice_get world.signals place) refl).between
 
   no_signal_between : (place : ℕ) → slice_get world.signals place ≡ None → between.signals place ≡ machine.signals place
   no_signal_between place at = subst (λ o. SignalBetween place o (between.signals place)) at (signal_moves place (slice_get world.signals place) refl).between
 
-  point_between : (place : ℕ) (server : ServerState PointState) → slice_get world.points place ≡ Some server
+  point_between : (place : ℕ) (server : ClockedControllerState PointState) → slice_get world.points place ≡ Some server
       → IsPointSeen (half (point_link site place)) server.host (between.points place) × ((between.points place).heard ≡ (machine.points place).heard)
   point_between place server at = subst (λ o. PointBetween place o (between.points place)) at (point_moves place (slice_get world.points place) refl).between
 
   no_point_between : (place : ℕ) → slice_get world.points place ≡ None → between.points place ≡ machine.points place
   no_point_between place at = subst (λ o. PointBetween place o (between.points place)) at (point_moves place (slice_get world.points place) refl).between
 
-  signal_alike : (place : ℕ) (found : Option (ServerState SignalState)) → slice_get world.signals place ≡ found → SignalLooksAlike (machine.signals place) (between.signals place)
+  signal_alike : (place : ℕ) (found : Option (ClockedControllerState SignalState)) → slice_get world.signals place ≡ found → SignalLooksAlike (machine.signals place) (between.signals place)
   signal_alike place None at = subst (λ s. SignalLooksAlike (machine.signals place) s) (sym (no_signal_between place at)) (record { client = refl; aspects = refl; confirmed = refl })
   signal_alike place (Some server) at =
       let new = signal_between place server at
@@ -267,7 +267,7 @@ module _ (laws : TimeLaws) (site : Site) (table : Table) (elapsed : ℕ) (steps 
         confirmed = new.1;
       }
 
-  point_alike : (place : ℕ) (found : Option (ServerState PointState)) → slice_get world.points place ≡ found → PointLooksAlike (machine.points place) (between.points place)
+  point_alike : (place : ℕ) (found : Option (ClockedControllerState PointState)) → slice_get world.points place ≡ found → PointLooksAlike (machine.points place) (between.points place)
   point_alike place None at = subst (λ p. PointLooksAlike (machine.points place) p) (sym (no_point_between place at)) (record { client = refl; moves = refl; heard = refl })
   point_alike place (Some server) at =
       let new = point_between place server at
@@ -339,7 +339,7 @@ module _ (laws : TimeLaws) (site : Site) (table : Table) (elapsed : ℕ) (steps 
     known_point_seen : (place : ℕ) (known_point : KnownPointState) → slice_get kept.known_points place ≡ Some known_point → (new.points place).link.client ≡ client_at reading known_point.client.link
     known_point_seen place known_point at = (subst (λ o. SeesPoint reading kept o ((given_in site network).points place) (new.points place)) at (is.sees.points place)).fits.place
 
-    one_signal : (place : ℕ) (server : ServerState SignalState) → slice_get world.signals place ≡ Some server → IsSignalSeen (seen place after) server.host (new.signals place)
+    one_signal : (place : ℕ) (server : ClockedControllerState SignalState) → slice_get world.signals place ≡ Some server → IsSignalSeen (seen place after) server.host (new.signals place)
     one_signal place server at =
         let known_signal = get_below kept.known_signals place (subst (λ n. place < n) (represented_is.linked.whole.signals ∙ sym represented_is.linked.whole.clients.known_signals) (within_some world.signals place server at))
         in let end = known_signal_after place known_signal.0 known_signal.1
@@ -348,7 +348,7 @@ module _ (laws : TimeLaws) (site : Site) (table : Table) (elapsed : ℕ) (steps 
         (ap (λ (e : Ends). reading_of e.client.clock) (whole_is place) ∙ end.2) (ap (λ (e : Ends). e.client.link) (whole_is place) ∙ end.1)
         server.host (between.signals place) (new.signals place) (signal_between place server at).0 (known_signal_seen place known_signal.0 known_signal.1) (is.keeps.signals place) (is.keeps.aspects place))
 
-    one_point : (place : ℕ) (server : ServerState PointState) → slice_get world.points place ≡ Some server → IsPointSeen (seen (point_link site place) after) server.host (new.points place)
+    one_point : (place : ℕ) (server : ClockedControllerState PointState) → slice_get world.points place ≡ Some server → IsPointSeen (seen (point_link site place) after) server.host (new.points place)
     one_point place server at =
         let known_point = get_below kept.known_points place (subst (λ n. place < n) (represented_is.linked.whole.points ∙ sym represented_is.linked.whole.clients.known_points) (within_some world.points place server at))
         in let end = known_point_after place known_point.0 known_point.1
@@ -383,7 +383,7 @@ module _ (laws : TimeLaws) (site : Site) (table : Table) (elapsed : ℕ) (steps 
       count = represented_is.points.count;
     }
 
-    station_then : IsStationSeen site table after (passed elapsed steps world).station new
+    station_then : IsInterlockingSeen site table after (passed elapsed steps world).station new
     unfolding passed end_later
     station_then = record {
       sees = is.sees;

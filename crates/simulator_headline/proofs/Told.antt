@@ -6,7 +6,7 @@ use Rattle.std.specs.Str.{bytes_eq}
 use Rattle.std.proofs.lemmas.List.Elements.{All-head, All-tail}
 use Rattle.std.proofs.lemmas.Slice.Eq.{bytes_eq-Decides}
 use Rattle.simulator_run.specs.sci_telegram.Names.{IsName}
-use Rattle.simulator_run.specs.sci_telegram.Reading.{reading}
+use Rattle.simulator_run.specs.sci_telegram.TelegramRead.{reading}
 use Rattle.simulator_run.specs.sci_telegram.Telegrams.{IsTelegram, writing}
 use Rattle.simulator_run.specs.sci_telegram.declared.fault.SciFault.{SciFault}
 use Rattle.simulator_run.specs.sci_telegram.declared.message.Message.{Message}

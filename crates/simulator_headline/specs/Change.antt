@@ -9,19 +9,19 @@ use Rattle.simulator_run.specs.point_ctl.Drive.{PointState}
 use Rattle.simulator_run.specs.signal_ctl.Signal.{SignalState}
 use Rattle.simulator_headline.specs.Represents.{IsHostOf, IsNetworkOf}
 use Rattle.simulator_run.specs.Nodes.{point_link}
-use Rattle.simulator_run.specs.State.{ServerState, WorldState}
+use Rattle.simulator_run.specs.State.{ClockedControllerState, WorldState}
 
 -- What no controller changes: the interlocking, its ends of all links, and the frozen pairs. The links are those of the new
 -- world.
-pub record LeavesStation (site : Site) (world new : WorldState) (before after : Links) : Type 0 where
+pub record LeavesInterlocking (site : Site) (world new : WorldState) (before after : Links) : Type 0 where
   pub linked : IsNetworkOf site new after
   pub station : new.station ≡ world.station
   pub frozen : new.frozen ≡ world.frozen
   pub clients : (link : ℕ) → (after.ends link).client ≡ (before.ends link).client
 
 -- One signal is another: no other controller, and no end but its own, is changed.
-pub record SignalChanges (site : Site) (world new : WorldState) (before after : Links) (place : ℕ) (next : ServerState SignalState) : Type 0 where
-  pub leaves : LeavesStation site world new before after
+pub record SignalChanges (site : Site) (world new : WorldState) (before after : Links) (place : ℕ) (next : ClockedControllerState SignalState) : Type 0 where
+  pub leaves : LeavesInterlocking site world new before after
   pub signals : new.signals ≡ slice_set world.signals place next
   pub points : new.points ≡ world.points
   pub positions : new.positions ≡ world.positions
@@ -29,8 +29,8 @@ pub record SignalChanges (site : Site) (world new : WorldState) (before after : 
   pub host : (entry : Signal) → slice_get site.signals place ≡ Some entry → IsHostOf site entry.name next.host
 
 -- One point is another, and may have come to stand elsewhere: there its controller senses it.
-pub record PointChanges (site : Site) (world new : WorldState) (before after : Links) (place : ℕ) (next : ServerState PointState) : Type 0 where
-  pub leaves : LeavesStation site world new before after
+pub record PointChanges (site : Site) (world new : WorldState) (before after : Links) (place : ℕ) (next : ClockedControllerState PointState) : Type 0 where
+  pub leaves : LeavesInterlocking site world new before after
   pub signals : new.signals ≡ world.signals
   pub points : new.points ≡ slice_set world.points place next
   pub others : (link : ℕ) → link ≢ point_link site place → (after.ends link).server ≡ (before.ends link).server
@@ -41,7 +41,7 @@ pub record PointChanges (site : Site) (world new : WorldState) (before after : L
 
 -- No signal and no point is changed, nor an end of a link of theirs.
 pub record NoneChanges (site : Site) (world new : WorldState) (before after : Links) : Type 0 where
-  pub leaves : LeavesStation site world new before after
+  pub leaves : LeavesInterlocking site world new before after
   pub signals : new.signals ≡ world.signals
   pub points : new.points ≡ world.points
   pub positions : new.positions ≡ world.positions

@@ -3,7 +3,7 @@ use Rattle.std.specs.Prelude.{◌≢◌}
 use Rattle.simulator_run.specs.simulator_event.declared.event.Event.{Event}
 use Rattle.simulator_run.specs.simulator_event.declared.event.Event.TheVariants as event
 
--- an event at a signal, a point or a detector, or a loss: the station is the node 0
+-- an event at a signal, a point or a detector, or a loss: the interlocking is the node 0
 abbrev pub IsOfControllers : Event → Type 0
 IsOfControllers (event.Request command) = ⊥
 IsOfControllers (event.Occupy section occupancy) = Unit {0}

@@ -28,8 +28,8 @@ use Rattle.simulator_run.specs.First.{IsOutsetOf, Outset, world_at}
 use Rattle.simulator_run.specs.Links.{names_at}
 use Rattle.simulator_run.specs.Nodes.{links}
 use Rattle.simulator_run.specs.Refusals.{refusal}
-use Rattle.simulator_run.specs.State.{ServerState, WorldState}
-use Rattle.simulator_run.specs.Station.{held_of}
+use Rattle.simulator_run.specs.State.{ClockedControllerState, WorldState}
+use Rattle.simulator_run.specs.Interlocking.{held_of}
 use Rattle.simulator_headline.specs.InFlight.{MovesOrMayMove, ShowsOrMayShow, TakesFromFlight, given_on}
 
 -- A station has come to be so: it lay in some way when it was started, and each of these events could happen where it came.
@@ -76,7 +76,7 @@ pub record IsOfHeldRoute (site : Site) (table : Table) (world : WorldState) (sig
 -- A point is at rest at a side: it stands there, and no move of it is in progress, or in flight and could still be taken.
 pub record IsAtRest (site : Site) (world : WorldState) (point : PointId) (side : Side) : Type 0 where
   pub stands : slice_get world.positions point.0 ≡ Some (position_at side)
-  pub controller : ServerState PointState
+  pub controller : ClockedControllerState PointState
   pub there : slice_get world.points point.0 ≡ Some controller
   pub unmoved : MovesOrMayMove site world point → ⊥
 

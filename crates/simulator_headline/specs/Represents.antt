@@ -26,7 +26,7 @@ use Rattle.simulator_run_links.specs.Whole.{IsWhole}
 use Rattle.simulator_run.specs.Links.{AreLinksOf, names_at}
 use Rattle.simulator_run.specs.Nodes.{links, point_link}
 use Rattle.simulator_run.specs.Refusals.{clock_limit}
-use Rattle.simulator_run.specs.State.{ServerState, StationState, WorldState}
+use Rattle.simulator_run.specs.State.{ClockedControllerState, ClockedInterlockingState, WorldState}
 use Rattle.simulator_run.specs.simulator_snapshot.Safe.{IsThere}
 use Rattle.simulator_run.specs.simulator_snapshot.declared.snapshot.Held.{Held}
 use Rattle.simulator_headline.specs.Seen.{AreHeldPairs}
@@ -60,19 +60,19 @@ pub record IsHostOf {Object : Type 0} (site : Site) (name : List ℕ) (host : Ho
   pub version : host.version ≡ telegram_version site
 
 -- The machine's signals are those in their controllers, at the ends of their links.
-pub record AreSignalsSeen (site : Site) (network : Links) (servers : List (ServerState SignalState)) (machine : Machine) : Type 0 where
-  pub each : (place : ℕ) (server : ServerState SignalState) → slice_get servers place ≡ Some server
+pub record AreSignalsSeen (site : Site) (network : Links) (servers : List (ClockedControllerState SignalState)) (machine : Machine) : Type 0 where
+  pub each : (place : ℕ) (server : ClockedControllerState SignalState) → slice_get servers place ≡ Some server
       → IsSignalSeen (seen place network) server.host (machine.signals place)
-  pub hosts : (place : ℕ) (entry : Signal) (server : ServerState SignalState) → slice_get site.signals place ≡ Some entry → slice_get servers place ≡ Some server
+  pub hosts : (place : ℕ) (entry : Signal) (server : ClockedControllerState SignalState) → slice_get site.signals place ≡ Some entry → slice_get servers place ≡ Some server
       → IsHostOf site entry.name server.host
 
 -- So are its points, and each stands where its controller senses it.
-pub record ArePointsSeen (site : Site) (network : Links) (servers : List (ServerState PointState)) (positions : List Position) (machine : Machine) : Type 0 where
-  pub each : (place : ℕ) (server : ServerState PointState) → slice_get servers place ≡ Some server
+pub record ArePointsSeen (site : Site) (network : Links) (servers : List (ClockedControllerState PointState)) (positions : List Position) (machine : Machine) : Type 0 where
+  pub each : (place : ℕ) (server : ClockedControllerState PointState) → slice_get servers place ≡ Some server
       → IsPointSeen (seen (point_link site place) network) server.host (machine.points place)
-  pub hosts : (place : ℕ) (entry : Point) (server : ServerState PointState) → slice_get site.points place ≡ Some entry → slice_get servers place ≡ Some server
+  pub hosts : (place : ℕ) (entry : Point) (server : ClockedControllerState PointState) → slice_get site.points place ≡ Some entry → slice_get servers place ≡ Some server
       → IsHostOf site entry.name server.host
-  pub sensed : (place : ℕ) (server : ServerState PointState) (position : Position) → slice_get servers place ≡ Some server → slice_get positions place ≡ Some position
+  pub sensed : (place : ℕ) (server : ClockedControllerState PointState) (position : Position) → slice_get servers place ≡ Some server → slice_get positions place ≡ Some position
       → server.host.object.sensed ≡ position
   pub count : length positions ≡ length site.points
 
@@ -80,7 +80,7 @@ pub record ArePointsSeen (site : Site) (network : Links) (servers : List (Server
 
 -- The machine sees the interlocking at its clock, with what its clients gave and took; it has as many routes as the table,
 -- and its clients of points hear of one point each, under the name of its controller.
-pub record IsStationSeen (site : Site) (table : Table) (network : Links) (station : StationState) (machine : Machine) : Type 0 where
+pub record IsInterlockingSeen (site : Site) (table : Table) (network : Links) (station : ClockedInterlockingState) (machine : Machine) : Type 0 where
   pub sees : Sees (reading_of station.clock) station.ixl (given_in site network) machine
   pub routes : length station.ixl.routes ≡ length table.rows
   pub objects : (place : ℕ) (entry : Point) (known_point : KnownPointState) → slice_get site.points place ≡ Some entry → slice_get station.ixl.known_points place ≡ Some known_point
@@ -100,7 +100,7 @@ pub record Represents (site : Site) (table : Table) (world : WorldState) (machin
   pub linked : IsNetworkOf site world network
   pub signals : AreSignalsSeen site network world.signals machine
   pub points : ArePointsSeen site network world.points world.positions machine
-  pub station : IsStationSeen site table network world.station machine
+  pub station : IsInterlockingSeen site table network world.station machine
   pub frozen : AreFrozen site table world.frozen machine
   pub invariant : Invariant (machine_table table) machine
 

@@ -18,8 +18,8 @@ use Rattle.simulator_machine_interlocking.specs.Rows.{machine_table}
 use Rattle.simulator_run.specs.First.{Outset}
 use Rattle.simulator_run.specs.Refusals.{driven_by}
 use Rattle.simulator_run.specs.Seen.{shown_by}
-use Rattle.simulator_run.specs.State.{ServerState, WorldState}
-use Rattle.simulator_run.specs.Station.{held_of}
+use Rattle.simulator_run.specs.State.{ClockedControllerState, WorldState}
+use Rattle.simulator_run.specs.Interlocking.{held_of}
 use Rattle.simulator_run.specs.simulator_snapshot.Safe.{IsThere}
 use Rattle.simulator_run.specs.simulator_snapshot.declared.snapshot.Held.{Held}
 
@@ -38,11 +38,11 @@ AreHeldPairs table pairs test = (signal route : ℕ) → Contains pairs (pair_of
 -- The promise speaks of what signals show, of where points stand and what drives them, and of the routes that are held.
 pub record IsSeen (site : Site) (table : Table) (world : WorldState) (machine : Machine) : Type 0 where
   -- an aspect other than stop that a signal shows is the one that the machine's shows
-  pub shows : (place : ℕ) (server : ServerState SignalState) → slice_get world.signals place ≡ Some server → shown_by server ≢ aspects.Stop
+  pub shows : (place : ℕ) (server : ClockedControllerState SignalState) → slice_get world.signals place ≡ Some server → shown_by server ≢ aspects.Stop
       → shown (machine.signals place) ≡ aspect_seen (shown_by server)
   -- a point stands where the machine's does, and one that is driven is driven there
   pub stands : (place : ℕ) (position : Position) → slice_get world.positions place ≡ Some position → (machine.points place).position ≡ position_seen position
-  pub driven : (place : ℕ) (server : ServerState PointState) (side : Side) → slice_get world.points place ≡ Some server → driven_by server ≡ Some side
+  pub driven : (place : ℕ) (server : ClockedControllerState PointState) (side : Side) → slice_get world.points place ≡ Some server → driven_by server ≡ Some side
       → (machine.points place).driven ≡ true
   -- the pairs that are held are the routes that the machine holds, each with its signal
   pub held : AreHeldPairs (machine_table table) (held_of table world.station world.frozen) (is_held machine)

@@ -11,7 +11,7 @@ ghost use Rattle.simulator_machine_controllers.specs.Point.{IsPointSeen, PointGo
 ghost use Rattle.simulator_machine_controllers.specs.Signal.{IsSignalSeen, SignalGoes};
 ghost use Rattle.simulator_headline.specs.Represents.{Represents, RepresentsAfter};
 ghost use Rattle.simulator_run.specs.Nodes.{point_link};
-ghost use Rattle.simulator_run.specs.State.{ServerState, WorldState};
+ghost use Rattle.simulator_run.specs.State.{ClockedControllerState, WorldState};
 ghost use Rattle.simulator_headline.specs.Change.{NoneChanges, PointChanges, SignalChanges};
 
 use simulator_machine::{
@@ -24,10 +24,10 @@ use simulator_machine_interlocking::{controllers_change_nothing_seen, tables_are
 /// and so is a world in which none is, after no moves.
 pub fn changes_are_represented()
     ensures signal { (site : Site) (table : Table) (world new : WorldState) (machine : Machine) (represented : Represents site table world machine) (after : Links)
-        (place : ℕ) (next : ServerState SignalState) → place < length site.signals → SignalChanges site world new represented.network after place next
+        (place : ℕ) (next : ClockedControllerState SignalState) → place < length site.signals → SignalChanges site world new represented.network after place next
         → SignalGoes (machine.signals place) (IsSignalSeen (seen place after) next.host) → RepresentsAfter site table machine new }
     ensures point { (site : Site) (table : Table) (world new : WorldState) (machine : Machine) (represented : Represents site table world machine) (after : Links)
-        (place : ℕ) (next : ServerState PointState) → place < length site.points → PointChanges site world new represented.network after place next
+        (place : ℕ) (next : ClockedControllerState PointState) → place < length site.points → PointChanges site world new represented.network after place next
         → PointGoes (machine.points place) (IsPointSeen (seen (point_link site place) after) next.host) → RepresentsAfter site table machine new }
     ensures none { (site : Site) (table : Table) (world new : WorldState) (machine : Machine) (represented : Represents site table world machine) (after : Links)
         → NoneChanges site world new represented.network after → RepresentsAfter site table machine new }

@@ -10,7 +10,7 @@ ghost use Rattle.simulator_run.specs.simulator_event.declared.event.Event.TheVar
 ghost use Rattle.simulator_run.specs.simulator_event.declared.event.NodeId.{NodeId};
 ghost use Rattle.simulator_machine.specs.Machine.{Machine, made_anew};
 ghost use Rattle.simulator_run.specs.Happens.{happens};
-ghost use Rattle.simulator_run.specs.Nodes.{Station, node_at};
+ghost use Rattle.simulator_run.specs.Nodes.{Interlocking, node_at};
 ghost use Rattle.simulator_run.specs.Refusals.{refusal};
 ghost use Rattle.simulator_run.specs.State.{WorldState};
 ghost use Rattle.simulator_headline.specs.Represents.{Represents, RepresentsAfter};
@@ -63,9 +63,9 @@ pub fn time_keeps_representations()
 
 /// An interlocking that is made anew is a move of the machine, which sees the world behind it: its hold begins, and the
 /// pairs that were held are frozen.
-pub fn restarts_of_stations_are_represented()
+pub fn restarts_of_interlockings_are_represented()
     ensures { (site : Site) (table : Table) (node : NodeId) (clock first : ℕ) (world : WorldState) (machine : Machine) → Once site → IsStation site → IsTableOf site table
-        → Represents site table world machine → refusal site (Restart node clock first) world ≡ None → node_at site node.0 ≡ Some Station
+        → Represents site table world machine → refusal site (Restart node clock first) world ≡ None → node_at site node.0 ≡ Some Interlocking
         → (after : RepresentsAfter site table machine (happens site table (Restart node clock first) world)) × (after.machine ≡ made_anew machine) }
 {
     a_node_restarts();

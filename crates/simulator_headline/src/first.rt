@@ -14,7 +14,7 @@ use simulator_machine::invariant_is_kept;
 use simulator_machine_controllers::{lawful_ends_are_fit, points_begin_seen, signals_begin_seen};
 use simulator_machine_interlocking::made_interlockings_are_seen;
 use simulator_machine_links::lawful_worlds_stay_lawful;
-use simulator_run::{a_restarted_station_holds, a_station_begins_its_links};
+use simulator_run::{a_restarted_interlocking_holds, a_station_begins_its_links};
 use simulator_run_links::{
     layouts_name_their_links, links_are_named_by_their_controllers, stations_have_links,
 };
@@ -28,7 +28,7 @@ pub fn new_interlockings_are_just_made()
 pub fn stations_begin_represented()
     ensures { (site : Site) (table : Table) (outset : Outset) → IsStation site → Once site → IsOutsetOf site outset → Represents site table (world_at site table outset) (first (positions_at outset)) }
 {
-    a_restarted_station_holds();
+    a_restarted_interlocking_holds();
     invariant_is_kept();
     lawful_ends_are_fit();
     lawful_worlds_stay_lawful();

@@ -22,7 +22,7 @@ ghost use Rattle.simulator_run_links.specs.HasLinks.{HasLinks};
 ghost use Rattle.simulator_run.specs.Nodes.{links};
 ghost use Rattle.simulator_run.specs.Refusals.{refusal};
 ghost use Rattle.simulator_run.specs.State.{WorldState};
-ghost use Rattle.simulator_run.specs.Station.{held_of};
+ghost use Rattle.simulator_run.specs.Interlocking.{held_of};
 ghost use Rattle.simulator_run.specs.simulator_snapshot.declared.snapshot.Held.{Held};
 ghost use Rattle.simulator_headline.specs.InFlight.{ShowsOrMayShow, TakesFromFlight, given_on};
 ghost use Rattle.simulator_headline.specs.Reached.{IsAtRest, IsOfHeldRoute, IsReadOff, end_at};

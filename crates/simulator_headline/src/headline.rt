@@ -22,8 +22,8 @@ ghost use Rattle.simulator_headline.specs.Seen.{positions_at};
 
 use crate::{
     controllers_events_are_represented, represented_worlds_are_safe,
-    restarts_of_stations_are_represented, stations_begin_represented,
-    steps_of_stations_are_represented, time_keeps_representations,
+    restarts_of_interlockings_are_represented, stations_begin_represented,
+    steps_of_interlockings_are_represented, time_keeps_representations,
 };
 use simulator_machine::lists_of_moves_compose;
 
@@ -34,8 +34,8 @@ pub fn every_event_is_represented()
         → Represents site table world machine → refusal site event world ≡ None → RepresentsAfter site table machine (happens site table event world) }
 {
     controllers_events_are_represented();
-    restarts_of_stations_are_represented();
-    steps_of_stations_are_represented();
+    restarts_of_interlockings_are_represented();
+    steps_of_interlockings_are_represented();
     time_keeps_representations();
 }
 

@@ -20,7 +20,7 @@ mod steps;
 mod worlds;
 
 pub use changes::changes_are_represented;
-pub use clocks::{restarts_of_stations_are_represented, time_keeps_representations};
+pub use clocks::{restarts_of_interlockings_are_represented, time_keeps_representations};
 pub use detectors::{events_at_detectors_are_represented, losses_are_represented};
 pub use ends::{
     calls_give_and_take_at_the_ends, clients_are_seen_at_their_ends, peers_with_names_are_read,
@@ -41,5 +41,5 @@ pub use points::events_at_points_are_represented;
 pub use reached::reached_worlds_are_safe;
 pub use representations::{represented_worlds_are_safe, represented_worlds_are_seen};
 pub use signals::events_at_signals_are_represented;
-pub use steps::steps_of_stations_are_represented;
+pub use steps::steps_of_interlockings_are_represented;
 pub use worlds::{held_pairs_are_held_routes, seen_stations_are_safe};

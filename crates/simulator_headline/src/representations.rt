@@ -10,7 +10,7 @@ ghost use Rattle.ixl_table.specs.Table.{IsTableOf};
 ghost use Rattle.simulator_machine.specs.Machine.{Machine, made_anew};
 ghost use Rattle.simulator_run.specs.Seen.{IsSnapshotOf};
 ghost use Rattle.simulator_run.specs.State.{WorldState};
-ghost use Rattle.simulator_run.specs.Station.{held_of};
+ghost use Rattle.simulator_run.specs.Interlocking.{held_of};
 ghost use Rattle.simulator_run.specs.simulator_snapshot.Safe.{Safe};
 ghost use Rattle.simulator_run.specs.simulator_snapshot.declared.snapshot.Snapshot.{Snapshot};
 ghost use Rattle.simulator_headline.specs.Represents.{AreFrozen, Represents};

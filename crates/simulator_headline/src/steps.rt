@@ -11,7 +11,7 @@ ghost use Rattle.simulator_run.specs.simulator_event.declared.event.Event.TheVar
 ghost use Rattle.simulator_run.specs.simulator_event.declared.event.NodeId.{NodeId};
 ghost use Rattle.simulator_machine.specs.Machine.{Machine};
 ghost use Rattle.simulator_run.specs.Happens.{happens};
-ghost use Rattle.simulator_run.specs.Nodes.{Station, node_at};
+ghost use Rattle.simulator_run.specs.Nodes.{Interlocking, node_at};
 ghost use Rattle.simulator_run.specs.Refusals.{refusal};
 ghost use Rattle.simulator_run.specs.State.{WorldState};
 ghost use Rattle.simulator_headline.specs.Represents.{Represents, RepresentsAfter};
@@ -29,19 +29,19 @@ use simulator_machine_links::{
 use simulator_run::rasta_core::a_node_makes_a_step;
 use simulator_run_links::{
     deliveries_may_come, ends_are_those_of_the_nodes, events_are_those_of_the_links,
-    layouts_name_their_links, stations_call_their_nodes,
+    interlockings_call_their_nodes, layouts_name_their_links,
 };
 
 /// A step of the interlocking, with a command, on a tick and with a datagram, is a list of moves of the machine, which sees
 /// the world behind it.
-pub fn steps_of_stations_are_represented()
+pub fn steps_of_interlockings_are_represented()
     ensures request { (site : Site) (table : Table) (command : Command) (world : WorldState) (machine : Machine) → Once site → IsStation site → IsTableOf site table
         → Represents site table world machine → RepresentsAfter site table machine (happens site table (Request command) world) }
     ensures tick { (site : Site) (table : Table) (node : NodeId) (world : WorldState) (machine : Machine) → Once site → IsStation site → IsTableOf site table
-        → Represents site table world machine → refusal site (Tick node) world ≡ None → node_at site node.0 ≡ Some Station
+        → Represents site table world machine → refusal site (Tick node) world ≡ None → node_at site node.0 ≡ Some Interlocking
         → RepresentsAfter site table machine (happens site table (Tick node) world) }
     ensures delivery { (site : Site) (table : Table) (node : NodeId) (bytes : List ℕ) (world : WorldState) (machine : Machine) → Once site → IsStation site
-        → IsTableOf site table → Represents site table world machine → refusal site (Deliver node bytes) world ≡ None → node_at site node.0 ≡ Some Station
+        → IsTableOf site table → Represents site table world machine → refusal site (Deliver node bytes) world ≡ None → node_at site node.0 ≡ Some Interlocking
         → RepresentsAfter site table machine (happens site table (Deliver node bytes) world) }
 {
     a_client_of_many_makes_a_step();
@@ -60,7 +60,7 @@ pub fn steps_of_stations_are_represented()
     representations_tell_the_connection();
     points_stay_elsewhere();
     signals_stay_elsewhere();
-    stations_call_their_nodes();
+    interlockings_call_their_nodes();
     steps_are_seen();
     tables_are_sound();
 }

@@ -16,8 +16,8 @@ ghost use Rattle.simulator_machine.specs.Table.{IsSound};
 ghost use Rattle.simulator_machine_interlocking.specs.Nodes.{route_seen};
 ghost use Rattle.simulator_machine_interlocking.specs.Rows.{machine_table};
 ghost use Rattle.simulator_run.specs.Seen.{IsSnapshotOf};
-ghost use Rattle.simulator_run.specs.State.{StationState, WorldState};
-ghost use Rattle.simulator_run.specs.Station.{held_of};
+ghost use Rattle.simulator_run.specs.State.{ClockedInterlockingState, WorldState};
+ghost use Rattle.simulator_run.specs.Interlocking.{held_of};
 ghost use Rattle.simulator_run.specs.simulator_snapshot.Safe.{Safe};
 ghost use Rattle.simulator_run.specs.simulator_snapshot.declared.snapshot.Held.{Held};
 ghost use Rattle.simulator_run.specs.simulator_snapshot.declared.snapshot.Snapshot.{Snapshot};
@@ -42,7 +42,7 @@ pub fn seen_stations_are_safe()
 /// The pairs that a station holds are the routes that its machine holds, each with its signal: in the hold by the pairs that
 /// were frozen, and otherwise since no two routes with authority begin at one signal.
 pub fn held_pairs_are_held_routes()
-    ensures { (table : Table) (station : StationState) (frozen : List Held) (machine : Machine) → IsSound (machine_table table) → Invariant (machine_table table) machine
+    ensures { (table : Table) (station : ClockedInterlockingState) (frozen : List Held) (machine : Machine) → IsSound (machine_table table) → Invariant (machine_table table) machine
         → machine.holding ≡ is_holding (reading_of station.clock) station.ixl → ((route : ℕ) → machine.routes route ≡ route_seen (slice_get station.ixl.routes route))
         → length station.ixl.routes ≡ length table.rows → All (λ (row : Row). row.entry < length station.ixl.known_signals) table.rows
         → AreHeldPairs (machine_table table) frozen machine.frozen → AreHeldPairs (machine_table table) (held_of table station frozen) (is_held machine) }

@@ -4,7 +4,7 @@ use Rattle.std.proofs.lemmas.List.{append_assoc}
 use Rattle.ixl_state.specs.ixl_rules.State.{IxlState}
 use Rattle.ixl_state.specs.ixl_rules.Table.{Table}
 use Rattle.ixl_state.specs.ixl_rules.View.{authority_from}
-use Rattle.simulator_run.specs.Station.{authorities, pair_then}
+use Rattle.simulator_run.specs.Interlocking.{authorities, pair_then}
 use Rattle.simulator_run.specs.simulator_snapshot.declared.snapshot.Held.{Held}
 
 pair_first : (signal : ℕ) (route : Option ℕ) (others : List Held) → pair_then signal route others ≡ pair_then signal route [] ++ others

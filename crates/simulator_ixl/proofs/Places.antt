@@ -4,10 +4,10 @@ use Rattle.std.specs.Prelude.{nat_lt, unwrap_or}
 use Rattle.std.specs.List.{position}
 use Rattle.std.proofs.lemmas.Bool.Decides.{nat_tests}
 use Rattle.std.proofs.lemmas.List.Sums.{position_or_len_is}
-use Rattle.ixl_state.specs.rasta_pdu.Reading.{u32_at}
+use Rattle.ixl_state.specs.rasta_pdu.PduRead.{u32_at}
 use Rattle.ixl_state.specs.layout.Entries.{Site}
 use Rattle.simulator_run.specs.Nodes.{partners}
-use Rattle.simulator_run.specs.Station.{link_of}
+use Rattle.simulator_run.specs.Interlocking.{link_of}
 
 abbrev pub is_other : ℕ → ℕ → Bool
 is_other identity id = id == identity

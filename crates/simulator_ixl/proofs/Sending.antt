@@ -6,7 +6,7 @@ use Rattle.ixl_state.specs.layout.Entries.{Site}
 use Rattle.ixl_state.specs.rasta_core.Ends.{handed_out}
 use Rattle.ixl_state.specs.rasta_core.Links.{OnLink, sent_on}
 use Rattle.ixl_state.specs.rasta_core.identity.Role.TheVariants as role
-use Rattle.simulator_run.specs.Station.{Sending, begun_by, link_of, sending_all, sending_one}
+use Rattle.simulator_run.specs.Interlocking.{Sending, begun_by, link_of, sending_all, sending_one}
 
 pub one_sent : (site : Site) (time link moment : ℕ) (bytes : List ℕ) (begun new_begun : List (Option ℕ)) (sent new_sent : List OnLink) (connection : Option ℕ)
     → link ≡ link_of site bytes → moment ≡ length sent → new_begun ≡ begun_by link moment bytes begun → connection ≡ slice_index_or new_begun link None

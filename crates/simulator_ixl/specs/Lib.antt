@@ -1,4 +1,4 @@
-pub mod Station
+pub mod Interlocking
 pub mod inside
 -- what crates above need of the crates below
 pub use Rattle.ixl.specs as ixl

@@ -8,17 +8,17 @@ ghost use Rattle.ixl_state.specs.rasta_core.Ends.{reading_of};
 ghost use Rattle.ixl.specs.Interlocking.{meant, told};
 ghost use Rattle.ixl_state.specs.ixl_rules.View.{authority_from, is_holding, is_set};
 ghost use Rattle.ixl_state.specs.State.{AtRoute};
-ghost use Rattle.simulator_run.specs.First.{at_zero, first_station, new_ixl};
-ghost use Rattle.simulator_run.specs.Station.{sending_all, station_anew};
-ghost use Rattle.simulator_ixl.specs.Station.{HasStepped};
+ghost use Rattle.simulator_run.specs.First.{at_zero, first_interlocking, new_ixl};
+ghost use Rattle.simulator_run.specs.Interlocking.{interlocking_anew, sending_all};
+ghost use Rattle.simulator_ixl.specs.Interlocking.{HasSteppedAndSent};
 ghost use Rattle.simulator_ixl.specs.inside.Connections.{AreOf, sending_by};
 
 use crate::connections::Connections;
 use ixl::{Input, Interlocking, Reply};
+use ixl_state::State;
 use ixl_state::control_table::Checked;
 use ixl_state::ixl_table::Table;
 use ixl_state::layout::{RouteId, SignalId};
-use ixl_state::State;
 use ixl_state::rasta_core::Millis;
 use simulator_field::Network;
 use std::alloc::{AllocError, Global};
@@ -30,7 +30,7 @@ const MICROS: u64 = 1000;
 /// How many datagrams a step of the interlocking sends at most.
 pub const MOST_SENT: usize = 5120;
 
-/// The interlocking with its exact clock, and the connections that it began. Contracts see it as a `StationView`.
+/// The interlocking with its exact clock, and the connections that it began. Contracts see it as a `ClockedInterlockingView`.
 #[derive(Debug, Drop)]
 pub struct ClockedInterlocking {
     interlocking: Interlocking,
@@ -44,10 +44,10 @@ impl Model for ClockedInterlocking {
     ghost use Rattle.ixl_state.specs.bit_row.Places.{places_code};
     ghost use Rattle.ixl_state.specs.rasta_core.Ends.{reading_of};
     ghost use Rattle.ixl_state.specs.State.{MayStepAll};
-    ghost use Rattle.simulator_ixl.specs.Station.{StationView};
+    ghost use Rattle.simulator_ixl.specs.Interlocking.{ClockedInterlockingView};
     ghost use Rattle.simulator_ixl.specs.inside.Connections.{AreOf};
 
-    ghost Value = { StationView };
+    ghost Value = { ClockedInterlockingView };
 
     ghost coded = { Prim.hlevel (codes, places_code) };
 
@@ -78,7 +78,7 @@ impl ClockedInterlocking {
     /// connection.
     pub fn new(alloc: Global, checked: Checked) -> Result<ClockedInterlocking, AllocError>
         ensures site { IfOk result (λ s. s.sited.site ≡ checked) }
-        ensures station { IfOk result (λ s. s.station ≡ first_station s.sited.site s.sited.table) }
+        ensures station { IfOk result (λ s. s.station ≡ first_interlocking s.sited.site s.sited.table) }
     {
         let connections = Connections::new(alloc, checked.layout())?;
         let interlocking = Interlocking::new(alloc, checked, 0, 0)?;
@@ -152,7 +152,7 @@ impl ClockedInterlocking {
     /// A step at its clock. What it hands out is sent.
     pub fn step(&mut self, input: Input<'_>, network: &mut Network) -> Reply
         requires { 5120 ≤ network.old.room }
-        ensures { HasStepped (meant input.entry) self.old network.old self.new network.new (told result) }
+        ensures { HasSteppedAndSent (meant input.entry) self.old network.old self.new network.new (told result) }
     {
         let now = self.now();
         let reply = self.interlocking.step(now, input);
@@ -169,7 +169,7 @@ impl ClockedInterlocking {
         first_sequence_number: u32,
     ) -> Result<(), AllocError>
         requires fits { clock * 1000 < 2 ^ 64 }
-        ensures made { OnOk result (self.new ≡ record self.old { station = station_anew (new_ixl self.old.sited.site self.old.sited.table (record { clock = clock; first = first_sequence_number })) clock self.old.station }) }
+        ensures made { OnOk result (self.new ≡ record self.old { station = interlocking_anew (new_ixl self.old.sited.site self.old.sited.table (record { clock = clock; first = first_sequence_number })) clock self.old.station }) }
         ensures same { OnErr result (self.new ≡ self.old) }
     {
         self.interlocking

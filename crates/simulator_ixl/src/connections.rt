@@ -5,7 +5,7 @@ ghost use Rattle.std.specs.List.{position};
 ghost use Rattle.ixl_state.specs.layout.Entries.{Site};
 ghost use Rattle.simulator_run.specs.First.{no_connection};
 ghost use Rattle.simulator_run.specs.Nodes.{partners};
-ghost use Rattle.simulator_run.specs.Station.{begun_by, sending_one};
+ghost use Rattle.simulator_run.specs.Interlocking.{begun_by, sending_one};
 ghost use Rattle.simulator_ixl.specs.inside.Connections.{AreOf, sending_by};
 
 use ixl_state::layout::{Detector, Layout, Point, Signal};

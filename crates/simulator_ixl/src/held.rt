@@ -1,7 +1,7 @@
 //! The pairs of signal and route that are held.
 
 ghost use Rattle.std.specs.Prelude.{◌≡◌, ◌≤◌, length};
-ghost use Rattle.simulator_run.specs.Station.{authorities, held_of};
+ghost use Rattle.simulator_run.specs.Interlocking.{authorities, held_of};
 
 use crate::clocked_interlocking::ClockedInterlocking;
 use arrayvec::ArrayVec;

@@ -4,7 +4,7 @@ use Rattle.std.specs.Prelude.{◌&&◌, ◌-◌, nat_lt, nat_le, is_ok, Result, 
 use Rattle.std.proofs.lemmas.Bool.{true≢false, false≢true}
 use Rattle.ixl_rules.specs.rasta_core.Calls.{acceptance, answer_to_send, closing_by, sending_item, ticking}
 use Rattle.ixl_rules.specs.rasta_core.Parameters.{heartbeat_interval, window_size}
-use Rattle.ixl_rules.specs.rasta_core.Sending.{Step, beating, closed, closing, entered, giving, is_told, sending, silent, telling}
+use Rattle.ixl_rules.specs.rasta_core.PdusHandedOut.{Step, beating, closed, closing, entered, giving, is_told, sending, silent, telling}
 use Rattle.ixl_rules.specs.rasta_core.State.{LinkState, is_client, is_open, is_up}
 use Rattle.ixl_rules.specs.rasta_core.fault.SendFault.{SendFault}
 use Rattle.ixl_rules.specs.rasta_core.reason.Reason.{Reason}

@@ -36,7 +36,7 @@ use Rattle.simulator_machine_interlocking.proofs.Clients.{Standing, calls_go, ca
 use Rattle.simulator_machine_interlocking.proofs.Fitting.{fits_behind, not_ready}
 use Rattle.simulator_machine_interlocking.proofs.Signals.{SignalGoes, arrives}
 use Rattle.simulator_machine_interlocking.proofs.Changes.{at_here, at_other, changed_elsewhere, changed_here, noted_elsewhere, noted_here, same_is, same_self}
-use Rattle.simulator_machine_interlocking.specs.During.{During, KnownSignalDuring, KnownSignalSoFar, Leads, KnownPointSoFar}
+use Rattle.simulator_machine_interlocking.specs.MachineSoFar.{During, KnownSignalDuring, KnownSignalSoFar, Leads, KnownPointSoFar}
 
 -- what changes nothing of the far end changes no fact of it
 pub signal_facts_stay : (now : ℕ) (link : LinkState) (items : Items) (old new : MachineSignal) → SignalStays old new → SignalFacts now link items old → SignalFacts now link items new

@@ -6,7 +6,7 @@ use Rattle.ixl_rules.specs.rasta_core.Calls.{opening, opens, ticking}
 use Rattle.ixl_rules.specs.rasta_core.Clock.{deadline, settled, state_at}
 use Rattle.ixl_rules.specs.rasta_core.Opening.{beginning, is_down, may_open, requesting}
 use Rattle.ixl_rules.specs.rasta_core.Parameters.{connection_limit, heartbeat_interval, quiet_time, time_limit}
-use Rattle.ixl_rules.specs.rasta_core.Sending.{Step, beating, closed, entered, limited, sending, silent, telling}
+use Rattle.ixl_rules.specs.rasta_core.PdusHandedOut.{Step, beating, closed, entered, limited, sending, silent, telling}
 use Rattle.ixl_rules.specs.rasta_core.State.{LinkState, confirmed_items, is_client, is_open, is_up}
 use Rattle.ixl_rules.specs.rasta_core.phase.Phase.TheVariants as link_phase
 use Rattle.ixl_rules.specs.rasta_core.phase.State.{State}

@@ -4,7 +4,7 @@ use Rattle.std.specs.Prelude.{length, Option, Some, None, option_map, slice_get}
 use Rattle.std.proofs.lemmas.Bool.{true≢false}
 use Rattle.std.proofs.lemmas.Option.{slice_get-map}
 use Rattle.ixl_rules.specs.rasta_pdu.declared.key.Key.{Key}
-use Rattle.ixl_rules.specs.rasta_pdu.Reading.{reading}
+use Rattle.ixl_rules.specs.rasta_pdu.PduRead.{reading}
 use Rattle.ixl_rules.specs.ixl_client.Made.{ActsOn, MakesAfterReceipt}
 use Rattle.ixl_rules.specs.ixl_client.ClientSoFar as client
 use Rattle.ixl_rules.specs.ixl_client.ClientSoFar.{LinkCall}
@@ -28,7 +28,7 @@ use Rattle.simulator_machine.specs.Route.{Waiting, is_whole}
 use Rattle.simulator_machine.specs.Signal.{SignalMove}
 use Rattle.simulator_machine.specs.Chains.{MovesTo, PointMayChain, SignalMayChain, point_chained, signal_chained}
 use Rattle.simulator_machine_interlocking.specs.Calls.{Items, calls_at}
-use Rattle.simulator_machine_interlocking.specs.During.{Leads, KnownPointSoFar}
+use Rattle.simulator_machine_interlocking.specs.MachineSoFar.{Leads, KnownPointSoFar}
 use Rattle.simulator_machine_interlocking.specs.Facts.{FarEnds}
 use Rattle.simulator_machine_interlocking.specs.Nodes.{phase_seen, route_seen}
 use Rattle.simulator_machine_interlocking.specs.Rows.{AreHeldAtFirst, machine_table}

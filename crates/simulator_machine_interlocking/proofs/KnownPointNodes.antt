@@ -35,13 +35,13 @@ use Rattle.simulator_machine_interlocking.proofs.Phases.{Goes, stays_open, up_is
 use Rattle.ixl_rules.specs.ixl_client.Made.{link_after}
 use Rattle.simulator_machine_interlocking.proofs.Hearing.{hears}
 use Rattle.simulator_machine_interlocking.proofs.Fitting.{Commanded, begins, commands_on}
-use Rattle.simulator_machine_interlocking.specs.During.{During, Leads, KnownPointDuring}
+use Rattle.simulator_machine_interlocking.specs.MachineSoFar.{During, Leads, KnownPointDuring}
 use Rattle.simulator_machine_interlocking.proofs.KnownPointing.{NextKnownPoint, first_known_point, known_point_facts, known_point_next, known_point_next_from}
 use Rattle.simulator_machine_interlocking.proofs.Signals.{all_hear, heard_all, may_hear}
 use Rattle.simulator_machine_interlocking.proofs.Nodes.{last_one, length_one, length_same, shut_not_open, stays_so}
 use Rattle.simulator_machine_interlocking.proofs.Changes.{at_here, at_other}
 use Rattle.ixl_rules.specs.ixl_client.Made.{ActsOn, AreOwn, MakesAfterReceipt, told_by, told_by_all}
-use Rattle.ixl_rules.specs.sci_telegram.Reading.{reading}
+use Rattle.ixl_rules.specs.sci_telegram.TelegramRead.{reading}
 use Rattle.ixl_rules.specs.ixl_client.declared.indication.Indication.{Indication}
 use Rattle.ixl_rules.specs.rasta_core.Calls.{answer_to_send, receiving}
 

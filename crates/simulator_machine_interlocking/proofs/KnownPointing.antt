@@ -40,7 +40,7 @@ use Rattle.simulator_machine_interlocking.proofs.Clients.{Standing, calls_go, ca
 use Rattle.simulator_machine_interlocking.proofs.Fitting.{fits_behind}
 use Rattle.simulator_machine_interlocking.proofs.Signals.{PointGoes, point_arrives}
 use Rattle.simulator_machine_interlocking.proofs.Changes.{at_here, at_other, changed_elsewhere, changed_here, noted_elsewhere, noted_here, same_is, same_self}
-use Rattle.simulator_machine_interlocking.specs.During.{During, Leads, KnownSignalSoFar, KnownPointDuring, KnownPointSoFar}
+use Rattle.simulator_machine_interlocking.specs.MachineSoFar.{During, Leads, KnownSignalSoFar, KnownPointDuring, KnownPointSoFar}
 use Rattle.simulator_machine_interlocking.proofs.During.{stays_closed}
 
 -- outside no report was heard

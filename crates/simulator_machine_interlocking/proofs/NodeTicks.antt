@@ -25,7 +25,7 @@ use Rattle.simulator_machine.specs.Signal.{Signal as MachineSignal, SignalLink, 
 use Rattle.simulator_machine.specs.Table.{Table}
 use Rattle.simulator_machine_interlocking.specs.Behind.{KnownSignalBehind, KnownPointBehind}
 use Rattle.simulator_machine_interlocking.specs.Calls.{Items, has_begun, items_after, no_items}
-use Rattle.simulator_machine_interlocking.specs.During.{KnownSignalDuring, KnownPointDuring}
+use Rattle.simulator_machine_interlocking.specs.MachineSoFar.{KnownSignalDuring, KnownPointDuring}
 use Rattle.simulator_machine_interlocking.specs.Facts.{AreCallsIn, FarEnds, PointFacts, SignalFacts}
 use Rattle.simulator_machine_interlocking.specs.Link.{is_inside}
 use Rattle.simulator_machine_interlocking.specs.Nodes.{IsOfPoint, KnownSignalFits, KnownPointFits}

@@ -35,7 +35,7 @@ use Rattle.simulator_machine_interlocking.proofs.Places.{inside_open, open_insid
 use Rattle.simulator_machine_interlocking.proofs.Clients.{Standing}
 use Rattle.simulator_machine_interlocking.proofs.Hearing.{hears}
 use Rattle.simulator_machine_interlocking.proofs.Fitting.{Commanded, begins, commands_on}
-use Rattle.simulator_machine_interlocking.specs.During.{During, KnownSignalDuring, Leads}
+use Rattle.simulator_machine_interlocking.specs.MachineSoFar.{During, KnownSignalDuring, Leads}
 use Rattle.simulator_machine_interlocking.proofs.During.{NextKnownSignal, known_signal_facts, known_signal_next}
 use Rattle.simulator_machine_interlocking.proofs.Changes.{at_here, at_other}
 

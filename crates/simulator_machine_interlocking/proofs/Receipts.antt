@@ -4,7 +4,7 @@ use Rattle.std.specs.Prelude.{◌&&◌, ◌==◌, nat_lt, nat_le, ◌+◌, Resul
 use Rattle.std.specs.Cmp.Lexicographic.{pointwise}
 use Rattle.std.specs.Prelude.{nat_eq}
 use Rattle.std.proofs.lemmas.Bool.{true≢false, false≢true}
-use Rattle.ixl_rules.specs.rasta_pdu.Reading.{reading}
+use Rattle.ixl_rules.specs.rasta_pdu.PduRead.{reading}
 use Rattle.ixl_rules.specs.rasta_pdu.declared.pdu.Pdu.{Pdu}
 use Rattle.ixl_rules.specs.rasta_pdu.declared.body.Opening.{Opening}
 use Rattle.ixl_rules.specs.rasta_pdu.declared.body.Body.{Body}
@@ -14,8 +14,8 @@ use Rattle.ixl_rules.specs.rasta_core.Clock.{deadline, settled, state_at, open_s
 use Rattle.ixl_rules.specs.rasta_core.Calls.{hearing_bytes, receiving}
 use Rattle.ixl_rules.specs.rasta_core.Opening.{joining, judging, meeting}
 use Rattle.ixl_rules.specs.rasta_core.Parameters.{connection_limit, own_version, quiet_time, sequence_range, window_size}
-use Rattle.ixl_rules.specs.rasta_core.Receiving.{Receipt, admission, admitting, ahead, answering, asking, bringing, by_state, connected, handing, hearing, in_turn, missing, repeating, resting, taking, testing, violating, is_stale, confirms, is_opening_again, answers_request, up as upped}
-use Rattle.ixl_rules.specs.rasta_core.Sending.{Step, closed, entered, limited, sending, silent, telling}
+use Rattle.ixl_rules.specs.rasta_core.Receipt.{Receipt, admission, admitting, ahead, answering, asking, bringing, by_state, connected, handing, hearing, in_turn, missing, repeating, resting, taking, testing, violating, is_stale, confirms, is_opening_again, answers_request, up as upped}
+use Rattle.ixl_rules.specs.rasta_core.PdusHandedOut.{Step, closed, entered, limited, sending, silent, telling}
 use Rattle.ixl_rules.specs.rasta_core.State.{LinkState, is_client, is_open}
 use Rattle.ixl_rules.specs.rasta_core.phase.Phase.{Phase}
 use Rattle.ixl_rules.specs.rasta_core.phase.Phase.TheVariants as phase

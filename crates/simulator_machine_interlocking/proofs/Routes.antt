@@ -11,7 +11,7 @@ use Rattle.simulator_machine.specs.Table.{Table}
 use Rattle.simulator_machine.specs.Chains.{MovesTo}
 use Rattle.simulator_machine_interlocking.specs.Nodes.{phase_seen, route_seen}
 use Rattle.simulator_machine_interlocking.specs.Sees.{Given}
-use Rattle.simulator_machine_interlocking.specs.During.{During, Leads}
+use Rattle.simulator_machine_interlocking.specs.MachineSoFar.{During, Leads}
 use Rattle.simulator_machine_interlocking.proofs.Changes.{at_here, at_other, changed_elsewhere, changed_here, same_is}
 
 length_changed : (number : ℕ) (change : RouteState → RouteState) (list : List RouteState) → length (changed change number list) ≡ length list

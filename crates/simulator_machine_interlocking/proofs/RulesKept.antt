@@ -35,7 +35,7 @@ use Rattle.simulator_machine_interlocking.specs.Telegrams.{aspect_seen, side_see
 use Rattle.simulator_machine_interlocking.proofs.Tests.{by_test, both_true, not_true, true_both}
 use Rattle.simulator_machine_interlocking.proofs.Phases.{up_is_open}
 use Rattle.simulator_machine_interlocking.proofs.Places.{inside_up, open_inside}
-use Rattle.simulator_machine_interlocking.specs.During.{During, KnownSignalDuring, Leads, KnownPointDuring}
+use Rattle.simulator_machine_interlocking.specs.MachineSoFar.{During, KnownSignalDuring, Leads, KnownPointDuring}
 use Rattle.simulator_machine_interlocking.proofs.During.{first_known_signal, known_signal_facts}
 use Rattle.simulator_machine_interlocking.proofs.KnownPointing.{first_known_point, known_point_facts}
 use Rattle.simulator_machine_interlocking.proofs.Nodes.{aspect_given_on, ready_inside}

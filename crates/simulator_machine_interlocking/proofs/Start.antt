@@ -20,7 +20,7 @@ use Rattle.simulator_machine.specs.Point.{Point}
 use Rattle.simulator_machine.specs.Signal.{Signal}
 use Rattle.simulator_machine.specs.Table.{Table}
 use Rattle.simulator_machine_interlocking.specs.Calls.{Items, calls_at, items_after}
-use Rattle.simulator_machine_interlocking.specs.During.{KnownSignalSoFar, Leads, KnownPointSoFar}
+use Rattle.simulator_machine_interlocking.specs.MachineSoFar.{KnownSignalSoFar, Leads, KnownPointSoFar}
 use Rattle.simulator_machine_interlocking.specs.Link.{ClientFits, client_at, is_inside}
 use Rattle.simulator_machine_interlocking.specs.Nodes.{IsLastGiven, IsOfPoint, KnownSignalFits, KnownPointFits}
 use Rattle.simulator_machine_interlocking.specs.Sees.{Given, IsClosedSince, Sees, SeesPoint, SeesSignal}

@@ -14,7 +14,7 @@ use Rattle.simulator_machine.specs.Machine.{Machine, with_point, with_signal}
 use Rattle.simulator_machine.specs.Point.{PointMove}
 use Rattle.simulator_machine.specs.Signal.{SignalMove}
 use Rattle.simulator_machine.specs.Chains.{MovesTo, PointMayChain, SignalMayChain, point_chained, signal_chained}
-use Rattle.simulator_machine_interlocking.specs.During.{Leads}
+use Rattle.simulator_machine_interlocking.specs.MachineSoFar.{Leads}
 use Rattle.simulator_machine_interlocking.specs.Facts.{FarEnds}
 use Rattle.simulator_machine_interlocking.specs.Rows.{AreHeldAtFirst, machine_table}
 use Rattle.simulator_machine_interlocking.specs.Sees.{Given}
@@ -22,7 +22,7 @@ use Rattle.ixl_rules.specs.rasta_core.Outbox.{OutboxState}
 use Rattle.ixl_rules.specs.StepSoFar.{begun_with, over}
 use Rattle.ixl_rules.specs.Rules.{count}
 use Rattle.ixl_rules.specs.Step.{all_clocked, watching}
-use Rattle.simulator_machine_interlocking.specs.During.{until_ticked}
+use Rattle.simulator_machine_interlocking.specs.MachineSoFar.{until_ticked}
 use Rattle.simulator_machine_interlocking.specs.Sees.{Sees}
 use Rattle.simulator_machine_interlocking.proofs.Given.{inputs_kept}
 use Rattle.simulator_machine_interlocking.proofs.RulesKept.{rules_kept}

@@ -16,7 +16,7 @@ use Rattle.simulator_machine.specs.Signal.{Signal as MachineSignal, SignalMove}
 use Rattle.simulator_machine.specs.Table.{Table}
 use Rattle.simulator_machine_interlocking.specs.Behind.{Behind, KnownSignalBehind, KnownSignalIsBehind, LeadsBehind, KnownPointBehind, KnownPointIsBehind}
 use Rattle.simulator_machine_interlocking.specs.Calls.{Items, calls_at}
-use Rattle.simulator_machine_interlocking.specs.During.{During, KnownSignalDuring, KnownSignalSoFar, Leads, KnownPointDuring, KnownPointSoFar}
+use Rattle.simulator_machine_interlocking.specs.MachineSoFar.{During, KnownSignalDuring, KnownSignalSoFar, Leads, KnownPointDuring, KnownPointSoFar}
 use Rattle.simulator_machine_interlocking.specs.Facts.{FarEnds}
 use Rattle.simulator_machine_interlocking.specs.Sees.{Given}
 use Rattle.simulator_machine_interlocking.specs.Step.{PointIsLeft, SignalIsLeft}

@@ -2,7 +2,7 @@
 use Rattle.std.proofs.Common.{inl, inr, ◌≡◌, ℕ, List, [], ◌∷◌, ◌++◌, append_assoc, refl, sym, ap, ◌∙◌}
 use Rattle.std.specs.Prelude.{◌&&◌, is_ok}
 use Rattle.std.proofs.lemmas.List.{append-nil}
-use Rattle.ixl_rules.specs.sci_telegram.Reading.{reading}
+use Rattle.ixl_rules.specs.sci_telegram.TelegramRead.{reading}
 use Rattle.ixl_rules.specs.sci_telegram.Telegrams.{writing}
 use Rattle.ixl_rules.specs.sci_telegram.declared.message.Aspect.{Aspect as TelegramAspect}
 use Rattle.ixl_rules.specs.sci_telegram.declared.message.Aspect.TheVariants as aspects

@@ -13,7 +13,7 @@ use Rattle.ixl_rules.specs.View.{is_approach_clear, place_in, was_authorised}
 use Rattle.simulator_machine.specs.Machine.{Machine}
 use Rattle.simulator_machine.specs.Table.{Table}
 use Rattle.simulator_machine.specs.Chains.{MovesTo}
-use Rattle.simulator_machine_interlocking.specs.During.{KnownSignalSoFar, Leads, KnownPointSoFar}
+use Rattle.simulator_machine_interlocking.specs.MachineSoFar.{KnownSignalSoFar, Leads, KnownPointSoFar}
 use Rattle.simulator_machine_interlocking.specs.Nodes.{phase_seen}
 use Rattle.simulator_machine_interlocking.specs.Sees.{Given}
 use Rattle.simulator_machine_interlocking.proofs.Tests.{by_test}

@@ -15,7 +15,7 @@ use Rattle.simulator_machine.specs.Machine.{Machine, with_point, with_signal}
 use Rattle.simulator_machine.specs.Point.{PointMove}
 use Rattle.simulator_machine.specs.Signal.{SignalMove}
 use Rattle.simulator_machine_interlocking.specs.Behind.{LeadsBehind}
-use Rattle.simulator_machine_interlocking.specs.During.{Leads, until_ticked}
+use Rattle.simulator_machine_interlocking.specs.MachineSoFar.{Leads, until_ticked}
 use Rattle.simulator_machine_interlocking.specs.Facts.{FarEnds}
 use Rattle.simulator_machine_interlocking.specs.Onward.{IsStepped}
 use Rattle.simulator_machine_interlocking.specs.Rows.{AreHeldAtFirst, machine_table}

@@ -9,7 +9,7 @@ pub mod Facts
 pub mod Step
 pub mod Made
 pub mod Fits
-pub mod During
+pub mod MachineSoFar
 pub mod Behind
 pub mod Onward
 pub mod Course

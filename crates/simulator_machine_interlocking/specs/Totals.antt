@@ -1,6 +1,6 @@
 -- What the items given by a client tell, read as its controller reads them.
 use Rattle.std.specs.Prelude.{◌≡◌, ◌⊎◌, ℕ, List, [], ◌∷◌, length, Ok}
-use Rattle.ixl_rules.specs.sci_telegram.Reading.{reading}
+use Rattle.ixl_rules.specs.sci_telegram.TelegramRead.{reading}
 use Rattle.ixl_rules.specs.sci_telegram.declared.message.Initialisation.TheVariants.{InitialisationRequest, VersionCheck}
 use Rattle.ixl_rules.specs.sci_telegram.declared.message.Message.TheVariants as message
 use Rattle.ixl_rules.specs.ixl_client.Client.{PeerState}

@@ -6,7 +6,7 @@ ghost use Rattle.ixl_rules.specs.State.{IxlState};
 ghost use Rattle.ixl_rules.specs.Step.{Datagram, Input, known_signal_hearing, known_point_hearing};
 ghost use Rattle.ixl_rules.specs.Table.{Table};
 ghost use Rattle.simulator_machine.specs.Machine.{Machine};
-ghost use Rattle.simulator_machine_interlocking.specs.During.{Leads};
+ghost use Rattle.simulator_machine_interlocking.specs.MachineSoFar.{Leads};
 ghost use Rattle.simulator_machine_interlocking.specs.Facts.{FarEnds};
 ghost use Rattle.simulator_machine_interlocking.specs.Rows.{machine_table};
 ghost use Rattle.simulator_machine_interlocking.specs.Sees.{Given};

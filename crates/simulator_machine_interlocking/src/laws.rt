@@ -16,7 +16,7 @@ ghost use Rattle.ixl_rules.specs.rasta_core.Parameters.{greatest};
 ghost use Rattle.simulator_machine_interlocking.specs.Course.{Happening, MayAllHappen, Moment, SeesAt, moments_after};
 ghost use Rattle.simulator_machine_interlocking.specs.Onward.{AreAloneAfterQuiet, IsMadeAnew, IsPassed, IsStepped, LooksAlike, held_routes};
 ghost use Rattle.simulator_machine_interlocking.specs.Behind.{LeadsBehind};
-ghost use Rattle.simulator_machine_interlocking.specs.During.{Leads};
+ghost use Rattle.simulator_machine_interlocking.specs.MachineSoFar.{Leads};
 ghost use Rattle.simulator_machine_interlocking.specs.Facts.{FarEnds};
 ghost use Rattle.simulator_machine_interlocking.specs.Rows.{AreHeldAtFirst, machine_table};
 ghost use Rattle.simulator_machine_interlocking.specs.Sees.{Given, Sees};

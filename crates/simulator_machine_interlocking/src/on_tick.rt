@@ -7,7 +7,7 @@ ghost use Rattle.ixl_rules.specs.Step.{Tick};
 ghost use Rattle.simulator_machine.specs.Machine.{Machine};
 ghost use Rattle.simulator_machine.specs.Table.{Table as MachineTable};
 ghost use Rattle.simulator_machine_interlocking.specs.Behind.{LeadsBehind};
-ghost use Rattle.simulator_machine_interlocking.specs.During.{Leads};
+ghost use Rattle.simulator_machine_interlocking.specs.MachineSoFar.{Leads};
 ghost use Rattle.simulator_machine_interlocking.specs.Facts.{FarEnds};
 ghost use Rattle.simulator_machine_interlocking.specs.Sees.{Given};
 ghost use Rattle.ixl_rules.specs.Step.{ticked};

@@ -7,7 +7,7 @@ ghost use Rattle.ixl_rules.specs.State.{IxlState};
 ghost use Rattle.ixl_rules.specs.Step.{Input};
 ghost use Rattle.ixl_rules.specs.Table.{Table};
 ghost use Rattle.simulator_machine.specs.Machine.{Machine};
-ghost use Rattle.simulator_machine_interlocking.specs.During.{Leads};
+ghost use Rattle.simulator_machine_interlocking.specs.MachineSoFar.{Leads};
 ghost use Rattle.simulator_machine_interlocking.specs.Facts.{FarEnds};
 ghost use Rattle.simulator_machine_interlocking.specs.Rows.{AreHeldAtFirst, machine_table};
 ghost use Rattle.simulator_machine_interlocking.specs.Sees.{Given};

@@ -15,7 +15,7 @@ use Rattle.rasta_core.specs.Opening.{beginning, is_down, may_open, requesting}
 use Rattle.rasta_core.specs.Parameters.{connection_limit, quiet_time, time_limit}
 use Rattle.rasta_core.specs.Run.{Ends, end_of}
 use Rattle.rasta_core.specs.Safe.{IsIdle}
-use Rattle.rasta_core.specs.Sending.{Step, entered, limited, sending, silent, telling}
+use Rattle.rasta_core.specs.PdusHandedOut.{Step, entered, limited, sending, silent, telling}
 use Rattle.rasta_core.specs.Sentences.{IsDownNow, IsOpening, IsOut, receipt_at}
 use Rattle.rasta_core.specs.State.{LinkState, is_client, is_open, is_up}
 use Rattle.rasta_core.specs.identity.Role.{Role}

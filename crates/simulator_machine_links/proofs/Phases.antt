@@ -5,8 +5,8 @@ use Rattle.rasta_core.specs.Parameters.{connection_limit, heartbeat_interval, se
 use Rattle.rasta_core.specs.Clock.{deadline, open_state, settled, state_at}
 use Rattle.rasta_core.specs.State.{LinkState, is_client, is_open, is_up}
 use Rattle.rasta_core.specs.Opening.{is_down, may_open, requesting}
-use Rattle.rasta_core.specs.Sending.{Step, silent, entered, limited, sending, telling, beating, giving, closing}
-use Rattle.rasta_core.specs.Receiving.{Receipt, admission, admitting, ahead, answering, bringing, by_state, confirms, connected, handing, hearing, in_turn, is_opening_again, is_stale, missing, refusing, repeating, resting, taking, testing, violating}
+use Rattle.rasta_core.specs.PdusHandedOut.{Step, silent, entered, limited, sending, telling, beating, giving, closing}
+use Rattle.rasta_core.specs.Receipt.{Receipt, admission, admitting, ahead, answering, bringing, by_state, confirms, connected, handing, hearing, in_turn, is_opening_again, is_stale, missing, refusing, repeating, resting, taking, testing, violating}
 use Rattle.rasta_core.specs.Calls.{acceptance, closing_by, hearing_bytes, opening, opens, receiving, sending_item, ticking}
 use Rattle.rasta_core.specs.identity.Identity.{Identity}
 use Rattle.rasta_core.specs.phase.Phase.{Phase}
@@ -20,7 +20,7 @@ use Rattle.rasta_pdu.specs.declared.body.Body.{Body}
 use Rattle.rasta_pdu.specs.declared.body.Body.TheVariants.{ConnectionRequest, ConnectionResponse, RetransmissionRequest, RetransmissionResponse, DisconnectionRequest, Heartbeat, Data, RetransmittedData}
 use Rattle.rasta_pdu.specs.declared.fault.PduFault.{PduFault}
 use Rattle.rasta_pdu.specs.declared.pdu.Pdu.{Pdu}
-use Rattle.rasta_pdu.specs.Reading.{reading}
+use Rattle.rasta_pdu.specs.PduRead.{reading}
 use Rattle.simulator_machine_links.proofs.Tests.{by_test}
 
 -- a link that doesn't start a connection

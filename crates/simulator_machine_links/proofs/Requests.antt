@@ -10,8 +10,8 @@ use Rattle.rasta_core.specs.Ends.{Call, Ticks, Opens, Closes, Sends, Receives}
 use Rattle.rasta_core.specs.State.{LinkState, is_client, is_open, is_up}
 use Rattle.rasta_core.specs.Steps.{made_by}
 use Rattle.rasta_core.specs.Opening.{beginning, granting, joining, judging, may_open, meeting, own_opening, requesting}
-use Rattle.rasta_core.specs.Sending.{Step, beating, closed, closing, entered, giving, limited, pdu_of, sending, silent, telling}
-use Rattle.rasta_core.specs.Receiving.{Receipt, accepting, admission, admitting, ahead, answering, answers_request, asking, bringing, by_state, confirms, connected, handing, hearing, in_turn, is_opening_again, is_stale, missing, refusing, repeated, repeating, resting, taking, testing, violating}
+use Rattle.rasta_core.specs.PdusHandedOut.{Step, beating, closed, closing, entered, giving, limited, pdu_of, sending, silent, telling}
+use Rattle.rasta_core.specs.Receipt.{Receipt, accepting, admission, admitting, ahead, answering, answers_request, asking, bringing, by_state, confirms, connected, handing, hearing, in_turn, is_opening_again, is_stale, missing, refusing, repeated, repeating, resting, taking, testing, violating}
 use Rattle.rasta_core.specs.Calls.{acceptance, closing_by, hearing_bytes, opening, opens, receiving, sending_item, ticking}
 use Rattle.rasta_core.specs.phase.Phase.{Phase}
 use Rattle.rasta_core.specs.phase.Phase.TheVariants as phase
@@ -25,7 +25,7 @@ use Rattle.rasta_pdu.specs.declared.body.Body.TheVariants.{ConnectionRequest, Co
 use Rattle.rasta_pdu.specs.declared.body.Opening.{Opening}
 use Rattle.rasta_pdu.specs.declared.fault.PduFault.{PduFault}
 use Rattle.rasta_pdu.specs.declared.pdu.Pdu.{Pdu}
-use Rattle.rasta_pdu.specs.Reading.{reading}
+use Rattle.rasta_pdu.specs.PduRead.{reading}
 use Rattle.rasta_core.specs.header.Header.{Header}
 use Rattle.rasta_core.specs.window.Unconfirmed.{Unconfirmed}
 use Rattle.simulator_machine_links.specs.Flows.{AsksNone, AsksOnce, begins}

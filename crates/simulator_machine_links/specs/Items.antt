@@ -1,6 +1,6 @@
 -- What the machine of a station reads of the items that an end of a link gave or took.
 use Rattle.std.specs.Prelude.{ℕ, List, [], ◌∷◌, ◌++◌, Some, None, Result, Ok, Err}
-use Rattle.sci_telegram.specs.Reading.{reading}
+use Rattle.sci_telegram.specs.TelegramRead.{reading}
 use Rattle.sci_telegram.specs.declared.fault.SciFault.{SciFault}
 use Rattle.sci_telegram.specs.declared.message.Aspect as sent
 use Rattle.sci_telegram.specs.declared.message.Aspect.TheVariants as aspect

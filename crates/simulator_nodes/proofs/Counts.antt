@@ -17,12 +17,12 @@ use Rattle.simulator_run.specs.ixl_rules.Table.{Table}
 use Rattle.simulator_run.specs.simulator_event.declared.event.Event.{Event}
 use Rattle.simulator_run.specs.simulator_event.declared.event.Event.TheVariants as event
 use Rattle.simulator_run.specs.First.{Beginning, IsOutsetOf, Outset, world_at}
-use Rattle.simulator_run.specs.Happens.{all_later, detector_anew, detector_stepped, happens, made_anew, passed, point_anew, point_stepped, signal_anew, signal_stepped, station_stepped, stepped_at}
-use Rattle.simulator_run.specs.Nodes.{Node, Station, Signal, Point, Detector, detector_link, node_at, point_link}
-use Rattle.simulator_run.specs.State.{ServerState, WorldState}
+use Rattle.simulator_run.specs.Happens.{all_later, detector_anew, detector_stepped, happens, interlocking_stepped, made_anew, passed, point_anew, point_stepped, signal_anew, signal_stepped, stepped_at}
+use Rattle.simulator_run.specs.Nodes.{Node, Interlocking, Signal, Point, Detector, detector_link, node_at, point_link}
+use Rattle.simulator_run.specs.State.{ClockedControllerState, WorldState}
 use Rattle.simulator_run.specs.Run.{after_all}
 use Rattle.simulator_nodes.specs.Split.{around, connection_in, stepped}
-use Rattle.simulator_nodes.specs.Told.{Told, Nobody, ToStation, ToSignal, ToPoint, ToDetector, told}
+use Rattle.simulator_nodes.specs.Told.{Told, Nobody, ToInterlocking, ToSignal, ToPoint, ToDetector, told}
 use Rattle.simulator_nodes.proofs.Split.{is_split}
 
 pub record IsCounted (site : Site) (world : WorldState) : Type 0 where
@@ -42,7 +42,7 @@ length_changed change place [] = refl
 length_changed change zero (first ∷ others) = refl
 length_changed change (suc place) (first ∷ others) = ap suc (length_changed change place others)
 
-length_later : {Object : Type 0} (moment : ℕ) (ticks : List ℕ) (servers : List (ServerState Object)) → length (all_later moment ticks servers) ≡ length servers
+length_later : {Object : Type 0} (moment : ℕ) (ticks : List ℕ) (servers : List (ClockedControllerState Object)) → length (all_later moment ticks servers) ≡ length servers
 length_later moment ticks [] = refl
 length_later moment [] (server ∷ servers) = refl
 length_later moment (tick ∷ ticks) (server ∷ servers) = ap suc (length_later moment ticks servers)
@@ -51,7 +51,7 @@ pub length_mapped : {A B : Type 0} (f : A → B) (list : List A) → length (map
 length_mapped f [] = refl
 length_mapped f (first ∷ others) = ap suc (length_mapped f others)
 
-length_stepped : {Object : Type 0} (does : Behaviour Object) (input : Input) (connection time link place : ℕ) (found : Option (ServerState Object)) (servers : List (ServerState Object)) (sent : List OnLink)
+length_stepped : {Object : Type 0} (does : Behaviour Object) (input : Input) (connection time link place : ℕ) (found : Option (ClockedControllerState Object)) (servers : List (ClockedControllerState Object)) (sent : List OnLink)
     → length (stepped_at does input connection time link place found (record { servers = servers; sent = sent })).servers ≡ length servers
 unfolding stepped_at
 length_stepped does input connection time link place None servers sent = refl
@@ -59,9 +59,9 @@ length_stepped does input connection time link place (Some server) servers sent 
 
 module _ (site : Site) (table : Table) where
   told_counts : (connection : ℕ) (what : Told) (world : WorldState) → IsCounted site world → IsCounted site (stepped site table connection what world)
-  unfolding station_stepped signal_stepped point_stepped detector_stepped
+  unfolding interlocking_stepped signal_stepped point_stepped detector_stepped
   told_counts connection Nobody world counted = counted
-  told_counts connection (ToStation input) world counted = record { signals = counted.signals; points = counted.points; positions = counted.positions; detectors = counted.detectors; occupancies = counted.occupancies }
+  told_counts connection (ToInterlocking input) world counted = record { signals = counted.signals; points = counted.points; positions = counted.positions; detectors = counted.detectors; occupancies = counted.occupancies }
   told_counts connection (ToSignal at input) world counted = record {
     signals = length_stepped signal_behaviour input connection world.time at at (slice_get world.signals at) world.signals world.sent ∙ counted.signals;
     points = counted.points;
@@ -86,7 +86,7 @@ module _ (site : Site) (table : Table) where
 
   anew_counts : (begins : Beginning) (at : Option Node) (world : WorldState) → IsCounted site world → IsCounted site (made_anew site table begins at world)
   anew_counts begins None world counted = counted
-  anew_counts begins (Some Station) world counted = record { signals = counted.signals; points = counted.points; positions = counted.positions; detectors = counted.detectors; occupancies = counted.occupancies }
+  anew_counts begins (Some Interlocking) world counted = record { signals = counted.signals; points = counted.points; positions = counted.positions; detectors = counted.detectors; occupancies = counted.occupancies }
   anew_counts begins (Some (Signal at)) world counted = of_entry (slice_get site.signals at) where
     of_entry : (entry : Option SignalEntry) → IsCounted site (signal_anew site begins at entry world)
     of_entry None = counted

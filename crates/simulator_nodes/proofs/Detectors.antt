@@ -17,14 +17,14 @@ use Rattle.simulator_run.specs.ixl_rules.Table.{Table}
 use Rattle.simulator_run.specs.simulator_event.declared.event.Event.{Event}
 use Rattle.simulator_run.specs.simulator_event.declared.event.Event.TheVariants as event
 use Rattle.simulator_run.specs.First.{Beginning}
-use Rattle.simulator_run.specs.Happens.{coming, detector_anew, detector_stepped, happens, made_anew, passed, point_anew, point_stepped, signal_anew, signal_stepped, station_stepped}
-use Rattle.simulator_run.specs.Nodes.{Node, Station, Signal, Point, Detector, detector_link, node_at}
-use Rattle.simulator_run.specs.Servers.{server_anew}
+use Rattle.simulator_run.specs.Happens.{coming, detector_anew, detector_stepped, happens, interlocking_stepped, made_anew, passed, point_anew, point_stepped, signal_anew, signal_stepped}
+use Rattle.simulator_run.specs.Nodes.{Node, Interlocking, Signal, Point, Detector, detector_link, node_at}
+use Rattle.simulator_run.specs.Controllers.{controller_anew}
 use Rattle.simulator_run.specs.State.{WorldState}
 use Rattle.ixl_table.specs.Table.{IsTableOf}
 use Rattle.simulator_nodes.specs.Lives.{Life, LivesAsDetector, LivesAt, anew_where, detector_at, detector_hears, detector_sensing, hears, is_detector, life_after, occupied_after, own_occupancies, turned}
 use Rattle.simulator_nodes.specs.Split.{around, connection_in, stepped}
-use Rattle.simulator_nodes.specs.Told.{Told, Nobody, ToStation, ToSignal, ToPoint, ToDetector, to_node, told}
+use Rattle.simulator_nodes.specs.Told.{Told, Nobody, ToInterlocking, ToSignal, ToPoint, ToDetector, to_node, told}
 use Rattle.simulator_nodes.proofs.Controllers.{another_begins, begins_anew, goes_on, one_steps}
 use Rattle.simulator_nodes.proofs.Counts.{IsCounted}
 use Rattle.simulator_nodes.proofs.Lists.{other_number, same_number}
@@ -41,17 +41,17 @@ module _ (site : Site) (table : Table) (entry : DetectorEntry) (place : ℕ) whe
 
   told_on : (connection : ℕ) (what : Told) (world : WorldState) (life : DetectorLife) → LivesAt detection_behaviour new world.detectors place life
       → LivesAt detection_behaviour new (stepped site table connection what world).detectors place (hears occupied_after (detector_hears place what) life)
-  unfolding station_stepped signal_stepped point_stepped detector_stepped
+  unfolding interlocking_stepped signal_stepped point_stepped detector_stepped
   told_on connection Nobody world life lives = lives
-  told_on connection (ToStation input) world life lives = lives
+  told_on connection (ToInterlocking input) world life lives = lives
   told_on connection (ToSignal at input) world life lives = lives
   told_on connection (ToPoint at input) world life lives = lives
   told_on connection (ToDetector at input) world life lives = one_steps detection_behaviour new occupied_after input connection world.time (detector_link site at) at place world.detectors world.sent life lives
 
   told_occupied : (connection : ℕ) (what : Told) (world : WorldState) → (stepped site table connection what world).occupancies ≡ world.occupancies
-  unfolding station_stepped signal_stepped point_stepped detector_stepped
+  unfolding interlocking_stepped signal_stepped point_stepped detector_stepped
   told_occupied connection Nobody world = refl
-  told_occupied connection (ToStation input) world = refl
+  told_occupied connection (ToInterlocking input) world = refl
   told_occupied connection (ToSignal at input) world = refl
   told_occupied connection (ToPoint at input) world = refl
   told_occupied connection (ToDetector at input) world = refl
@@ -59,7 +59,7 @@ module _ (site : Site) (table : Table) (entry : DetectorEntry) (place : ℕ) whe
   anew_on : slice_get site.detectors place ≡ Some entry → (begins : Beginning) (at : Option Node) (world : WorldState) (life : DetectorLife) → LivesAsDetector site entry world place life
       → LivesAsDetector site entry (made_anew site table begins at world) place (anew_where (is_detector place at) begins life)
   anew_on is begins None world life lives = lives
-  anew_on is begins (Some Station) world life lives = record { lives = lives.lives; occupied = lives.occupied }
+  anew_on is begins (Some Interlocking) world life lives = record { lives = lives.lives; occupied = lives.occupied }
   anew_on is begins (Some (Signal at)) world life lives = of_entry (slice_get site.signals at) where
     of_entry : (other : Option SignalEntry) → LivesAsDetector site entry (signal_anew site begins at other world) place life
     of_entry None = lives
@@ -71,7 +71,7 @@ module _ (site : Site) (table : Table) (entry : DetectorEntry) (place : ℕ) whe
   anew_on is begins (Some (Detector at)) world life lives = cases (at == place) refl where
     it : LivesAsDetector site entry (detector_anew site begins place (Some entry) world) place (anew_where true begins life)
     it = record {
-      lives = subst (λ h. LivesAt detection_behaviour new (changed (server_anew h begins.clock (length world.sent)) place world.detectors) place (anew_where true begins life))
+      lives = subst (λ h. LivesAt detection_behaviour new (changed (controller_anew h begins.clock (length world.sent)) place world.detectors) place (anew_where true begins life))
           (ap (λ c. detector_sensing site begins c entry) lives.occupied ∙ sym (made_of_its_own site begins world.occupancies entry))
           (begins_anew detection_behaviour new begins (length world.sent) place world.detectors life lives.lives);
       occupied = lives.occupied;
@@ -116,7 +116,7 @@ module _ (site : Site) (table : Table) (entry : DetectorEntry) (place : ℕ) whe
   -- what is no contact of a section changes nothing
   unchanged : (here : ixl.Input) (input : Input) (life : DetectorLife) → occupied_after input life.contacts ≡ life.contacts → (at : Option Node) → (hears occupied_after (detector_hears place (to_node here input at)) life).contacts ≡ life.contacts
   unchanged here input life same None = refl
-  unchanged here input life same (Some Station) = refl
+  unchanged here input life same (Some Interlocking) = refl
   unchanged here input life same (Some (Signal at)) = refl
   unchanged here input life same (Some (Point at)) = refl
   unchanged here input life same (Some (Detector at)) = cases (at == place) where

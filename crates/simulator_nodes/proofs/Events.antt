@@ -21,18 +21,18 @@ use Rattle.simulator_run.specs.simulator_event.declared.event.NodeId.{NodeId}
 use Rattle.simulator_run.specs.simulator_event.refused.Refused.TheVariants as refused
 use Rattle.simulator_run.specs.simulator_snapshot.declared.snapshot.Snapshot.{Snapshot}
 use Rattle.simulator_run.specs.First.{IsOutsetOf, Outset, world_at}
-use Rattle.simulator_run.specs.Happens.{coming, detector_stepped, happens, point_stepped, sensed_by, signal_stepped, station_stepped}
+use Rattle.simulator_run.specs.Happens.{coming, detector_stepped, happens, interlocking_stepped, point_stepped, sensed_by, signal_stepped}
 use Rattle.simulator_run.specs.Network.{copy_of}
 use Rattle.simulator_run.specs.Nodes.{Signal, Point, Detector, detector_link, links, node_at, nodes, point_link}
 use Rattle.simulator_run.specs.Refusals.{driven_at, driven_by, is_missing, may_reach, refusal, refused_where}
 use Rattle.simulator_run.specs.Run.{after_all}
 use Rattle.simulator_run.specs.Seen.{IsSnapshotOf}
-use Rattle.simulator_run.specs.State.{ServerState, WorldState}
+use Rattle.simulator_run.specs.State.{ClockedControllerState, WorldState}
 use Rattle.simulator_nodes.specs.Contacts.{noise, point_now}
 use Rattle.simulator_nodes.specs.Lives.{Life}
 use Rattle.simulator_nodes.specs.Shown.{point_life}
 use Rattle.simulator_nodes.specs.Split.{connection_in, stepped}
-use Rattle.simulator_nodes.specs.Told.{Told, Nobody, ToStation, ToSignal, ToPoint, ToDetector, to_node, told}
+use Rattle.simulator_nodes.specs.Told.{Told, Nobody, ToInterlocking, ToSignal, ToPoint, ToDetector, to_node, told}
 use Rattle.simulator_nodes.proofs.Runs.{points_are}
 use Rattle.simulator_nodes.proofs.Split.{is_split}
 
@@ -99,9 +99,9 @@ detector_told_noise site table place within = ap (to_node (ixl.Datagram noise) (
 
 steps_move_nothing : (site : Site) (table : Table) (connection : ℕ) (what : Told) (world : WorldState)
     → ((stepped site table connection what world).positions ≡ world.positions) × ((stepped site table connection what world).occupancies ≡ world.occupancies)
-unfolding station_stepped signal_stepped point_stepped detector_stepped
+unfolding interlocking_stepped signal_stepped point_stepped detector_stepped
 steps_move_nothing site table connection Nobody world = (refl, refl)
-steps_move_nothing site table connection (ToStation input) world = (refl, refl)
+steps_move_nothing site table connection (ToInterlocking input) world = (refl, refl)
 steps_move_nothing site table connection (ToSignal at input) world = (refl, refl)
 steps_move_nothing site table connection (ToPoint at input) world = (refl, refl)
 steps_move_nothing site table connection (ToDetector at input) world = (refl, refl)
@@ -131,7 +131,7 @@ section_seen site table section occupancy world seen is = cases (slice_get table
 
 -- ---- contacts of points
 
-driven_there : (place : ℕ) (servers : List (ServerState PointState)) (server : ServerState PointState) → slice_get servers place ≡ Some server → driven_at place servers ≡ driven_by server
+driven_there : (place : ℕ) (servers : List (ClockedControllerState PointState)) (server : ClockedControllerState PointState) → slice_get servers place ≡ Some server → driven_at place servers ≡ driven_by server
 driven_there place [] server is = absurd (none-some server is)
 driven_there zero (first ∷ others) server is = ap driven_by (same_Some first server is)
 driven_there (suc place) (first ∷ others) server is = driven_there place others server is

@@ -9,46 +9,46 @@ use Rattle.simulator_run.specs.ixl_rules.Table.{Table}
 use Rattle.simulator_run.specs.simulator_event.declared.event.Event.{Event}
 use Rattle.simulator_run.specs.simulator_event.declared.event.Event.TheVariants as event
 use Rattle.simulator_run.specs.First.{Beginning, Outset, world_at}
-use Rattle.simulator_run.specs.Happens.{detector_anew, detector_stepped, happens, made_anew, passed, point_anew, point_stepped, signal_anew, signal_stepped, station_stepped}
-use Rattle.simulator_run.specs.Nodes.{Node, Station, Signal, Point, Detector, node_at}
-use Rattle.simulator_run.specs.State.{StationState, WorldState}
-use Rattle.simulator_run.specs.Station.{held_of}
+use Rattle.simulator_run.specs.Happens.{detector_anew, detector_stepped, happens, interlocking_stepped, made_anew, passed, point_anew, point_stepped, signal_anew, signal_stepped}
+use Rattle.simulator_run.specs.Nodes.{Node, Interlocking, Signal, Point, Detector, node_at}
+use Rattle.simulator_run.specs.State.{ClockedInterlockingState, WorldState}
+use Rattle.simulator_run.specs.Interlocking.{held_of}
 use Rattle.simulator_run.specs.simulator_snapshot.declared.snapshot.Held.{Held}
 use Rattle.simulator_run.specs.Run.{after_all}
-use Rattle.simulator_nodes.specs.Lives.{Life, LivesAsStation, is_station, life_after, the_station}
-use Rattle.simulator_nodes.specs.Shown.{frozen_after, frozen_in, frozen_where, station_now}
+use Rattle.simulator_nodes.specs.Lives.{Life, LivesAsInterlocking, is_interlocking, life_after, the_interlocking}
+use Rattle.simulator_nodes.specs.Shown.{frozen_after, frozen_in, frozen_where, interlocking_now}
 use Rattle.simulator_nodes.specs.Split.{around, connection_in, stepped}
-use Rattle.simulator_nodes.specs.Told.{Told, Nobody, ToStation, ToSignal, ToPoint, ToDetector, told}
+use Rattle.simulator_nodes.specs.Told.{Told, Nobody, ToInterlocking, ToSignal, ToPoint, ToDetector, told}
 use Rattle.simulator_nodes.proofs.Split.{is_split}
 use Rattle.simulator_nodes.proofs.Station.{lives_on}
 
-abbrev with_both : IxlState → ℕ → StationState
+abbrev with_both : IxlState → ℕ → ClockedInterlockingState
 with_both state clock = record { ixl = state; clock = clock; connections = [] }
 
-bare : (table : Table) (station : StationState) (frozen : List Held) → held_of table station frozen ≡ held_of table (with_both station.ixl station.clock) frozen
+bare : (table : Table) (station : ClockedInterlockingState) (frozen : List Held) → held_of table station frozen ≡ held_of table (with_both station.ixl station.clock) frozen
 unfolding held_of
 bare table station frozen = refl
 
 module _ (site : Site) (table : Table) where
-  pub held_by_life : (world : WorldState) (life : Life (Unit {0}) ixl.Input) (frozen : List Held) → LivesAsStation site table world life → world.frozen ≡ frozen
-      → held_of table world.station world.frozen ≡ held_of table (station_now site table life) frozen
+  pub held_by_life : (world : WorldState) (life : Life (Unit {0}) ixl.Input) (frozen : List Held) → LivesAsInterlocking site table world life → world.frozen ≡ frozen
+      → held_of table world.station world.frozen ≡ held_of table (interlocking_now site table life) frozen
   held_by_life world life frozen lives same = bare table world.station world.frozen
       ∙ ap (λ i. held_of table (with_both i world.station.clock) world.frozen) lives.state
-      ∙ ap (λ n. held_of table (with_both (station_now site table life).ixl n) world.frozen) lives.clock
-      ∙ ap (λ f. held_of table (station_now site table life) f) same
+      ∙ ap (λ n. held_of table (with_both (interlocking_now site table life).ixl n) world.frozen) lives.clock
+      ∙ ap (λ f. held_of table (interlocking_now site table life) f) same
 
   told_freezes : (connection : ℕ) (what : Told) (world : WorldState) → (stepped site table connection what world).frozen ≡ world.frozen
-  unfolding station_stepped signal_stepped point_stepped detector_stepped
+  unfolding interlocking_stepped signal_stepped point_stepped detector_stepped
   told_freezes connection Nobody world = refl
-  told_freezes connection (ToStation input) world = refl
+  told_freezes connection (ToInterlocking input) world = refl
   told_freezes connection (ToSignal at input) world = refl
   told_freezes connection (ToPoint at input) world = refl
   told_freezes connection (ToDetector at input) world = refl
 
-  anew_freezes : (begins : Beginning) (at : Option Node) (world : WorldState) (life : Life (Unit {0}) ixl.Input) (frozen : List Held) → LivesAsStation site table world life → world.frozen ≡ frozen
-      → (made_anew site table begins at world).frozen ≡ frozen_where (is_station at) (held_of table (station_now site table life) frozen) frozen
+  anew_freezes : (begins : Beginning) (at : Option Node) (world : WorldState) (life : Life (Unit {0}) ixl.Input) (frozen : List Held) → LivesAsInterlocking site table world life → world.frozen ≡ frozen
+      → (made_anew site table begins at world).frozen ≡ frozen_where (is_interlocking at) (held_of table (interlocking_now site table life) frozen) frozen
   anew_freezes begins None world life frozen lives same = same
-  anew_freezes begins (Some Station) world life frozen lives same = held_by_life world life frozen lives same
+  anew_freezes begins (Some Interlocking) world life frozen lives same = held_by_life world life frozen lives same
   anew_freezes begins (Some (Signal at)) world life frozen lives same = of_entry (slice_get site.signals at) where
     of_entry : (entry : Option SignalEntry) → (signal_anew site begins at entry world).frozen ≡ frozen
     of_entry None = same
@@ -62,7 +62,7 @@ module _ (site : Site) (table : Table) where
     of_entry None = same
     of_entry (Some entry) = same
 
-  around_freezes : (happening : Event) (world : WorldState) (life : Life (Unit {0}) ixl.Input) (frozen : List Held) → LivesAsStation site table world life → world.frozen ≡ frozen
+  around_freezes : (happening : Event) (world : WorldState) (life : Life (Unit {0}) ixl.Input) (frozen : List Held) → LivesAsInterlocking site table world life → world.frozen ≡ frozen
       → (around site table happening world).frozen ≡ frozen_after site table happening life frozen
   unfolding passed
   around_freezes (event.Request command) world life frozen lives same = same
@@ -74,11 +74,11 @@ module _ (site : Site) (table : Table) where
   around_freezes (event.Reach point position) world life frozen lives same = same
   around_freezes (event.Restart node clock first) world life frozen lives same = anew_freezes (record { clock = clock; first = first }) (node_at site node.0) world life frozen lives same
 
-  pub freezes_in : (events : List Event) (world : WorldState) (life : Life (Unit {0}) ixl.Input) (frozen : List Held) → LivesAsStation site table world life → world.frozen ≡ frozen
+  pub freezes_in : (events : List Event) (world : WorldState) (life : Life (Unit {0}) ixl.Input) (frozen : List Held) → LivesAsInterlocking site table world life → world.frozen ≡ frozen
       → (after_all site table events world).frozen ≡ frozen_in site table events life frozen
   freezes_in [] world life frozen lives same = same
   freezes_in (first ∷ others) world life frozen lives same =
-      freezes_in others (happens site table first world) (life_after site table the_station first life) (frozen_after site table first life frozen) (lives_on site table first world life lives)
+      freezes_in others (happens site table first world) (life_after site table the_interlocking first life) (frozen_after site table first life frozen) (lives_on site table first world life lives)
       (ap (λ (w : WorldState). w.frozen) (is_split site table first world)
       ∙ told_freezes (connection_in first world) (told site table first) (around site table first world)
       ∙ around_freezes first world life frozen lives same)

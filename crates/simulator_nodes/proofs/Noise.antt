@@ -6,13 +6,13 @@ use Rattle.std.proofs.lemmas.List.{append-nil}
 use Rattle.simulator_run.specs.rasta_core.Calls.{hearing_bytes, receiving}
 use Rattle.simulator_run.specs.rasta_core.Clock.{deadline, settled}
 use Rattle.simulator_run.specs.rasta_core.Parameters.{connection_limit}
-use Rattle.simulator_run.specs.rasta_core.Receiving.{Receipt, refusing}
-use Rattle.simulator_run.specs.rasta_core.Sending.{Step, entered, limited, silent as link_silent, telling}
+use Rattle.simulator_run.specs.rasta_core.Receipt.{Receipt, refusing}
+use Rattle.simulator_run.specs.rasta_core.PdusHandedOut.{Step, entered, limited, silent as link_silent, telling}
 use Rattle.simulator_run.specs.rasta_core.State.{LinkState, is_open}
 use Rattle.simulator_run.specs.rasta_core.phase.Phase.TheVariants as phase
 use Rattle.simulator_run.specs.rasta_core.reason.Reason.TheVariants as reason
 use Rattle.simulator_run.specs.rasta_core.verdict.Verdict.TheVariants as verdict
-use Rattle.simulator_run.specs.rasta_pdu.Reading.{reading, text_of}
+use Rattle.simulator_run.specs.rasta_pdu.PduRead.{reading, text_of}
 use Rattle.simulator_run.specs.rasta_pdu.declared.fault.PduFault.TheVariants as faults
 use Rattle.simulator_run.specs.object_host.Behaviour.{Behaviour}
 use Rattle.simulator_run.specs.object_host.Host.{HostState, HostSoFar, fallen, is_outside, risen, silent, then_do}

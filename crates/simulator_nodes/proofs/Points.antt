@@ -20,13 +20,13 @@ use Rattle.simulator_run.specs.ixl_rules.Table.{Table}
 use Rattle.simulator_run.specs.simulator_event.declared.event.Event.{Event}
 use Rattle.simulator_run.specs.simulator_event.declared.event.Event.TheVariants as event
 use Rattle.simulator_run.specs.First.{Beginning, new_point}
-use Rattle.simulator_run.specs.Happens.{coming, detector_anew, detector_stepped, happens, made_anew, passed, point_anew, point_stepped, signal_anew, signal_stepped, station_stepped}
-use Rattle.simulator_run.specs.Nodes.{Node, Station, Signal, Point, Detector, node_at, point_link}
-use Rattle.simulator_run.specs.Servers.{server_anew}
+use Rattle.simulator_run.specs.Happens.{coming, detector_anew, detector_stepped, happens, interlocking_stepped, made_anew, passed, point_anew, point_stepped, signal_anew, signal_stepped}
+use Rattle.simulator_run.specs.Nodes.{Node, Interlocking, Signal, Point, Detector, node_at, point_link}
+use Rattle.simulator_run.specs.Controllers.{controller_anew}
 use Rattle.simulator_run.specs.State.{WorldState}
 use Rattle.simulator_nodes.specs.Lives.{Life, LivesAsPoint, LivesAt, anew_where, hears, is_point, life_after, point_at, point_hears, position_after, turned}
 use Rattle.simulator_nodes.specs.Split.{around, connection_in, stepped}
-use Rattle.simulator_nodes.specs.Told.{Told, Nobody, ToStation, ToSignal, ToPoint, ToDetector, to_node, to_reporter, told}
+use Rattle.simulator_nodes.specs.Told.{Told, Nobody, ToInterlocking, ToSignal, ToPoint, ToDetector, to_node, to_reporter, told}
 use Rattle.simulator_nodes.proofs.Controllers.{another_begins, begins_anew, goes_on, one_steps}
 use Rattle.simulator_nodes.proofs.Counts.{IsCounted}
 use Rattle.simulator_nodes.proofs.Lists.{get_set, get_set_other, other_number, same_number}
@@ -59,17 +59,17 @@ module _ (site : Site) (table : Table) (entry : PointEntry) (place : ℕ) where
 
   told_on : (connection : ℕ) (what : Told) (world : WorldState) (life : PointLife) → LivesAt point_behaviour new world.points place life
       → LivesAt point_behaviour new (stepped site table connection what world).points place (hears position_after (point_hears place what) life)
-  unfolding station_stepped signal_stepped point_stepped detector_stepped
+  unfolding interlocking_stepped signal_stepped point_stepped detector_stepped
   told_on connection Nobody world life lives = lives
-  told_on connection (ToStation input) world life lives = lives
+  told_on connection (ToInterlocking input) world life lives = lives
   told_on connection (ToSignal at input) world life lives = lives
   told_on connection (ToPoint at input) world life lives = one_steps point_behaviour new position_after input connection world.time (point_link site at) at place world.points world.sent life lives
   told_on connection (ToDetector at input) world life lives = lives
 
   told_stands : (connection : ℕ) (what : Told) (world : WorldState) → (stepped site table connection what world).positions ≡ world.positions
-  unfolding station_stepped signal_stepped point_stepped detector_stepped
+  unfolding interlocking_stepped signal_stepped point_stepped detector_stepped
   told_stands connection Nobody world = refl
-  told_stands connection (ToStation input) world = refl
+  told_stands connection (ToInterlocking input) world = refl
   told_stands connection (ToSignal at input) world = refl
   told_stands connection (ToPoint at input) world = refl
   told_stands connection (ToDetector at input) world = refl
@@ -77,7 +77,7 @@ module _ (site : Site) (table : Table) (entry : PointEntry) (place : ℕ) where
   anew_on : slice_get site.points place ≡ Some entry → (begins : Beginning) (at : Option Node) (world : WorldState) (life : PointLife) → LivesAsPoint site entry world place life
       → LivesAsPoint site entry (made_anew site table begins at world) place (anew_where (is_point place at) begins life)
   anew_on is begins None world life lives = lives
-  anew_on is begins (Some Station) world life lives = record { lives = lives.lives; stands = lives.stands }
+  anew_on is begins (Some Interlocking) world life lives = record { lives = lives.lives; stands = lives.stands }
   anew_on is begins (Some (Signal at)) world life lives = of_entry (slice_get site.signals at) where
     of_entry : (other : Option SignalEntry) → LivesAsPoint site entry (signal_anew site begins at other world) place life
     of_entry None = lives
@@ -89,7 +89,7 @@ module _ (site : Site) (table : Table) (entry : PointEntry) (place : ℕ) where
   anew_on is begins (Some (Point at)) world life lives = cases (at == place) refl where
     it : LivesAsPoint site entry (point_anew site begins place (Some entry) world) place (anew_where true begins life)
     it = record {
-      lives = subst (λ p. LivesAt point_behaviour new (changed (server_anew (new_point site begins p entry) begins.clock (length world.sent)) place world.points) place (anew_where true begins life))
+      lives = subst (λ p. LivesAt point_behaviour new (changed (controller_anew (new_point site begins p entry) begins.clock (length world.sent)) place world.points) place (anew_where true begins life))
           (sym (index_some world.positions place life.contacts positions.NoEndPosition lives.stands))
           (begins_anew point_behaviour new begins (length world.sent) place world.points life lives.lives);
       stands = lives.stands;
@@ -134,7 +134,7 @@ module _ (site : Site) (table : Table) (entry : PointEntry) (place : ℕ) where
   -- what is no contact of the point moves nothing
   unmoved : (here : ixl.Input) (input : Input) (life : PointLife) → position_after input life.contacts ≡ life.contacts → (at : Option Node) → life.contacts ≡ (hears position_after (point_hears place (to_node here input at)) life).contacts
   unmoved here input life same None = refl
-  unmoved here input life same (Some Station) = refl
+  unmoved here input life same (Some Interlocking) = refl
   unmoved here input life same (Some (Signal at)) = refl
   unmoved here input life same (Some (Point at)) = cases (at == place) where
     cases : (test : Bool) → life.contacts ≡ (hears position_after (if test then Some input else None) life).contacts

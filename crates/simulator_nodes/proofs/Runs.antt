@@ -13,12 +13,12 @@ use Rattle.simulator_run.specs.object_host.declared.input.Input.{Input}
 use Rattle.simulator_run.specs.ixl_rules.Step as ixl
 use Rattle.simulator_run.specs.ixl_rules.Table.{Table}
 use Rattle.simulator_run.specs.simulator_event.declared.event.Event.{Event}
-use Rattle.simulator_run.specs.First.{IsOutsetOf, Outset, at_zero, first_server, new_detector, new_signal, point_standing, world_at}
+use Rattle.simulator_run.specs.First.{IsOutsetOf, Outset, at_zero, first_controller, new_detector, new_signal, point_standing, world_at}
 use Rattle.simulator_run.specs.Happens.{happens}
 use Rattle.simulator_run.specs.State.{WorldState}
 use Rattle.simulator_run.specs.Run.{after_all}
 use Rattle.ixl_table.specs.Table.{IsTableOf}
-use Rattle.simulator_nodes.specs.Lives.{Life, LivesAsDetector, LivesAsPoint, LivesAsSignal, LivesAsStation, detector_at, detector_sensing, first_life, host_after, ixl_after, life_after, life_in, occupancies_at, own_occupancies, point_at, position_in, sections_in, signal_at, the_station}
+use Rattle.simulator_nodes.specs.Lives.{Life, LivesAsDetector, LivesAsInterlocking, LivesAsPoint, LivesAsSignal, detector_at, detector_sensing, first_life, host_after, ixl_after, life_after, life_in, occupancies_at, own_occupancies, point_at, position_in, sections_in, signal_at, the_interlocking}
 use Rattle.simulator_nodes.proofs.Counts.{IsCounted, counts_on, first_counts}
 use Rattle.simulator_nodes.proofs.Detectors.{lives_on as detector_lives_on}
 use Rattle.simulator_nodes.proofs.Points.{lives_on as point_lives_on}
@@ -44,17 +44,17 @@ zipped_there (first ∷ xs) (other ∷ ys) zero x y is at = ap (λ a. Some (a, o
 zipped_there (first ∷ xs) (other ∷ ys) (suc place) x y is at = zipped_there xs ys place x y is at
 
 module _ (site : Site) (table : Table) (outset : Outset) (lies : IsOutsetOf site outset) where
-  station_runs : (events : List Event) (world : WorldState) (life : Life (Unit {0}) ixl.Input) → LivesAsStation site table world life
-      → LivesAsStation site table (after_all site table events world) (life_in site table the_station events life)
+  station_runs : (events : List Event) (world : WorldState) (life : Life (Unit {0}) ixl.Input) → LivesAsInterlocking site table world life
+      → LivesAsInterlocking site table (after_all site table events world) (life_in site table the_interlocking events life)
   station_runs [] world life lives = lives
   station_runs (first ∷ others) world life lives =
-      station_runs others (happens site table first world) (life_after site table the_station first life) (station_lives_on site table first world life lives)
+      station_runs others (happens site table first world) (life_after site table the_interlocking first life) (station_lives_on site table first world life lives)
 
-  pub station_first : LivesAsStation site table (world_at site table outset) (first_life tt)
+  pub station_first : LivesAsInterlocking site table (world_at site table outset) (first_life tt)
   unfolding world_at ixl_after
   station_first = record { state = refl; clock = refl }
 
-  pub station_is : (events : List Event) → LivesAsStation site table (after_all site table events (world_at site table outset)) (life_in site table the_station events (first_life tt))
+  pub station_is : (events : List Event) → LivesAsInterlocking site table (after_all site table events (world_at site table outset)) (life_in site table the_interlocking events (first_life tt))
   station_is events = station_runs events (world_at site table outset) (first_life tt) station_first
 
   module _ (place : ℕ) (entry : SignalEntry) (is : slice_get site.signals place ≡ Some entry) where
@@ -67,8 +67,8 @@ module _ (site : Site) (table : Table) (outset : Outset) (lies : IsOutsetOf site
     signal_first : LivesAsSignal site entry (world_at site table outset) place (first_life tt)
     unfolding world_at host_after
     signal_first = record {
-      server = first_server (new_signal site at_zero entry);
-      there = get_mapped (λ signal. first_server (new_signal site at_zero signal)) site.signals place entry is;
+      server = first_controller (new_signal site at_zero entry);
+      there = get_mapped (λ signal. first_controller (new_signal site at_zero signal)) site.signals place entry is;
       state = refl;
       clock = refl;
     }
@@ -125,8 +125,8 @@ module _ (site : Site) (table : Table) (outset : Outset) (lies : IsOutsetOf site
     unfolding world_at host_after
     detector_first = record {
       lives = record {
-        server = first_server (new_detector site at_zero outset.occupancies entry);
-        there = get_mapped (λ detector. first_server (new_detector site at_zero outset.occupancies detector)) site.detectors place entry is;
+        server = first_controller (new_detector site at_zero outset.occupancies entry);
+        there = get_mapped (λ detector. first_controller (new_detector site at_zero outset.occupancies detector)) site.detectors place entry is;
         state = made_of_its_own site at_zero outset.occupancies entry ∙ ap (λ c. detector_sensing site at_zero c entry) (sym sections_there);
         clock = refl;
       };

@@ -22,20 +22,20 @@ use Rattle.simulator_run.specs.simulator_event.declared.event.Event.{Event}
 use Rattle.simulator_run.specs.First.{Beginning, IsOutsetOf, Outset, new_point, new_signal, world_at}
 use Rattle.simulator_run.specs.Happens.{happens}
 use Rattle.simulator_run.specs.Nodes.{key_of}
-use Rattle.simulator_run.specs.State.{ServerState, WorldState}
+use Rattle.simulator_run.specs.State.{ClockedControllerState, WorldState}
 use Rattle.simulator_run.specs.Run.{after_all}
 use Rattle.ixl_table.specs.Table.{IsTableOf}
-use Rattle.simulator_nodes.specs.Lives.{Life, LivesAsStation, LivesAt, detector_sensing, host_after}
+use Rattle.simulator_nodes.specs.Lives.{Life, LivesAsInterlocking, LivesAt, detector_sensing, host_after}
 use Rattle.simulator_nodes.specs.Said.{detector_life, lamp_line, last_line, lines_after, said_in, said_to, says}
-use Rattle.simulator_nodes.specs.Shown.{host_now, point_life, signal_life, station_life, station_now}
+use Rattle.simulator_nodes.specs.Shown.{host_now, interlocking_life, interlocking_now, point_life, signal_life}
 use Rattle.simulator_nodes.specs.Split.{bytes_of, handed_by, handed_out_by}
-use Rattle.simulator_nodes.specs.Told.{Told, Nobody, ToStation, ToSignal, ToPoint, ToDetector, told}
+use Rattle.simulator_nodes.specs.Told.{Told, Nobody, ToInterlocking, ToSignal, ToPoint, ToDetector, told}
 use Rattle.simulator_nodes.proofs.Counts.{counts_all, first_counts}
 use Rattle.simulator_nodes.proofs.Lists.{joined_thrice, none_behind, none_there}
 use Rattle.simulator_nodes.proofs.Runs.{detectors_are, points_are, signals_are, station_is}
 use Rattle.simulator_nodes.proofs.Sent.{network_grows}
 
-says_by_life : {Object Contacts Entry : Type 0} (does : Behaviour Object) (new : Entry → Beginning → Contacts → HostState Object) (input : Input) (entries : List Entry) (servers : List (ServerState Object)) (place : ℕ) (life : Life Contacts Input)
+says_by_life : {Object Contacts Entry : Type 0} (does : Behaviour Object) (new : Entry → Beginning → Contacts → HostState Object) (input : Input) (entries : List Entry) (servers : List (ClockedControllerState Object)) (place : ℕ) (life : Life Contacts Input)
     → length servers ≡ length entries → ((entry : Entry) → slice_get entries place ≡ Some entry → LivesAt does (new entry) servers place life)
     → handed_by does input (slice_get servers place) ≡ says does new input life (slice_get entries place)
 says_by_life {Object} {Contacts} {Entry} does new input entries servers place life long lives = cases (slice_get entries place) refl where
@@ -52,15 +52,15 @@ module _ (site : Site) (table : Table) (outset : Outset) (lies : IsOutsetOf site
   abbrev world_after : List Event → WorldState
   world_after events = after_all site table events (world_at site table outset)
 
-  station_says : (input : ixl.Input) (events : List Event) (world : WorldState) → LivesAsStation site table world (station_life site table events)
-      → handed_out_by site table (ToStation input) world ≡ said_to site table outset events (ToStation input)
+  station_says : (input : ixl.Input) (events : List Event) (world : WorldState) → LivesAsInterlocking site table world (interlocking_life site table events)
+      → handed_out_by site table (ToInterlocking input) world ≡ said_to site table outset events (ToInterlocking input)
   station_says input events world lives =
       ap (λ i. (ixl.stepped (reading_of world.station.clock) table (key_of site) input (begun_with i empty_outbox)).outbox.datagrams) lives.state
-      ∙ ap (λ n. (ixl.stepped (reading_of n) table (key_of site) input (begun_with (station_now site table (station_life site table events)).ixl empty_outbox)).outbox.datagrams) lives.clock
+      ∙ ap (λ n. (ixl.stepped (reading_of n) table (key_of site) input (begun_with (interlocking_now site table (interlocking_life site table events)).ixl empty_outbox)).outbox.datagrams) lives.clock
 
   pub is_said : (events : List Event) (what : Told) → handed_out_by site table what (world_after events) ≡ said_to site table outset events what
   is_said events Nobody = refl
-  is_said events (ToStation input) = station_says input events (world_after events) (station_is site table outset lies events)
+  is_said events (ToInterlocking input) = station_says input events (world_after events) (station_is site table outset lies events)
   is_said events (ToSignal place input) = says_by_life signal_behaviour (λ (entry : SignalEntry) begins sensed. new_signal site begins entry) input site.signals (world_after events).signals place (signal_life site table events place)
       (counts_all site table events (world_at site table outset) (first_counts site table outset lies)).signals (λ entry is. signals_are site table outset lies events place entry is)
   is_said events (ToPoint place input) = says_by_life point_behaviour (λ (entry : PointEntry) begins position. new_point site begins position entry) input site.points (world_after events).points place (point_life site table outset events place)

@@ -15,11 +15,11 @@ use Rattle.simulator_run.specs.ixl_rules.Table.{Table}
 use Rattle.simulator_run.specs.simulator_event.declared.event.Event.{Event}
 use Rattle.simulator_run.specs.First.{Beginning, IsOutsetOf, Outset, new_point, new_signal, world_at}
 use Rattle.simulator_run.specs.Seen.{IsSnapshotOf}
-use Rattle.simulator_run.specs.State.{ServerState, WorldState}
+use Rattle.simulator_run.specs.State.{ClockedControllerState, WorldState}
 use Rattle.simulator_run.specs.simulator_snapshot.declared.snapshot.Snapshot.{Snapshot}
 use Rattle.simulator_run.specs.Run.{after_all}
 use Rattle.simulator_nodes.specs.Lives.{Life, LivesAt, first_life}
-use Rattle.simulator_nodes.specs.Shown.{AreAll, IsOfNodes, host_now, point_life, signal_life, station_life}
+use Rattle.simulator_nodes.specs.Shown.{AreAll, IsOfNodes, host_now, interlocking_life, point_life, signal_life}
 use Rattle.simulator_nodes.proofs.Counts.{IsCounted, counts_all, first_counts}
 use Rattle.simulator_nodes.proofs.Held.{first_frozen, freezes_in, held_by_life}
 use Rattle.simulator_nodes.proofs.Runs.{points_are, signals_are, station_first, station_is}
@@ -69,8 +69,8 @@ all_same {Entry} {A} {Seen} f says entries list seen long (count, each) is = sam
       in from place x y found.0 found.1 one_x one_y (is place found.0 found.1)
 
 -- of a controller that lives so
-by_life : {Object Contacts Seen : Type 0} (does : Behaviour Object) (new : Beginning → Contacts → HostState Object) (g : HostState Object → ℕ → Seen) (servers : List (ServerState Object)) (place : ℕ) (life : Life Contacts Input)
-    → LivesAt does new servers place life → (one : ServerState Object) × (slice_get servers place ≡ Some one) × (g one.host one.clock ≡ g (host_now does new life) life.clock)
+by_life : {Object Contacts Seen : Type 0} (does : Behaviour Object) (new : Beginning → Contacts → HostState Object) (g : HostState Object → ℕ → Seen) (servers : List (ClockedControllerState Object)) (place : ℕ) (life : Life Contacts Input)
+    → LivesAt does new servers place life → (one : ClockedControllerState Object) × (slice_get servers place ≡ Some one) × (g one.host one.clock ≡ g (host_now does new life) life.clock)
 by_life does new g servers place life lives = (lives.server, lives.there, ap (λ h. g h lives.server.clock) lives.state ∙ ap (λ n. g (host_now does new life) n) lives.clock)
 
 module _ (site : Site) (table : Table) (outset : Outset) (lies : IsOutsetOf site outset) (events : List Event) where
@@ -82,14 +82,14 @@ module _ (site : Site) (table : Table) (outset : Outset) (lies : IsOutsetOf site
 
   pub is_seen : (seen : Snapshot) → IsOfNodes site table outset events seen → IsSnapshotOf table world seen
   is_seen seen of_nodes = record {
-    shows = all_same (λ (server : ServerState SignalState). record { 0 = aspect_shown server.host.object.lamp (reading_of server.clock) }) _ site.signals world.signals seen.shows.items counted.signals of_nodes.shows
+    shows = all_same (λ (server : ClockedControllerState SignalState). record { 0 = aspect_shown server.host.object.lamp (reading_of server.clock) }) _ site.signals world.signals seen.shows.items counted.signals of_nodes.shows
         (λ place entry is. by_life signal_behaviour (λ begins sensed. new_signal site begins entry) (λ host clock. record { 0 = aspect_shown host.object.lamp (reading_of clock) }) world.signals place (signal_life site table events place)
         (signals_are site table outset lies events place entry is));
-    held = of_nodes.held ∙ sym (held_by_life site table world (station_life site table events) _ (station_is site table outset lies events)
+    held = of_nodes.held ∙ sym (held_by_life site table world (interlocking_life site table events) _ (station_is site table outset lies events)
         (freezes_in site table events (world_at site table outset) (first_life tt) [] (station_first site table outset lies) (first_frozen site table outset)));
     position = all_same (λ (position : Position). record { 0 = position }) _ site.points world.positions seen.position.items counted.positions of_nodes.position
         (λ place entry is. ((point_life site table outset events place).contacts, (points_are site table outset lies events place entry is).stands, refl));
-    driven = all_same (λ (server : ServerState PointState). drives (reading_of server.clock) server.host.object) _ site.points world.points seen.driven.items counted.points of_nodes.driven
+    driven = all_same (λ (server : ClockedControllerState PointState). drives (reading_of server.clock) server.host.object) _ site.points world.points seen.driven.items counted.points of_nodes.driven
         (λ place entry is. by_life point_behaviour (λ begins position. new_point site begins position entry) (λ host clock. drives (reading_of clock) host.object) world.points place (point_life site table outset events place)
         (points_are site table outset lies events place entry is).lives);
   }

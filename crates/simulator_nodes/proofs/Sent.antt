@@ -18,13 +18,13 @@ use Rattle.simulator_run.specs.ixl_rules.Table.{Table}
 use Rattle.simulator_run.specs.simulator_event.declared.event.Event.{Event}
 use Rattle.simulator_run.specs.simulator_event.declared.event.Event.TheVariants as event
 use Rattle.simulator_run.specs.First.{Beginning}
-use Rattle.simulator_run.specs.Happens.{detector_anew, detector_stepped, happens, made_anew, passed, point_anew, point_stepped, signal_anew, signal_stepped, station_stepped, stepped_at}
-use Rattle.simulator_run.specs.Nodes.{Node, Station, Signal, Point, Detector, detector_link, node_at, point_link}
-use Rattle.simulator_run.specs.Servers.{sent_by_server, server_after, step_of}
-use Rattle.simulator_run.specs.State.{ServerState, WorldState}
-use Rattle.simulator_run.specs.Station.{Sending, sending_all, sending_one, station_step}
+use Rattle.simulator_run.specs.Happens.{detector_anew, detector_stepped, happens, interlocking_stepped, made_anew, passed, point_anew, point_stepped, signal_anew, signal_stepped, stepped_at}
+use Rattle.simulator_run.specs.Nodes.{Node, Interlocking, Signal, Point, Detector, detector_link, node_at, point_link}
+use Rattle.simulator_run.specs.Controllers.{controller_after, sent_by_controller, step_of}
+use Rattle.simulator_run.specs.State.{ClockedControllerState, WorldState}
+use Rattle.simulator_run.specs.Interlocking.{Sending, interlocking_step, sending_all, sending_one}
 use Rattle.simulator_nodes.specs.Split.{around, bytes_of, connection_in, handed_by, handed_out_by, stepped}
-use Rattle.simulator_nodes.specs.Told.{Told, Nobody, ToStation, ToSignal, ToPoint, ToDetector, told}
+use Rattle.simulator_nodes.specs.Told.{Told, Nobody, ToInterlocking, ToSignal, ToPoint, ToDetector, told}
 use Rattle.simulator_nodes.proofs.Lists.{joined_thrice, none_behind}
 use Rattle.simulator_nodes.proofs.Split.{is_split}
 
@@ -38,14 +38,14 @@ bytes_sent link time who connection (first ∷ others) = ap (λ l. first ∷ l) 
 
 -- ---- controllers
 
-step_sends : {Object : Type 0} (does : Behaviour Object) (input : Input) (connection time link place : ℕ) (found : Option (ServerState Object)) (servers : List (ServerState Object)) (sent : List OnLink)
+step_sends : {Object : Type 0} (does : Behaviour Object) (input : Input) (connection time link place : ℕ) (found : Option (ClockedControllerState Object)) (servers : List (ClockedControllerState Object)) (sent : List OnLink)
     → bytes_of (stepped_at does input connection time link place found (record { servers = servers; sent = sent })).sent ≡ bytes_of sent ++ handed_by does input found
-unfolding stepped_at sent_by_server
+unfolding stepped_at sent_by_controller
 step_sends does input connection time link place None servers sent = sym (none_behind (bytes_of sent))
 step_sends does input connection time link place (Some server) servers sent =
     let done = step_of does input server
-    in let new = server_after done connection (length sent) server
-    in bytes_joined sent (sent_by_server done time link server new)
+    in let new = controller_after done connection (length sent) server
+    in bytes_joined sent (sent_by_controller done time link server new)
     ∙ ap (λ l. bytes_of sent ++ l) (bytes_sent link time _ new.connection (spellings server.host.link.identity.key done.pdus))
 
 -- ---- the interlocking
@@ -63,9 +63,9 @@ all_send site time (first ∷ others) sending = all_send site time others (sendi
 -- ---- each step
 
 told_sends : (site : Site) (table : Table) (connection : ℕ) (what : Told) (world : WorldState) → bytes_of (stepped site table connection what world).sent ≡ bytes_of world.sent ++ handed_out_by site table what world
-unfolding station_stepped signal_stepped point_stepped detector_stepped
+unfolding interlocking_stepped signal_stepped point_stepped detector_stepped
 told_sends site table connection Nobody world = sym (none_behind (bytes_of world.sent))
-told_sends site table connection (ToStation input) world = all_send site world.time (station_step site table input world.station).outbox.datagrams _
+told_sends site table connection (ToInterlocking input) world = all_send site world.time (interlocking_step site table input world.station).outbox.datagrams _
 told_sends site table connection (ToSignal place input) world = step_sends signal_behaviour input connection world.time place place (slice_get world.signals place) world.signals world.sent
 told_sends site table connection (ToPoint place input) world = step_sends point_behaviour input connection world.time (point_link site place) place (slice_get world.points place) world.points world.sent
 told_sends site table connection (ToDetector place input) world = step_sends detection_behaviour input connection world.time (detector_link site place) place (slice_get world.detectors place) world.detectors world.sent
@@ -82,7 +82,7 @@ lost_bytes bytes (first ∷ others) = by_test (is_copy bytes first.datagram) (lo
 
 anew_sends : (site : Site) (table : Table) (begins : Beginning) (at : Option Node) (world : WorldState) → (made_anew site table begins at world).sent ≡ world.sent
 anew_sends site table begins None world = refl
-anew_sends site table begins (Some Station) world = refl
+anew_sends site table begins (Some Interlocking) world = refl
 anew_sends site table begins (Some (Signal place)) world = of_entry (slice_get site.signals place) where
   of_entry : (entry : Option SignalEntry) → (signal_anew site begins place entry world).sent ≡ world.sent
   of_entry None = refl
@@ -114,7 +114,7 @@ same_handed site table (event.Request command) world = refl
 same_handed site table (event.Occupy section occupancy) world = at (told site table (event.Occupy section occupancy)) where
   at : (what : Told) → handed_out_by site table what (around site table (event.Occupy section occupancy) world) ≡ handed_out_by site table what world
   at Nobody = refl
-  at (ToStation input) = refl
+  at (ToInterlocking input) = refl
   at (ToSignal place input) = refl
   at (ToPoint place input) = refl
   at (ToDetector place input) = refl

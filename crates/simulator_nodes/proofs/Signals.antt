@@ -12,12 +12,12 @@ use Rattle.simulator_run.specs.ixl_rules.Table.{Table}
 use Rattle.simulator_run.specs.simulator_event.declared.event.Event.{Event}
 use Rattle.simulator_run.specs.simulator_event.declared.event.Event.TheVariants as event
 use Rattle.simulator_run.specs.First.{Beginning, new_signal}
-use Rattle.simulator_run.specs.Happens.{detector_anew, detector_stepped, happens, made_anew, passed, point_anew, point_stepped, signal_anew, signal_stepped, station_stepped}
-use Rattle.simulator_run.specs.Nodes.{Node, Station, Signal, Point, Detector, node_at}
+use Rattle.simulator_run.specs.Happens.{detector_anew, detector_stepped, happens, interlocking_stepped, made_anew, passed, point_anew, point_stepped, signal_anew, signal_stepped}
+use Rattle.simulator_run.specs.Nodes.{Node, Interlocking, Signal, Point, Detector, node_at}
 use Rattle.simulator_run.specs.State.{WorldState}
 use Rattle.simulator_nodes.specs.Lives.{Life, LivesAsSignal, anew_where, hears, is_signal, life_after, signal_at, signal_hears, turned}
 use Rattle.simulator_nodes.specs.Split.{around, connection_in, stepped}
-use Rattle.simulator_nodes.specs.Told.{Told, Nobody, ToStation, ToSignal, ToPoint, ToDetector, told}
+use Rattle.simulator_nodes.specs.Told.{Told, Nobody, ToInterlocking, ToSignal, ToPoint, ToDetector, told}
 use Rattle.simulator_nodes.proofs.Controllers.{another_begins, begins_anew, goes_on, one_steps}
 use Rattle.simulator_nodes.proofs.Lists.{other_number, same_number}
 use Rattle.simulator_nodes.proofs.Split.{is_split}
@@ -35,9 +35,9 @@ module _ (site : Site) (table : Table) (entry : SignalEntry) (place : ℕ) where
 
   told_on : (connection : ℕ) (what : Told) (world : WorldState) (life : SignalLife) → LivesAsSignal site entry world place life
       → LivesAsSignal site entry (stepped site table connection what world) place (hears unmoved (signal_hears place what) life)
-  unfolding station_stepped signal_stepped point_stepped detector_stepped
+  unfolding interlocking_stepped signal_stepped point_stepped detector_stepped
   told_on connection Nobody world life lives = lives
-  told_on connection (ToStation input) world life lives = lives
+  told_on connection (ToInterlocking input) world life lives = lives
   told_on connection (ToSignal at input) world life lives = one_steps signal_behaviour new unmoved input connection world.time at at place world.signals world.sent life lives
   told_on connection (ToPoint at input) world life lives = lives
   told_on connection (ToDetector at input) world life lives = lives
@@ -49,7 +49,7 @@ module _ (site : Site) (table : Table) (entry : SignalEntry) (place : ℕ) where
   anew_on : slice_get site.signals place ≡ Some entry → (begins : Beginning) (at : Option Node) (world : WorldState) (life : SignalLife) → LivesAsSignal site entry world place life
       → LivesAsSignal site entry (made_anew site table begins at world) place (anew_where (is_signal place at) begins life)
   anew_on is begins None world life lives = lives
-  anew_on is begins (Some Station) world life lives = lives
+  anew_on is begins (Some Interlocking) world life lives = lives
   anew_on is begins (Some (Point at)) world life lives = of_entry (slice_get site.points at) where
     of_entry : (other : Option PointEntry) → LivesAsSignal site entry (point_anew site begins at other world) place life
     of_entry None = lives

@@ -9,7 +9,7 @@ use Rattle.simulator_run.specs.simulator_event.declared.event.Event.{Event}
 use Rattle.simulator_run.specs.simulator_event.declared.event.Event.TheVariants as event
 use Rattle.simulator_run.specs.Happens.{coming, delivered_to, happens, sensed_by, ticked_at}
 use Rattle.simulator_run.specs.Network.{connection_of, copy_of}
-use Rattle.simulator_run.specs.Nodes.{Node, Station, Signal, Point, Detector, node_at}
+use Rattle.simulator_run.specs.Nodes.{Node, Interlocking, Signal, Point, Detector, node_at}
 use Rattle.simulator_run.specs.State.{WorldState}
 use Rattle.simulator_nodes.specs.Split.{around, connection_in, stepped}
 use Rattle.simulator_nodes.specs.Told.{to_node, to_reporter, told}
@@ -17,14 +17,14 @@ use Rattle.simulator_nodes.specs.Told.{to_node, to_reporter, told}
 module _ (site : Site) (table : Table) (world : WorldState) where
   ticks : (at : Option Node) → ticked_at site table at world ≡ stepped site table 0 (to_node ixl.Tick inputs.Tick at) world
   ticks None = refl
-  ticks (Some Station) = refl
+  ticks (Some Interlocking) = refl
   ticks (Some (Signal place)) = refl
   ticks (Some (Point place)) = refl
   ticks (Some (Detector place)) = refl
 
   delivers : (bytes : List ℕ) (connection : ℕ) (at : Option Node) → delivered_to site table bytes connection at world ≡ stepped site table connection (to_node (ixl.Datagram bytes) (coming bytes) at) world
   delivers bytes connection None = refl
-  delivers bytes connection (Some Station) = refl
+  delivers bytes connection (Some Interlocking) = refl
   delivers bytes connection (Some (Signal place)) = refl
   delivers bytes connection (Some (Point place)) = refl
   delivers bytes connection (Some (Detector place)) = refl

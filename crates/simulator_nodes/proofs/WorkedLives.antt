@@ -9,13 +9,13 @@ use Rattle.simulator_run.specs.object_host.Step.{beating, beginning, given, host
 use Rattle.simulator_run.specs.First.{new_ixl, world_at}
 use Rattle.simulator_run.specs.Happens.{detector_stepped, happens, passed, signal_stepped, stepped_at}
 use Rattle.simulator_run.specs.Refusals.{refusal, refusal_of_time}
-use Rattle.simulator_run.specs.Servers.{sent_by_server, server_after, server_anew, server_later}
-use Rattle.simulator_run.specs.Station.{held_of}
+use Rattle.simulator_run.specs.Controllers.{controller_after, controller_anew, controller_later, sent_by_controller}
+use Rattle.simulator_run.specs.Interlocking.{held_of}
 use Rattle.simulator_nodes.specs.Lives.{host_after}
 use Rattle.simulator_nodes.specs.Worked.{AnotherClock, KeepsWhatCame, LineNotTold, NoFrozenRows, OldContacts, TellsNobody}
 
 pub clock : (at : Port) → AnotherClock at
-unfolding world_at happens passed refusal refusal_of_time server_later
+unfolding world_at happens passed refusal refusal_of_time controller_later
 clock at = record { allowed = (refl, tt); is_so = refl; right = refl; wrong = refl }
 
 pub frozen : (at : Port) → NoFrozenRows at
@@ -23,15 +23,15 @@ unfolding world_at happens new_ixl held_of
 frozen at = record { before = refl; right = refl; wrong = refl }
 
 pub nobody : (at : Port) → TellsNobody at
-unfolding world_at happens refusal detector_stepped stepped_at server_after sent_by_server new_host keeping host_step beginning given fallen paying beating settled
+unfolding world_at happens refusal detector_stepped stepped_at controller_after sent_by_controller new_host keeping host_step beginning given fallen paying beating settled
 nobody at = record { allowed = refl; is_so = refl; right = refl; wrong = refl }
 
 pub old : (at : Port) → OldContacts at
-unfolding world_at happens refusal detector_stepped stepped_at server_after server_anew sent_by_server new_host keeping host_step beginning given fallen paying beating settled host_after
+unfolding world_at happens refusal detector_stepped stepped_at controller_after controller_anew sent_by_controller new_host keeping host_step beginning given fallen paying beating settled host_after
 old at = record { allowed = (refl, (refl, tt)); is_so = refl; right = refl; wrong = refl }
 
 pub came : (at : Port) → KeepsWhatCame at
-unfolding world_at happens passed refusal refusal_of_time server_later signal_stepped stepped_at server_after server_anew
+unfolding world_at happens passed refusal refusal_of_time controller_later signal_stepped stepped_at controller_after controller_anew
 came at = record { allowed = (refl, (refl, (refl, tt))); reads = refl; right = refl; wrong = refl }
 
 pub line : (at : Port) → LineNotTold at

@@ -29,9 +29,9 @@ use Rattle.simulator_run.specs.ixl_rules.Table.{Table}
 use Rattle.simulator_run.specs.simulator_event.declared.event.Event.{Event}
 use Rattle.simulator_run.specs.simulator_event.declared.event.Event.TheVariants as event
 use Rattle.simulator_run.specs.First.{Beginning, Outset, at_zero, host_of, new_ixl, new_point, new_signal}
-use Rattle.simulator_run.specs.Nodes.{Node, Station, Signal, Point, Detector, detector_link, key_of, node_at, point_link}
-use Rattle.simulator_run.specs.State.{ServerState, WorldState}
-use Rattle.simulator_nodes.specs.Told.{Told, ToStation, ToSignal, ToPoint, ToDetector, told}
+use Rattle.simulator_run.specs.Nodes.{Node, Interlocking, Signal, Point, Detector, detector_link, key_of, node_at, point_link}
+use Rattle.simulator_run.specs.State.{ClockedControllerState, WorldState}
+use Rattle.simulator_nodes.specs.Told.{Told, ToInterlocking, ToSignal, ToPoint, ToDetector, told}
 
 -- ---- one node by itself
 
@@ -118,16 +118,16 @@ first_life contacts = born at_zero contacts
 abbrev pub only : {A : Type 0} → ℕ → ℕ → A → Option A
 only place at input = if at == place then Some input else None
 
-abbrev pub station_hears : Told → Option ixl.Input
-station_hears (ToStation input) = Some input
-station_hears _ = None
+abbrev pub interlocking_hears : Told → Option ixl.Input
+interlocking_hears (ToInterlocking input) = Some input
+interlocking_hears _ = None
 
-abbrev pub is_station : Option Node → Bool
-is_station (Some Station) = true
-is_station _ = false
+abbrev pub is_interlocking : Option Node → Bool
+is_interlocking (Some Interlocking) = true
+is_interlocking _ = false
 
-abbrev pub the_station : Who (Unit {0}) ixl.Input
-the_station = record { number = 0; hearing = station_hears; is = is_station; contact = λ input contacts. contacts }
+abbrev pub the_interlocking : Who (Unit {0}) ixl.Input
+the_interlocking = record { number = 0; hearing = interlocking_hears; is = is_interlocking; contact = λ input contacts. contacts }
 
 abbrev pub signal_hears : ℕ → Told → Option Input
 signal_hears place (ToSignal at input) = only place at input
@@ -183,14 +183,14 @@ detector_sensing site begins sensed entry =
 
 -- ---- a world's node is what it has lived
 
-pub record LivesAsStation (site : Site) (table : Table) (world : WorldState) (life : Life (Unit {0}) ixl.Input) : Type 0 where
+pub record LivesAsInterlocking (site : Site) (table : Table) (world : WorldState) (life : Life (Unit {0}) ixl.Input) : Type 0 where
   pub state : world.station.ixl ≡ ixl_after site table life.came (new_ixl site table life.begins)
   pub clock : world.station.clock ≡ life.clock
 
 -- A controller of a list is there, and is what came of its first state by what came to it.
-pub record LivesAt {Object Contacts : Type 0} (does : Behaviour Object) (new : Beginning → Contacts → HostState Object) (servers : List (ServerState Object)) (place : ℕ)
+pub record LivesAt {Object Contacts : Type 0} (does : Behaviour Object) (new : Beginning → Contacts → HostState Object) (servers : List (ClockedControllerState Object)) (place : ℕ)
     (life : Life Contacts Input) : Type 0 where
-  pub server : ServerState Object
+  pub server : ClockedControllerState Object
   pub there : slice_get servers place ≡ Some server
   pub state : server.host ≡ host_after does life.came (new life.begins life.sensed)
   pub clock : server.clock ≡ life.clock

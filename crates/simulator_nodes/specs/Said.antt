@@ -17,10 +17,10 @@ use Rattle.simulator_run.specs.tds_ctl.Controlled.{detection_behaviour}
 use Rattle.simulator_run.specs.ixl_rules.Table.{Table}
 use Rattle.simulator_run.specs.simulator_event.declared.event.Event.{Event}
 use Rattle.simulator_run.specs.First.{Beginning, Outset, new_point, new_signal}
-use Rattle.simulator_run.specs.Station.{station_step}
+use Rattle.simulator_run.specs.Interlocking.{interlocking_step}
 use Rattle.simulator_nodes.specs.Lives.{Life, detector_at, detector_sensing, first_life, life_in, sections_in}
-use Rattle.simulator_nodes.specs.Shown.{host_now, point_life, signal_life, station_life, station_now}
-use Rattle.simulator_nodes.specs.Told.{Told, Nobody, ToStation, ToSignal, ToPoint, ToDetector, told}
+use Rattle.simulator_nodes.specs.Shown.{host_now, interlocking_life, interlocking_now, point_life, signal_life}
+use Rattle.simulator_nodes.specs.Told.{Told, Nobody, ToInterlocking, ToSignal, ToPoint, ToDetector, told}
 
 abbrev pub detector_life : Site → Table → Outset → List Event → ℕ → Life (List Occupancy) Input
 detector_life site table outset events place = life_in site table (detector_at site place) events (first_life (sections_in site outset place))
@@ -35,7 +35,7 @@ says does new input life (Some entry) =
 -- what the node that is told something behind these events hands out
 abbrev pub said_to : Site → Table → Outset → List Event → Told → List (List ℕ)
 said_to site table outset events Nobody = []
-said_to site table outset events (ToStation input) = (station_step site table input (station_now site table (station_life site table events))).outbox.datagrams
+said_to site table outset events (ToInterlocking input) = (interlocking_step site table input (interlocking_now site table (interlocking_life site table events))).outbox.datagrams
 said_to site table outset events (ToSignal place input) =
     says signal_behaviour (λ (entry : SignalEntry) begins sensed. new_signal site begins entry) input (signal_life site table events place) (slice_get site.signals place)
 said_to site table outset events (ToPoint place input) =

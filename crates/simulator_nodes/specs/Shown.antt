@@ -17,20 +17,20 @@ use Rattle.simulator_run.specs.simulator_event.declared.event.Event.{Event}
 use Rattle.simulator_run.specs.simulator_event.declared.event.Event.TheVariants as event
 use Rattle.simulator_run.specs.First.{Beginning, Outset, new_ixl, new_point, new_signal}
 use Rattle.simulator_run.specs.Nodes.{node_at}
-use Rattle.simulator_run.specs.State.{StationState}
-use Rattle.simulator_run.specs.Station.{frozen_by_restart, held_of}
+use Rattle.simulator_run.specs.State.{ClockedInterlockingState}
+use Rattle.simulator_run.specs.Interlocking.{frozen_by_restart, held_of}
 use Rattle.simulator_run.specs.simulator_snapshot.declared.snapshot.Held.{Held}
 use Rattle.simulator_run.specs.simulator_snapshot.declared.snapshot.Shown.{Shown}
 use Rattle.simulator_run.specs.simulator_snapshot.declared.snapshot.Snapshot.{Snapshot}
-use Rattle.simulator_nodes.specs.Lives.{Life, first_life, host_after, is_station, ixl_after, life_after, life_in, point_at, position_in, signal_at, the_station}
+use Rattle.simulator_nodes.specs.Lives.{Life, first_life, host_after, is_interlocking, ixl_after, life_after, life_in, point_at, position_in, signal_at, the_interlocking}
 
 -- a controller by its life
 abbrev pub host_now : {Object Contacts : Type 0} → Behaviour Object → (Beginning → Contacts → HostState Object) → Life Contacts Input → HostState Object
 host_now does new life = host_after does life.came (new life.begins life.sensed)
 
 -- an interlocking by its life
-abbrev pub station_now : Site → Table → Life (Unit {0}) ixl.Input → StationState
-station_now site table life = record { ixl = ixl_after site table life.came (new_ixl site table life.begins); clock = life.clock; connections = [] }
+abbrev pub interlocking_now : Site → Table → Life (Unit {0}) ixl.Input → ClockedInterlockingState
+interlocking_now site table life = record { ixl = ixl_after site table life.came (new_ixl site table life.begins); clock = life.clock; connections = [] }
 
 -- ---- the pairs that stand for the locks in the hold: what the interlocking before held when it ended
 
@@ -40,12 +40,12 @@ frozen_where false new old = old
 
 abbrev pub frozen_after : Site → Table → Event → Life (Unit {0}) ixl.Input → List Held → List Held
 frozen_after site table (event.Restart node clock first) life frozen =
-    frozen_where (is_station (node_at site node.0)) (frozen_by_restart table (station_now site table life) frozen) frozen
+    frozen_where (is_interlocking (node_at site node.0)) (frozen_by_restart table (interlocking_now site table life) frozen) frozen
 frozen_after site table _ life frozen = frozen
 
 abbrev pub frozen_in : Site → Table → List Event → Life (Unit {0}) ixl.Input → List Held → List Held
 frozen_in site table [] life frozen = frozen
-frozen_in site table (first ∷ others) life frozen = frozen_in site table others (life_after site table the_station first life) (frozen_after site table first life frozen)
+frozen_in site table (first ∷ others) life frozen = frozen_in site table others (life_after site table the_interlocking first life) (frozen_after site table first life frozen)
 
 -- ---- what is seen
 
@@ -58,8 +58,8 @@ signal_life site table events place = life_in site table (signal_at place) event
 abbrev pub point_life : Site → Table → Outset → List Event → ℕ → Life Position Input
 point_life site table outset events place = life_in site table (point_at site place) events (first_life (position_in outset place))
 
-abbrev pub station_life : Site → Table → List Event → Life (Unit {0}) ixl.Input
-station_life site table events = life_in site table the_station events (first_life tt)
+abbrev pub interlocking_life : Site → Table → List Event → Life (Unit {0}) ixl.Input
+interlocking_life site table events = life_in site table the_interlocking events (first_life tt)
 
 abbrev pub signal_shows : Site → SignalEntry → Life (Unit {0}) Input → Shown
 signal_shows site entry life = record { 0 = aspect_shown (host_now signal_behaviour (λ begins sensed. new_signal site begins entry) life).object.lamp (reading_of life.clock) }
@@ -67,7 +67,7 @@ signal_shows site entry life = record { 0 = aspect_shown (host_now signal_behavi
 -- A snapshot is what each node shows, drives or holds by its own life, and where the points stand.
 pub record IsOfNodes (site : Site) (table : Table) (outset : Outset) (events : List Event) (seen : Snapshot) : Type 0 where
   pub shows : AreAll site.signals seen.shows.items (λ place entry. signal_shows site entry (signal_life site table events place))
-  pub held : seen.held.items ≡ held_of table (station_now site table (station_life site table events)) (frozen_in site table events (first_life tt) [])
+  pub held : seen.held.items ≡ held_of table (interlocking_now site table (interlocking_life site table events)) (frozen_in site table events (first_life tt) [])
   pub position : AreAll site.points seen.position.items (λ place entry. record { 0 = (point_life site table outset events place).contacts })
   pub driven : AreAll site.points seen.driven.items (λ place entry. drives (reading_of (point_life site table outset events place).clock)
       (host_now point_behaviour (λ begins position. new_point site begins position entry) (point_life site table outset events place)).object)

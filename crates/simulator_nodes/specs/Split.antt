@@ -11,18 +11,18 @@ use Rattle.simulator_run.specs.tds_ctl.Controlled.{detection_behaviour}
 use Rattle.simulator_run.specs.ixl_rules.Table.{Table}
 use Rattle.simulator_run.specs.simulator_event.declared.event.Event.{Event}
 use Rattle.simulator_run.specs.simulator_event.declared.event.Event.TheVariants as event
-use Rattle.simulator_run.specs.Happens.{detector_stepped, made_anew, passed, point_stepped, signal_stepped, station_stepped}
+use Rattle.simulator_run.specs.Happens.{detector_stepped, interlocking_stepped, made_anew, passed, point_stepped, signal_stepped}
 use Rattle.simulator_run.specs.Network.{connection_of, copy_of}
 use Rattle.simulator_run.specs.Nodes.{node_at}
-use Rattle.simulator_run.specs.Servers.{step_of}
-use Rattle.simulator_run.specs.State.{ServerState, WorldState}
-use Rattle.simulator_run.specs.Station.{station_step}
-use Rattle.simulator_nodes.specs.Told.{Told, Nobody, ToStation, ToSignal, ToPoint, ToDetector}
+use Rattle.simulator_run.specs.Controllers.{step_of}
+use Rattle.simulator_run.specs.State.{ClockedControllerState, WorldState}
+use Rattle.simulator_run.specs.Interlocking.{interlocking_step}
+use Rattle.simulator_nodes.specs.Told.{Told, Nobody, ToInterlocking, ToSignal, ToPoint, ToDetector}
 
 -- the node that is told something makes a step
 abbrev pub stepped : Site → Table → ℕ → Told → WorldState → WorldState
 stepped site table connection Nobody world = world
-stepped site table connection (ToStation input) world = station_stepped site table input world
+stepped site table connection (ToInterlocking input) world = interlocking_stepped site table input world
 stepped site table connection (ToSignal place input) world = signal_stepped site input connection place world
 stepped site table connection (ToPoint place input) world = point_stepped site input connection place world
 stepped site table connection (ToDetector place input) world = detector_stepped site input connection place world
@@ -43,14 +43,14 @@ around site table _ world = world
 
 -- ---- what a step hands out
 
-abbrev pub handed_by : {Object : Type 0} → Behaviour Object → Input → Option (ServerState Object) → List (List ℕ)
+abbrev pub handed_by : {Object : Type 0} → Behaviour Object → Input → Option (ClockedControllerState Object) → List (List ℕ)
 handed_by does input None = []
 handed_by does input (Some server) = spellings server.host.link.identity.key (step_of does input server).pdus
 
 -- the datagrams that a node hands out when it is told this
 abbrev pub handed_out_by : Site → Table → Told → WorldState → List (List ℕ)
 handed_out_by site table Nobody world = []
-handed_out_by site table (ToStation input) world = (station_step site table input world.station).outbox.datagrams
+handed_out_by site table (ToInterlocking input) world = (interlocking_step site table input world.station).outbox.datagrams
 handed_out_by site table (ToSignal place input) world = handed_by signal_behaviour input (slice_get world.signals place)
 handed_out_by site table (ToPoint place input) world = handed_by point_behaviour input (slice_get world.points place)
 handed_out_by site table (ToDetector place input) world = handed_by detection_behaviour input (slice_get world.detectors place)

@@ -10,20 +10,20 @@ use Rattle.simulator_run.specs.ixl_rules.Table.{Table}
 use Rattle.simulator_run.specs.simulator_event.declared.event.Event.{Event}
 use Rattle.simulator_run.specs.simulator_event.declared.event.Event.TheVariants as event
 use Rattle.simulator_run.specs.Happens.{coming}
-use Rattle.simulator_run.specs.Nodes.{Node, Station, Signal, Point, Detector, node_at}
+use Rattle.simulator_run.specs.Nodes.{Node, Interlocking, Signal, Point, Detector, node_at}
 
 -- an input of one node, or nothing
 pub data Told : Type 0 where
   Nobody : Told
-  ToStation : ixl.Input → Told
+  ToInterlocking : ixl.Input → Told
   ToSignal : ℕ → Input → Told
   ToPoint : ℕ → Input → Told
   ToDetector : ℕ → Input → Told
 
--- the one where it is the station, the other where it is a controller
+-- the one where it is the interlocking, the other where it is a controller
 abbrev pub to_node : ixl.Input → Input → Option Node → Told
 to_node here there None = Nobody
-to_node here there (Some Station) = ToStation here
+to_node here there (Some Interlocking) = ToInterlocking here
 to_node here there (Some (Signal place)) = ToSignal place there
 to_node here there (Some (Point place)) = ToPoint place there
 to_node here there (Some (Detector place)) = ToDetector place there
@@ -34,7 +34,7 @@ to_reporter occupancy None = Nobody
 to_reporter occupancy (Some reporter) = ToDetector reporter.0 (inputs.Sense (sense.Section reporter.1 occupancy))
 
 abbrev pub told : Site → Table → Event → Told
-told site table (event.Request command) = ToStation (ixl.Commands command)
+told site table (event.Request command) = ToInterlocking (ixl.Commands command)
 told site table (event.Occupy section occupancy) = to_reporter occupancy (slice_get table.reporters section.0)
 told site table (event.Tick node) = to_node ixl.Tick inputs.Tick (node_at site node.0)
 told site table (event.Time elapsed clocks) = Nobody

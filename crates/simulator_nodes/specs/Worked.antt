@@ -31,8 +31,8 @@ use Rattle.simulator_run.specs.First.{Outset, at_zero, new_ixl, new_point, world
 use Rattle.simulator_run.specs.Happens.{happens}
 use Rattle.simulator_run.specs.Refusals.{refusal}
 use Rattle.simulator_run.specs.Run.{CanHappen, after_all}
-use Rattle.simulator_run.specs.State.{ServerState, WorldState}
-use Rattle.simulator_run.specs.Station.{held_of}
+use Rattle.simulator_run.specs.State.{ClockedControllerState, WorldState}
+use Rattle.simulator_run.specs.Interlocking.{held_of}
 use Rattle.simulator_nodes.specs.Contacts.{detector_now}
 use Rattle.simulator_nodes.specs.Lives.{Life, Who, detector_at, first_life, host_after, life_in, signal_at}
 use Rattle.simulator_nodes.specs.Readings.{last_reading}
@@ -87,13 +87,13 @@ after at events = after_all (small at) small_table events (begun at)
 abbrev pub runs_ahead : List Event
 runs_ahead = event.Time 1000 (1000 ∷ 1001 ∷ 1000 ∷ 1000 ∷ []) ∷ []
 
--- the signal lives by the clock of the station
+-- the signal lives by the clock of the interlocking
 abbrev pub by_another_clock : Who (Unit {0}) Input
 by_another_clock = record (signal_at 0) { number = 0 }
 
 pub record AnotherClock (at : Port) : Type 0 where
   pub allowed : CanHappen (small at) small_table runs_ahead (begun at)
-  pub is_so : map (λ (server : ServerState SignalState). server.clock) (after at runs_ahead).signals ≡ 1001 ∷ []
+  pub is_so : map (λ (server : ClockedControllerState SignalState). server.clock) (after at runs_ahead).signals ≡ 1001 ∷ []
   pub right : (life_in (small at) small_table (signal_at 0) runs_ahead (first_life tt)).clock ≡ 1001
   pub wrong : (life_in (small at) small_table by_another_clock runs_ahead (first_life tt)).clock ≡ 1000
 
@@ -131,7 +131,7 @@ is_occupied = event.Occupy (record { 0 = 0 }) Occupied
 
 -- what the detectors sense of their sections
 abbrev pub sensed_in : WorldState → List (List Occupancy)
-sensed_in world = map (λ (server : ServerState (List Section)). occupancies server.host.object) world.detectors
+sensed_in world = map (λ (server : ClockedControllerState (List Section)). occupancies server.host.object) world.detectors
 
 abbrev pub split_by : (Site → Table → Event → Told) → Port → WorldState
 split_by tells at = stepped (small at) small_table 0 (tells (small at) small_table is_occupied) (around (small at) small_table is_occupied (begun at))

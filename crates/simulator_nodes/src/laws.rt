@@ -26,7 +26,7 @@ ghost use Rattle.simulator_run.specs.layout.Once.{Once};
 ghost use Rattle.simulator_run.specs.layout.Station.{IsStation};
 ghost use Rattle.simulator_run.specs.simulator_snapshot.Safe.{Safe};
 ghost use Rattle.simulator_run.specs.Run.{CanHappen, after_all};
-ghost use Rattle.simulator_nodes.specs.Lives.{LivesAsDetector, LivesAsPoint, LivesAsSignal, LivesAsStation, detector_at, first_life, host_after, life_in, point_at, position_in, sections_in, signal_at, the_station};
+ghost use Rattle.simulator_nodes.specs.Lives.{LivesAsDetector, LivesAsInterlocking, LivesAsPoint, LivesAsSignal, detector_at, first_life, host_after, life_in, point_at, position_in, sections_in, signal_at, the_interlocking};
 ghost use Rattle.simulator_nodes.specs.Readings.{Rises};
 ghost use Rattle.simulator_nodes.specs.Said.{lamp_line, last_line, lines_after, said_in, said_to};
 ghost use Rattle.simulator_nodes.specs.Shown.{IsOfNodes};
@@ -49,7 +49,7 @@ pub fn every_event_is_one_nodes()
 /// no others.
 pub fn a_station_is_its_nodes()
     ensures station { (site : Site) (table : Table) (outset : Outset) → IsOutsetOf site outset → (events : List Event)
-        → LivesAsStation site table (after_all site table events (world_at site table outset)) (life_in site table the_station events (first_life tt)) }
+        → LivesAsInterlocking site table (after_all site table events (world_at site table outset)) (life_in site table the_interlocking events (first_life tt)) }
     ensures signals { (site : Site) (table : Table) (outset : Outset) → IsOutsetOf site outset → (events : List Event) (place : ℕ) (entry : Signal) → slice_get site.signals place ≡ Some entry
         → LivesAsSignal site entry (after_all site table events (world_at site table outset)) place (life_in site table (signal_at place) events (first_life tt)) }
     ensures points { (site : Site) (table : Table) (outset : Outset) → IsOutsetOf site outset → (events : List Event) (place : ℕ) (entry : Point) → slice_get site.points place ≡ Some entry
@@ -85,7 +85,7 @@ pub fn what_is_sent_is_what_nodes_say()
 /// The readings at which something came to a node begin at the first reading of its life, and don't fall; its clock has
 /// reached the last of them.
 pub fn the_readings_of_a_life_rise()
-    ensures station { (site : Site) (table : Table) (events : List Event) → Rises (life_in site table the_station events (first_life tt)) }
+    ensures station { (site : Site) (table : Table) (events : List Event) → Rises (life_in site table the_interlocking events (first_life tt)) }
     ensures signals { (site : Site) (table : Table) (events : List Event) (place : ℕ) → Rises (life_in site table (signal_at place) events (first_life tt)) }
     ensures points { (site : Site) (table : Table) (events : List Event) (place : ℕ) (stands : Position) → Rises (life_in site table (point_at site place) events (first_life stands)) }
     ensures detectors { (site : Site) (table : Table) (events : List Event) (place : ℕ) (occupied : List Occupancy) → Rises (life_in site table (detector_at site place) events (first_life occupied)) }

@@ -13,7 +13,7 @@ use Rattle.rasta_core.specs.Run.{Ends, end_of, called}
 use Rattle.rasta_core.specs.identity.Role.{Role}
 use Rattle.rasta_core.specs.identity.Role.TheVariants.{Client, Server}
 use Rattle.rasta_core.specs.Calls.{hearing_bytes}
-use Rattle.rasta_core.specs.Sending.{entered}
+use Rattle.rasta_core.specs.PdusHandedOut.{entered}
 use Rattle.rasta_core.specs.State.{LinkState}
 use Rattle.rasta_core.specs.Ordered.{Ordered}
 use Rattle.rasta_core.specs.Events.{Event, Calls, Passes, Loses, Restarts, IsAmong, IsDelivered, IsWithinDrift, May, MayCall, happened}
@@ -23,7 +23,7 @@ use Rattle.rasta_core.specs.Sentences.{IsIn, IsOpening, IsOut, freshness, receip
 use Rattle.simulator_pair.specs.declared.event.PairReply.{PairReply}
 use Rattle.simulator_refused.specs.declared.refused.Refused.{Refused}
 use Rattle.rasta_pdu.specs.SafetyCode.{IsIntact, intact}
-use Rattle.rasta_pdu.specs.Reading.{reading}
+use Rattle.rasta_pdu.specs.PduRead.{reading}
 use Rattle.rasta_pdu.specs.declared.fault.PduFault.{PduFault}
 use Rattle.rasta_pdu.specs.declared.key.Key.{Key}
 use Rattle.rasta_pdu.specs.declared.pdu.Pdu.{Pdu}

@@ -8,9 +8,9 @@ use Rattle.rasta_core.specs.Clock.{deadline, state_at}
 use Rattle.rasta_core.specs.Ends.{is_taken, reading_of}
 use Rattle.rasta_core.specs.Opening.{granting}
 use Rattle.rasta_core.specs.Parameters.{quiet_time}
-use Rattle.rasta_core.specs.Receiving.{Receipt, accepting, by_state, hearing, refusing, resting}
+use Rattle.rasta_core.specs.Receipt.{Receipt, accepting, by_state, hearing, refusing, resting}
 use Rattle.rasta_core.specs.Run.{Ends, end_of}
-use Rattle.rasta_core.specs.Sending.{entered, limited}
+use Rattle.rasta_core.specs.PdusHandedOut.{entered, limited}
 use Rattle.rasta_core.specs.Clock.{settled}
 use Rattle.rasta_core.specs.Sentences.{IsOut, receipt_at}
 use Rattle.rasta_core.specs.State.{LinkState, is_client, is_open}
@@ -18,7 +18,7 @@ use Rattle.rasta_core.specs.identity.Role.{Role}
 use Rattle.rasta_core.specs.phase.State.TheVariants as state
 use Rattle.rasta_core.specs.verdict.Verdict.{Verdict}
 use Rattle.rasta_core.specs.verdict.Verdict.TheVariants as verdict
-use Rattle.rasta_pdu.specs.Reading.{reading}
+use Rattle.rasta_pdu.specs.PduRead.{reading}
 use Rattle.rasta_pdu.specs.declared.body.Body.{Body}
 use Rattle.rasta_pdu.specs.declared.body.Body.TheVariants.{ConnectionRequest}
 use Rattle.rasta_pdu.specs.declared.fault.PduFault.{PduFault}

@@ -6,7 +6,7 @@ use Rattle.rasta_core.specs.Run.{Ends, end_of, called}
 use Rattle.rasta_core.specs.identity.Role.{Role}
 use Rattle.rasta_core.specs.Safe.{IsIdle}
 use Rattle.rasta_core.specs.Names.{Names}
-use Rattle.rasta_core.specs.Sending.{entered}
+use Rattle.rasta_core.specs.PdusHandedOut.{entered}
 use Rattle.rasta_core.specs.Sentences.{IsIn, IsOpening, IsOut, freshness, receipt_at}
 use Rattle.simulator_pair.specs.Events.{copy_of, refusal_of_delivery}
 use Rattle.simulator_pair.specs.declared.event.PairEvent.{PairEvent}

@@ -1,7 +1,7 @@
 -- What the code has inside a pair, and what each of its steps does there. No promise of `Pair` names any of it.
 pub mod Seen
-pub mod Calling
-pub mod Finding
+pub mod CallsMade
+pub mod EventTest
 pub mod Order
 pub mod Indexed
 pub mod Lit

@@ -49,7 +49,7 @@ fn is_within(now: u64, elapsed: u64) -> bool
 
 impl Parts {
     ghost use Rattle.simulator_pair.specs.inside.Parts.{seen, seen_ends, AreSound, HaveRoom, KeepRoom, IsPair};
-    ghost use Rattle.simulator_pair.specs.inside.Finding.{Finds, StandsAt};
+    ghost use Rattle.simulator_pair.specs.inside.EventTest.{Finds, StandsAt};
     ghost use Rattle.simulator_pair.specs.inside.Seen.{seen_end};
 
     #[tactic(auto, unfolding(crate::specs::inside::Parts::seen_ends))]

@@ -5,7 +5,7 @@ ghost use Rattle.std.specs.Option.{option_map};
 ghost use Rattle.std.specs.Vec.{vec_len, vec_capacity};
 ghost use Rattle.rasta_core.specs.Bag as spec;
 ghost use Rattle.rasta_core.specs.Ends.{handed_out};
-ghost use Rattle.simulator_pair.specs.inside.Finding.{StandsAt};
+ghost use Rattle.simulator_pair.specs.inside.EventTest.{StandsAt};
 ghost use Rattle.simulator_pair.specs.inside.Indexed.{keys_of};
 ghost use Rattle.simulator_pair.specs.inside.Order.{AreInOrder};
 ghost use Rattle.simulator_pair.specs.Events.{clock_limit};

@@ -6,7 +6,7 @@ ghost use Rattle.rasta_core.specs.Outbox.{HasRoomFor, posted};
 ghost use Rattle.rasta_core.specs.Calls.{MayStep, IsAt, opening, opens, sending_item, answer_to_send, receiving};
 ghost use Rattle.rasta_core.specs.Ends.{outcome, end_after, end_later, entered_by, reading_of};
 ghost use Rattle.arrayvec.specs.ArrayVec.{array_vec_len};
-ghost use Rattle.simulator_pair.specs.inside.Calling.{HasStepped, meant};
+ghost use Rattle.simulator_pair.specs.inside.CallsMade.{HasStepped, meant};
 
 use crate::event::Bytes;
 use arrayvec::ArrayVec;
@@ -43,7 +43,7 @@ pub(crate) enum Call<'a> {
 
 impl Node {
     ghost use Rattle.simulator_pair.specs.inside.Seen.{seen_end, IsAtClock, HasLists, KeepsLists, noted, concluded};
-    ghost use Rattle.simulator_pair.specs.inside.Calling.{IsHandedOut, IsMade, IsReady, Performs};
+    ghost use Rattle.simulator_pair.specs.inside.CallsMade.{IsHandedOut, IsMade, IsReady, Performs};
 
     /// What the end reads of its clock.
     pub(crate) fn now(&self) -> Millis

@@ -2,7 +2,7 @@
 
 ghost use Rattle.std.specs.Prelude.{◌≡◌, ◌≤◌};
 ghost use Rattle.simulator_pair.specs.Pair.{stepped};
-ghost use Rattle.simulator_pair.specs.inside.Calling.{meant};
+ghost use Rattle.simulator_pair.specs.inside.CallsMade.{meant};
 ghost use Rattle.rasta_core.specs.Run.{end_of};
 ghost use Rattle.rasta_core.specs.identity.Role.TheVariants.{Client, Server};
 
@@ -35,7 +35,7 @@ pub(crate) struct Parts {
 
 impl Parts {
     ghost use Rattle.simulator_pair.specs.inside.Seen.{seen_end};
-    ghost use Rattle.simulator_pair.specs.inside.Calling.{answer_of};
+    ghost use Rattle.simulator_pair.specs.inside.CallsMade.{answer_of};
     ghost use Rattle.simulator_pair.specs.inside.Parts.{seen, AreSound, HaveRoom, KeepRoom};
 
     /// A call of the client's link.

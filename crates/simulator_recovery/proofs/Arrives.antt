@@ -64,12 +64,12 @@ fresh_there : (time : ℕ) (more : List OnLink) → Each (IsFresh time) more →
 fresh_there time [] fresh = tt
 fresh_there time (one ∷ more) fresh = (fresh.0.1, fresh_there time more fresh.1)
 
-pub due_in_order : (old new : Flowing Played) (leaves : LeavesFresh old new) → deliveries (stations.arrival new.picture) new.passed (length new.picture.run.sent - new.passed) ≡ arrivals new.passed leaves.more
+pub due_in_order : (old new : Flowing Played) (leaves : LeavesFresh old new) → deliveries (stations.arrival new.state) new.passed (length new.state.run.sent - new.passed) ≡ arrivals new.passed leaves.more
 due_in_order old new leaves =
     let passed_is = leaves.passed
-    in let total : length new.picture.run.sent ≡ length old.picture.run.sent + length leaves.more = ap length leaves.sent ∙ count_both old.picture.run.sent leaves.more
-    in subst (λ (k : ℕ). deliveries (stations.arrival new.picture) k (length new.picture.run.sent - new.passed) ≡ arrivals k leaves.more) (sym leaves.passed)
-    (all_due new.picture old.picture.run.sent leaves.more (length new.picture.run.sent - new.passed) leaves.sent (omega (arith, total, passed_is)) (fresh_there new.picture.run.time leaves.more leaves.fresh))
+    in let total : length new.state.run.sent ≡ length old.state.run.sent + length leaves.more = ap length leaves.sent ∙ count_both old.state.run.sent leaves.more
+    in subst (λ (k : ℕ). deliveries (stations.arrival new.state) k (length new.state.run.sent - new.passed) ≡ arrivals k leaves.more) (sym leaves.passed)
+    (all_due new.state old.state.run.sent leaves.more (length new.state.run.sent - new.passed) leaves.sent (omega (arith, total, passed_is)) (fresh_there new.state.run.time leaves.more leaves.fresh))
 
 -- ---- and isn't refused
 
@@ -174,12 +174,12 @@ module _ (laws : ArrivalLaws) where
       in let timely = laws.time (links site) (names_at site) standing.linked.events (begun (names_at site) starts_at_zero) are_links (laws.begins (links site) (names_at site) starts_at_zero are_links) standing.linked.may
       in subst (Each (λ (one : OnLink). one.link < links site)) standing.linked.are.sent_is timely.numbered
 
-  pub none_refused : (old new : Flowing Played) (leaves : LeavesFresh old new) → Once new.picture.sited.site → IsStation new.picture.sited.site
-      → IsReached new.picture.sited.site new.picture.sited.table new.picture.run → NoneRefused (arrivals new.passed leaves.more) (after new.picture (round_of_time new.picture.sited.site))
+  pub none_refused : (old new : Flowing Played) (leaves : LeavesFresh old new) → Once new.state.sited.site → IsStation new.state.sited.site
+      → IsReached new.state.sited.site new.state.sited.table new.state.run → NoneRefused (arrivals new.passed leaves.more) (after new.state (round_of_time new.state.sited.site))
   none_refused old new leaves once station reached =
-      let site = new.picture.sited.site
-      in let below = each_behind (λ (one : OnLink). one.link < links site) old.picture.run.sent leaves.more
-      (subst (Each (λ (one : OnLink). one.link < links site)) leaves.sent (numbered site new.picture.sited.table new.picture.run station once reached))
-      in let behind = after new.picture (round_of_time site)
-      in all_arrive behind.run new.picture.run.time (time_is_soon new.picture).soon new.picture.sited new.passed old.picture.run.sent leaves.more behind ((time_sends_none new.picture).sent ∙ leaves.sent)
-      leaves.fresh below (time_sited new.picture).same (record { is = adds_none behind.run })
+      let site = new.state.sited.site
+      in let below = each_behind (λ (one : OnLink). one.link < links site) old.state.run.sent leaves.more
+      (subst (Each (λ (one : OnLink). one.link < links site)) leaves.sent (numbered site new.state.sited.table new.state.run station once reached))
+      in let behind = after new.state (round_of_time site)
+      in all_arrive behind.run new.state.run.time (time_is_soon new.state).soon new.state.sited new.passed old.state.run.sent leaves.more behind ((time_sends_none new.state).sent ∙ leaves.sent)
+      leaves.fresh below (time_sited new.state).same (record { is = adds_none behind.run })

@@ -27,12 +27,12 @@ use Rattle.simulator_run.specs.simulator_event.declared.event.Event.TheVariants 
 use Rattle.simulator_run.specs.simulator_event.refused.Refused.TheVariants as refused
 use Rattle.simulator_run.specs.First.{Beginning, new_ixl}
 use Rattle.simulator_run.specs.Flow.{round_of_time}
-use Rattle.simulator_run.specs.Happens.{all_later, coming, delivered_to, detector_anew, detector_stepped, happens, made_anew, passed, point_anew, point_stepped, sensed_by, signal_anew, signal_stepped, station_stepped, stepped_at, ticked_at}
+use Rattle.simulator_run.specs.Happens.{all_later, coming, delivered_to, detector_anew, detector_stepped, happens, interlocking_stepped, made_anew, passed, point_anew, point_stepped, sensed_by, signal_anew, signal_stepped, stepped_at, ticked_at}
 use Rattle.simulator_run.specs.Network.{connection_of, copy_of}
-use Rattle.simulator_run.specs.Nodes.{Detector, Node, Point, Signal, Station, detector_link, key_of, links, node_at, nodes, point_link}
+use Rattle.simulator_run.specs.Nodes.{Detector, Interlocking, Node, Point, Signal, detector_link, key_of, links, node_at, nodes, point_link}
 use Rattle.simulator_run.specs.Refusals.{all_within, are_within, clock_limit, keeps_time, refusal, refusal_of_time, refused_where}
-use Rattle.simulator_run.specs.Servers.{server_after, server_later}
-use Rattle.simulator_run.specs.State.{ServerState, WorldState}
+use Rattle.simulator_run.specs.Controllers.{controller_after, controller_later}
+use Rattle.simulator_run.specs.State.{ClockedControllerState, WorldState}
 use Rattle.simulator_recovery.specs.Rounds.{clock_of, clocks_of}
 use Rattle.simulator_recovery.proofs.Created.{step_keeps}
 
@@ -57,16 +57,16 @@ still_then one two three first second = record { clocks = second.clocks ∙ firs
 
 -- ---- lists
 
-set_clock : {Object : Type 0} (list : List (ServerState Object)) (place : ℕ) (old new : ServerState Object) → slice_get list place ≡ Some old → new.clock ≡ old.clock → map clock_of (slice_set list place new) ≡ map clock_of list
+set_clock : {Object : Type 0} (list : List (ClockedControllerState Object)) (place : ℕ) (old new : ClockedControllerState Object) → slice_get list place ≡ Some old → new.clock ≡ old.clock → map clock_of (slice_set list place new) ≡ map clock_of list
 set_clock [] place old new is same = refl
 set_clock (first ∷ others) zero old new is same = ap (λ (n : ℕ). n ∷ map clock_of others) (same ∙ ap clock_of (sym (same_Some first old is)))
 set_clock (first ∷ others) (suc place) old new is same = ap (λ (l : List ℕ). first.clock ∷ l) (set_clock others place old new is same)
 
 -- ---- steps of controllers
 
-stepped_clocks : {Object : Type 0} (does : Behaviour Object) (input : HostInput) (connection time link place : ℕ) (servers : List (ServerState Object)) (sent : List OnLink) (found : Option (ServerState Object)) → slice_get servers place ≡ found
+stepped_clocks : {Object : Type 0} (does : Behaviour Object) (input : HostInput) (connection time link place : ℕ) (servers : List (ClockedControllerState Object)) (sent : List OnLink) (found : Option (ClockedControllerState Object)) → slice_get servers place ≡ found
     → map clock_of (stepped_at does input connection time link place found (record { servers = servers; sent = sent })).servers ≡ map clock_of servers
-unfolding stepped_at server_after
+unfolding stepped_at controller_after
 stepped_clocks does input connection time link place servers sent None is = refl
 stepped_clocks does input connection time link place servers sent (Some server) is = set_clock servers place server _ is refl
 
@@ -99,8 +99,8 @@ detector_still site input connection place world = record {
 
 -- ---- steps of the interlocking
 
-station_still : (site : Site) (table : Table) (input : ixl.Input) (world : WorldState) → AreStill world (station_stepped site table input world)
-unfolding station_stepped
+station_still : (site : Site) (table : Table) (input : ixl.Input) (world : WorldState) → AreStill world (interlocking_stepped site table input world)
+unfolding interlocking_stepped
 station_still site table input world = record {
   clocks = refl;
   created = step_keeps (reading_of world.station.clock) table (key_of site) input (begun_with world.station.ixl empty_outbox);
@@ -112,14 +112,14 @@ station_still site table input world = record {
 module _ (site : Site) (table : Table) where
   ticked_still : (at : Option Node) (world : WorldState) → AreStill world (ticked_at site table at world)
   ticked_still None world = still world
-  ticked_still (Some Station) world = station_still site table ixl.Tick world
+  ticked_still (Some Interlocking) world = station_still site table ixl.Tick world
   ticked_still (Some (Signal place)) world = signal_still site inputs.Tick 0 place world
   ticked_still (Some (Point place)) world = point_still site inputs.Tick 0 place world
   ticked_still (Some (Detector place)) world = detector_still site inputs.Tick 0 place world
 
   delivered_still : (bytes : List ℕ) (connection : ℕ) (at : Option Node) (world : WorldState) → AreStill world (delivered_to site table bytes connection at world)
   delivered_still bytes connection None world = still world
-  delivered_still bytes connection (Some Station) world = station_still site table (ixl.Datagram bytes) world
+  delivered_still bytes connection (Some Interlocking) world = station_still site table (ixl.Datagram bytes) world
   delivered_still bytes connection (Some (Signal place)) world = signal_still site (coming bytes) connection place world
   delivered_still bytes connection (Some (Point place)) world = point_still site (coming bytes) connection place world
   delivered_still bytes connection (Some (Detector place)) world = detector_still site (coming bytes) connection place world
@@ -171,7 +171,7 @@ module _ (site : Site) (table : Table) where
   anew_made : (begins : Beginning) (at : Option Node) (world : WorldState) → WasMade world → WasMade (made_anew site table begins at world)
   unfolding new_ixl
   anew_made begins None world was = was
-  anew_made begins (Some Station) world was = omega arith
+  anew_made begins (Some Interlocking) world was = omega arith
   anew_made begins (Some (Signal place)) world was = signal_kept begins place (slice_get site.signals place) world was
   anew_made begins (Some (Point place)) world was = point_kept begins place (slice_get site.points place) world was
   anew_made begins (Some (Detector place)) world was = detector_kept begins place (slice_get site.detectors place) world was
@@ -209,8 +209,8 @@ drop_same zero m k e = ap (λ (j : ℕ). tens j) (omega (arith, e))
 drop_same (suc n) m zero e = absurd (omega (arith, e))
 drop_same (suc n) m (suc k) e = drop_same n m k (omega (arith, e))
 
-all_later_clocks : {Object : Type 0} (moment m : ℕ) (list : List (ServerState Object)) → length list ≤ m → map clock_of (all_later moment (tens m) list) ≡ map later (map clock_of list)
-unfolding server_later
+all_later_clocks : {Object : Type 0} (moment m : ℕ) (list : List (ClockedControllerState Object)) → length list ≤ m → map clock_of (all_later moment (tens m) list) ≡ map later (map clock_of list)
+unfolding controller_later
 all_later_clocks moment m [] enough = refl
 all_later_clocks moment zero (first ∷ others) enough = absurd (omega (arith, enough))
 all_later_clocks moment (suc m) (first ∷ others) enough = ap (λ (l : List ℕ). later first.clock ∷ l) (all_later_clocks moment m others (omega (arith, enough)))
@@ -258,7 +258,7 @@ le_true a b h = grind (arith, nat_tests)
 abbrev pub CanGoOn : ℕ → Type 0
 CanGoOn clock = clock + 10000 ≤ clock_limit
 
-within : {Object : Type 0} (list : List (ServerState Object)) (m k : ℕ) (others : List ℕ → Bool) → m ≡ length list + k → Each CanGoOn (map clock_of list) → are_within list (tens m) others ≡ others (tens k)
+within : {Object : Type 0} (list : List (ClockedControllerState Object)) (m k : ℕ) (others : List ℕ → Bool) → m ≡ length list + k → Each CanGoOn (map clock_of list) → are_within list (tens m) others ≡ others (tens k)
 within [] m k others count each = ap (λ (j : ℕ). others (tens j)) (omega (arith, count))
 within (first ∷ list) zero k others count each = absurd (omega (arith, count))
 within (first ∷ list) (suc m) k others count each =

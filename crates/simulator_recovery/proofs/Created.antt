@@ -1,7 +1,7 @@
 -- No step of an interlocking changes when it was made.
 use Rattle.std.proofs.Common.{◌≡◌, ℕ, zero, suc, Bool, true, false, List, [], ◌∷◌, length, Option, Some, None, slice_get, refl, ◌∙◌, if◌then◌else◌}
 use Rattle.std.specs.Prelude.{◌&&◌, ◌||◌}
-use Rattle.simulator_run.specs.rasta_pdu.Reading.{reading}
+use Rattle.simulator_run.specs.rasta_pdu.PduRead.{reading}
 use Rattle.simulator_run.specs.rasta_pdu.declared.key.Key.{Key}
 use Rattle.simulator_run.specs.ixl_client.ClientSoFar.{begun}
 use Rattle.simulator_run.specs.ixl_client.Step.{hearing}

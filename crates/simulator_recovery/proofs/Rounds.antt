@@ -82,23 +82,23 @@ reaches_calm passed point (drive ∷ drives) = calm_joined (reach passed point d
 -- those behind the time of a round
 abbrev pub behind_time : Flowing Played → List RoundEvent
 behind_time flowing =
-    deliveries (stations.arrival flowing.picture) flowing.passed (length flowing.picture.run.sent - flowing.passed)
-    ++ (ticks (length flowing.picture.run.sent) 0 (nodes flowing.picture.sited.site) ++ reaches (length flowing.picture.run.sent) 0 flowing.drives)
+    deliveries (stations.arrival flowing.state) flowing.passed (length flowing.state.run.sent - flowing.passed)
+    ++ (ticks (length flowing.state.run.sent) 0 (nodes flowing.state.sited.site) ++ reaches (length flowing.state.run.sent) 0 flowing.drives)
 
 pub behind_calm : (flowing : Flowing Played) → AreCalm (behind_time flowing)
 behind_calm flowing = calm_joined (deliveries _ flowing.passed _) _ (deliveries_calm _ flowing.passed _) (calm_joined (ticks _ 0 _) _ (ticks_calm _ 0 _) (reaches_calm _ 0 flowing.drives))
 
 -- what each event keeps, a list of them keeps
-all_keeps : (P : Played → Type 0) → ((world : Played) (one : Event) → P world → P (after world one)) → (list : List RoundEvent) (flowing : Flowing Played) → P flowing.picture → P (all_did stations list flowing).picture
+all_keeps : (P : Played → Type 0) → ((world : Played) (one : Event) → P world → P (after world one)) → (list : List RoundEvent) (flowing : Flowing Played) → P flowing.state → P (all_did stations list flowing).state
 unfolding all_did
 all_keeps P each [] flowing before = before
-all_keeps P each (first ∷ others) flowing before = all_keeps P each others (did stations first flowing) (each flowing.picture first.event before)
+all_keeps P each (first ∷ others) flowing before = all_keeps P each others (did stations first flowing) (each flowing.state first.event before)
 
-pub calm_keeps : (P : Played → Type 0) → ((world : Played) (one : Event) → IsCalm one → P world → P (after world one)) → (list : List RoundEvent) (flowing : Flowing Played) → AreCalm list → P flowing.picture
-    → P (all_did stations list flowing).picture
+pub calm_keeps : (P : Played → Type 0) → ((world : Played) (one : Event) → IsCalm one → P world → P (after world one)) → (list : List RoundEvent) (flowing : Flowing Played) → AreCalm list → P flowing.state
+    → P (all_did stations list flowing).state
 unfolding all_did
 calm_keeps P each [] flowing calm before = before
-calm_keeps P each (first ∷ others) flowing calm before = calm_keeps P each others (did stations first flowing) calm.1 (each flowing.picture first.event calm.0 before)
+calm_keeps P each (first ∷ others) flowing calm before = calm_keeps P each others (did stations first flowing) calm.1 (each flowing.state first.event calm.0 before)
 
 pub work_calm : (one : Event) → IsWork one → IsCalm one
 work_calm (event.Request command) work = tt
@@ -128,20 +128,20 @@ module _ (laws : ReachLaws) (sited : SitedTable) where
         (λ still_none. laws.on sited.site sited.table one world.run is.reached still_none) none;
   })
 
-  round_reached : (flowing : Flowing Played) → IsAt sited flowing.picture → IsAt sited (round stations flowing).picture
+  round_reached : (flowing : Flowing Played) → IsAt sited flowing.state → IsAt sited (round stations flowing).state
   round_reached flowing is = all_keeps (IsAt sited) tried_reached (due stations flowing) flowing is
 
-  work_reached : (between : List Event) (flowing : Flowing Played) → IsAt sited flowing.picture → IsAt sited (all_tried between flowing).picture
+  work_reached : (between : List Event) (flowing : Flowing Played) → IsAt sited flowing.state → IsAt sited (all_tried between flowing).state
   work_reached [] flowing is = is
-  work_reached (first ∷ others) flowing is = work_reached others (record flowing { picture = after flowing.picture first }) (tried_reached flowing.picture first is)
+  work_reached (first ∷ others) flowing is = work_reached others (record flowing { state = after flowing.state first }) (tried_reached flowing.state first is)
 
-  rounds_reached : (between : List (List Event)) (flowing : Flowing Played) → IsAt sited flowing.picture → IsAt sited (good_rounds between flowing).picture
+  rounds_reached : (between : List (List Event)) (flowing : Flowing Played) → IsAt sited flowing.state → IsAt sited (good_rounds between flowing).state
   rounds_reached [] flowing is = is
   rounds_reached (first ∷ others) flowing is = rounds_reached others (all_tried first (round stations flowing)) (work_reached first (round stations flowing) (round_reached flowing is))
 
-pub reached_on : ReachLaws → (between : List (List Event)) (flowing : Flowing Played) → IsReached flowing.picture.sited.site flowing.picture.sited.table flowing.picture.run
-    → IsReached flowing.picture.sited.site flowing.picture.sited.table (good_rounds between flowing).picture.run
-reached_on laws between flowing is = (rounds_reached laws flowing.picture.sited between flowing (record { same = refl; reached = is })).reached
+pub reached_on : ReachLaws → (between : List (List Event)) (flowing : Flowing Played) → IsReached flowing.state.sited.site flowing.state.sited.table flowing.state.run
+    → IsReached flowing.state.sited.site flowing.state.sited.table (good_rounds between flowing).state.run
+reached_on laws between flowing is = (rounds_reached laws flowing.state.sited between flowing (record { same = refl; reached = is })).reached
 
 -- ---- and take their time
 
@@ -158,10 +158,10 @@ record IsStill (sited : SitedTable) (old : WorldState) (world : Played) : Type 0
 tried_still : (sited : SitedTable) (old : WorldState) (world : Played) (one : Event) → IsCalm one → IsStill sited old world → IsStill sited old (after world one)
 tried_still sited old world one calm is = tried_keeps (IsStill sited old) world one is (λ none. record { same = is.same; is = still_then old world.run _ is.is (calm_still world.sited.site world.sited.table one world.run calm) })
 
-work_still : (sited : SitedTable) (old : WorldState) (between : List Event) (flowing : Flowing Played) → Each IsWork between → IsStill sited old flowing.picture → IsStill sited old (all_tried between flowing).picture
+work_still : (sited : SitedTable) (old : WorldState) (between : List Event) (flowing : Flowing Played) → Each IsWork between → IsStill sited old flowing.state → IsStill sited old (all_tried between flowing).state
 work_still sited old [] flowing work is = is
 work_still sited old (first ∷ others) flowing work is =
-    work_still sited old others (record flowing { picture = after flowing.picture first }) work.1 (tried_still sited old flowing.picture first (work_calm first work.0) is)
+    work_still sited old others (record flowing { state = after flowing.state first }) work.1 (tried_still sited old flowing.state first (work_calm first work.0) is)
 
 -- ---- clocks
 
@@ -197,9 +197,9 @@ time_created : (elapsed : ℕ) (clocks : List ℕ) (world : WorldState) → (pas
 unfolding passed
 time_created elapsed clocks world = refl
 
-pub round_picture : (flowing : Flowing Played) → (round stations flowing).picture ≡ (all_did stations (behind_time flowing) (did stations (record { event = round_of_time flowing.picture.sited.site; passed = flowing.passed }) flowing)).picture
+pub round_state : (flowing : Flowing Played) → (round stations flowing).state ≡ (all_did stations (behind_time flowing) (did stations (record { event = round_of_time flowing.state.sited.site; passed = flowing.passed }) flowing)).state
 unfolding all_did
-round_picture flowing = refl
+round_state flowing = refl
 
 -- time passes in a round
 time_goes : (world : Played) → HasAll world.sited.site world.run → Each CanGoOn (clocks_of world.run)
@@ -217,27 +217,27 @@ record GoesOn (old new : Played) : Type 0 where
   clocks : clocks_of new.run ≡ map later (clocks_of old.run)
   created : new.run.station.ixl.created ≡ old.run.station.ixl.created
 
-one_round : (between : List Event) (flowing : Flowing Played) → Each IsWork between → HasAll flowing.picture.sited.site flowing.picture.run → Each CanGoOn (clocks_of flowing.picture.run)
-    → GoesOn flowing.picture (all_tried between (round stations flowing)).picture
+one_round : (between : List Event) (flowing : Flowing Played) → Each IsWork between → HasAll flowing.state.sited.site flowing.state.run → Each CanGoOn (clocks_of flowing.state.run)
+    → GoesOn flowing.state (all_tried between (round stations flowing)).state
 one_round between flowing work has can = record {
   same = all.same;
-  clocks = all.is.clocks ∙ time_clocks flowing.picture.sited.site flowing.picture.run has;
-  created = all.is.created ∙ time_created 10000 (replicate (nodes flowing.picture.sited.site) 10000) flowing.picture.run;
+  clocks = all.is.clocks ∙ time_clocks flowing.state.sited.site flowing.state.run has;
+  created = all.is.created ∙ time_created 10000 (replicate (nodes flowing.state.sited.site) 10000) flowing.state.run;
 }
   where
     then_world : WorldState
-    then_world = passed 10000 (replicate (nodes flowing.picture.sited.site) 10000) flowing.picture.run
+    then_world = passed 10000 (replicate (nodes flowing.state.sited.site) 10000) flowing.state.run
 
     first_did : Flowing Played
-    first_did = did stations (record { event = round_of_time flowing.picture.sited.site; passed = flowing.passed }) flowing
+    first_did = did stations (record { event = round_of_time flowing.state.sited.site; passed = flowing.passed }) flowing
 
-    behind : IsStill flowing.picture.sited then_world (round stations flowing).picture
-    behind = subst (IsStill flowing.picture.sited then_world) (sym (round_picture flowing))
-        (calm_keeps (IsStill flowing.picture.sited then_world) (λ world one calm before. tried_still flowing.picture.sited then_world world one calm before) (behind_time flowing) first_did (behind_calm flowing)
-        (time_goes flowing.picture has can))
+    behind : IsStill flowing.state.sited then_world (round stations flowing).state
+    behind = subst (IsStill flowing.state.sited then_world) (sym (round_state flowing))
+        (calm_keeps (IsStill flowing.state.sited then_world) (λ world one calm before. tried_still flowing.state.sited then_world world one calm before) (behind_time flowing) first_did (behind_calm flowing)
+        (time_goes flowing.state has can))
 
-    all : IsStill flowing.picture.sited then_world (all_tried between (round stations flowing)).picture
-    all = work_still flowing.picture.sited then_world between (round stations flowing) work behind
+    all : IsStill flowing.state.sited then_world (all_tried between (round stations flowing)).state
+    all = work_still flowing.state.sited then_world between (round stations flowing) work behind
 
 module _ (laws : TimeLaws) where
   has_all : (sited : SitedTable) (world : WorldState) → IsStation sited.site → Once sited.site → IsReached sited.site sited.table world → HasAll sited.site world
@@ -245,27 +245,27 @@ module _ (laws : TimeLaws) where
       let whole = (laws.standing sited.site sited.table is.outset is.events station once is.lies is.can).whole
       in subst (HasAll sited.site) (sym is.after) (record { signals = whole.signals; points = whole.points; detectors = whole.detectors })
 
-  rounds_go : (between : List (List Event)) (flowing : Flowing Played) → IsStation flowing.picture.sited.site → Once flowing.picture.sited.site
-      → IsReached flowing.picture.sited.site flowing.picture.sited.table flowing.picture.run → Each (Each IsWork) between → HasTime (length between) flowing.picture.run
-      → (clocks_of (good_rounds between flowing).picture.run ≡ rounds_later (length between) (clocks_of flowing.picture.run))
-      × ((good_rounds between flowing).picture.run.station.ixl.created ≡ flowing.picture.run.station.ixl.created)
-  rounds_go [] flowing station once reached work can = (later_none (clocks_of flowing.picture.run), refl)
+  rounds_go : (between : List (List Event)) (flowing : Flowing Played) → IsStation flowing.state.sited.site → Once flowing.state.sited.site
+      → IsReached flowing.state.sited.site flowing.state.sited.table flowing.state.run → Each (Each IsWork) between → HasTime (length between) flowing.state.run
+      → (clocks_of (good_rounds between flowing).state.run ≡ rounds_later (length between) (clocks_of flowing.state.run))
+      × ((good_rounds between flowing).state.run.station.ixl.created ≡ flowing.state.run.station.ixl.created)
+  rounds_go [] flowing station once reached work can = (later_none (clocks_of flowing.state.run), refl)
   rounds_go (first ∷ others) flowing station once reached work can =
-      let clocks = clocks_of flowing.picture.run
-      in let one = one_round first flowing work.0 (has_all flowing.picture.sited flowing.picture.run station once reached) (each_can (length others) clocks can)
+      let clocks = clocks_of flowing.state.run
+      in let one = one_round first flowing work.0 (has_all flowing.state.sited flowing.state.run station once reached) (each_can (length others) clocks can)
       in let next = all_tried first (round stations flowing)
-      in let at = work_reached laws.reach flowing.picture.sited first (round stations flowing) (round_reached laws.reach flowing.picture.sited flowing (record { same = refl; reached = reached }))
+      in let at = work_reached laws.reach flowing.state.sited first (round stations flowing) (round_reached laws.reach flowing.state.sited flowing (record { same = refl; reached = reached }))
       in let rest = rounds_go others next (subst (λ (s : SitedTable). IsStation s.site) (sym at.same) station) (subst (λ (s : SitedTable). Once s.site) (sym at.same) once)
-      (subst (λ (s : SitedTable). IsReached s.site s.table next.picture.run) (sym at.same) at.reached) work.1
+      (subst (λ (s : SitedTable). IsReached s.site s.table next.state.run) (sym at.same) at.reached) work.1
       (subst (Each (λ clock. clock + 10000 * length others ≤ 9000000000000000)) (sym one.clocks) (each_later (length others) clocks can))
       in (
         rest.0 ∙ (ap (rounds_later (length others)) one.clocks ∙ later_once_more (length others) clocks),
         rest.1 ∙ one.created,
       )
 
-pub take_their_time : TimeLaws → (between : List (List Event)) (flowing : Flowing Played) → Once flowing.picture.sited.site → IsStation flowing.picture.sited.site
-    → IsReached flowing.picture.sited.site flowing.picture.sited.table flowing.picture.run → Each (Each IsWork) between → HasTime (length between) flowing.picture.run
-    → clocks_of (good_rounds between flowing).picture.run ≡ rounds_later (length between) (clocks_of flowing.picture.run)
+pub take_their_time : TimeLaws → (between : List (List Event)) (flowing : Flowing Played) → Once flowing.state.sited.site → IsStation flowing.state.sited.site
+    → IsReached flowing.state.sited.site flowing.state.sited.table flowing.state.run → Each (Each IsWork) between → HasTime (length between) flowing.state.run
+    → clocks_of (good_rounds between flowing).state.run ≡ rounds_later (length between) (clocks_of flowing.state.run)
 take_their_time laws between flowing once station reached work can = (rounds_go laws between flowing station once reached work can).0
 
 -- ---- the hold
@@ -290,12 +290,12 @@ over_hold now created late = lt_false now (stops_at_greatest (created + 6000)) (
     lt_false : (a b : ℕ) → b ≤ a → nat_lt a b ≡ false
     lt_false a b h = grind (arith, nat_tests)
 
-pub hold_is_over : TimeLaws → (between : List (List Event)) (flowing : Flowing Played) → Once flowing.picture.sited.site → IsStation flowing.picture.sited.site
-    → IsReached flowing.picture.sited.site flowing.picture.sited.table flowing.picture.run → Each (Each IsWork) between → HasTime (length between) flowing.picture.run → 600 ≤ length between
-    → is_holding (reading_of (good_rounds between flowing).picture.run.station.clock) (good_rounds between flowing).picture.run.station.ixl ≡ false
+pub hold_is_over : TimeLaws → (between : List (List Event)) (flowing : Flowing Played) → Once flowing.state.sited.site → IsStation flowing.state.sited.site
+    → IsReached flowing.state.sited.site flowing.state.sited.table flowing.state.run → Each (Each IsWork) between → HasTime (length between) flowing.state.run → 600 ≤ length between
+    → is_holding (reading_of (good_rounds between flowing).state.run.station.clock) (good_rounds between flowing).state.run.station.ixl ≡ false
 hold_is_over laws between flowing once station reached work can long =
     let goes = rounds_go laws between flowing station once reached work can
-    in let made = reached_made flowing.picture.sited.site flowing.picture.sited.table flowing.picture.run reached
-    in let clock = later_station (length between) flowing.picture.run (good_rounds between flowing).picture.run goes.0
+    in let made = reached_made flowing.state.sited.site flowing.state.sited.table flowing.state.run reached
+    in let clock = later_station (length between) flowing.state.run (good_rounds between flowing).state.run goes.0
     in let created = goes.1
-    in over_hold (reading_of (good_rounds between flowing).picture.run.station.clock) (good_rounds between flowing).picture.run.station.ixl.created (omega (arith, made, clock, created, long))
+    in over_hold (reading_of (good_rounds between flowing).state.run.station.clock) (good_rounds between flowing).state.run.station.ixl.created (omega (arith, made, clock, created, long))

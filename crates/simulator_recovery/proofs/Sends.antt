@@ -24,16 +24,16 @@ use Rattle.simulator_run.specs.simulator_event.declared.event.Event.TheVariants 
 use Rattle.simulator_run.specs.declared.round.FoundDriven.{FoundDriven}
 use Rattle.simulator_run.specs.declared.round.RoundEvent.{RoundEvent}
 use Rattle.simulator_run.specs.Flow.{Flowing, all_did, deliveries, did, position_of, reach, reaches, round, round_of_time, stations, ticks}
-use Rattle.simulator_run.specs.Happens.{coming, delivered_to, detector_stepped, happens, passed, point_stepped, sensed_by, signal_stepped, station_stepped, stepped_at, ticked_at}
+use Rattle.simulator_run.specs.Happens.{coming, delivered_to, detector_stepped, happens, interlocking_stepped, passed, point_stepped, sensed_by, signal_stepped, stepped_at, ticked_at}
 use Rattle.simulator_run.specs.Network.{connection_of, copy_of}
-use Rattle.simulator_run.specs.Nodes.{Detector, Node, Point, Signal, Station, detector_link, links, node_at, point_link}
-use Rattle.simulator_run.specs.Servers.{sent_by_server, server_after, step_of}
-use Rattle.simulator_run.specs.State.{ServerState, WorldState}
-use Rattle.simulator_run.specs.Station.{Sending, begun_by, link_of, sending_all, sending_one, station_step}
+use Rattle.simulator_run.specs.Nodes.{Detector, Interlocking, Node, Point, Signal, detector_link, links, node_at, point_link}
+use Rattle.simulator_run.specs.Controllers.{controller_after, sent_by_controller, step_of}
+use Rattle.simulator_run.specs.State.{ClockedControllerState, WorldState}
+use Rattle.simulator_run.specs.Interlocking.{Sending, begun_by, interlocking_step, link_of, sending_all, sending_one}
 use Rattle.simulator_run.specs.Tried.{Played, after}
 use Rattle.simulator_recovery.specs.Rounds.{IsFresh, IsWork, LeavesFresh, all_tried}
 use Rattle.simulator_recovery.proofs.Clocks.{IsCalm}
-use Rattle.simulator_recovery.proofs.Rounds.{behind_calm, behind_time, calm_keeps, round_picture, time_happens, tried_keeps, work_calm}
+use Rattle.simulator_recovery.proofs.Rounds.{behind_calm, behind_time, calm_keeps, round_state, time_happens, tried_keeps, work_calm}
 
 -- Datagrams were sent now, behind those that were sent before.
 pub record Adds (old new : WorldState) : Type 0 where
@@ -68,18 +68,18 @@ record Sends (time : ℕ) (old new : List OnLink) : Type 0 where
   sent : new ≡ old ++ more
   fresh : Each (IsFresh time) more
 
-server_fresh : {Object : Type 0} (done : HostSoFar Object) (time link : ℕ) (old new : ServerState Object) → Each (IsFresh time) (sent_by_server done time link old new)
-unfolding sent_by_server
+server_fresh : {Object : Type 0} (done : HostSoFar Object) (time link : ℕ) (old new : ClockedControllerState Object) → Each (IsFresh time) (sent_by_controller done time link old new)
+unfolding sent_by_controller
 server_fresh done time link old new = fresh_handed link time role.Server new.connection (spellings old.host.link.identity.key done.pdus)
 
-stepped_sends : {Object : Type 0} (does : Behaviour Object) (input : HostInput) (connection time link place : ℕ) (servers : List (ServerState Object)) (sent : List OnLink) (found : Option (ServerState Object))
+stepped_sends : {Object : Type 0} (does : Behaviour Object) (input : HostInput) (connection time link place : ℕ) (servers : List (ClockedControllerState Object)) (sent : List OnLink) (found : Option (ClockedControllerState Object))
     → Sends time sent (stepped_at does input connection time link place found (record { servers = servers; sent = sent })).sent
 unfolding stepped_at
 stepped_sends does input connection time link place servers sent None = record { more = []; sent = sym (append-nil sent); fresh = tt }
 stepped_sends does input connection time link place servers sent (Some server) =
-    let new = server_after (step_of does input server) connection (length sent) server
+    let new = controller_after (step_of does input server) connection (length sent) server
     in record {
-      more = sent_by_server (step_of does input server) time link server new;
+      more = sent_by_controller (step_of does input server) time link server new;
       sent = refl;
       fresh = server_fresh (step_of does input server) time link server new;
     }
@@ -125,10 +125,10 @@ all_sends site time (first ∷ others) sending =
       fresh = each_joined (IsFresh time) one.more rest.more one.fresh rest.fresh;
     }
 
-station_adds : (site : Site) (table : Table) (input : ixl.Input) (world : WorldState) → Adds world (station_stepped site table input world)
-unfolding station_stepped
+station_adds : (site : Site) (table : Table) (input : ixl.Input) (world : WorldState) → Adds world (interlocking_stepped site table input world)
+unfolding interlocking_stepped
 station_adds site table input world =
-    let all = all_sends site world.time (station_step site table input world.station).outbox.datagrams (record { connections = world.station.connections; sent = world.sent })
+    let all = all_sends site world.time (interlocking_step site table input world.station).outbox.datagrams (record { connections = world.station.connections; sent = world.sent })
     in record { time = refl; more = all.more; sent = all.sent; fresh = all.fresh }
 
 -- ---- every event but time, restarts and losses
@@ -136,14 +136,14 @@ station_adds site table input world =
 module _ (site : Site) (table : Table) where
   ticked_adds : (at : Option Node) (world : WorldState) → Adds world (ticked_at site table at world)
   ticked_adds None world = adds_none world
-  ticked_adds (Some Station) world = station_adds site table ixl.Tick world
+  ticked_adds (Some Interlocking) world = station_adds site table ixl.Tick world
   ticked_adds (Some (Signal place)) world = signal_adds site inputs.Tick 0 place world
   ticked_adds (Some (Point place)) world = point_adds site inputs.Tick 0 place world
   ticked_adds (Some (Detector place)) world = detector_adds site inputs.Tick 0 place world
 
   delivered_adds : (bytes : List ℕ) (connection : ℕ) (at : Option Node) (world : WorldState) → Adds world (delivered_to site table bytes connection at world)
   delivered_adds bytes connection None world = adds_none world
-  delivered_adds bytes connection (Some Station) world = station_adds site table (ixl.Datagram bytes) world
+  delivered_adds bytes connection (Some Interlocking) world = station_adds site table (ixl.Datagram bytes) world
   delivered_adds bytes connection (Some (Signal place)) world = signal_adds site (coming bytes) connection place world
   delivered_adds bytes connection (Some (Point place)) world = point_adds site (coming bytes) connection place world
   delivered_adds bytes connection (Some (Detector place)) world = detector_adds site (coming bytes) connection place world
@@ -183,9 +183,9 @@ pub record HasAdded (old : WorldState) (world : Played) : Type 0 where
 pub tried_adds : (old : WorldState) (world : Played) (one : Event) → IsCalm one → HasAdded old world → HasAdded old (after world one)
 tried_adds old world one calm is = tried_keeps (HasAdded old) world one is (λ none. record { is = adds_then old world.run _ is.is (calm_adds world.sited.site world.sited.table one world.run calm) })
 
-work_adds : (old : WorldState) (between : List Event) (flowing : Flowing Played) → Each IsWork between → HasAdded old flowing.picture → HasAdded old (all_tried between flowing).picture
+work_adds : (old : WorldState) (between : List Event) (flowing : Flowing Played) → Each IsWork between → HasAdded old flowing.state → HasAdded old (all_tried between flowing).state
 work_adds old [] flowing work is = is
-work_adds old (first ∷ others) flowing work is = work_adds old others (record flowing { picture = after flowing.picture first }) work.1 (tried_adds old flowing.picture first (work_calm first work.0) is)
+work_adds old (first ∷ others) flowing work is = work_adds old others (record flowing { state = after flowing.state first }) work.1 (tried_adds old flowing.state first (work_calm first work.0) is)
 
 -- by the time of a round nothing is sent
 pub record SameSent (old : WorldState) (world : Played) : Type 0 where
@@ -240,14 +240,14 @@ did_then n (head ∷ one) first others flowing all = did_then n one first others
 
 tried_passed : (between : List Event) (flowing : Flowing Played) → (all_tried between flowing).passed ≡ flowing.passed
 tried_passed [] flowing = refl
-tried_passed (first ∷ others) flowing = tried_passed others (record flowing { picture = after flowing.picture first })
+tried_passed (first ∷ others) flowing = tried_passed others (record flowing { state = after flowing.state first })
 
-round_passed : (flowing : Flowing Played) → (round stations flowing).passed ≡ length flowing.picture.run.sent
+round_passed : (flowing : Flowing Played) → (round stations flowing).passed ≡ length flowing.state.run.sent
 unfolding all_did ticks
 round_passed flowing =
-    let n = length flowing.picture.run.sent
-    in let site = flowing.picture.sited.site
-    in did_then n (deliveries (stations.arrival flowing.picture) flowing.passed (n - flowing.passed)) (record { event = event.Tick (record { 0 = 0 }); passed = n })
+    let n = length flowing.state.run.sent
+    in let site = flowing.state.sited.site
+    in did_then n (deliveries (stations.arrival flowing.state) flowing.passed (n - flowing.passed)) (record { event = event.Tick (record { 0 = 0 }); passed = n })
     (ticks n 1 (links site) ++ reaches n 0 flowing.drives) (did stations (record { event = round_of_time site; passed = flowing.passed }) flowing)
     (refl, all_joined n (ticks n 1 (links site)) (reaches n 0 flowing.drives) (ticks_at n 1 (links site)) (reaches_at n 0 flowing.drives))
 
@@ -255,17 +255,17 @@ pub leaves_fresh : (between : List Event) (flowing : Flowing Played) → Each Is
 leaves_fresh between flowing work = record {
   passed = tried_passed between (round stations flowing) ∙ round_passed flowing;
   more = all.is.more;
-  sent = all.is.sent ∙ ap (λ (l : List OnLink). l ++ all.is.more) (time_sends_none flowing.picture).sent;
+  sent = all.is.sent ∙ ap (λ (l : List OnLink). l ++ all.is.more) (time_sends_none flowing.state).sent;
   fresh = subst (λ (t : ℕ). Each (IsFresh t) all.is.more) (sym all.is.time) all.is.fresh;
 }
   where
     then_world : WorldState
-    then_world = (after flowing.picture (round_of_time flowing.picture.sited.site)).run
+    then_world = (after flowing.state (round_of_time flowing.state.sited.site)).run
 
-    behind : HasAdded then_world (round stations flowing).picture
-    behind = subst (HasAdded then_world) (sym (round_picture flowing))
+    behind : HasAdded then_world (round stations flowing).state
+    behind = subst (HasAdded then_world) (sym (round_state flowing))
         (calm_keeps (HasAdded then_world) (λ world one calm before. tried_adds then_world world one calm before) (behind_time flowing)
-        (did stations (record { event = round_of_time flowing.picture.sited.site; passed = flowing.passed }) flowing) (behind_calm flowing) (record { is = adds_none then_world }))
+        (did stations (record { event = round_of_time flowing.state.sited.site; passed = flowing.passed }) flowing) (behind_calm flowing) (record { is = adds_none then_world }))
 
-    all : HasAdded then_world (all_tried between (round stations flowing)).picture
+    all : HasAdded then_world (all_tried between (round stations flowing)).state
     all = work_adds then_world between (round stations flowing) work behind

@@ -7,7 +7,7 @@ use Rattle.simulator_run.specs.simulator_event.declared.event.Event.TheVariants 
 use Rattle.simulator_run.specs.declared.round.RoundEvent.{RoundEvent}
 use Rattle.simulator_run.specs.Flow.{Flowing, deliveries, round, round_of_time, stations}
 use Rattle.simulator_run.specs.Refusals.{clock_limit}
-use Rattle.simulator_run.specs.State.{ServerState, WorldState}
+use Rattle.simulator_run.specs.State.{ClockedControllerState, WorldState}
 use Rattle.simulator_run.specs.Tried.{Played, after, receiver, refusal_of}
 
 -- what may come between rounds: requests and occupancies
@@ -19,7 +19,7 @@ IsWork _ = ⊥
 -- events are tried one after another, and no round with them
 abbrev pub all_tried : List Event → Flowing Played → Flowing Played
 all_tried [] flowing = flowing
-all_tried (first ∷ others) flowing = all_tried others (record flowing { picture = after flowing.picture first })
+all_tried (first ∷ others) flowing = all_tried others (record flowing { state = after flowing.state first })
 
 -- good rounds, one for each list; its events are tried behind it
 abbrev pub good_rounds : List (List Event) → Flowing Played → Flowing Played
@@ -27,7 +27,7 @@ good_rounds [] flowing = flowing
 good_rounds (between ∷ later) flowing = good_rounds later (all_tried between (round stations flowing))
 
 -- true time and the clocks of all nodes, in microseconds
-abbrev pub clock_of : {Object : Type 0} → ServerState Object → ℕ
+abbrev pub clock_of : {Object : Type 0} → ClockedControllerState Object → ℕ
 clock_of controller = controller.clock
 
 abbrev pub clocks_of : WorldState → List ℕ
@@ -52,10 +52,10 @@ IsFresh time one = (one.datagram.at ≡ time) × (one.datagram.is_lost ≡ false
 -- A flow has gone past all datagrams that were sent before, and each later one was sent at the true time of this moment, and
 -- isn't lost.
 pub record LeavesFresh (old new : Flowing Played) : Type 0 where
-  pub passed : new.passed ≡ length old.picture.run.sent
+  pub passed : new.passed ≡ length old.state.run.sent
   pub more : List OnLink
-  pub sent : new.picture.run.sent ≡ old.picture.run.sent ++ more
-  pub fresh : Each (IsFresh new.picture.run.time) more
+  pub sent : new.state.run.sent ≡ old.state.run.sent ++ more
+  pub fresh : Each (IsFresh new.state.run.time) more
 
 -- the deliveries of these datagrams, each to the node at the other end of its link, where the first stands at this place
 abbrev pub arrivals : ℕ → List OnLink → List RoundEvent
@@ -70,5 +70,5 @@ NoneRefused (first ∷ others) world = (refusal_of first.event world ≡ None) �
 
 -- What a round leaves comes in the next one: these are its deliveries, in the order of sending, and none is refused.
 pub record AllCome (old new : Flowing Played) (leaves : LeavesFresh old new) : Type 0 where
-  pub due : deliveries (stations.arrival new.picture) new.passed (length new.picture.run.sent - new.passed) ≡ arrivals new.passed leaves.more
-  pub none : NoneRefused (arrivals new.passed leaves.more) (after new.picture (round_of_time new.picture.sited.site))
+  pub due : deliveries (stations.arrival new.state) new.passed (length new.state.run.sent - new.passed) ≡ arrivals new.passed leaves.more
+  pub none : NoneRefused (arrivals new.passed leaves.more) (after new.state (round_of_time new.state.sited.site))

@@ -19,8 +19,8 @@ use simulator_run_links::{layouts_name_their_links, stations_have_links};
 /// Good rounds, and what comes between them, are events that can happen: they lead from a world that is reached to one that is.
 /// So whatever is true after every list of events is true behind good rounds.
 pub fn good_rounds_are_events()
-    ensures { (between : List (List Event)) (flowing : Flowing Played) → IsReached flowing.picture.sited.site flowing.picture.sited.table flowing.picture.run
-        → IsReached flowing.picture.sited.site flowing.picture.sited.table (good_rounds between flowing).picture.run }
+    ensures { (between : List (List Event)) (flowing : Flowing Played) → IsReached flowing.state.sited.site flowing.state.sited.table flowing.state.run
+        → IsReached flowing.state.sited.site flowing.state.sited.table (good_rounds between flowing).state.run }
 {
     reached_worlds_are_safe();
 }
@@ -28,9 +28,9 @@ pub fn good_rounds_are_events()
 /// In each good round true time and the clock of every node go on by 10 ms, as long as none comes to its limit, whatever
 /// requests and occupancies come between the rounds.
 pub fn good_rounds_take_their_time()
-    ensures { (between : List (List Event)) (flowing : Flowing Played) → Once flowing.picture.sited.site → IsStation flowing.picture.sited.site
-        → IsReached flowing.picture.sited.site flowing.picture.sited.table flowing.picture.run → Each (Each IsWork) between → HasTime (length between) flowing.picture.run
-        → clocks_of (good_rounds between flowing).picture.run ≡ rounds_later (length between) (clocks_of flowing.picture.run) }
+    ensures { (between : List (List Event)) (flowing : Flowing Played) → Once flowing.state.sited.site → IsStation flowing.state.sited.site
+        → IsReached flowing.state.sited.site flowing.state.sited.table flowing.state.run → Each (Each IsWork) between → HasTime (length between) flowing.state.run
+        → clocks_of (good_rounds between flowing).state.run ≡ rounds_later (length between) (clocks_of flowing.state.run) }
 {
     reached_worlds_are_safe();
     stations_have_links();
@@ -45,8 +45,8 @@ pub fn good_rounds_leave_fresh_datagrams()
 /// What was sent since a good round began comes in the next one, in the order of sending: each datagram to the node at the other
 /// end of its link, and none of these deliveries is refused.
 pub fn each_round_delivers_what_the_last_one_left()
-    ensures { (old new : Flowing Played) (leaves : LeavesFresh old new) → Once new.picture.sited.site → IsStation new.picture.sited.site
-        → IsReached new.picture.sited.site new.picture.sited.table new.picture.run → AllCome old new leaves }
+    ensures { (old new : Flowing Played) (leaves : LeavesFresh old new) → Once new.state.sited.site → IsStation new.state.sited.site
+        → IsReached new.state.sited.site new.state.sited.table new.state.run → AllCome old new leaves }
 {
     layouts_name_their_links();
     links_keep_time();
@@ -57,10 +57,10 @@ pub fn each_round_delivers_what_the_last_one_left()
 /// any more for the hold, whatever requests and occupancies come between the rounds. One that was made anew still waits to
 /// be told to resume.
 pub fn the_hold_ends()
-    ensures { (between : List (List Event)) (flowing : Flowing Played) → Once flowing.picture.sited.site → IsStation flowing.picture.sited.site
-        → IsReached flowing.picture.sited.site flowing.picture.sited.table flowing.picture.run → Each (Each IsWork) between → HasTime (length between) flowing.picture.run
+    ensures { (between : List (List Event)) (flowing : Flowing Played) → Once flowing.state.sited.site → IsStation flowing.state.sited.site
+        → IsReached flowing.state.sited.site flowing.state.sited.table flowing.state.run → Each (Each IsWork) between → HasTime (length between) flowing.state.run
         → hold_rounds ≤ length between
-        → is_holding (reading_of (good_rounds between flowing).picture.run.station.clock) (good_rounds between flowing).picture.run.station.ixl ≡ false }
+        → is_holding (reading_of (good_rounds between flowing).state.run.station.clock) (good_rounds between flowing).state.run.station.ixl ≡ false }
 {
     reached_worlds_are_safe();
     stations_have_links();

@@ -26,7 +26,7 @@ use Rattle.ixl_rules.specs.Table.{Table}
 pub use Rattle.ixl_rules.specs.First.{Beginning, client_of, new_detector_of, new_known_signal_of, new_route_of, new_known_point_of}
 unfoldable pub use Rattle.ixl_rules.specs.First.{new_ixl}
 use Rattle.simulator_run.specs.Nodes.{names_of, partners}
-use Rattle.simulator_run.specs.State.{ServerState, StationState, WorldState}
+use Rattle.simulator_run.specs.State.{ClockedControllerState, ClockedInterlockingState, WorldState}
 
 -- ---- object controllers
 
@@ -62,8 +62,8 @@ abbrev pub no_connection : ℕ → Option ℕ
 no_connection id = None
 
 -- a controller in no connection yet
-abbrev pub first_server : {Object : Type 0} → HostState Object → ServerState Object
-first_server host = record { host = host; clock = 0; connection = None; left = 0 }
+abbrev pub first_controller : {Object : Type 0} → HostState Object → ClockedControllerState Object
+first_controller host = record { host = host; clock = 0; connection = None; left = 0 }
 
 -- How a station lies when it is started: where each point stands, and which sections are occupied.
 pub record Outset : Type 0 where
@@ -76,21 +76,21 @@ pub record IsOutsetOf (site : Site) (outset : Outset) : Type 0 where
   pub occupancies : length outset.occupancies ≡ length site.sections
 
 -- the controller of a point, which senses it where it stands
-abbrev pub point_standing : Site → Point × Position → ServerState PointState
-point_standing site both = first_server (new_point site at_zero both.1 both.0)
+abbrev pub point_standing : Site → Point × Position → ClockedControllerState PointState
+point_standing site both = first_controller (new_point site at_zero both.1 both.0)
 
 -- the interlocking, in no connection yet
-abbrev pub first_station : Site → Table → StationState
-first_station site table = record { ixl = new_ixl site table at_zero; clock = 0; connections = map no_connection (partners site) }
+abbrev pub first_interlocking : Site → Table → ClockedInterlockingState
+first_interlocking site table = record { ixl = new_ixl site table at_zero; clock = 0; connections = map no_connection (partners site) }
 
 -- A station as it lies: all clocks and first sequence numbers are 0, and nothing was sent.
 unfoldable pub world_at : Site → Table → Outset → WorldState
 world_at site table outset = record {
   time = 0;
-  station = first_station site table;
-  signals = map (λ signal. first_server (new_signal site at_zero signal)) site.signals;
+  station = first_interlocking site table;
+  signals = map (λ signal. first_controller (new_signal site at_zero signal)) site.signals;
   points = map (point_standing site) (zip site.points outset.positions);
-  detectors = map (λ detector. first_server (new_detector site at_zero outset.occupancies detector)) site.detectors;
+  detectors = map (λ detector. first_controller (new_detector site at_zero outset.occupancies detector)) site.detectors;
   positions = outset.positions;
   occupancies = outset.occupancies;
   sent = [];

@@ -80,16 +80,16 @@ reaches passed point (drive ∷ drives) = reach passed point drive ++ reaches pa
 
 -- ---- what a flow needs to know of a station
 
-pub record Flowable (Picture : Type 0) : Type 0 where
-  pub layout : Picture → Site
+pub record Flowable (State : Type 0) : Type 0 where
+  pub layout : State → Site
   -- how the station is after an event was tried
-  pub after : Picture → Event → Picture
+  pub after : State → Event → State
   -- how many datagrams were sent, lost ones too
-  pub sent : Picture → ℕ
+  pub sent : State → ℕ
   -- the node that the datagram at a place is for, and its bytes; none where it is lost, or none was sent there
-  pub arrival : Picture → ℕ → Option (NodeId × List ℕ)
+  pub arrival : State → ℕ → Option (NodeId × List ℕ)
   -- the side to which a point is driven
-  pub driven : Picture → PointId → Option Side
+  pub driven : State → PointId → Option Side
 
 -- a whole station
 abbrev pub stations : Flowable Played
@@ -103,48 +103,48 @@ stations = record {
 
 -- ---- rounds
 
--- a picture, how many of the datagrams that were sent a flow has gone past, and for how long each point was found driven
-pub record Flowing (Picture : Type 0) : Type 0 where
-  pub picture : Picture
+-- a state, how many of the datagrams that were sent a flow has gone past, and for how long each point was found driven
+pub record Flowing (State : Type 0) : Type 0 where
+  pub state : State
   pub passed : ℕ
   pub drives : List (Option FoundDriven)
 
 -- an event of a round happens, or is passed over
-abbrev pub did : {Picture : Type 0} → Flowable Picture → RoundEvent → Flowing Picture → Flowing Picture
-did station one flowing = record flowing { picture = station.after flowing.picture one.event; passed = one.passed }
+abbrev pub did : {State : Type 0} → Flowable State → RoundEvent → Flowing State → Flowing State
+did station one flowing = record flowing { state = station.after flowing.state one.event; passed = one.passed }
 
 -- so do events, one after the other
-unfoldable pub all_did : {Picture : Type 0} → Flowable Picture → List RoundEvent → Flowing Picture → Flowing Picture
+unfoldable pub all_did : {State : Type 0} → Flowable State → List RoundEvent → Flowing State → Flowing State
 all_did station [] flowing = flowing
 all_did station (one ∷ more) flowing = all_did station more (did station one flowing)
 
-module _ {Picture : Type 0} (station : Flowable Picture) where
+module _ {State : Type 0} (station : Flowable State) where
   -- The events of a round that begins so.
-  abbrev pub due : Flowing Picture → List RoundEvent
+  abbrev pub due : Flowing State → List RoundEvent
   due flowing =
-      let site = station.layout flowing.picture
-      in let before = station.sent flowing.picture
+      let site = station.layout flowing.state
+      in let before = station.sent flowing.state
       in record { event = round_of_time site; passed = flowing.passed }
-      ∷ (deliveries (station.arrival flowing.picture) flowing.passed (before - flowing.passed)
+      ∷ (deliveries (station.arrival flowing.state) flowing.passed (before - flowing.passed)
       ++ (ticks before 0 (nodes site) ++ reaches before 0 flowing.drives))
 
   -- it is noted at the end of a round which points are driven
-  abbrev pub rested : Flowing Picture → Flowing Picture
-  rested flowing = record flowing { drives = next_drives (station.driven flowing.picture) 0 flowing.drives }
+  abbrev pub rested : Flowing State → Flowing State
+  rested flowing = record flowing { drives = next_drives (station.driven flowing.state) 0 flowing.drives }
 
-  abbrev pub round : Flowing Picture → Flowing Picture
+  abbrev pub round : Flowing State → Flowing State
   round flowing = rested (all_did station (due flowing) flowing)
 
   -- rounds, one after the other
-  unfoldable pub rounds : ℕ → Flowing Picture → Flowing Picture
+  unfoldable pub rounds : ℕ → Flowing State → Flowing State
   rounds zero flowing = flowing
   rounds (suc more) flowing = round (rounds more flowing)
 
   -- a round stops behind so many of its events
-  abbrev pub StopsIn : Flowing Picture → Flowing Picture → Type 0
+  abbrev pub StopsIn : Flowing State → Flowing State → Type 0
   StopsIn old new = (count : ℕ) × (new ≡ all_did station (take count (due old)) old)
 
   -- A flow of so many rounds, with its answer. Where memory is lacking it stops in a round.
-  pub data Flows (count : ℕ) (old : Flowing Picture) : Result Answer Refused → Flowing Picture → Type 0 where
+  pub data Flows (count : ℕ) (old : Flowing State) : Result Answer Refused → Flowing State → Type 0 where
     goes : Flows count old (Ok Done) (rounds count old)
-    stops : (done : ℕ) {new : Flowing Picture} → done < count → StopsIn (rounds done old) new → Flows count old (Err OutOfMemory) new
+    stops : (done : ℕ) {new : Flowing State} → done < count → StopsIn (rounds done old) new → Flows count old (Err OutOfMemory) new

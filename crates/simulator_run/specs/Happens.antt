@@ -23,10 +23,10 @@ use Rattle.simulator_event.specs.declared.reply.Answer.TheVariants as answer
 use Rattle.simulator_event.specs.declared.reply.Reply.{Reply}
 use Rattle.simulator_run.specs.First.{Beginning, new_detector, new_ixl, new_point, new_signal}
 use Rattle.simulator_run.specs.Network.{connection_of, copy_of}
-use Rattle.simulator_run.specs.Nodes.{Node, Station, Signal, Point, Detector, detector_link, node_at, point_link}
-use Rattle.simulator_run.specs.Servers.{sent_by_server, server_after, server_anew, server_later, step_of}
-use Rattle.simulator_run.specs.State.{ServerState, WorldState}
-use Rattle.simulator_run.specs.Station.{frozen_by_restart, sending_all, station_anew, station_reply, station_step}
+use Rattle.simulator_run.specs.Nodes.{Node, Interlocking, Signal, Point, Detector, detector_link, node_at, point_link}
+use Rattle.simulator_run.specs.Controllers.{controller_after, controller_anew, controller_later, sent_by_controller, step_of}
+use Rattle.simulator_run.specs.State.{ClockedControllerState, WorldState}
+use Rattle.simulator_run.specs.Interlocking.{frozen_by_restart, interlocking_anew, interlocking_reply, interlocking_step, sending_all}
 
 -- bytes as a host is lent them
 abbrev pub coming : List ℕ → Input
@@ -36,15 +36,15 @@ coming bytes = inputs.Datagram (record { ref_ptr = (0, 0); now = bytes })
 
 -- a controller of a list makes a step: it is as after it, and what it hands out is sent
 pub record Stepped (Object : Type 0) : Type 0 where
-  pub servers : List (ServerState Object)
+  pub servers : List (ClockedControllerState Object)
   pub sent : List OnLink
 
-unfoldable pub stepped_at : {Object : Type 0} → Behaviour Object → Input → ℕ → ℕ → ℕ → ℕ → Option (ServerState Object) → Stepped Object → Stepped Object
+unfoldable pub stepped_at : {Object : Type 0} → Behaviour Object → Input → ℕ → ℕ → ℕ → ℕ → Option (ClockedControllerState Object) → Stepped Object → Stepped Object
 stepped_at does input connection time link place None all = all
 stepped_at does input connection time link place (Some server) all =
     let done = step_of does input server
-    in let new = server_after done connection (length all.sent) server
-    in record { servers = slice_set all.servers place new; sent = all.sent ++ sent_by_server done time link server new }
+    in let new = controller_after done connection (length all.sent) server
+    in record { servers = slice_set all.servers place new; sent = all.sent ++ sent_by_controller done time link server new }
 
 unfoldable pub signal_stepped : Site → Input → ℕ → ℕ → WorldState → WorldState
 signal_stepped site input connection place world =
@@ -61,9 +61,9 @@ detector_stepped site input connection place world =
     let all = stepped_at detection_behaviour input connection world.time (detector_link site place) place (slice_get world.detectors place) (record { servers = world.detectors; sent = world.sent })
     in record world { detectors = all.servers; sent = all.sent }
 
-unfoldable pub station_stepped : Site → Table → ixl.Input → WorldState → WorldState
-station_stepped site table input world =
-    let done = station_step site table input world.station
+unfoldable pub interlocking_stepped : Site → Table → ixl.Input → WorldState → WorldState
+interlocking_stepped site table input world =
+    let done = interlocking_step site table input world.station
     in let sending = sending_all site world.time done.outbox.datagrams (record { connections = world.station.connections; sent = world.sent })
     in record world { station = record world.station { ixl = done.ixl; connections = sending.connections }; sent = sending.sent }
 
@@ -71,7 +71,7 @@ station_stepped site table input world =
 
 abbrev pub ticked_at : Site → Table → Option Node → WorldState → WorldState
 ticked_at site table None world = world
-ticked_at site table (Some Station) world = station_stepped site table ixl.Tick world
+ticked_at site table (Some Interlocking) world = interlocking_stepped site table ixl.Tick world
 ticked_at site table (Some (Signal place)) world = signal_stepped site inputs.Tick 0 place world
 ticked_at site table (Some (Point place)) world = point_stepped site inputs.Tick 0 place world
 ticked_at site table (Some (Detector place)) world = detector_stepped site inputs.Tick 0 place world
@@ -79,7 +79,7 @@ ticked_at site table (Some (Detector place)) world = detector_stepped site input
 -- bytes that were sent in this connection
 abbrev pub delivered_to : Site → Table → List ℕ → ℕ → Option Node → WorldState → WorldState
 delivered_to site table bytes connection None world = world
-delivered_to site table bytes connection (Some Station) world = station_stepped site table (ixl.Datagram bytes) world
+delivered_to site table bytes connection (Some Interlocking) world = interlocking_stepped site table (ixl.Datagram bytes) world
 delivered_to site table bytes connection (Some (Signal place)) world = signal_stepped site (coming bytes) connection place world
 delivered_to site table bytes connection (Some (Point place)) world = point_stepped site (coming bytes) connection place world
 delivered_to site table bytes connection (Some (Detector place)) world = detector_stepped site (coming bytes) connection place world
@@ -93,10 +93,10 @@ sensed_by site occupancy (Some reporter) world =
 -- ---- time
 
 -- each of these clocks goes on by its step; the steps behind theirs are those of the nodes behind
-abbrev pub all_later : {Object : Type 0} → ℕ → List ℕ → List (ServerState Object) → List (ServerState Object)
+abbrev pub all_later : {Object : Type 0} → ℕ → List ℕ → List (ClockedControllerState Object) → List (ClockedControllerState Object)
 all_later moment steps [] = []
 all_later moment [] (server ∷ servers) = server ∷ servers
-all_later moment (step ∷ steps) (server ∷ servers) = server_later step moment server ∷ all_later moment steps servers
+all_later moment (step ∷ steps) (server ∷ servers) = controller_later step moment server ∷ all_later moment steps servers
 
 unfoldable pub passed : ℕ → List ℕ → WorldState → WorldState
 passed elapsed steps world =
@@ -116,24 +116,24 @@ passed elapsed steps world =
 abbrev pub signal_anew : Site → Beginning → ℕ → Option SignalEntry → WorldState → WorldState
 signal_anew site begins place None world = world
 signal_anew site begins place (Some entry) world =
-    record world { signals = changed (server_anew (new_signal site begins entry) begins.clock (length world.sent)) place world.signals }
+    record world { signals = changed (controller_anew (new_signal site begins entry) begins.clock (length world.sent)) place world.signals }
 
 -- a point keeps its place
 abbrev pub point_anew : Site → Beginning → ℕ → Option PointEntry → WorldState → WorldState
 point_anew site begins place None world = world
 point_anew site begins place (Some entry) world =
     let position = slice_index_or world.positions place positions.NoEndPosition
-    in record world { points = changed (server_anew (new_point site begins position entry) begins.clock (length world.sent)) place world.points }
+    in record world { points = changed (controller_anew (new_point site begins position entry) begins.clock (length world.sent)) place world.points }
 
 abbrev pub detector_anew : Site → Beginning → ℕ → Option DetectorEntry → WorldState → WorldState
 detector_anew site begins place None world = world
 detector_anew site begins place (Some entry) world =
-    record world { detectors = changed (server_anew (new_detector site begins world.occupancies entry) begins.clock (length world.sent)) place world.detectors }
+    record world { detectors = changed (controller_anew (new_detector site begins world.occupancies entry) begins.clock (length world.sent)) place world.detectors }
 
 abbrev pub made_anew : Site → Table → Beginning → Option Node → WorldState → WorldState
 made_anew site table begins None world = world
-made_anew site table begins (Some Station) world = record world {
-  station = station_anew (new_ixl site table begins) begins.clock world.station;
+made_anew site table begins (Some Interlocking) world = record world {
+  station = interlocking_anew (new_ixl site table begins) begins.clock world.station;
   frozen = frozen_by_restart table world.station world.frozen;
 }
 made_anew site table begins (Some (Signal place)) world = signal_anew site begins place (slice_get site.signals place) world
@@ -143,7 +143,7 @@ made_anew site table begins (Some (Detector place)) world = detector_anew site b
 -- ---- all events
 
 unfoldable pub happens : Site → Table → Event → WorldState → WorldState
-happens site table (event.Request command) world = station_stepped site table (ixl.Commands command) world
+happens site table (event.Request command) world = interlocking_stepped site table (ixl.Commands command) world
 happens site table (event.Occupy section occupancy) world =
     sensed_by site occupancy (slice_get table.reporters section.0)
     (record world { occupancies = slice_set world.occupancies section.0 occupancy })
@@ -165,7 +165,7 @@ answered_by (ixl.Refused refusal) = answer.Refused refusal
 answered_by _ = answer.Accepted
 
 unfoldable pub answered : Site → Table → Event → WorldState → Answer
-answered site table (event.Request command) world = answered_by (station_reply site table (ixl.Commands command) world.station)
+answered site table (event.Request command) world = answered_by (interlocking_reply site table (ixl.Commands command) world.station)
 answered site table _ world = answer.Done
 
 -- the answer, and how many datagrams were sent

@@ -1,8 +1,8 @@
 pub mod State
 pub mod Nodes
 pub mod First
-pub mod Servers
-pub mod Station
+pub mod Controllers
+pub mod Interlocking
 pub mod Network
 pub mod Refusals
 pub mod Happens

@@ -9,7 +9,7 @@ use Rattle.ixl_rules.specs.rasta_core.Names.{Names}
 use Rattle.ixl_rules.specs.rasta_core.State.{LinkState}
 use Rattle.ixl_rules.specs.State.{IxlState}
 use Rattle.simulator_run.specs.Nodes.{names_of, partners}
-use Rattle.simulator_run.specs.State.{ServerState, WorldState}
+use Rattle.simulator_run.specs.State.{ClockedControllerState, WorldState}
 
 -- the names of the links, in their order
 abbrev pub names_at : Site → ℕ → Names
@@ -28,7 +28,7 @@ pub record ServerEnd : Type 0 where
   pub connection : Option ℕ
   pub left : ℕ
 
-abbrev pub end_of_server : {Object : Type 0} → ServerState Object → ServerEnd
+abbrev pub end_of_server : {Object : Type 0} → ClockedControllerState Object → ServerEnd
 end_of_server server = record { link = server.host.link; clock = server.clock; connection = server.connection; left = server.left }
 
 abbrev pub server_ends : WorldState → List ServerEnd

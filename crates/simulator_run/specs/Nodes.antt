@@ -15,9 +15,9 @@ nodes site = suc (links site)
 abbrev pub partners : Site → List ℕ
 partners site = map (λ s. s.id) site.signals ++ (map (λ p. p.id) site.points ++ map (λ d. d.id) site.detectors)
 
--- A node: the station, or a controller by its place among those of its kind.
+-- A node: the interlocking, or a controller by its place among those of its kind.
 pub data Node : Type 0 where
-  Station : Node
+  Interlocking : Node
   Signal : ℕ → Node
   Point : ℕ → Node
   Detector : ℕ → Node
@@ -37,7 +37,7 @@ controller_at site link =
     if nat_lt link (links site) then Some (Detector (link - detector_link site 0)) else
     None
 
--- the node of a number: the station is 0, then come the controllers in the order of their links
+-- the node of a number: the interlocking is 0, then come the controllers in the order of their links
 abbrev pub node_at : Site → ℕ → Option Node
-node_at site zero = Some Station
+node_at site zero = Some Interlocking
 node_at site (suc link) = controller_at site link

@@ -20,8 +20,8 @@ use Rattle.ixl_rules.specs.View.{is_set}
 use Rattle.simulator_snapshot.specs.declared.snapshot.Held.{Held}
 use Rattle.simulator_run.specs.Refusals.{driven_by}
 use Rattle.simulator_run.specs.Seen.{shown_by}
-use Rattle.simulator_run.specs.State.{ServerState, WorldState}
-use Rattle.simulator_run.specs.Station.{held_of}
+use Rattle.simulator_run.specs.State.{ClockedControllerState, WorldState}
+use Rattle.simulator_run.specs.Interlocking.{held_of}
 
 abbrev pub aspect_text : Aspect → List ℕ
 aspect_text aspects.Stop = codes "stop"
@@ -55,14 +55,14 @@ authority_text site signal (held ∷ others) =
     if held.signal.0 == signal then route_name held.route.0 site.routes else authority_text site signal others
 
 -- lines of signals, points, sections and routes, each behind a line feed
-abbrev pub signal_lines : Site → List Held → ℕ → List Signal → List (ServerState SignalState) → List ℕ
+abbrev pub signal_lines : Site → List Held → ℕ → List Signal → List (ClockedControllerState SignalState) → List ℕ
 signal_lines site held place [] servers = []
 signal_lines site held place (signal ∷ signals) [] = []
 signal_lines site held place (signal ∷ signals) (server ∷ servers) =
     codes "\nsignal " ++ (signal.name ++ (codes " " ++ (aspect_text (shown_by server) ++ (codes " " ++ (authority_text site place held
     ++ signal_lines site held (suc place) signals servers)))))
 
-abbrev pub point_lines : List Point → List Position → List (ServerState PointState) → List ℕ
+abbrev pub point_lines : List Point → List Position → List (ClockedControllerState PointState) → List ℕ
 point_lines (point ∷ points) (position ∷ positions) (server ∷ servers) =
     codes "\npoint " ++ (point.name ++ (codes " " ++ (position_text position ++ (driven_text (driven_by server)
     ++ point_lines points positions servers))))

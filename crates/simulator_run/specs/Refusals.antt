@@ -16,7 +16,7 @@ use Rattle.simulator_event.specs.refused.Refused.{Refused}
 use Rattle.simulator_event.specs.refused.Refused.TheVariants as refused
 use Rattle.simulator_run.specs.Network.{copy_of, datagrams_of}
 use Rattle.simulator_run.specs.Nodes.{key_of, nodes}
-use Rattle.simulator_run.specs.State.{ServerState, WorldState}
+use Rattle.simulator_run.specs.State.{ClockedControllerState, WorldState}
 
 -- the greatest true time and the greatest clock, in microseconds
 abbrev pub clock_limit : ℕ
@@ -33,18 +33,18 @@ refused_where fails why otherwise = if fails then Some why else otherwise
 -- ---- time
 
 -- no clock of these servers passes the limit by its step, and what is left of the steps goes on
-abbrev pub are_within : {Object : Type 0} → List (ServerState Object) → List ℕ → (List ℕ → Bool) → Bool
+abbrev pub are_within : {Object : Type 0} → List (ClockedControllerState Object) → List ℕ → (List ℕ → Bool) → Bool
 are_within [] steps others = others steps
 are_within (server ∷ servers) [] others = others []
 are_within (server ∷ servers) (step ∷ steps) others = nat_le (server.clock + step) clock_limit && are_within servers steps others
 
-abbrev pub station_within : ℕ → List ℕ → (List ℕ → Bool) → Bool
-station_within clock [] others = others []
-station_within clock (step ∷ steps) others = nat_le (clock + step) clock_limit && others steps
+abbrev pub interlocking_within : ℕ → List ℕ → (List ℕ → Bool) → Bool
+interlocking_within clock [] others = others []
+interlocking_within clock (step ∷ steps) others = nat_le (clock + step) clock_limit && others steps
 
 abbrev pub all_within : WorldState → List ℕ → Bool
 all_within world steps =
-    station_within world.station.clock steps (λ steps. are_within world.signals steps
+    interlocking_within world.station.clock steps (λ steps. are_within world.signals steps
     (λ steps. are_within world.points steps (λ steps. are_within world.detectors steps (λ steps. true))))
 
 unfoldable pub refusal_of_time : Site → ℕ → List ℕ → WorldState → Option Refused
@@ -65,10 +65,10 @@ may_reach (Some sides.Right) positions.Left = false
 may_reach (Some sides.Left) positions.Right = false
 
 -- the side to which a controller drives its point now
-abbrev pub driven_by : ServerState PointState → Option Side
+abbrev pub driven_by : ClockedControllerState PointState → Option Side
 driven_by server = drives (reading_of server.clock) server.host.object
 
-abbrev pub driven_at : ℕ → List (ServerState PointState) → Option Side
+abbrev pub driven_at : ℕ → List (ClockedControllerState PointState) → Option Side
 driven_at place [] = None
 driven_at zero (server ∷ servers) = driven_by server
 driven_at (suc place) (server ∷ servers) = driven_at place servers

@@ -10,15 +10,15 @@ use Rattle.simulator_snapshot.specs.declared.snapshot.Shown.{Shown}
 use Rattle.simulator_snapshot.specs.declared.snapshot.Snapshot.{Snapshot}
 use Rattle.simulator_snapshot.specs.declared.snapshot.Stands.{Stands}
 use Rattle.simulator_run.specs.Refusals.{driven_by}
-use Rattle.simulator_run.specs.State.{ServerState, WorldState}
-use Rattle.simulator_run.specs.Station.{held_of}
+use Rattle.simulator_run.specs.State.{ClockedControllerState, WorldState}
+use Rattle.simulator_run.specs.Interlocking.{held_of}
 
 -- what a signal shows
-abbrev pub shown_by : ServerState SignalState → Aspect
+abbrev pub shown_by : ClockedControllerState SignalState → Aspect
 shown_by server = aspect_shown server.host.object.lamp (reading_of server.clock)
 
 -- as entries of a snapshot
-abbrev pub as_shown : ServerState SignalState → Shown
+abbrev pub as_shown : ClockedControllerState SignalState → Shown
 as_shown server = record { 0 = shown_by server }
 
 abbrev pub as_stands : Position → Stands

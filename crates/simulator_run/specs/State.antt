@@ -12,7 +12,7 @@ use Rattle.ixl_rules.specs.State.{IxlState}
 use Rattle.simulator_snapshot.specs.declared.snapshot.Held.{Held}
 
 -- An object controller, the server of its link to the interlocking.
-pub record ServerState (Object : Type 0) : Type 0 where
+pub record ClockedControllerState (Object : Type 0) : Type 0 where
   pub host : HostState Object
   -- its exact clock, in microseconds
   pub clock : ℕ
@@ -21,7 +21,7 @@ pub record ServerState (Object : Type 0) : Type 0 where
   pub left : ℕ
 
 -- The interlocking, the client of every link. Links have the order of the nodes: signals, points, detectors.
-pub record StationState : Type 0 where
+pub record ClockedInterlockingState : Type 0 where
   pub ixl : IxlState
   -- its exact clock, in microseconds
   pub clock : ℕ
@@ -31,10 +31,10 @@ pub record StationState : Type 0 where
 pub record WorldState : Type 0 where
   -- true time, in microseconds
   pub time : ℕ
-  pub station : StationState
-  pub signals : List (ServerState SignalState)
-  pub points : List (ServerState PointState)
-  pub detectors : List (ServerState (List Section))
+  pub station : ClockedInterlockingState
+  pub signals : List (ClockedControllerState SignalState)
+  pub points : List (ClockedControllerState PointState)
+  pub detectors : List (ClockedControllerState (List Section))
   -- where each point stands, and whether each section is occupied
   pub positions : List Position
   pub occupancies : List Occupancy

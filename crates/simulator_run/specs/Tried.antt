@@ -30,7 +30,7 @@ abbrev pub after : Played → Event → Played
 after world event =
     world_where (refusal_of event world) world (record world { run = happens world.sited.site world.sited.table event world.run })
 
--- The node at the other end of a link: the station is 0, and the controller of a link stands behind it at the link's place.
+-- The node at the other end of a link: the interlocking is 0, and the controller of a link stands behind it at the link's place.
 -- A number ends at the greatest of a machine word.
 abbrev pub receiver : Role → ℕ → NodeId
 receiver Client link = record { 0 = min (link + 1) (2 ^ 64 - 1) }

@@ -22,7 +22,7 @@ pub fn an_event_at_no_node_is_refused()
 {}
 
 /// An interlocking that was just made holds.
-pub fn a_restarted_station_holds()
+pub fn a_restarted_interlocking_holds()
     ensures { (site : Site) (table : Table) (begins : Beginning) → begins.clock ≤ 9000000000000 → is_holding begins.clock (new_ixl site table begins) ≡ true }
 {
     new_interlockings_hold();

@@ -7,7 +7,7 @@ mod node_count;
 mod round;
 
 pub use laws::{
-    a_restarted_station_holds, a_station_begins_its_links, an_event_at_no_node_is_refused,
+    a_restarted_interlocking_holds, a_station_begins_its_links, an_event_at_no_node_is_refused,
     the_first_world_is_at_rest,
 };
 pub use node_count::{links, nodes};

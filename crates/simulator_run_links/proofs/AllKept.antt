@@ -15,10 +15,10 @@ use Rattle.simulator_run.specs.ixl_rules.Step as ixl
 use Rattle.simulator_run.specs.ixl_rules.Table.{Table}
 use Rattle.simulator_run.specs.simulator_event.declared.event.Event.{Event}
 use Rattle.simulator_run.specs.simulator_event.declared.event.Event.TheVariants as event
-use Rattle.simulator_run.specs.Happens.{coming, delivered_to, happens, sensed_by, station_stepped, ticked_at}
+use Rattle.simulator_run.specs.Happens.{coming, delivered_to, happens, interlocking_stepped, sensed_by, ticked_at}
 use Rattle.simulator_run.specs.Links.{AreLinksOf, names_at}
 use Rattle.simulator_run.specs.Network.{connection_of, copy_of}
-use Rattle.simulator_run.specs.Nodes.{Node, Station, Signal, Point, Detector, links, node_at}
+use Rattle.simulator_run.specs.Nodes.{Node, Interlocking, Signal, Point, Detector, links, node_at}
 use Rattle.simulator_run.specs.Refusals.{refusal}
 use Rattle.simulator_run.specs.State.{WorldState}
 use Rattle.simulator_run_links.proofs.Delivered.{IsDeliverable, deliverable, delivery_may}
@@ -56,8 +56,8 @@ module _ (laws : AllLaws) (site : Site) (are_links : AreLinks (links site) (name
   module _ (world : WorldState) (whole : IsWhole site world) (are : AreLinksOf site world before) where
     station_keeps : (connection : ℕ) (input : ixl.Input)
         → MayComeIn laws.link laws.asking site are_links world.time connection (reading_of world.station.clock) before (record { connections = world.station.connections; sent = world.sent }) laws.steps table input
-        → IsWhole site (station_stepped site table input world)
-    unfolding station_stepped
+        → IsWhole site (interlocking_stepped site table input world)
+    unfolding interlocking_stepped
     station_keeps connection input may =
         let on = reached laws.link laws.asking laws.node laws.steps site are_links table connection world before whole timely are input may
         in record {
@@ -66,7 +66,7 @@ module _ (laws : AllLaws) (site : Site) (are_links : AreLinks (links site) (name
             known_points = on.manned.known_points;
             detectors = on.manned.detectors;
             peers = λ link client at.
-                let is = on.clients link (subst (λ n. link < n) (states_count site (station_stepped site table input world).station.ixl on.manned) (within_some (client_states (station_stepped site table input world).station.ixl) link client at))
+                let is = on.clients link (subst (λ n. link < n) (states_count site (interlocking_stepped site table input world).station.ixl on.manned) (within_some (client_states (interlocking_stepped site table input world).station.ixl) link client at))
                 in subst (λ (c : ClientState). IsPeer c.peer) (same_Some is.client client (sym is.there ∙ at)) is.peer;
           };
           connections = on.tells.count;
@@ -81,14 +81,14 @@ module _ (laws : AllLaws) (site : Site) (are_links : AreLinks (links site) (name
 
     tick_keeps : (at : Option Node) → IsWhole site (ticked_at site table at world)
     tick_keeps None = whole
-    tick_keeps (Some Station) = station_keeps 0 ixl.Tick tt
+    tick_keeps (Some Interlocking) = station_keeps 0 ixl.Tick tt
     tick_keeps (Some (Signal place)) = signal_keeps laws.steps.written site world whole inputs.Tick 0 place
     tick_keeps (Some (Point place)) = point_keeps laws.steps.written site world whole inputs.Tick 0 place
     tick_keeps (Some (Detector place)) = detector_keeps laws.steps.written site world whole inputs.Tick 0 place
 
     delivery_keeps : (bytes : List ℕ) → IsDeliverable site bytes world → (at : Option Node) → IsWhole site (delivered_to site table bytes (connection_of (copy_of bytes world)) at world)
     delivery_keeps bytes is None = whole
-    delivery_keeps bytes is (Some Station) = station_keeps (connection_of (copy_of bytes world)) (ixl.Datagram bytes) (λ link below. delivery_may laws.delivered laws.tested site world before bytes link are is)
+    delivery_keeps bytes is (Some Interlocking) = station_keeps (connection_of (copy_of bytes world)) (ixl.Datagram bytes) (λ link below. delivery_may laws.delivered laws.tested site world before bytes link are is)
     delivery_keeps bytes is (Some (Signal place)) = signal_keeps laws.steps.written site world whole (coming bytes) (connection_of (copy_of bytes world)) place
     delivery_keeps bytes is (Some (Point place)) = point_keeps laws.steps.written site world whole (coming bytes) (connection_of (copy_of bytes world)) place
     delivery_keeps bytes is (Some (Detector place)) = detector_keeps laws.steps.written site world whole (coming bytes) (connection_of (copy_of bytes world)) place

@@ -22,7 +22,7 @@ use Rattle.simulator_run.specs.ixl_rules.State.{KnownDetectorState, KnownSignalS
 use Rattle.simulator_run.specs.ixl_rules.Table.{Table}
 use Rattle.simulator_run.specs.First.{Beginning, new_ixl}
 use Rattle.simulator_run.specs.Links.{AreLinksOf, IsClientAt, IsServerAt, ServerEnd, client_links, names_at, server_ends}
-use Rattle.simulator_run.specs.Station.{frozen_by_restart, station_anew}
+use Rattle.simulator_run.specs.Interlocking.{frozen_by_restart, interlocking_anew}
 use Rattle.std.proofs.lemmas.List.{map-append}
 use Rattle.simulator_run.specs.Nodes.{links, names_of, partners}
 use Rattle.simulator_run.specs.State.{WorldState}
@@ -178,7 +178,7 @@ module _ (node : NodeRestarts) (site : Site) (table : Table) (begins : Beginning
     (timely : AreTimely (links site) (names_at site) before) (are : AreLinksOf site world before) where
   abbrev anew : WorldState
   anew = record world {
-    station = station_anew (new_ixl site table begins) begins.clock world.station;
+    station = interlocking_anew (new_ixl site table begins) begins.clock world.station;
     frozen = frozen_by_restart table world.station world.frozen;
   }
 

@@ -8,20 +8,20 @@ use Rattle.simulator_run.specs.rasta_core.Clock.{deadline, open_state, settled, 
 use Rattle.simulator_run.specs.rasta_core.Ends.{Call, EndState, Ticks, Opens, Closes, Sends, Receives, is_taken, outcome, reading_of}
 use Rattle.simulator_run.specs.rasta_core.Opening.{beginning, granting, judging, meeting, own_opening}
 use Rattle.simulator_run.specs.rasta_core.Parameters.{connection_limit, own_version, quiet_time, window_size}
-use Rattle.simulator_run.specs.rasta_core.Receiving.{Receipt, accepting, by_state, hearing, refusing, resting}
-use Rattle.simulator_run.specs.rasta_core.Sending.{Step, entered, limited, sending, silent, telling}
+use Rattle.simulator_run.specs.rasta_core.Receipt.{Receipt, accepting, by_state, hearing, refusing, resting}
+use Rattle.simulator_run.specs.rasta_core.PdusHandedOut.{Step, entered, limited, sending, silent, telling}
 use Rattle.simulator_run.specs.rasta_core.State.{LinkState, is_client, is_open}
 use Rattle.simulator_run.specs.rasta_core.Steps.{EnterNone, all_made, enters_by, made_by}
 use Rattle.simulator_run.specs.rasta_core.phase.State.TheVariants as state
 use Rattle.simulator_run.specs.rasta_core.reason.Reason.TheVariants as reason
 use Rattle.simulator_run.specs.rasta_core.verdict.Verdict.TheVariants as verdict
-use Rattle.simulator_run.specs.rasta_pdu.Reading.{reading}
+use Rattle.simulator_run.specs.rasta_pdu.PduRead.{reading}
 use Rattle.simulator_run.specs.rasta_pdu.declared.body.Body.{Body}
 use Rattle.simulator_run.specs.rasta_pdu.declared.body.Body.TheVariants.{ConnectionRequest, ConnectionResponse, RetransmissionRequest, RetransmissionResponse, DisconnectionRequest, Heartbeat, Data, RetransmittedData}
 use Rattle.simulator_run.specs.rasta_pdu.declared.body.Opening.{Opening}
 use Rattle.simulator_run.specs.rasta_pdu.declared.fault.PduFault.{PduFault}
 use Rattle.simulator_run.specs.rasta_pdu.declared.pdu.Pdu.{Pdu}
-use Rattle.simulator_run.specs.Servers.{is_some_sent}
+use Rattle.simulator_run.specs.Controllers.{is_some_sent}
 use Rattle.simulator_run_links.proofs.Laws.{CallLaws}
 use Rattle.simulator_run_links.proofs.Lists.{by_test}
 use Rattle.simulator_run_links.proofs.Settled.{settled_shut}

@@ -20,14 +20,14 @@ use Rattle.simulator_run.specs.rasta_core.State.{is_open}
 use Rattle.simulator_run.specs.rasta_core.Steps.{made_by}
 use Rattle.simulator_run.specs.rasta_core.identity.Role.{Role}
 use Rattle.simulator_run.specs.rasta_core.identity.Role.TheVariants as role
-use Rattle.simulator_run.specs.rasta_pdu.Reading.{reading, u32_at}
+use Rattle.simulator_run.specs.rasta_pdu.PduRead.{reading, u32_at}
 use Rattle.simulator_run.specs.rasta_pdu.Spelling.{writing}
 use Rattle.simulator_run.specs.rasta_pdu.declared.key.Key.{Key}
 use Rattle.simulator_run.specs.rasta_pdu.declared.pdu.Pdu.{Pdu}
 use Rattle.simulator_machine_links.specs.Flows.{AsksNone, AsksOnce, begins}
 use Rattle.simulator_run.specs.Links.{names_at}
 use Rattle.simulator_run.specs.Nodes.{links}
-use Rattle.simulator_run.specs.Station.{Sending, link_of, sending_all, sending_one}
+use Rattle.simulator_run.specs.Interlocking.{Sending, link_of, sending_all, sending_one}
 use Rattle.simulator_run.specs.rasta_pdu.Header.{is_request}
 use Rattle.simulator_run_links.proofs.Answering.{is_made}
 use Rattle.simulator_run_links.proofs.Controllers.{end_may}

@@ -7,7 +7,7 @@ use Rattle.simulator_run.specs.point_ctl.Drive.{PointState}
 use Rattle.simulator_run.specs.tds_ctl.declared.section.Section.{Section}
 use Rattle.simulator_run.specs.Links.{AreLinksOf, ServerEnd, end_of_server, server_ends}
 use Rattle.simulator_run.specs.Nodes.{detector_link, point_link}
-use Rattle.simulator_run.specs.State.{ServerState, WorldState}
+use Rattle.simulator_run.specs.State.{ClockedControllerState, WorldState}
 use Rattle.simulator_run_links.proofs.Lists.{get_left, get_map, get_right, length_map, map_set, within_some}
 use Rattle.simulator_run_links.proofs.Places.{first_set, second_set, third_set}
 use Rattle.simulator_run_links.specs.Events.{FollowsBy}
@@ -32,18 +32,18 @@ module _ (site : Site) (world : WorldState) (whole : IsWhole site world) where
   abbrev detectors : List ServerEnd
   detectors = map end_of_server world.detectors
 
-  pub signal_there : (place : ℕ) (server : ServerState SignalState) → slice_get world.signals place ≡ Some server → slice_get (server_ends world) place ≡ Some (end_of_server server)
+  pub signal_there : (place : ℕ) (server : ClockedControllerState SignalState) → slice_get world.signals place ≡ Some server → slice_get (server_ends world) place ≡ Some (end_of_server server)
   signal_there place server at =
       let found = get_map end_of_server world.signals place ∙ ap (option_map end_of_server) at
       in get_left signals (points ++ detectors) place (within_some signals place (end_of_server server) found) ∙ found
 
-  pub point_there : (place : ℕ) (server : ServerState PointState) → slice_get world.points place ≡ Some server → slice_get (server_ends world) (point_link site place) ≡ Some (end_of_server server)
+  pub point_there : (place : ℕ) (server : ClockedControllerState PointState) → slice_get world.points place ≡ Some server → slice_get (server_ends world) (point_link site place) ≡ Some (end_of_server server)
   point_there place server at =
       let found = get_map end_of_server world.points place ∙ ap (option_map end_of_server) at
       in get_right signals (points ++ detectors) place (point_link site place) (ap (λ n. n + place) (sym (length_map end_of_server world.signals ∙ whole.signals)))
       ∙ get_left points detectors place (within_some points place (end_of_server server) found) ∙ found
 
-  pub detector_there : (place : ℕ) (server : ServerState (List Section)) → slice_get world.detectors place ≡ Some server → slice_get (server_ends world) (detector_link site place) ≡ Some (end_of_server server)
+  pub detector_there : (place : ℕ) (server : ClockedControllerState (List Section)) → slice_get world.detectors place ≡ Some server → slice_get (server_ends world) (detector_link site place) ≡ Some (end_of_server server)
   detector_there place server at =
       let found = get_map end_of_server world.detectors place ∙ ap (option_map end_of_server) at
       in get_right signals (points ++ detectors) (length points + place) (detector_link site place)
@@ -53,18 +53,18 @@ module _ (site : Site) (world : WorldState) (whole : IsWhole site world) where
       sums : (a b c d n : ℕ) → c ≡ a → d ≡ b → a + b + n ≡ c + (d + n)
       sums a b c d n p q = omega arith
 
-  pub signals_set : (place : ℕ) (server : ServerState SignalState) → place < length world.signals
+  pub signals_set : (place : ℕ) (server : ClockedControllerState SignalState) → place < length world.signals
       → map end_of_server (slice_set world.signals place server) ++ (points ++ detectors) ≡ slice_set (server_ends world) place (end_of_server server)
   signals_set place server within = ap (λ l. l ++ (points ++ detectors)) (map_set end_of_server world.signals place server)
       ∙ first_set signals points detectors place (end_of_server server) (subst (λ n. place < n) (sym (length_map end_of_server world.signals)) within)
 
-  pub points_set : (place : ℕ) (server : ServerState PointState) → place < length world.points
+  pub points_set : (place : ℕ) (server : ClockedControllerState PointState) → place < length world.points
       → signals ++ (map end_of_server (slice_set world.points place server) ++ detectors) ≡ slice_set (server_ends world) (point_link site place) (end_of_server server)
   points_set place server within = ap (λ l. signals ++ (l ++ detectors)) (map_set end_of_server world.points place server)
       ∙ second_set signals points detectors place (point_link site place) (end_of_server server) (subst (λ n. place < n) (sym (length_map end_of_server world.points)) within)
       (ap (λ n. n + place) (sym (length_map end_of_server world.signals ∙ whole.signals)))
 
-  pub detectors_set : (place : ℕ) (server : ServerState (List Section))
+  pub detectors_set : (place : ℕ) (server : ClockedControllerState (List Section))
       → signals ++ (points ++ map end_of_server (slice_set world.detectors place server)) ≡ slice_set (server_ends world) (detector_link site place) (end_of_server server)
   detectors_set place server = ap (λ l. signals ++ (points ++ l)) (map_set end_of_server world.detectors place server)
       ∙ third_set signals points detectors place (detector_link site place) (end_of_server server)

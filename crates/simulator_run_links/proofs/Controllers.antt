@@ -25,8 +25,8 @@ use Rattle.simulator_run.specs.rasta_core.identity.Role.{Role}
 use Rattle.simulator_run.specs.rasta_core.identity.Role.TheVariants as role
 use Rattle.simulator_run.specs.Links.{AreLinksOf, end_of_server, names_at, server_ends}
 use Rattle.simulator_run.specs.Nodes.{links, partners}
-use Rattle.simulator_run.specs.Servers.{sent_by_server, server_after, step_of}
-use Rattle.simulator_run.specs.State.{ServerState, WorldState}
+use Rattle.simulator_run.specs.Controllers.{controller_after, sent_by_controller, step_of}
+use Rattle.simulator_run.specs.State.{ClockedControllerState, WorldState}
 use Rattle.simulator_run_links.proofs.HostSteps.{IsStepped, host_stepped}
 use Rattle.simulator_run_links.proofs.Laws.{CallLaws, LinkLaws, ServerLaws}
 use Rattle.simulator_run_links.proofs.Lists.{itself, within_some}
@@ -140,14 +140,14 @@ module _ {Object : Type 0} (does : Behaviour Object)
     (made_of : (now : ℕ) (input : Input) (host : HostState Object) → IsMadeOf now (settled now host.link) (host_step does now input host))
     (laws : LinkLaws) (calling : CallLaws) (serving : ServerLaws)
     (site : Site) (are_links : AreLinks (links site) (names_at site)) (world : WorldState) (before : Links) (timely : AreTimely (links site) (names_at site) before) (are : AreLinksOf site world before) where
-  pub controller_follows : (new : WorldState) (link id : ℕ) (server : ServerState Object) (input : Input) (connection : ℕ)
+  pub controller_follows : (new : WorldState) (link id : ℕ) (server : ClockedControllerState Object) (input : Input) (connection : ℕ)
       → slice_get (partners site) link ≡ Some id → slice_get (server_ends world) link ≡ Some (end_of_server server)
       → AreItems (step_of does input server).calls → MayCome (names_at site link) input connection before
       → new.time ≡ world.time → new.station ≡ world.station
-      → server_ends new ≡ slice_set (server_ends world) link (end_of_server (server_after (step_of does input server) connection (length world.sent) server))
-      → new.sent ≡ world.sent ++ sent_by_server (step_of does input server) world.time link server (server_after (step_of does input server) connection (length world.sent) server)
+      → server_ends new ≡ slice_set (server_ends world) link (end_of_server (controller_after (step_of does input server) connection (length world.sent) server))
+      → new.sent ≡ world.sent ++ sent_by_controller (step_of does input server) world.time link server (controller_after (step_of does input server) connection (length world.sent) server)
       → FollowsBy site (map (λ call. CallsOn link role.Server call) (map (as_call connection) (step_of does input server).calls)) new before
-  unfolding sent_by_server
+  unfolding sent_by_controller
   controller_follows new link id server input connection at there items may time station ends sent = record {
     may = links_may (links site) (names_at site) link role.Server list before below each;
     are = one_server site world new before after link (end_of_server next) are (record {
@@ -169,8 +169,8 @@ module _ {Object : Type 0} (does : Behaviour Object)
       done : HostSoFar Object
       done = step_of does input server
 
-      next : ServerState Object
-      next = server_after (step_of does input server) connection (length world.sent) server
+      next : ClockedControllerState Object
+      next = controller_after (step_of does input server) connection (length world.sent) server
 
       list : List Call
       list = map (as_call connection) (step_of does input server).calls
@@ -193,11 +193,11 @@ module _ {Object : Type 0} (does : Behaviour Object)
           ((laws.run_time (links site) (names_at site) (events_of link role.Server (map (as_call connection) (step_of does input server).calls)) before are_links timely
           (links_may (links site) (names_at site) link role.Server (map (as_call connection) (step_of does input server).calls) before below each)).each link below)
 
-      stepped : IsStepped (names_at site link) before.time server.host.link.identity.key (end_of_server (server_after (step_of does input server) connection (length world.sent) server)) (step_of does input server).pdus (seen link before)
+      stepped : IsStepped (names_at site link) before.time server.host.link.identity.key (end_of_server (controller_after (step_of does input server) connection (length world.sent) server)) (step_of does input server).pdus (seen link before)
           (run (calls_at role.Server (map (as_call connection) (step_of does input server).calls)) (seen link before))
       stepped = host_stepped does calls_for made_of laws calling serving (names_at site link) (are_links.each link below) connection (length world.sent) server (seen link before) (timely.each link below)
           (kept_at world link (before.ends link).server (end_of_server server) (are.servers link id at) there) (ap length are.sent_is) input ends_run later
 
       sent_here : sent_by_calls role.Server (map (as_call connection) (step_of does input server).calls) (seen link before)
-          ≡ handed_out before.time role.Server (server_after (step_of does input server) connection (length world.sent) server).connection (spellings server.host.link.identity.key (step_of does input server).pdus)
+          ≡ handed_out before.time role.Server (controller_after (step_of does input server) connection (length world.sent) server).connection (spellings server.host.link.identity.key (step_of does input server).pdus)
       sent_here = append_cancel_left (seen link before).sent _ _ (sym (run_sent role.Server (map (as_call connection) (step_of does input server).calls) (seen link before)) ∙ stepped.sent)

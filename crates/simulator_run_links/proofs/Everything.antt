@@ -15,10 +15,10 @@ use Rattle.simulator_run.specs.ixl_rules.Step as ixl
 use Rattle.simulator_run.specs.ixl_rules.Table.{Table}
 use Rattle.simulator_run.specs.simulator_event.declared.event.Event.{Event}
 use Rattle.simulator_run.specs.simulator_event.declared.event.Event.TheVariants as event
-use Rattle.simulator_run.specs.Happens.{coming, delivered_to, happens, point_stepped, sensed_by, station_stepped, ticked_at}
+use Rattle.simulator_run.specs.Happens.{coming, delivered_to, happens, interlocking_stepped, point_stepped, sensed_by, ticked_at}
 use Rattle.simulator_run.specs.Links.{AreLinksOf, names_at}
 use Rattle.simulator_run.specs.Network.{connection_of, copy_of}
-use Rattle.simulator_run.specs.Nodes.{Node, Station, Signal, Point, Detector, detector_link, links, node_at, point_link}
+use Rattle.simulator_run.specs.Nodes.{Node, Interlocking, Signal, Point, Detector, detector_link, links, node_at, point_link}
 use Rattle.simulator_run.specs.Refusals.{refusal}
 use Rattle.simulator_run.specs.State.{WorldState}
 use Rattle.simulator_run_links.proofs.Anew.{NodeRestarts}
@@ -33,7 +33,7 @@ use Rattle.simulator_run_links.proofs.Places.{client_same, server_same}
 use Rattle.simulator_run_links.proofs.Restarting.{restarts_follow}
 use Rattle.simulator_run_links.proofs.Station.{NodeLaws, station_follows}
 use Rattle.simulator_run_links.proofs.Steps.{HostLaws, detector_follows, point_follows, signal_follows}
-use Rattle.simulator_run_links.specs.Events.{FollowsBy, contact_events, delivery_events, events_of, point_events, station_events, tick_events}
+use Rattle.simulator_run_links.specs.Events.{FollowsBy, contact_events, delivery_events, events_of, interlocking_events, point_events, tick_events}
 use Rattle.simulator_run_links.specs.Whole.{IsWhole}
 
 -- all laws that this stands on
@@ -80,14 +80,14 @@ module _ (laws : AllLaws) (site : Site) (are_links : AreLinks (links site) (name
   module _ (world : WorldState) (whole : IsWhole site world) (are : AreLinksOf site world before) where
     pub tick_follows : (at : Option Node) → FollowsBy site (tick_events site table at world) (ticked_at site table at world) before
     tick_follows None = stays_follows site world before are
-    tick_follows (Some Station) = station_follows laws.link laws.asking laws.node laws.steps site are_links table 0 world before whole timely are ixl.Tick tt
+    tick_follows (Some Interlocking) = station_follows laws.link laws.asking laws.node laws.steps site are_links table 0 world before whole timely are ixl.Tick tt
     tick_follows (Some (Signal place)) = signal_follows laws.link laws.calling laws.serving laws.steps.written site are_links world before whole timely are laws.signal inputs.Tick 0 place (λ below. tt)
     tick_follows (Some (Point place)) = point_follows laws.link laws.calling laws.serving laws.steps.written site are_links world before whole timely are laws.point inputs.Tick 0 place (λ below. tt)
     tick_follows (Some (Detector place)) = detector_follows laws.link laws.calling laws.serving laws.steps.written site are_links world before whole timely are laws.detector inputs.Tick 0 place (λ below. tt)
 
     pub delivery_follows : (bytes : List ℕ) → IsDeliverable site bytes world → (at : Option Node) → FollowsBy site (delivery_events site table bytes (connection_of (copy_of bytes world)) at world) (delivered_to site table bytes (connection_of (copy_of bytes world)) at world) before
     delivery_follows bytes is None = stays_follows site world before are
-    delivery_follows bytes is (Some Station) = station_follows laws.link laws.asking laws.node laws.steps site are_links table (connection_of (copy_of bytes world)) world before whole timely are (ixl.Datagram bytes)
+    delivery_follows bytes is (Some Interlocking) = station_follows laws.link laws.asking laws.node laws.steps site are_links table (connection_of (copy_of bytes world)) world before whole timely are (ixl.Datagram bytes)
         (λ link below. delivery_may laws.delivered laws.tested site world before bytes link are is)
     delivery_follows bytes is (Some (Signal place)) = signal_follows laws.link laws.calling laws.serving laws.steps.written site are_links world before whole timely are laws.signal (coming bytes) (connection_of (copy_of bytes world)) place
         (λ below. delivery_may laws.delivered laws.tested site world before bytes place are is)
@@ -103,7 +103,7 @@ module _ (laws : AllLaws) (site : Site) (are_links : AreLinks (links site) (name
     pub reach_follows : (place : ℕ) (position : Position) → FollowsBy site (point_events site (inputs.Sense (sense.Position position)) 0 place world) (point_stepped site (inputs.Sense (sense.Position position)) 0 place world) before
     reach_follows place position = point_follows laws.link laws.calling laws.serving laws.steps.written site are_links world before whole timely are laws.point (inputs.Sense (sense.Position position)) 0 place (λ below. tt)
 
-    pub command_follows : (command : Command) → FollowsBy site (station_events site table (ixl.Commands command) 0 world.station) (station_stepped site table (ixl.Commands command) world) before
+    pub command_follows : (command : Command) → FollowsBy site (interlocking_events site table (ixl.Commands command) 0 world.station) (interlocking_stepped site table (ixl.Commands command) world) before
     command_follows command = station_follows laws.link laws.asking laws.node laws.steps site are_links table 0 world before whole timely are (ixl.Commands command) tt
 
   pub event_follows : (happening : Event) (world : WorldState) → IsWhole site world → AreLinksOf site world before → refusal site happening world ≡ None → FollowsBy site (events_of site table happening world) (happens site table happening world) before

@@ -2,7 +2,7 @@
 use Rattle.std.proofs.Common.{ℕ, zero, suc, ◌+◌, not, ◌&&◌, List, [], ◌∷◌, ◌++◌, Option, Some, None, Result, Ok, Err}
 use Rattle.std.specs.Prelude.{◌==◌, is_ok}
 use Rattle.simulator_run.specs.sci_telegram.Names.{IsName}
-use Rattle.simulator_run.specs.sci_telegram.Reading.{reading}
+use Rattle.simulator_run.specs.sci_telegram.TelegramRead.{reading}
 use Rattle.simulator_run.specs.sci_telegram.Telegrams.{IsMessage, IsTelegram, writing}
 use Rattle.simulator_run.specs.sci_telegram.declared.fault.SciFault.{SciFault}
 use Rattle.simulator_run.specs.sci_telegram.declared.message.Agreement.TheVariants.{NoMatch, Match}

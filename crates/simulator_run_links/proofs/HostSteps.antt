@@ -26,8 +26,8 @@ use Rattle.simulator_run.specs.rasta_pdu.declared.key.Key.{Key}
 use Rattle.simulator_run.specs.rasta_pdu.declared.pdu.Pdu.{Pdu}
 use Rattle.simulator_machine_links.specs.Flows.{ServerIsAfter}
 use Rattle.simulator_run.specs.Links.{ServerEnd, end_of_server}
-use Rattle.simulator_run.specs.Servers.{has_entered, is_inside_at, is_some_sent, server_after, step_of}
-use Rattle.simulator_run.specs.State.{ServerState}
+use Rattle.simulator_run.specs.Controllers.{controller_after, has_entered, is_inside_at, is_some_sent, step_of}
+use Rattle.simulator_run.specs.State.{ClockedControllerState}
 use Rattle.simulator_run_links.proofs.Answering.{is_made, silent_outside, some_first, taken_is_answered}
 use Rattle.simulator_run_links.proofs.Laws.{CallLaws, LinkLaws, ServerLaws}
 use Rattle.simulator_run_links.proofs.Places.{IsKept}
@@ -108,7 +108,7 @@ module _ {Object : Type 0} (does : Behaviour Object)
     (calls_for : (now : ℕ) (input : Input) (host : HostState Object) → AreCallsFor input (host_step does now input host).calls)
     (made_of : (now : ℕ) (input : Input) (host : HostState Object) → IsMadeOf now (settled now host.link) (host_step does now input host))
     (laws : LinkLaws) (calling : CallLaws) (serving : ServerLaws)
-    (names : Names) (are : AreNames names) (connection moment : ℕ) (server : ServerState Object) (ends : Ends) (timely : Timely names ends)
+    (names : Names) (are : AreNames names) (connection moment : ℕ) (server : ClockedControllerState Object) (ends : Ends) (timely : Timely names ends)
     (is : IsKept (end_of_server server) ends.server) (moment_is : ends.moment ≡ moment) where
   abbrev now : ℕ
   now = reading_of server.clock
@@ -241,10 +241,10 @@ module _ {Object : Type 0} (does : Behaviour Object)
   key_is = ap (λ (l : LinkState). l.identity.key) is.link_is ∙ ap (λ (i : Identity). i.key) (settled_identity now server.host.link)
 
   pub host_stepped : (input : Input) → MayRun names (calls_at role.Server (calls input)) ends → Timely names (after input)
-      → IsStepped names ends.time server.host.link.identity.key (end_of_server (server_after (done input) connection moment server)) (done input).pdus ends (after input)
-  unfolding server_after
+      → IsStepped names ends.time server.host.link.identity.key (end_of_server (controller_after (done input) connection moment server)) (done input).pdus ends (after input)
+  unfolding controller_after
   host_stepped input may later = from (enters input (calls_for now input server.host) may) where
-    from : Enters input → IsStepped names ends.time server.host.link.identity.key (end_of_server (server_after (done input) connection moment server)) (done input).pdus ends (after input)
+    from : Enters input → IsStepped names ends.time server.host.link.identity.key (end_of_server (controller_after (done input) connection moment server)) (done input).pdus ends (after input)
     from (entered, told, entered_here) = record {
       kept = record {
         link_is = settled_after input later;

@@ -11,7 +11,7 @@ use Rattle.simulator_run.specs.signal_ctl.Signal.{SignalState}
 use Rattle.simulator_run.specs.point_ctl.Drive.{PointState}
 use Rattle.simulator_run.specs.Links.{AreLinksOf, IsClientAt, end_of_server, server_ends}
 use Rattle.simulator_run.specs.Nodes.{links, point_link}
-use Rattle.simulator_run.specs.State.{ServerState, WorldState}
+use Rattle.simulator_run.specs.State.{ClockedControllerState, WorldState}
 use Rattle.simulator_run_links.proofs.ByKind.{point_there, signal_there}
 use Rattle.simulator_run_links.proofs.Lists.{get_left, get_map, get_right, length_map, within_some}
 use Rattle.simulator_run_links.proofs.Partners.{partner_at}
@@ -23,7 +23,7 @@ use Rattle.simulator_run_links.specs.Whole.{IsWhole, client_states}
 module _ (site : Site) (world : WorldState) (network : Links) (whole : IsWhole site world) (are : AreLinksOf site world network) where
   -- ---- controllers
 
-  of_server : {Object : Type 0} (link : ℕ) (server : ServerState Object) → link < links site → slice_get (server_ends world) link ≡ Some (end_of_server server) → IsEndOfServer server (network.ends link).server
+  of_server : {Object : Type 0} (link : ℕ) (server : ClockedControllerState Object) → link < links site → slice_get (server_ends world) link ≡ Some (end_of_server server) → IsEndOfServer server (network.ends link).server
   of_server link server below there =
       let partner = partner_at site link below
       in let is : IsKept (end_of_server server) (network.ends link).server = kept_at world link (network.ends link).server (end_of_server server) (are.servers link partner.0 partner.1) there
@@ -39,12 +39,12 @@ module _ (site : Site) (world : WorldState) (network : Links) (whole : IsWhole s
     sums : (a b c : ℕ) → place < b → a + place < a + b + c
     sums a b c below = omega arith
 
-  pub signal_end : (place : ℕ) (server : ServerState SignalState) → slice_get world.signals place ≡ Some server → (place < links site) × IsEndOfServer server (network.ends place).server
+  pub signal_end : (place : ℕ) (server : ClockedControllerState SignalState) → slice_get world.signals place ≡ Some server → (place < links site) × IsEndOfServer server (network.ends place).server
   signal_end place server is =
       let below = signal_below place (within_some world.signals place server is)
       in (below, of_server place server below (signal_there site world whole place server is))
 
-  pub point_end : (place : ℕ) (server : ServerState PointState) → slice_get world.points place ≡ Some server → (point_link site place < links site) × IsEndOfServer server (network.ends (point_link site place)).server
+  pub point_end : (place : ℕ) (server : ClockedControllerState PointState) → slice_get world.points place ≡ Some server → (point_link site place < links site) × IsEndOfServer server (network.ends (point_link site place)).server
   point_end place server is =
       let below = point_below place (within_some world.points place server is)
       in (below, of_server (point_link site place) server below (point_there site world whole place server is))

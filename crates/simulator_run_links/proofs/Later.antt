@@ -16,8 +16,8 @@ use Rattle.simulator_run.specs.Happens.{all_later, passed}
 use Rattle.simulator_run.specs.Links.{AreLinksOf, IsClientAt, IsServerAt, ServerEnd, end_of_server, server_ends}
 use Rattle.simulator_run.specs.Nodes.{links, nodes, partners}
 use Rattle.simulator_run.specs.Refusals.{keeps_time, refusal_of_time, refused_where}
-use Rattle.simulator_run.specs.Servers.{is_inside_at, server_later}
-use Rattle.simulator_run.specs.State.{ServerState, WorldState}
+use Rattle.simulator_run.specs.Controllers.{controller_later, is_inside_at}
+use Rattle.simulator_run.specs.State.{ClockedControllerState, WorldState}
 use Rattle.simulator_run_links.proofs.Lists.{both_true, length_map, within_some}
 use Rattle.simulator_run_links.proofs.Places.{IsKept, at_kept, kept_at}
 use Rattle.simulator_run_links.proofs.Settled.{settled_twice}
@@ -78,8 +78,8 @@ ends_passed moment steps [] = []
 ends_passed moment [] (end ∷ ends) = end ∷ ends
 ends_passed moment (step ∷ steps) (end ∷ ends) = end_passed moment step end ∷ ends_passed moment steps ends
 
-passed_ends : {Object : Type 0} (moment : ℕ) (steps : List ℕ) (servers : List (ServerState Object)) → map end_of_server (all_later moment steps servers) ≡ ends_passed moment steps (map end_of_server servers)
-unfolding server_later
+passed_ends : {Object : Type 0} (moment : ℕ) (steps : List ℕ) (servers : List (ClockedControllerState Object)) → map end_of_server (all_later moment steps servers) ≡ ends_passed moment steps (map end_of_server servers)
+unfolding controller_later
 passed_ends moment steps [] = refl
 passed_ends moment [] (server ∷ servers) = refl
 passed_ends moment (step ∷ steps) (server ∷ servers) = ap (λ l. end_passed moment step (end_of_server server) ∷ l) (passed_ends moment steps servers)

@@ -26,11 +26,11 @@ use Rattle.simulator_run.specs.ixl_rules.declared.command.Command.TheVariants as
 use Rattle.simulator_run.specs.ixl_rules.declared.command.Refusal.{Refusal}
 use Rattle.simulator_run.specs.ixl_rules.declared.phase.Phase.TheVariants as phase
 use Rattle.simulator_run.specs.rasta_core.Links.{AreLinks, Links}
-use Rattle.simulator_run.specs.rasta_pdu.Reading.{reading}
+use Rattle.simulator_run.specs.rasta_pdu.PduRead.{reading}
 use Rattle.simulator_run.specs.rasta_pdu.declared.key.Key.{Key}
 use Rattle.simulator_run.specs.Links.{names_at}
 use Rattle.simulator_run.specs.Nodes.{detector_link, links, point_link}
-use Rattle.simulator_run.specs.Station.{Sending}
+use Rattle.simulator_run.specs.Interlocking.{Sending}
 use Rattle.simulator_run_links.proofs.ClientItems.{AreSendable, SaysItems, commanding_says, hearing_says, ticking_says}
 use Rattle.simulator_run_links.proofs.HostItems.{TelegramsAreItems}
 use Rattle.simulator_run_links.proofs.Laws.{ClientLaws, LinkLaws}

@@ -10,7 +10,7 @@ use Rattle.simulator_run.specs.rasta_core.identity.Role.{Role}
 use Rattle.simulator_run.specs.rasta_core.identity.Role.TheVariants as role
 use Rattle.simulator_run.specs.Links.{AreLinksOf, IsClientAt, IsServerAt, ServerEnd, client_links, server_ends}
 use Rattle.simulator_run.specs.Nodes.{partners}
-use Rattle.simulator_run.specs.State.{StationState, WorldState}
+use Rattle.simulator_run.specs.State.{ClockedInterlockingState, WorldState}
 use Rattle.simulator_run_links.proofs.Lists.{get_set, get_set_other, length_joined, same_or_other, set_left, set_right}
 
 -- an end is the one that a world keeps of a server
@@ -45,10 +45,10 @@ at_kept world link end one at is = record {
 pub client_same : (world new : WorldState) (link : ℕ) (before after : EndState) → new.station ≡ world.station → after ≡ before → IsClientAt world link before → IsClientAt new link after
 client_same world new link before after station end is = record {
   kept = is.kept;
-  there = ap (λ (s : StationState). slice_get (client_links s.ixl) link) station ∙ is.there;
-  link_is = ap (λ (e : EndState). e.link) end ∙ is.link_is ∙ ap (λ (s : StationState). settled (reading_of s.clock) is.kept) (sym station);
-  clock_is = ap (λ (e : EndState). e.clock) end ∙ is.clock_is ∙ ap (λ (s : StationState). s.clock) (sym station);
-  connection_is = ap (λ (s : StationState). slice_get s.connections link) station ∙ is.connection_is ∙ ap (λ (e : EndState). Some e.connection) (sym end);
+  there = ap (λ (s : ClockedInterlockingState). slice_get (client_links s.ixl) link) station ∙ is.there;
+  link_is = ap (λ (e : EndState). e.link) end ∙ is.link_is ∙ ap (λ (s : ClockedInterlockingState). settled (reading_of s.clock) is.kept) (sym station);
+  clock_is = ap (λ (e : EndState). e.clock) end ∙ is.clock_is ∙ ap (λ (s : ClockedInterlockingState). s.clock) (sym station);
+  connection_is = ap (λ (s : ClockedInterlockingState). slice_get s.connections link) station ∙ is.connection_is ∙ ap (λ (e : EndState). Some e.connection) (sym end);
 }
 
 pub server_same : (world new : WorldState) (link : ℕ) (before after : EndState) → slice_get (server_ends new) link ≡ slice_get (server_ends world) link → after ≡ before → IsServerAt world link before → IsServerAt new link after

@@ -11,7 +11,7 @@ use Rattle.std.proofs.lemmas.Option.{same_Some}
 use Rattle.simulator_run.specs.layout.Entries.{Site}
 use Rattle.simulator_run.specs.rasta_core.Links.{AreLinks}
 use Rattle.simulator_run.specs.rasta_core.Sentences.{IsRequest}
-use Rattle.simulator_run.specs.rasta_pdu.Reading.{body_of, pdu_of, reading, text_of, u32_at, ◌>>=◌}
+use Rattle.simulator_run.specs.rasta_pdu.PduRead.{body_of, pdu_of, reading, text_of, u32_at, ◌>>=◌}
 use Rattle.simulator_run.specs.rasta_pdu.SafetyCode.{before_code, code, last_8, length_field}
 use Rattle.simulator_run.specs.rasta_pdu.Spelling.{fields, text, writing}
 use Rattle.simulator_run.specs.rasta_pdu.declared.body.Body.{Body}
@@ -22,7 +22,7 @@ use Rattle.simulator_run.specs.rasta_pdu.declared.key.Key.{Key}
 use Rattle.simulator_run.specs.rasta_pdu.declared.pdu.Pdu.{Pdu}
 use Rattle.simulator_run.specs.Links.{names_at}
 use Rattle.simulator_run.specs.Nodes.{links, partners}
-use Rattle.simulator_run.specs.Station.{link_of}
+use Rattle.simulator_run.specs.Interlocking.{link_of}
 use Rattle.simulator_run.specs.rasta_pdu.Header.{is_request}
 use Rattle.simulator_run_links.proofs.Lists.{itself, unequal}
 use Rattle.simulator_run_links.proofs.Partners.{named_at, partners_count}

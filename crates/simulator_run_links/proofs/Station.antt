@@ -18,10 +18,10 @@ use Rattle.simulator_run.specs.rasta_core.Run.{end_of}
 use Rattle.simulator_run.specs.rasta_core.State.{LinkState}
 use Rattle.simulator_run.specs.rasta_core.identity.Role.{Role}
 use Rattle.simulator_run.specs.rasta_core.identity.Role.TheVariants as role
-use Rattle.simulator_run.specs.Happens.{station_stepped}
+use Rattle.simulator_run.specs.Happens.{interlocking_stepped}
 use Rattle.simulator_run.specs.Links.{AreLinksOf, IsClientAt, IsServerAt, client_links, names_at, server_ends}
 use Rattle.simulator_run.specs.Nodes.{key_of, links, partners}
-use Rattle.simulator_run.specs.Station.{Sending, sending_all, station_step}
+use Rattle.simulator_run.specs.Interlocking.{Sending, interlocking_step, sending_all}
 use Rattle.simulator_run.specs.State.{WorldState}
 use Rattle.simulator_run_links.proofs.Asking.{Tells}
 use Rattle.simulator_run_links.proofs.Laws.{ClientLaws, LinkLaws}
@@ -32,7 +32,7 @@ use Rattle.simulator_run_links.proofs.Places.{server_same}
 use Rattle.simulator_run_links.proofs.Reached.{ClientIs, Reached, events_for}
 use Rattle.simulator_run_links.specs.Calls.{node_call}
 use Rattle.simulator_run_links.specs.Nodes.{MayComeWith}
-use Rattle.simulator_run_links.specs.Events.{FollowsBy, station_events}
+use Rattle.simulator_run_links.specs.Events.{FollowsBy, interlocking_events}
 use Rattle.simulator_run_links.specs.Whole.{IsPeer, IsWhole, client_states}
 
 -- ---- the clients, and their links
@@ -171,7 +171,7 @@ module _ (laws : LinkLaws) (client_laws : ClientLaws) (node_laws : NodeLaws) (st
   }
 
   abbrev done : ixl.Input → StepSoFar
-  done input = station_step site table input world.station
+  done input = interlocking_step site table input world.station
 
   pub reached : (input : ixl.Input) → MayComeIn laws client_laws site are_links world.time connection now before start steps table input → Reached laws client_laws site are_links world.time connection now before start (done input)
   reached input may = step_kept laws client_laws site are_links world.time connection now before start steps table (key_of site) input (begun_with world.station.ixl empty_outbox) may begun_reached
@@ -207,8 +207,8 @@ module _ (laws : LinkLaws) (client_laws : ClientLaws) (node_laws : NodeLaws) (st
   server_after input new link id at same = server_same world new link (before.ends link).server ((last input).ends link).server (ap (λ l. slice_get l link) same) (node_laws.partner (map (node_call site connection) (done input).calls) before link) (are.servers link id at)
 
   -- what the interlocking does in a step is a list of calls at its ends
-  pub station_follows : (input : ixl.Input) → MayComeIn laws client_laws site are_links world.time connection now before start steps table input → FollowsBy site (station_events site table input connection world.station) (station_stepped site table input world) before
-  unfolding station_stepped
+  pub station_follows : (input : ixl.Input) → MayComeIn laws client_laws site are_links world.time connection now before start steps table input → FollowsBy site (interlocking_events site table input connection world.station) (interlocking_stepped site table input world) before
+  unfolding interlocking_stepped
   station_follows input may =
       let on = reached input may
       in record {
@@ -216,7 +216,7 @@ module _ (laws : LinkLaws) (client_laws : ClientLaws) (node_laws : NodeLaws) (st
         are = record {
           time_is = on.tells.time_is;
           sent_is = sym on.tells.sent_is;
-          clients = λ link id at. client_after input (station_stepped site table input world) link (below_links site link id at) on refl refl refl;
-          servers = λ link id at. server_after input (station_stepped site table input world) link id at refl;
+          clients = λ link id at. client_after input (interlocking_stepped site table input world) link (below_links site link id at) on refl refl refl;
+          servers = λ link id at. server_after input (interlocking_stepped site table input world) link id at refl;
         };
       }

@@ -26,9 +26,9 @@ use Rattle.simulator_run.specs.ixl_rules.State.{KnownDetectorState, KnownSignalS
 use Rattle.simulator_run.specs.ixl_rules.Table.{Table}
 use Rattle.simulator_run.specs.First.{Beginning, IsOutsetOf, Outset, at_zero, client_of, host_of, named_section, new_detector, new_detector_of, new_ixl, new_known_signal_of, new_point, new_signal, new_known_point_of, no_connection, world_at}
 use Rattle.simulator_run.specs.Happens.{detector_anew, made_anew, point_anew, signal_anew}
-use Rattle.simulator_run.specs.Nodes.{Node, Station, Signal, Point, Detector, partners}
-use Rattle.simulator_run.specs.Servers.{server_anew}
-use Rattle.simulator_run.specs.State.{ServerState, WorldState}
+use Rattle.simulator_run.specs.Nodes.{Node, Interlocking, Signal, Point, Detector, partners}
+use Rattle.simulator_run.specs.Controllers.{controller_anew}
+use Rattle.simulator_run.specs.State.{ClockedControllerState, WorldState}
 use Rattle.simulator_run_links.proofs.KeptWhole.{AllAt, sections_at}
 use Rattle.simulator_run_links.proofs.Lists.{by_test, length_map, some_within, within_some}
 use Rattle.simulator_run_links.proofs.Partners.{partners_count}
@@ -133,8 +133,8 @@ module _ (site : Site) (names : HasNames site) where
   -- ---- restarts
 
   module _ (station : IsStation site) (table : Table) (begins : Beginning) (world : WorldState) (whole : IsWhole site world) where
-    anew_host : {Object : Type 0} (host : HostState Object) (clock moment : ℕ) (server : ServerState Object) → (server_anew host clock moment server).host ≡ host
-    unfolding server_anew
+    anew_host : {Object : Type 0} (host : HostState Object) (clock moment : ℕ) (server : ClockedControllerState Object) → (controller_anew host clock moment server).host ≡ host
+    unfolding controller_anew
     anew_host host clock moment server = refl
 
     signal_anew_whole : (place : ℕ) (entry : Option SignalEntry) → slice_get site.signals place ≡ entry → IsWhole site (signal_anew site begins place entry world)
@@ -145,7 +145,7 @@ module _ (site : Site) (names : HasNames site) where
       signals = length_of_changed _ place world.signals ∙ whole.signals;
       points = whole.points;
       detectors = whole.detectors;
-      signals_named = all_changed (λ server. IsNamed server.host) (server_anew (new_signal site begins entry) begins.clock (length world.sent)) (λ server. subst IsNamed (sym (anew_host (new_signal site begins entry) begins.clock (length world.sent) server))
+      signals_named = all_changed (λ server. IsNamed server.host) (controller_anew (new_signal site begins entry) begins.clock (length world.sent)) (λ server. subst IsNamed (sym (anew_host (new_signal site begins entry) begins.clock (length world.sent) server))
           (host_named signal_behaviour begins entry.name entry.id _ (names.signals place entry at))) place world.signals whole.signals_named;
       points_named = whole.points_named;
       detectors_named = whole.detectors_named;
@@ -163,7 +163,7 @@ module _ (site : Site) (names : HasNames site) where
           points = length_of_changed _ place world.points ∙ whole.points;
           detectors = whole.detectors;
           signals_named = whole.signals_named;
-          points_named = all_changed (λ server. IsNamed server.host) (server_anew host begins.clock (length world.sent)) (λ server. subst IsNamed (sym (anew_host host begins.clock (length world.sent) server))
+          points_named = all_changed (λ server. IsNamed server.host) (controller_anew host begins.clock (length world.sent)) (λ server. subst IsNamed (sym (anew_host host begins.clock (length world.sent) server))
               (host_named point_behaviour begins entry.name entry.id _ (names.points place entry at))) place world.points whole.points_named;
           detectors_named = whole.detectors_named;
           sections_named = whole.sections_named;
@@ -181,15 +181,15 @@ module _ (site : Site) (names : HasNames site) where
           detectors = length_of_changed _ place world.detectors ∙ whole.detectors;
           signals_named = whole.signals_named;
           points_named = whole.points_named;
-          detectors_named = all_changed (λ server. IsNamed server.host) (server_anew host begins.clock (length world.sent)) (λ server. subst IsNamed (sym (anew_host host begins.clock (length world.sent) server))
+          detectors_named = all_changed (λ server. IsNamed server.host) (controller_anew host begins.clock (length world.sent)) (λ server. subst IsNamed (sym (anew_host host begins.clock (length world.sent) server))
               (host_named detection_behaviour begins entry.name entry.id _ (names.detectors place entry at))) place world.detectors whole.detectors_named;
-          sections_named = all_changed (λ server. HasSections server.host) (server_anew host begins.clock (length world.sent)) (λ server. subst HasSections (sym (anew_host host begins.clock (length world.sent) server))
+          sections_named = all_changed (λ server. HasSections server.host) (controller_anew host begins.clock (length world.sent)) (λ server. subst HasSections (sym (anew_host host begins.clock (length world.sent) server))
               (detector_sections station begins world.occupancies place entry at)) place world.detectors whole.sections_named;
         }
 
     pub restart_keeps : (at : Option Node) → IsWhole site (made_anew site table begins at world)
     restart_keeps None = whole
-    restart_keeps (Some Station) = record {
+    restart_keeps (Some Interlocking) = record {
       clients = clients_made table begins;
       connections = whole.connections;
       signals = whole.signals;

@@ -21,8 +21,8 @@ use Rattle.simulator_run.specs.tds_ctl.declared.section.Section.{Section}
 use Rattle.simulator_run.specs.Happens.{detector_stepped, point_stepped, signal_stepped, stepped_at}
 use Rattle.simulator_run.specs.Links.{AreLinksOf, names_at}
 use Rattle.simulator_run.specs.Nodes.{detector_link, links, point_link}
-use Rattle.simulator_run.specs.Servers.{sent_by_server, server_after, step_of}
-use Rattle.simulator_run.specs.State.{ServerState, WorldState}
+use Rattle.simulator_run.specs.Controllers.{controller_after, sent_by_controller, step_of}
+use Rattle.simulator_run.specs.State.{ClockedControllerState, WorldState}
 use Rattle.simulator_run_links.proofs.ByKind.{detector_there, detectors_set, point_there, points_set, signal_there, signals_set, stays_follows}
 use Rattle.simulator_run_links.proofs.Controllers.{MayCome, controller_follows}
 use Rattle.simulator_run_links.proofs.HostItems.{TelegramsAreItems, step_is_sound}
@@ -48,9 +48,9 @@ module _ (laws : LinkLaws) (calling : CallLaws) (serving : ServerLaws) (written 
   -- ---- signals
 
   module _ (host : HostLaws signal_behaviour) where
-    signal_is : (input : Input) (connection place : ℕ) (server : ServerState SignalState) → slice_get world.signals place ≡ Some server → signal_stepped site input connection place world ≡ record world {
-      signals = slice_set world.signals place (server_after (step_of signal_behaviour input server) connection (length world.sent) server);
-      sent = world.sent ++ sent_by_server (step_of signal_behaviour input server) world.time place server (server_after (step_of signal_behaviour input server) connection (length world.sent) server);
+    signal_is : (input : Input) (connection place : ℕ) (server : ClockedControllerState SignalState) → slice_get world.signals place ≡ Some server → signal_stepped site input connection place world ≡ record world {
+      signals = slice_set world.signals place (controller_after (step_of signal_behaviour input server) connection (length world.sent) server);
+      sent = world.sent ++ sent_by_controller (step_of signal_behaviour input server) world.time place server (controller_after (step_of signal_behaviour input server) connection (length world.sent) server);
     }
     unfolding signal_stepped stepped_at
     signal_is input connection place server is = rw is refl
@@ -61,9 +61,9 @@ module _ (laws : LinkLaws) (calling : CallLaws) (serving : ServerLaws) (written 
 
     pub signal_follows : (input : Input) (connection place : ℕ) → (link_may : place < length site.signals → MayCome (names_at site place) input connection before) → FollowsBy site (signal_events input connection place world) (signal_stepped site input connection place world) before
     signal_follows input connection place may = cases (slice_get world.signals place) refl where
-      step : (server : ServerState SignalState) → slice_get world.signals place ≡ Some server → (entry : SignalEntry) → slice_get site.signals place ≡ Some entry → FollowsBy site (host_events signal_behaviour input connection place (Some server)) (record world {
-        signals = slice_set world.signals place (server_after (step_of signal_behaviour input server) connection (length world.sent) server);
-        sent = world.sent ++ sent_by_server (step_of signal_behaviour input server) world.time place server (server_after (step_of signal_behaviour input server) connection (length world.sent) server);
+      step : (server : ClockedControllerState SignalState) → slice_get world.signals place ≡ Some server → (entry : SignalEntry) → slice_get site.signals place ≡ Some entry → FollowsBy site (host_events signal_behaviour input connection place (Some server)) (record world {
+        signals = slice_set world.signals place (controller_after (step_of signal_behaviour input server) connection (length world.sent) server);
+        sent = world.sent ++ sent_by_controller (step_of signal_behaviour input server) world.time place server (controller_after (step_of signal_behaviour input server) connection (length world.sent) server);
       }) before
       step server is entry at = controller_follows signal_behaviour host.calls_for host.made_of laws calling serving site are_links world before timely are _ place entry.id server input connection
           (signal_partner site place entry at) (signal_there site world whole place server is)
@@ -71,7 +71,7 @@ module _ (laws : LinkLaws) (calling : CallLaws) (serving : ServerLaws) (written 
           (may (within_some site.signals place entry at)) refl refl
           (signals_set site world whole place _ (within_some world.signals place server is)) refl
 
-      cases : (found : Option (ServerState SignalState)) → slice_get world.signals place ≡ found → FollowsBy site (host_events signal_behaviour input connection place found) (signal_stepped site input connection place world) before
+      cases : (found : Option (ClockedControllerState SignalState)) → slice_get world.signals place ≡ found → FollowsBy site (host_events signal_behaviour input connection place found) (signal_stepped site input connection place world) before
       cases None is = subst (λ w. FollowsBy site [] w before) (sym (signal_none input connection place is)) (stays_follows site world before are)
       cases (Some server) is =
           let entry = some_within site.signals place (subst (λ n. place < n) whole.signals (within_some world.signals place server is))
@@ -80,9 +80,9 @@ module _ (laws : LinkLaws) (calling : CallLaws) (serving : ServerLaws) (written 
   -- ---- points
 
   module _ (host : HostLaws point_behaviour) where
-    point_is : (input : Input) (connection place : ℕ) (server : ServerState PointState) → slice_get world.points place ≡ Some server → point_stepped site input connection place world ≡ record world {
-      points = slice_set world.points place (server_after (step_of point_behaviour input server) connection (length world.sent) server);
-      sent = world.sent ++ sent_by_server (step_of point_behaviour input server) world.time (point_link site place) server (server_after (step_of point_behaviour input server) connection (length world.sent) server);
+    point_is : (input : Input) (connection place : ℕ) (server : ClockedControllerState PointState) → slice_get world.points place ≡ Some server → point_stepped site input connection place world ≡ record world {
+      points = slice_set world.points place (controller_after (step_of point_behaviour input server) connection (length world.sent) server);
+      sent = world.sent ++ sent_by_controller (step_of point_behaviour input server) world.time (point_link site place) server (controller_after (step_of point_behaviour input server) connection (length world.sent) server);
     }
     unfolding point_stepped stepped_at
     point_is input connection place server is = rw is refl
@@ -93,9 +93,9 @@ module _ (laws : LinkLaws) (calling : CallLaws) (serving : ServerLaws) (written 
 
     pub point_follows : (input : Input) (connection place : ℕ) → (link_may : place < length site.points → MayCome (names_at site (point_link site place)) input connection before) → FollowsBy site (point_events site input connection place world) (point_stepped site input connection place world) before
     point_follows input connection place may = cases (slice_get world.points place) refl where
-      step : (server : ServerState PointState) → slice_get world.points place ≡ Some server → (entry : PointEntry) → slice_get site.points place ≡ Some entry → FollowsBy site (host_events point_behaviour input connection (point_link site place) (Some server)) (record world {
-        points = slice_set world.points place (server_after (step_of point_behaviour input server) connection (length world.sent) server);
-        sent = world.sent ++ sent_by_server (step_of point_behaviour input server) world.time (point_link site place) server (server_after (step_of point_behaviour input server) connection (length world.sent) server);
+      step : (server : ClockedControllerState PointState) → slice_get world.points place ≡ Some server → (entry : PointEntry) → slice_get site.points place ≡ Some entry → FollowsBy site (host_events point_behaviour input connection (point_link site place) (Some server)) (record world {
+        points = slice_set world.points place (controller_after (step_of point_behaviour input server) connection (length world.sent) server);
+        sent = world.sent ++ sent_by_controller (step_of point_behaviour input server) world.time (point_link site place) server (controller_after (step_of point_behaviour input server) connection (length world.sent) server);
       }) before
       step server is entry at = controller_follows point_behaviour host.calls_for host.made_of laws calling serving site are_links world before timely are _ (point_link site place) entry.id server input connection
           (point_partner site place entry at) (point_there site world whole place server is)
@@ -103,7 +103,7 @@ module _ (laws : LinkLaws) (calling : CallLaws) (serving : ServerLaws) (written 
           (may (within_some site.points place entry at)) refl refl
           (points_set site world whole place _ (within_some world.points place server is)) refl
 
-      cases : (found : Option (ServerState PointState)) → slice_get world.points place ≡ found → FollowsBy site (host_events point_behaviour input connection (point_link site place) found) (point_stepped site input connection place world) before
+      cases : (found : Option (ClockedControllerState PointState)) → slice_get world.points place ≡ found → FollowsBy site (host_events point_behaviour input connection (point_link site place) found) (point_stepped site input connection place world) before
       cases None is = subst (λ w. FollowsBy site [] w before) (sym (point_none input connection place is)) (stays_follows site world before are)
       cases (Some server) is =
           let entry = some_within site.points place (subst (λ n. place < n) whole.points (within_some world.points place server is))
@@ -112,9 +112,9 @@ module _ (laws : LinkLaws) (calling : CallLaws) (serving : ServerLaws) (written 
   -- ---- detectors
 
   module _ (host : HostLaws detection_behaviour) where
-    detector_is : (input : Input) (connection place : ℕ) (server : ServerState (List Section)) → slice_get world.detectors place ≡ Some server → detector_stepped site input connection place world ≡ record world {
-      detectors = slice_set world.detectors place (server_after (step_of detection_behaviour input server) connection (length world.sent) server);
-      sent = world.sent ++ sent_by_server (step_of detection_behaviour input server) world.time (detector_link site place) server (server_after (step_of detection_behaviour input server) connection (length world.sent) server);
+    detector_is : (input : Input) (connection place : ℕ) (server : ClockedControllerState (List Section)) → slice_get world.detectors place ≡ Some server → detector_stepped site input connection place world ≡ record world {
+      detectors = slice_set world.detectors place (controller_after (step_of detection_behaviour input server) connection (length world.sent) server);
+      sent = world.sent ++ sent_by_controller (step_of detection_behaviour input server) world.time (detector_link site place) server (controller_after (step_of detection_behaviour input server) connection (length world.sent) server);
     }
     unfolding detector_stepped stepped_at
     detector_is input connection place server is = rw is refl
@@ -125,9 +125,9 @@ module _ (laws : LinkLaws) (calling : CallLaws) (serving : ServerLaws) (written 
 
     pub detector_follows : (input : Input) (connection place : ℕ) → (link_may : place < length site.detectors → MayCome (names_at site (detector_link site place)) input connection before) → FollowsBy site (detector_events site input connection place world) (detector_stepped site input connection place world) before
     detector_follows input connection place may = cases (slice_get world.detectors place) refl where
-      step : (server : ServerState (List Section)) → slice_get world.detectors place ≡ Some server → (entry : DetectorEntry) → slice_get site.detectors place ≡ Some entry → FollowsBy site (host_events detection_behaviour input connection (detector_link site place) (Some server)) (record world {
-        detectors = slice_set world.detectors place (server_after (step_of detection_behaviour input server) connection (length world.sent) server);
-        sent = world.sent ++ sent_by_server (step_of detection_behaviour input server) world.time (detector_link site place) server (server_after (step_of detection_behaviour input server) connection (length world.sent) server);
+      step : (server : ClockedControllerState (List Section)) → slice_get world.detectors place ≡ Some server → (entry : DetectorEntry) → slice_get site.detectors place ≡ Some entry → FollowsBy site (host_events detection_behaviour input connection (detector_link site place) (Some server)) (record world {
+        detectors = slice_set world.detectors place (controller_after (step_of detection_behaviour input server) connection (length world.sent) server);
+        sent = world.sent ++ sent_by_controller (step_of detection_behaviour input server) world.time (detector_link site place) server (controller_after (step_of detection_behaviour input server) connection (length world.sent) server);
       }) before
       step server is entry at = controller_follows detection_behaviour host.calls_for host.made_of laws calling serving site are_links world before timely are _ (detector_link site place) entry.id server input connection
           (detector_partner site place entry at) (detector_there site world whole place server is)
@@ -136,7 +136,7 @@ module _ (laws : LinkLaws) (calling : CallLaws) (serving : ServerLaws) (written 
           (may (within_some site.detectors place entry at)) refl refl
           (detectors_set site world whole place _) refl
 
-      cases : (found : Option (ServerState (List Section))) → slice_get world.detectors place ≡ found → FollowsBy site (host_events detection_behaviour input connection (detector_link site place) found) (detector_stepped site input connection place world) before
+      cases : (found : Option (ClockedControllerState (List Section))) → slice_get world.detectors place ≡ found → FollowsBy site (host_events detection_behaviour input connection (detector_link site place) found) (detector_stepped site input connection place world) before
       cases None is = subst (λ w. FollowsBy site [] w before) (sym (detector_none input connection place is)) (stays_follows site world before are)
       cases (Some server) is =
           let entry = some_within site.detectors place (subst (λ n. place < n) whole.detectors (within_some world.detectors place server is))

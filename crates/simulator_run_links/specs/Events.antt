@@ -20,16 +20,16 @@ use Rattle.simulator_run.specs.simulator_event.declared.event.Event.TheVariants 
 use Rattle.simulator_run.specs.Happens.{coming}
 use Rattle.simulator_run.specs.Links.{AreLinksOf, names_at}
 use Rattle.simulator_run.specs.Network.{connection_of, copy_of}
-use Rattle.simulator_run.specs.Nodes.{Node, Station, Signal, Point, Detector, detector_link, links, node_at, point_link}
-use Rattle.simulator_run.specs.Servers.{step_of}
-use Rattle.simulator_run.specs.State.{ServerState, StationState, WorldState}
-use Rattle.simulator_run.specs.Station.{station_step}
+use Rattle.simulator_run.specs.Nodes.{Node, Interlocking, Signal, Point, Detector, detector_link, links, node_at, point_link}
+use Rattle.simulator_run.specs.Controllers.{step_of}
+use Rattle.simulator_run.specs.State.{ClockedControllerState, ClockedInterlockingState, WorldState}
+use Rattle.simulator_run.specs.Interlocking.{interlocking_step}
 use Rattle.simulator_run_links.specs.Calls.{node_call}
 
 -- ---- steps
 
 -- a controller's step, where there is one: its calls at its end of the link
-abbrev pub host_events : {Object : Type 0} → Behaviour Object → Input → (connection link : ℕ) → Option (ServerState Object) → List LinksEvent
+abbrev pub host_events : {Object : Type 0} → Behaviour Object → Input → (connection link : ℕ) → Option (ClockedControllerState Object) → List LinksEvent
 host_events does input connection link None = []
 host_events does input connection link (Some server) = map (λ call. CallsOn link role.Server call) (map (as_call connection) (step_of does input server).calls)
 
@@ -44,32 +44,32 @@ detector_events site input connection place world =
     host_events detection_behaviour input connection (detector_link site place) (slice_get world.detectors place)
 
 -- the interlocking's step: its calls at its ends of all links
-abbrev pub station_events : Site → Table → ixl.Input → (connection : ℕ) → StationState → List LinksEvent
-station_events site table input connection station = calls_of role.Client (map (node_call site connection) (station_step site table input station).calls)
+abbrev pub interlocking_events : Site → Table → ixl.Input → (connection : ℕ) → ClockedInterlockingState → List LinksEvent
+interlocking_events site table input connection station = calls_of role.Client (map (node_call site connection) (interlocking_step site table input station).calls)
 
 abbrev pub tick_events : Site → Table → Option Node → WorldState → List LinksEvent
 tick_events site table None world = []
-tick_events site table (Some Station) world = station_events site table ixl.Tick 0 world.station
+tick_events site table (Some Interlocking) world = interlocking_events site table ixl.Tick 0 world.station
 tick_events site table (Some (Signal place)) world = signal_events inputs.Tick 0 place world
 tick_events site table (Some (Point place)) world = point_events site inputs.Tick 0 place world
 tick_events site table (Some (Detector place)) world = detector_events site inputs.Tick 0 place world
 
 abbrev pub delivery_events : Site → Table → List ℕ → (connection : ℕ) → Option Node → WorldState → List LinksEvent
 delivery_events site table bytes connection None world = []
-delivery_events site table bytes connection (Some Station) world = station_events site table (ixl.Datagram bytes) connection world.station
+delivery_events site table bytes connection (Some Interlocking) world = interlocking_events site table (ixl.Datagram bytes) connection world.station
 delivery_events site table bytes connection (Some (Signal place)) world = signal_events (coming bytes) connection place world
 delivery_events site table bytes connection (Some (Point place)) world = point_events site (coming bytes) connection place world
 delivery_events site table bytes connection (Some (Detector place)) world = detector_events site (coming bytes) connection place world
 
 -- a detector's, at which a section is reported
-abbrev pub contact_events : Site → Option (ℕ × ℕ) → (ℕ → Input) → List (ServerState (List Section)) → List LinksEvent
+abbrev pub contact_events : Site → Option (ℕ × ℕ) → (ℕ → Input) → List (ClockedControllerState (List Section)) → List LinksEvent
 contact_events site None input detectors = []
 contact_events site (Some reporter) input detectors =
     host_events detection_behaviour (input reporter.1) 0 (detector_link site reporter.0) (slice_get detectors reporter.0)
 
 -- ---- time and restarts
 
--- every clock goes on by its step: the first is the station's, the others are those of the controllers in their order
+-- every clock goes on by its step: the first is the interlocking's, the others are those of the controllers in their order
 abbrev pub time_events : ℕ → List ℕ → List LinksEvent
 time_events elapsed clocks = PassesFor elapsed (λ link. slice_index_or clocks 0 0) (λ link. slice_index_or (drop 1 clocks) link 0) ∷ []
 
@@ -85,7 +85,7 @@ anew_events clock first link (Some entry) = RestartsOn link role.Server clock fi
 
 abbrev pub restart_events : Site → (clock first : ℕ) → Option Node → List LinksEvent
 restart_events site clock first None = []
-restart_events site clock first (Some Station) = restarts_of role.Client clock (λ link. first) (numbers_below (links site))
+restart_events site clock first (Some Interlocking) = restarts_of role.Client clock (λ link. first) (numbers_below (links site))
 restart_events site clock first (Some (Signal place)) = anew_events clock first place (slice_get site.signals place)
 restart_events site clock first (Some (Point place)) = anew_events clock first (point_link site place) (slice_get site.points place)
 restart_events site clock first (Some (Detector place)) = anew_events clock first (detector_link site place) (slice_get site.detectors place)
@@ -93,7 +93,7 @@ restart_events site clock first (Some (Detector place)) = anew_events clock firs
 -- ---- all events
 
 unfoldable pub events_of : Site → Table → Event → WorldState → List LinksEvent
-events_of site table (event.Request command) world = station_events site table (ixl.Commands command) 0 world.station
+events_of site table (event.Request command) world = interlocking_events site table (ixl.Commands command) 0 world.station
 events_of site table (event.Occupy section occupancy) world =
     contact_events site (slice_get table.reporters section.0) (λ place. inputs.Sense (sense.Section place occupancy)) world.detectors
 events_of site table (event.Tick node) world = tick_events site table (node_at site node.0) world

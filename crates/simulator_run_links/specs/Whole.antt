@@ -7,7 +7,7 @@ use Rattle.simulator_run.specs.ixl_rules.State.{IxlState}
 use Rattle.simulator_run.specs.object_host.Host.{HostState}
 use Rattle.simulator_run.specs.tds_ctl.declared.section.Section.{Section}
 use Rattle.simulator_run.specs.Nodes.{links}
-use Rattle.simulator_run.specs.State.{ServerState, WorldState}
+use Rattle.simulator_run.specs.State.{ClockedControllerState, WorldState}
 
 -- the interlocking's clients, in the order of their links
 abbrev pub client_states : IxlState → List ClientState
@@ -35,8 +35,8 @@ pub record HasClients (site : Site) (ixl : IxlState) : Type 0 where
   pub peers : (link : ℕ) (client : ClientState) → slice_get (client_states ixl) link ≡ Some client → IsPeer client.peer
 
 -- the controllers of a list have names
-abbrev pub AreNamed : {Object : Type 0} → List (ServerState Object) → Type 0
-AreNamed {Object} servers = (place : ℕ) (server : ServerState Object) → slice_get servers place ≡ Some server → IsNamed server.host
+abbrev pub AreNamed : {Object : Type 0} → List (ClockedControllerState Object) → Type 0
+AreNamed {Object} servers = (place : ℕ) (server : ClockedControllerState Object) → slice_get servers place ≡ Some server → IsNamed server.host
 
 -- a detector's sections have names
 abbrev pub HasSections : HostState (List Section) → Type 0
@@ -51,4 +51,4 @@ pub record IsWhole (site : Site) (world : WorldState) : Type 0 where
   pub signals_named : AreNamed world.signals
   pub points_named : AreNamed world.points
   pub detectors_named : AreNamed world.detectors
-  pub sections_named : (place : ℕ) (server : ServerState (List Section)) → slice_get world.detectors place ≡ Some server → HasSections server.host
+  pub sections_named : (place : ℕ) (server : ClockedControllerState (List Section)) → slice_get world.detectors place ≡ Some server → HasSections server.host

@@ -11,7 +11,7 @@ mod time_and_losses;
 pub use events::events_are_those_of_the_links;
 pub use nodes::{
     deliveries_may_come, ends_are_those_of_the_nodes, hosts_say_items,
-    links_are_named_by_their_controllers, stations_call_their_nodes,
+    interlockings_call_their_nodes, links_are_named_by_their_controllers,
 };
 pub use restarts::restarts_are_those_of_the_links;
 pub use stations::{each_link_of_a_station_is_safe, layouts_name_their_links, stations_have_links};

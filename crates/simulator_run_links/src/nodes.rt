@@ -23,9 +23,9 @@ ghost use Rattle.simulator_run.specs.Links.{AreLinksOf, names_at};
 ghost use Rattle.simulator_run.specs.Network.{connection_of, copy_of};
 ghost use Rattle.simulator_run.specs.Nodes.{links, names_of, point_link};
 ghost use Rattle.simulator_run.specs.Refusals.{refusal};
-ghost use Rattle.simulator_run.specs.Servers.{step_of};
-ghost use Rattle.simulator_run.specs.State.{ServerState, WorldState};
-ghost use Rattle.simulator_run.specs.Station.{station_step};
+ghost use Rattle.simulator_run.specs.Controllers.{step_of};
+ghost use Rattle.simulator_run.specs.State.{ClockedControllerState, WorldState};
+ghost use Rattle.simulator_run.specs.Interlocking.{interlocking_step};
 ghost use Rattle.simulator_run_links.specs.Calls.{AreOfNodes};
 ghost use Rattle.simulator_run_links.specs.Nodes.{IsEndOfClient, IsEndOfServer, MayComeWith};
 ghost use Rattle.simulator_run_links.specs.Whole.{IsWhole};
@@ -41,9 +41,9 @@ use simulator_run::sci_telegram::written_is_read;
 /// The ends of the link of a signal and of a point are those that its controller and the interlocking keep. The client's last
 /// connection on each link is the one that the interlocking began there last (*begun*).
 pub fn ends_are_those_of_the_nodes()
-    ensures signal { (site : Site) (world : WorldState) (network : Links) → IsWhole site world → AreLinksOf site world network → (place : ℕ) (server : ServerState SignalState)
+    ensures signal { (site : Site) (world : WorldState) (network : Links) → IsWhole site world → AreLinksOf site world network → (place : ℕ) (server : ClockedControllerState SignalState)
         → slice_get world.signals place ≡ Some server → (place < links site) × IsEndOfServer server (network.ends place).server }
-    ensures point { (site : Site) (world : WorldState) (network : Links) → IsWhole site world → AreLinksOf site world network → (place : ℕ) (server : ServerState PointState)
+    ensures point { (site : Site) (world : WorldState) (network : Links) → IsWhole site world → AreLinksOf site world network → (place : ℕ) (server : ClockedControllerState PointState)
         → slice_get world.points place ≡ Some server → (point_link site place < links site) × IsEndOfServer server (network.ends (point_link site place)).server }
     ensures known_signal { (site : Site) (world : WorldState) (network : Links) → IsWhole site world → AreLinksOf site world network → (place : ℕ) (known_signal : KnownSignalState)
         → slice_get world.station.ixl.known_signals place ≡ Some known_signal → (place < links site) × IsEndOfClient world.station known_signal.client (network.ends place).client }
@@ -78,19 +78,19 @@ pub fn deliveries_may_come()
 
 /// What the controllers of signals and points say in a step are items.
 pub fn hosts_say_items()
-    ensures signal { (site : Site) (world : WorldState) → IsWhole site world → (place : ℕ) (server : ServerState SignalState) → slice_get world.signals place ≡ Some server
+    ensures signal { (site : Site) (world : WorldState) → IsWhole site world → (place : ℕ) (server : ClockedControllerState SignalState) → slice_get world.signals place ≡ Some server
         → (input : HostInput) → AreItems (step_of signal_behaviour input server).calls }
-    ensures point { (site : Site) (world : WorldState) → IsWhole site world → (place : ℕ) (server : ServerState PointState) → slice_get world.points place ≡ Some server
+    ensures point { (site : Site) (world : WorldState) → IsWhole site world → (place : ℕ) (server : ClockedControllerState PointState) → slice_get world.points place ≡ Some server
         → (input : HostInput) → AreItems (step_of point_behaviour input server).calls }
 {
     written_is_read();
 }
 
 /// The interlocking makes calls in a step at its clients of controllers of the layout alone.
-pub fn stations_call_their_nodes()
+pub fn interlockings_call_their_nodes()
     ensures { (site : Site) (table : Table) (input : Input) (connection : ℕ) (world : WorldState) (before : Links) → AreLinks (links site) (names_at site) → IsWhole site world
         → AreTimely (links site) (names_at site) before → AreLinksOf site world before → MayComeWith site input connection before
-        → AreOfNodes site (station_step site table input world.station).calls }
+        → AreOfNodes site (interlocking_step site table input world.station).calls }
 {
     a_node_makes_a_step();
     clients_ask_where_they_begin();

@@ -10,13 +10,13 @@ use Rattle.simulator_run.specs.rasta_core.Names.{AreNames, Names, name_of, partn
 use Rattle.simulator_run.specs.rasta_core.Run.{Ends, end_of}
 use Rattle.simulator_run.specs.rasta_core.Sentences.{IsIn}
 use Rattle.simulator_run.specs.rasta_core.Sequence.{distance, stamp}
-use Rattle.simulator_run.specs.rasta_core.Standing.{Inside, IsInside, Outside, Times, own_stamp, standing, times_of}
+use Rattle.simulator_run.specs.rasta_core.TimedEnds.{Inside, IsInside, Outside, Times, own_stamp, standing, times_of}
 use Rattle.simulator_run.specs.rasta_core.State.{LinkState, is_asking, is_open}
 use Rattle.simulator_run.specs.rasta_core.Timely.{IsAnswering, IsKnown, WasReadThen}
 use Rattle.simulator_run.specs.rasta_core.identity.Identity.{Identity}
 use Rattle.simulator_run.specs.rasta_core.identity.Role.{Role}
 use Rattle.simulator_run.specs.rasta_core.identity.Role.TheVariants as role
-use Rattle.simulator_run.specs.rasta_pdu.Reading.{reading}
+use Rattle.simulator_run.specs.rasta_pdu.PduRead.{reading}
 use Rattle.simulator_run.specs.rasta_pdu.declared.fault.PduFault.{PduFault}
 use Rattle.simulator_run.specs.rasta_pdu.declared.pdu.Pdu.{Pdu}
 

@@ -26,7 +26,7 @@ use Rattle.simulator_run.specs.point_ctl.declared.progress.Progress.TheVariants.
 use Rattle.object_host_theorem.specs.Point.{IsReported, is_moving}
 use Rattle.object_host_theorem.specs.Signal.{IsTold, aspect_due, aspect_taken, last_indicated}
 use Rattle.object_host_theorem.specs.World.{World}
-use Rattle.simulator_run.specs.State.{ServerState}
+use Rattle.simulator_run.specs.State.{ClockedControllerState}
 use Rattle.simulator_run_links.specs.Nodes.{IsEndOfServer}
 use Rattle.simulator_silence.specs.Silence.{IsSpent}
 use Rattle.simulator_silence.proofs.Spent.{settled_taken}
@@ -46,7 +46,7 @@ taken_by_count end (counts given taken) opened none = none_long end.taken (sym t
 taken_by_count end (made_anew shut given taken) opened none = absurd (cc (shut, opened))
 
 -- a controller whose connection is over, or that took no item in it, has taken none in a connection that it is in
-pub none_taken : CountLaws → {Object : Type 0} (names : Names) (ends : Ends) (controller : ServerState Object) → Timely names ends → Ordered names ends → IsEndOfServer controller ends.server → IsSpent controller
+pub none_taken : CountLaws → {Object : Type 0} (names : Names) (ends : Ends) (controller : ClockedControllerState Object) → Timely names ends → Ordered names ends → IsEndOfServer controller ends.server → IsSpent controller
     → is_open ends.server.link.phase ≡ true → ends.server.taken ≡ []
 none_taken laws names ends controller timely ordered end spent opened =
     let connection = laws.some names ends role.Server timely opened

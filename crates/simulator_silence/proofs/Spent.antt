@@ -25,10 +25,10 @@ use Rattle.simulator_run.specs.First.{IsOutsetOf, Outset, world_at}
 use Rattle.simulator_run.specs.Happens.{happens}
 use Rattle.simulator_run.specs.Links.{AreLinksOf, names_at, starts_at_zero}
 use Rattle.simulator_run.specs.Network.{connection_of, copy_of}
-use Rattle.simulator_run.specs.Nodes.{Node, Station, Signal, Point, Detector, links, node_at, point_link}
+use Rattle.simulator_run.specs.Nodes.{Node, Interlocking, Signal, Point, Detector, links, node_at, point_link}
 use Rattle.simulator_run.specs.Refusals.{refusal}
 use Rattle.simulator_run.specs.Run.{CanHappen, after_all}
-use Rattle.simulator_run.specs.State.{ServerState, WorldState}
+use Rattle.simulator_run.specs.State.{ClockedControllerState, WorldState}
 use Rattle.simulator_run_links.specs.Events.{FollowsBy, events_of}
 use Rattle.simulator_run_links.specs.HasLinks.{IsStanding}
 use Rattle.simulator_run_links.specs.Nodes.{IsEndOfServer}
@@ -61,9 +61,9 @@ pub record SilenceLaws : Type 0 where
   pub first : (site : Site) (table : Table) (outset : Outset) → IsStation site → IsOutsetOf site outset → IsStanding site (world_at site table outset)
   pub all : (site : Site) (table : Table) (outset : Outset) (events : List Event) → IsStation site → Once site → IsOutsetOf site outset
       → CanHappen site table events (world_at site table outset) → IsStanding site (after_all site table events (world_at site table outset))
-  pub end_of_signal : (site : Site) (world : WorldState) (network : Links) → IsWhole site world → AreLinksOf site world network → (place : ℕ) (server : ServerState SignalState)
+  pub end_of_signal : (site : Site) (world : WorldState) (network : Links) → IsWhole site world → AreLinksOf site world network → (place : ℕ) (server : ClockedControllerState SignalState)
       → slice_get world.signals place ≡ Some server → (place < links site) × IsEndOfServer server (network.ends place).server
-  pub end_of_point : (site : Site) (world : WorldState) (network : Links) → IsWhole site world → AreLinksOf site world network → (place : ℕ) (server : ServerState PointState)
+  pub end_of_point : (site : Site) (world : WorldState) (network : Links) → IsWhole site world → AreLinksOf site world network → (place : ℕ) (server : ClockedControllerState PointState)
       → slice_get world.points place ≡ Some server → (point_link site place < links site) × IsEndOfServer server (network.ends (point_link site place)).server
 
 pub within_some : {A : Type 0} (list : List A) (place : ℕ) (one : A) → slice_get list place ≡ Some one → place < length list
@@ -105,7 +105,7 @@ module _ (laws : SilenceLaws) (site : Site) (table : Table) (station : IsStation
 
       signal_heard : (at : Option Node) → node_at site node.0 ≡ at → HeardAt laws.sees laws.hosts site table place made network world bytes (connection_of (copy_of bytes world)) at
       signal_heard None at = tt
-      signal_heard (Some Station) at = tt
+      signal_heard (Some Interlocking) at = tt
       signal_heard (Some (Signal other)) at = λ controller there e.
           let here : slice_get world.signals place ≡ Some controller = ap (slice_get world.signals) (sym e) ∙ there
           in let end = laws.end_of_signal site world network is.whole is.are place controller here
@@ -123,7 +123,7 @@ module _ (laws : SilenceLaws) (site : Site) (table : Table) (station : IsStation
 
       point_heard : (at : Option Node) → node_at site node.0 ≡ at → HeardAt laws.sees laws.hosts site table (point_link site place) made network world bytes (connection_of (copy_of bytes world)) at
       point_heard None at = tt
-      point_heard (Some Station) at = tt
+      point_heard (Some Interlocking) at = tt
       point_heard (Some (Signal other)) at = λ controller there e.
           let inside = within_some world.signals other controller there
           in let count = is.whole.signals
@@ -204,7 +204,7 @@ module _ (laws : SilenceLaws) (site : Site) (table : Table) (station : IsStation
 
     -- ---- after it
 
-    spent : {Object : Type 0} (world : WorldState) (network : Links) → IsCarried made link world network → made + 1802000 ≤ world.time → (controller : ServerState Object)
+    spent : {Object : Type 0} (world : WorldState) (network : Links) → IsCarried made link world network → made + 1802000 ≤ world.time → (controller : ClockedControllerState Object)
         → IsEndOfServer controller (network.ends link).server → IsSpent controller
     spent world network is late controller end opened = none (network.ends link).server.link.taken refl
       where
@@ -228,7 +228,7 @@ module _ (laws : SilenceLaws) (site : Site) (table : Table) (station : IsStation
 
   -- ---- signals and points
 
-  pub signal_spent : (outset : Outset) (events : List Event) (place made : ℕ) (signal : ServerState SignalState) → IsOutsetOf site outset → CanHappen site table events (world_at site table outset)
+  pub signal_spent : (outset : Outset) (events : List Event) (place made : ℕ) (signal : ClockedControllerState SignalState) → IsOutsetOf site outset → CanHappen site table events (world_at site table outset)
       → TakesNone site table (Signal place) made events (world_at site table outset) → made + 1802000 ≤ (after_all site table events (world_at site table outset)).time
       → slice_get (after_all site table events (world_at site table outset)).signals place ≡ Some signal → IsSpent signal
   signal_spent outset events place made signal lies can takes late there =
@@ -241,7 +241,7 @@ module _ (laws : SilenceLaws) (site : Site) (table : Table) (station : IsStation
       in spent (Signal place) made place within (λ world network is. signal_hears made world network is place below) (after_all site table events (world_at site table outset)) last.0 last.1 late signal
       (laws.end_of_signal site (after_all site table events (world_at site table outset)) last.0 last.1.linked.whole last.1.linked.are place signal there).1
 
-  pub point_spent : (outset : Outset) (events : List Event) (place made : ℕ) (point : ServerState PointState) → IsOutsetOf site outset → CanHappen site table events (world_at site table outset)
+  pub point_spent : (outset : Outset) (events : List Event) (place made : ℕ) (point : ClockedControllerState PointState) → IsOutsetOf site outset → CanHappen site table events (world_at site table outset)
       → TakesNone site table (Point place) made events (world_at site table outset) → made + 1802000 ≤ (after_all site table events (world_at site table outset)).time
       → slice_get (after_all site table events (world_at site table outset)).points place ≡ Some point → IsSpent point
   point_spent outset events place made point lies can takes late there =

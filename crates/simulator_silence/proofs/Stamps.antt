@@ -7,9 +7,9 @@ use Rattle.simulator_run.specs.rasta_core.Parameters.{connection_limit, heartbea
 use Rattle.simulator_run.specs.rasta_core.Sequence.{distance, stamp}
 use Rattle.simulator_run.specs.rasta_core.State.{LinkState, is_client, is_open, is_up}
 use Rattle.simulator_run.specs.rasta_core.Clock.{deadline, open_state, settled, state_at}
-use Rattle.simulator_run.specs.rasta_core.Sending.{Step, beating, closed, closing, entered, giving, is_told, limited, sending, silent, telling}
+use Rattle.simulator_run.specs.rasta_core.PdusHandedOut.{Step, beating, closed, closing, entered, giving, is_told, limited, sending, silent, telling}
 use Rattle.simulator_run.specs.rasta_core.Opening.{beginning, granting, judging, meeting, own_opening}
-use Rattle.simulator_run.specs.rasta_core.Receiving.{Receipt, accepting, admission, admitting, age, ahead, answering, asking, bringing, by_state, confirms, connected, handing, hearing, in_turn, is_opening_again, is_stale, missing, refusing, repeating, resting, taking, testing, violating}
+use Rattle.simulator_run.specs.rasta_core.Receipt.{Receipt, accepting, admission, admitting, age, ahead, answering, asking, bringing, by_state, confirms, connected, handing, hearing, in_turn, is_opening_again, is_stale, missing, refusing, repeating, resting, taking, testing, violating}
 use Rattle.simulator_run.specs.rasta_core.Calls.{acceptance, closing_by, hearing_bytes, receiving, sending_item, ticking}
 use Rattle.simulator_run.specs.rasta_core.Ends.{is_taken}
 use Rattle.simulator_run.specs.rasta_core.Timely.{IsAnswering}
@@ -22,7 +22,7 @@ use Rattle.simulator_run.specs.rasta_core.phase.State.TheVariants as state
 use Rattle.simulator_run.specs.rasta_core.reason.Reason.{Reason}
 use Rattle.simulator_run.specs.rasta_core.reason.Reason.TheVariants as reason
 use Rattle.simulator_run.specs.rasta_core.verdict.Verdict.TheVariants as verdict
-use Rattle.simulator_run.specs.rasta_pdu.Reading.{reading}
+use Rattle.simulator_run.specs.rasta_pdu.PduRead.{reading}
 use Rattle.simulator_run.specs.rasta_pdu.declared.body.Body.{Body}
 use Rattle.simulator_run.specs.rasta_pdu.declared.body.Body.TheVariants.{ConnectionRequest, ConnectionResponse, RetransmissionRequest, RetransmissionResponse, DisconnectionRequest, Heartbeat, Data, RetransmittedData}
 use Rattle.simulator_run.specs.rasta_pdu.declared.body.Opening.{Opening}

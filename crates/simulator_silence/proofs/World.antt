@@ -41,10 +41,10 @@ use Rattle.simulator_run.specs.simulator_event.refused.Refused.TheVariants as re
 use Rattle.simulator_run.specs.Happens.{coming}
 use Rattle.simulator_run.specs.Links.{AreLinksOf, names_at}
 use Rattle.simulator_run.specs.Network.{connection_of, copy_of, datagrams_of}
-use Rattle.simulator_run.specs.Nodes.{Node, Station, Signal, Point, Detector, detector_link, key_of, links, node_at, point_link}
+use Rattle.simulator_run.specs.Nodes.{Node, Interlocking, Signal, Point, Detector, detector_link, key_of, links, node_at, point_link}
 use Rattle.simulator_run.specs.Refusals.{is_missing, refusal, refused_where}
-use Rattle.simulator_run.specs.Servers.{step_of}
-use Rattle.simulator_run.specs.State.{ServerState, WorldState}
+use Rattle.simulator_run.specs.Controllers.{step_of}
+use Rattle.simulator_run.specs.State.{ClockedControllerState, WorldState}
 use Rattle.simulator_run_links.specs.Events.{anew_events, contact_events, delivery_events, events_of, host_events, restart_events, tick_events, time_events}
 use Rattle.simulator_run_links.specs.Nodes.{IsEndOfServer}
 use Rattle.simulator_silence.specs.Silence.{takes}
@@ -138,7 +138,7 @@ module _ (laws : DeliveryLaws) (site : Site) (are_links : AreLinks (links site) 
     copied None is fits by = idle (inl (λ whole. true≢false (sym (true_is (intact (key_of site) bytes) ((laws.tested (key_of site) bytes).1 whole)) ∙ fits)))
 
   -- what a controller takes, which was made by then, its link hears
-  pub hears_by : {Object : Type 0} (controller : ServerState Object) (bytes : List ℕ) → IsEndOfServer controller (network.ends link).server → (is_none (copy_of bytes world) && intact (key_of site) bytes) ≡ false
+  pub hears_by : {Object : Type 0} (controller : ClockedControllerState Object) (bytes : List ℕ) → IsEndOfServer controller (network.ends link).server → (is_none (copy_of bytes world) && intact (key_of site) bytes) ≡ false
       → (takes bytes controller ≡ true → (datagram : Sent) → copy_of bytes world ≡ Some datagram → datagram.at ≤ made) → HearsBy made (Calls role.Server (Receives bytes (connection_of (copy_of bytes world)))) ends
   hears_by controller bytes end fits by = λ taken. copied bytes taken (copy_of bytes world) refl fits (by (there taken))
     where
@@ -157,8 +157,8 @@ module _ (sees : SeesEvents) (laws : HostLaws) (site : Site) (table : Table) (li
   abbrev pub Hears : List LinksEvent → Type 0
   Hears events = LinkHearsBy sees made link events network
 
-  hosts : {Object : Type 0} (does : Behaviour Object) → CallsFor does → (input : Input) (connection at : ℕ) (found : Option (ServerState Object))
-      → ((controller : ServerState Object) → found ≡ Some controller → ComesBy sees made link input connection at network) → Hears (host_events does input connection at found)
+  hosts : {Object : Type 0} (does : Behaviour Object) → CallsFor does → (input : Input) (connection at : ℕ) (found : Option (ClockedControllerState Object))
+      → ((controller : ClockedControllerState Object) → found ≡ Some controller → ComesBy sees made link input connection at network) → Hears (host_events does input connection at found)
   hosts does fits input connection at None comes = tt
   hosts does fits input connection at (Some controller) comes =
       host_hears sees made link input connection at (step_of does input controller).calls network (fits (reading_of controller.clock) input controller.host) (comes controller refl)
@@ -173,7 +173,7 @@ module _ (sees : SeesEvents) (laws : HostLaws) (site : Site) (table : Table) (li
   module _ (world : WorldState) where
     ticks : (at : Option Node) → Hears (tick_events site table at world)
     ticks None = tt
-    ticks (Some Station) = silent _ (clients_silent _)
+    ticks (Some Interlocking) = silent _ (clients_silent _)
     ticks (Some (Signal place)) = hosts signal_behaviour laws.signal inputs.Tick 0 place (slice_get world.signals place) (λ controller is. tt)
     ticks (Some (Point place)) = hosts point_behaviour laws.point inputs.Tick 0 (point_link site place) (slice_get world.points place) (λ controller is. tt)
     ticks (Some (Detector place)) = hosts detection_behaviour laws.detector inputs.Tick 0 (detector_link site place) (slice_get world.detectors place) (λ controller is. tt)
@@ -181,17 +181,17 @@ module _ (sees : SeesEvents) (laws : HostLaws) (site : Site) (table : Table) (li
     -- what the link's controller hears of bytes that come to a node, in this connection
     abbrev pub HeardAt : (bytes : List ℕ) (connection : ℕ) → Option Node → Type 0
     HeardAt bytes connection None = Unit {0}
-    HeardAt bytes connection (Some Station) = Unit {0}
-    HeardAt bytes connection (Some (Signal place)) = (controller : ServerState SignalState) → slice_get world.signals place ≡ Some controller → place ≡ link
+    HeardAt bytes connection (Some Interlocking) = Unit {0}
+    HeardAt bytes connection (Some (Signal place)) = (controller : ClockedControllerState SignalState) → slice_get world.signals place ≡ Some controller → place ≡ link
         → HearsBy made (Calls role.Server (Receives bytes connection)) (seen link network)
-    HeardAt bytes connection (Some (Point place)) = (controller : ServerState PointState) → slice_get world.points place ≡ Some controller → point_link site place ≡ link
+    HeardAt bytes connection (Some (Point place)) = (controller : ClockedControllerState PointState) → slice_get world.points place ≡ Some controller → point_link site place ≡ link
         → HearsBy made (Calls role.Server (Receives bytes connection)) (seen link network)
-    HeardAt bytes connection (Some (Detector place)) = (controller : ServerState (List Section)) → slice_get world.detectors place ≡ Some controller → detector_link site place ≡ link
+    HeardAt bytes connection (Some (Detector place)) = (controller : ClockedControllerState (List Section)) → slice_get world.detectors place ≡ Some controller → detector_link site place ≡ link
         → HearsBy made (Calls role.Server (Receives bytes connection)) (seen link network)
 
     deliveries : (bytes : List ℕ) (connection : ℕ) (at : Option Node) → HeardAt bytes connection at → Hears (delivery_events site table bytes connection at world)
     deliveries bytes connection None heard = tt
-    deliveries bytes connection (Some Station) heard = silent _ (clients_silent _)
+    deliveries bytes connection (Some Interlocking) heard = silent _ (clients_silent _)
     deliveries bytes connection (Some (Signal place)) heard = hosts signal_behaviour laws.signal (coming bytes) connection place (slice_get world.signals place) heard
     deliveries bytes connection (Some (Point place)) heard = hosts point_behaviour laws.point (coming bytes) connection (point_link site place) (slice_get world.points place) heard
     deliveries bytes connection (Some (Detector place)) heard = hosts detection_behaviour laws.detector (coming bytes) connection (detector_link site place) (slice_get world.detectors place) heard
@@ -206,7 +206,7 @@ module _ (sees : SeesEvents) (laws : HostLaws) (site : Site) (table : Table) (li
 
     restarts : (clock first : ℕ) (at : Option Node) → Hears (restart_events site clock first at)
     restarts clock first None = tt
-    restarts clock first (Some Station) = silent _ (restarts_silent clock (λ n. first) _)
+    restarts clock first (Some Interlocking) = silent _ (restarts_silent clock (λ n. first) _)
     restarts clock first (Some (Signal place)) = anew clock first place (slice_get site.signals place)
     restarts clock first (Some (Point place)) = anew clock first (point_link site place) (slice_get site.points place)
     restarts clock first (Some (Detector place)) = anew clock first (detector_link site place) (slice_get site.detectors place)

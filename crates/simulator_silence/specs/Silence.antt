@@ -9,9 +9,9 @@ use Rattle.simulator_run.specs.simulator_event.declared.event.Event.{Event}
 use Rattle.simulator_run.specs.simulator_event.declared.event.Event.TheVariants as event
 use Rattle.simulator_run.specs.Happens.{happens}
 use Rattle.simulator_run.specs.Network.{copy_of}
-use Rattle.simulator_run.specs.Nodes.{Node, Station, Signal, Point, Detector, node_at}
-use Rattle.simulator_run.specs.Servers.{is_inside_at}
-use Rattle.simulator_run.specs.State.{ServerState, WorldState}
+use Rattle.simulator_run.specs.Nodes.{Node, Interlocking, Signal, Point, Detector, node_at}
+use Rattle.simulator_run.specs.Controllers.{is_inside_at}
+use Rattle.simulator_run.specs.State.{ClockedControllerState, WorldState}
 
 -- how long a lamp shows another aspect than stop, and a point is driven, after its controller's last datagram was made, at
 -- the longest: 1802 ms, in microseconds of true time
@@ -19,16 +19,16 @@ abbrev pub silence_limit : ℕ
 silence_limit = 1802000
 
 -- a controller takes bytes that come at its clock
-abbrev pub takes : {Object : Type 0} → List ℕ → ServerState Object → Bool
+abbrev pub takes : {Object : Type 0} → List ℕ → ClockedControllerState Object → Bool
 takes bytes controller = is_taken (receiving (reading_of controller.clock) bytes (settled (reading_of controller.clock) controller.host.link)).verdict
 
 -- so does the one at a place of a list
-abbrev pub IsTakenAt : {Object : Type 0} → List ℕ → ℕ → List (ServerState Object) → Type 0
-IsTakenAt {Object} bytes place controllers = (controller : ServerState Object) × (slice_get controllers place ≡ Some controller) × (takes bytes controller ≡ true)
+abbrev pub IsTakenAt : {Object : Type 0} → List ℕ → ℕ → List (ClockedControllerState Object) → Type 0
+IsTakenAt {Object} bytes place controllers = (controller : ClockedControllerState Object) × (slice_get controllers place ≡ Some controller) × (takes bytes controller ≡ true)
 
 -- so does the controller that is this node
 abbrev pub IsTakenBy : Node → List ℕ → WorldState → Type 0
-IsTakenBy Station bytes world = ⊥
+IsTakenBy Interlocking bytes world = ⊥
 IsTakenBy (Signal place) bytes world = IsTakenAt bytes place world.signals
 IsTakenBy (Point place) bytes world = IsTakenAt bytes place world.points
 IsTakenBy (Detector place) bytes world = IsTakenAt bytes place world.detectors
@@ -45,5 +45,5 @@ TakesNone site table who made [] world = Unit {0}
 TakesNone site table who made (first ∷ others) world = TakesNoneLater site who made first world × TakesNone site table who made others (happens site table first world)
 
 -- By its clock a controller is in no connection, or it has taken no item in it.
-abbrev pub IsSpent : {Object : Type 0} → ServerState Object → Type 0
+abbrev pub IsSpent : {Object : Type 0} → ClockedControllerState Object → Type 0
 IsSpent controller = is_inside_at controller.clock controller.host.link ≡ true → controller.host.link.taken ≡ 0

@@ -15,7 +15,7 @@ ghost use Rattle.simulator_run.specs.Nodes.{Point as PointAt, Signal as SignalAt
 ghost use Rattle.simulator_run.specs.Refusals.{driven_by};
 ghost use Rattle.simulator_run.specs.Run.{CanHappen, after_all};
 ghost use Rattle.simulator_run.specs.Seen.{shown_by};
-ghost use Rattle.simulator_run.specs.State.{ServerState};
+ghost use Rattle.simulator_run.specs.State.{ClockedControllerState};
 ghost use Rattle.simulator_silence.specs.Silence.{IsSpent, TakesNone, silence_limit};
 
 use object_host_theorem::{point_reports_its_moves, signal_shows_what_was_told};
@@ -38,11 +38,11 @@ use simulator_run_links::{
 /// A controller's connection is over 1802 ms of true time after the last datagram that the controller took was made, at the
 /// latest, or no item was taken in it: after every list of events, on any network. Lamps and points hang on this.
 pub fn connections_end_in_silence()
-    ensures signal { (site : Site) (table : Table) (outset : Outset) (events : List Event) (place made : ℕ) (signal : ServerState SignalState) → Once site → IsStation site → IsOutsetOf site outset
+    ensures signal { (site : Site) (table : Table) (outset : Outset) (events : List Event) (place made : ℕ) (signal : ClockedControllerState SignalState) → Once site → IsStation site → IsOutsetOf site outset
         → CanHappen site table events (world_at site table outset) → TakesNone site table (SignalAt place) made events (world_at site table outset)
         → made + silence_limit ≤ (after_all site table events (world_at site table outset)).time
         → slice_get (after_all site table events (world_at site table outset)).signals place ≡ Some signal → IsSpent signal }
-    ensures point { (site : Site) (table : Table) (outset : Outset) (events : List Event) (place made : ℕ) (point : ServerState PointState) → Once site → IsStation site → IsOutsetOf site outset
+    ensures point { (site : Site) (table : Table) (outset : Outset) (events : List Event) (place made : ℕ) (point : ClockedControllerState PointState) → Once site → IsStation site → IsOutsetOf site outset
         → CanHappen site table events (world_at site table outset) → TakesNone site table (PointAt place) made events (world_at site table outset)
         → made + silence_limit ≤ (after_all site table events (world_at site table outset)).time
         → slice_get (after_all site table events (world_at site table outset)).points place ≡ Some point → IsSpent point }
@@ -68,7 +68,7 @@ pub fn connections_end_in_silence()
 /// A lamp is at stop 1802 ms of true time after the last datagram that its controller took was made, at the latest: after
 /// every list of events, on any network, whether its controller ticked or not.
 pub fn lamps_fall_in_silence()
-    ensures { (site : Site) (table : Table) (outset : Outset) (events : List Event) (place made : ℕ) (signal : ServerState SignalState) → Once site → IsStation site → IsTableOf site table
+    ensures { (site : Site) (table : Table) (outset : Outset) (events : List Event) (place made : ℕ) (signal : ClockedControllerState SignalState) → Once site → IsStation site → IsTableOf site table
         → IsOutsetOf site outset → CanHappen site table events (world_at site table outset) → TakesNone site table (SignalAt place) made events (world_at site table outset)
         → made + silence_limit ≤ (after_all site table events (world_at site table outset)).time
         → slice_get (after_all site table events (world_at site table outset)).signals place ≡ Some signal → shown_by signal ≡ Stop }
@@ -83,7 +83,7 @@ pub fn lamps_fall_in_silence()
 
 /// A point isn't driven 1802 ms of true time after the last datagram that its controller took was made, at the latest.
 pub fn points_rest_in_silence()
-    ensures { (site : Site) (table : Table) (outset : Outset) (events : List Event) (place made : ℕ) (point : ServerState PointState) → Once site → IsStation site → IsTableOf site table
+    ensures { (site : Site) (table : Table) (outset : Outset) (events : List Event) (place made : ℕ) (point : ClockedControllerState PointState) → Once site → IsStation site → IsTableOf site table
         → IsOutsetOf site outset → CanHappen site table events (world_at site table outset) → TakesNone site table (PointAt place) made events (world_at site table outset)
         → made + silence_limit ≤ (after_all site table events (world_at site table outset)).time
         → slice_get (after_all site table events (world_at site table outset)).points place ≡ Some point → driven_by point ≡ None }

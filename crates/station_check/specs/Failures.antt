@@ -3,8 +3,8 @@ use Rattle.std.specs.Prelude.{◌≡◌, ℕ, List, [], ◌++◌, take, codes, O
 use Rattle.std.specs.Io.KnownBytes.{Appends}
 use Rattle.control_table.specs.layout.Entries.{Site}
 use Rattle.layout_text.specs.Messages.{fault_text as layout_fault_text}
-use Rattle.layout_text.specs.Reading.{Fails}
-use Rattle.control_table.specs.layout.Resolving.{layout_in}
+use Rattle.layout_text.specs.FirstFault.{Fails}
+use Rattle.control_table.specs.layout.NamesResolved.{layout_in}
 use Rattle.control_table.specs.Faults.{IsFirstFault}
 use Rattle.control_table.specs.Messages.{fault_text as table_fault_text}
 use Rattle.replay_lines.specs.Text.{fault_text as line_fault_text}

@@ -5,8 +5,8 @@ use Rattle.std.specs.Fmt.{decimal}
 use Rattle.std.specs.Option.{option_map, unwrap_or}
 use Rattle.std.specs.Io.KnownBytes.{Appends}
 use Rattle.control_table.specs.layout.Entries.{RouteEntry, Site}
-use Rattle.control_table.specs.layout.Resolving.{layout_in}
-use Rattle.layout_text.specs.Reading.{Fails}
+use Rattle.control_table.specs.layout.NamesResolved.{layout_in}
+use Rattle.layout_text.specs.FirstFault.{Fails}
 use Rattle.layout_text.specs.Messages.{fault_text as layout_fault_text}
 use Rattle.control_table.specs.Table.{Sound, Conflict, is_slow}
 use Rattle.control_table.specs.Faults.{IsFirstFault}

@@ -14,7 +14,7 @@ use Rattle.station_command.proofs.LineRead.{AreFound, LineReads, line_fault, lin
 use Rattle.station_command.proofs.Numbers.{number_in}
 use Rattle.station_command.proofs.Rules.{Files, IsFile, IsHelp, IsLine, IsNamed, IsOption, IsSwitch, TakesOne, first_due, names_help, names_nothing, none_due, second_due, short_help, short_nothing}
 use Rattle.station_command.proofs.WordsRead.{Fails, nth_or, top}
-use Rattle.station_command.specs.Asking.{Check, Decode, Given, Replay, Request, Run, Sim, Table, Usage, check_by, check_of, check_usage, decode_by, decode_of, decode_usage, given_in, is_on, replay_by, replay_of, run_by, run_of, run_usage, sim_by, sim_of, table_by, table_of, table_usage, time_of, two_files_usage, value_of}
+use Rattle.station_command.specs.CommandWords.{Check, Decode, Given, Replay, Request, Run, Sim, Table, Usage, check_by, check_of, check_usage, decode_by, decode_of, decode_usage, given_in, is_on, replay_by, replay_of, run_by, run_of, run_usage, sim_by, sim_of, table_by, table_of, table_usage, time_of, two_files_usage, value_of}
 use Rattle.station_command.specs.Line.{station_line}
 use Rattle.station_command.specs.inside.Rows.{check_of_rows, decode_of_rows, number_of, replay_of_rows, run_of_rows, sim_of_rows, table_of_rows}
 

@@ -12,7 +12,7 @@ use Rattle.clap.specs.Faults.{defaults_fault, given_default_fault}
 use Rattle.clap.specs.Facts.{explicit_source}
 use Rattle.clap.specs.Takes.{is_given}
 use Rattle.clap.specs.Walk.{Row, Rule, Text, default_rows, first_of, has_row, is_empty, more_values, reading_by, with_default}
-use Rattle.station_command.specs.Asking.{Given, value_of}
+use Rattle.station_command.specs.CommandWords.{Given, value_of}
 use Rattle.station_command.proofs.Given.{or_none, or_or, or_value, row_added, rows}
 
 -- each row has a value

@@ -6,7 +6,7 @@ use Rattle.clap.specs.Words.{first_value, found_of}
 use Rattle.clap.specs.declared.parser.matches.ArgMatches.{ArgMatches}
 use Rattle.clap.proofs.WalkLemmas.{first_value-rows}
 use Rattle.clap.specs.Walk.{Text, first_of, rows_of}
-use Rattle.station_command.specs.Asking.{Decode, Run, Table, both_of, decode_of, is_on, run_of, table_of}
+use Rattle.station_command.specs.CommandWords.{Decode, Run, Table, both_of, decode_of, is_on, run_of, table_of}
 use Rattle.station_command.specs.inside.Rows.{decode_of_rows, files_of, number_of, run_of_rows, table_of_rows}
 
 module _ (m : ArgMatches) where

@@ -13,7 +13,7 @@ use Rattle.clap.specs.Facts.{explicit_source}
 use Rattle.clap.specs.Takes.{is_given}
 use Rattle.clap.specs.Walk.{Row, Text, at_row, first_of, has_row, more_values, with_values, without}
 use Rattle.station_command.proofs.WordsRead.{Fails}
-use Rattle.station_command.specs.Asking.{Given, value_of, takes}
+use Rattle.station_command.specs.CommandWords.{Given, value_of, takes}
 
 -- ---- what was given, as rows
 

@@ -16,7 +16,7 @@ use Rattle.station_command.proofs.Defaults.{all_defaulted, default_in, is_missin
 use Rattle.station_command.proofs.Given.{added, first_of-rows, has_row-rows, is_given-rows, kinds_fail, kinds_of, kinds_pass, may_have, not_some, or_value, rows, value_of-more}
 use Rattle.station_command.proofs.Rules.{Files, FileAt, IsLine, IsNamed, IsOption, IsSwitch, NamesNeither, NoFileAt, TakesOne, after, first_due, leaf, left_of, position_of}
 use Rattle.station_command.proofs.WordsRead.{Fails, Pending, both, ends_is_flag, first_fails, held, is_ends, is_long_or_fails, word_fails, word_passes}
-use Rattle.station_command.specs.Asking.{Before, Behind, Between, Given, Place, Usage, ends_flags, file_read, flag_read, given_at, given_in, is_among, is_flag, takes, value_of, with_value, word_read, words_read}
+use Rattle.station_command.specs.CommandWords.{Before, Behind, Between, Given, Place, Usage, ends_flags, file_read, flag_read, given_at, given_in, is_among, is_flag, takes, value_of, with_value, word_read, words_read}
 
 -- ---- what is held between two words
 

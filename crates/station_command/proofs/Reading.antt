@@ -16,7 +16,7 @@ use Rattle.clap.specs.Walk.{Held, Text, Walk, arg_by_long, arg_by_short, finishe
 use Rattle.station_command.proofs.Commands.{CommandReads, check_reads, check_rules, decode_reads, decode_rules, replay_reads, run_reads, run_rules, sim_reads, sim_rules, table_reads, table_rules}
 use Rattle.station_command.proofs.LineRead.{line_fault}
 use Rattle.station_command.proofs.WordsRead.{Fails, at, fails_within, is_ends, top, word_fails, word_passes}
-use Rattle.station_command.specs.Asking.{Request, check_by, check_usage, decode_by, decode_usage, ends_flags, is_flag, replay_by, request_in, run_by, run_usage, sim_by, table_by, table_usage, two_files_usage}
+use Rattle.station_command.specs.CommandWords.{Request, check_by, check_usage, decode_by, decode_usage, ends_flags, is_flag, replay_by, request_in, run_by, run_usage, sim_by, table_by, table_usage, two_files_usage}
 use Rattle.station_command.specs.Line.{station_line}
 use Rattle.station_command.specs.inside.Rows.{check_of_rows, decode_of_rows, replay_of_rows, request_of_rows, run_of_rows, sim_of_rows, table_of_rows}
 

@@ -12,7 +12,7 @@ use Rattle.clap.specs.Walk.{Held, Row, Rule, Text, arg_by_id, arg_by_index, arg_
 use Rattle.station_command.proofs.Defaults.{DefaultsPass}
 use Rattle.station_command.proofs.Given.{kinds_of}
 use Rattle.station_command.proofs.WordsRead.{Fails, first_fails, next_fails}
-use Rattle.station_command.specs.Asking.{Usage, is_among, takes}
+use Rattle.station_command.specs.CommandWords.{Usage, is_among, takes}
 
 -- a command without commands of its own, when it is built
 abbrev pub leaf : Text → List Rule → Shape

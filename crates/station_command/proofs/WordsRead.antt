@@ -9,7 +9,7 @@ use Rattle.clap.specs.Faults.{bundle_step_fault, flag_word_fault, flags_fault, l
 use Rattle.clap.specs.Lexer.{long_of, name_and_value}
 use Rattle.clap.specs.Simple.{Shape, built}
 use Rattle.clap.specs.Walk.{bundle_met, Held, Rule, Row, Text, Walk, Waiting, plain_word, arg_by_long, arg_by_short, idle, long_or_other}
-use Rattle.station_command.specs.Asking.{is_flag, ends_flags}
+use Rattle.station_command.specs.CommandWords.{is_flag, ends_flags}
 use Rattle.station_command.specs.Line.{station_line}
 
 -- there is a fault

@@ -1,4 +1,4 @@
-pub mod Asking
+pub mod CommandWords
 pub mod Line
 pub mod Failures
 pub mod inside

@@ -3,7 +3,7 @@
 ghost use Rattle.std.specs.Prelude.{◌≡◌, ◌↔◌, ◌⊎◌, IsTrue, IfOk, IfErr, None, codes, map};
 ghost use Rattle.std.specs.Option.{option_map};
 ghost use Rattle.clap.specs.Words.{FailsBy, fault_of, first_of, found_of, kind_of, rows_of, subcommand_rows_of};
-ghost use Rattle.station_command.specs.Asking.{Asks, is_on, request_in, request_of};
+ghost use Rattle.station_command.specs.CommandWords.{Asks, is_on, request_in, request_of};
 ghost use Rattle.station_command.specs.Line.{station_line};
 ghost use Rattle.station_command.specs.inside.Rows.{decode_of_rows, files_of, number_of, request_of_rows, run_of_rows, table_of_rows};
 ghost use Rattle.clap.specs.declared.error.kind.ErrorKind.TheVariants as kind;

@@ -12,7 +12,7 @@ use Rattle.ixl_rules.specs.rasta_pdu.declared.body.Opening.{Opening}
 use Rattle.ixl_rules.specs.rasta_pdu.declared.fault.PduFault.{PduFault}
 use Rattle.ixl_rules.specs.rasta_pdu.declared.key.Key.{Key}
 use Rattle.ixl_rules.specs.rasta_pdu.declared.pdu.Pdu.{Pdu}
-use Rattle.ixl_rules.specs.rasta_pdu.Reading.{reading}
+use Rattle.ixl_rules.specs.rasta_pdu.PduRead.{reading}
 use Rattle.ixl_rules.specs.sci_telegram.Names.{is_name}
 use Rattle.station_decode.specs.Words.{type_words, reason_words, pdu_fault_words}
 use Rattle.station_decode.specs.Telegrams.{item_text}

@@ -2,5 +2,5 @@ pub mod Words
 pub mod Telegrams
 pub mod ReadBack
 pub mod Datagrams
-pub mod Decoding
+pub mod DecodedLine
 pub mod inside

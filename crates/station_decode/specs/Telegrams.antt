@@ -13,7 +13,7 @@ use Rattle.ixl_rules.specs.sci_telegram.declared.message.DetectionMessage.TheVar
 use Rattle.ixl_rules.specs.sci_telegram.declared.message.Message.{Message}
 use Rattle.ixl_rules.specs.sci_telegram.declared.message.Message.TheVariants.{Initialisation, Point, Signal, Detection}
 use Rattle.ixl_rules.specs.sci_telegram.declared.telegram.Telegram.{Telegram}
-use Rattle.ixl_rules.specs.sci_telegram.Reading.{reading}
+use Rattle.ixl_rules.specs.sci_telegram.TelegramRead.{reading}
 use Rattle.station_decode.specs.Words.{protocol_word, agreement_word, side_word, position_word, aspect_word, occupancy_word, telegram_fault_words}
 
 -- What a telegram says. Of the telegrams that every protocol has, the words begin with the protocol.

@@ -1,7 +1,7 @@
 //! A datagram that is given in hexadecimal digits, put into words.
 
 ghost use Rattle.std.specs.Prelude.{◌≡◌, ◌≤◌, IfErr, IfOk, IsErr, OnOk, option_copied};
-ghost use Rattle.station_decode.specs.Decoding.{CanDecode, Explained, Explains, IsDecoded, IsLayout, IsNoLayout, Leaves};
+ghost use Rattle.station_decode.specs.DecodedLine.{CanDecode, Explained, Explains, IsDecoded, IsLayout, IsNoLayout, Leaves};
 
 use crate::datagram::datagram_words;
 use crate::failure::{Failure, tell_failure};

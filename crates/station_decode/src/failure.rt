@@ -1,7 +1,7 @@
 //! Why nothing is decoded, and how that is told.
 
 ghost use Rattle.std.specs.Prelude.{◌≡◌};
-ghost use Rattle.station_decode.specs.Decoding.{Tells};
+ghost use Rattle.station_decode.specs.DecodedLine.{Tells};
 
 use ixl_rules::layout::LayoutFault;
 use replay_words::{Fault, write_as_taken};

@@ -15,7 +15,7 @@ use Rattle.simulator_event.specs.declared.reply.Answer.{Answer}
 use Rattle.replay_lines.specs.Answers.{answer_text, recorded}
 use Rattle.replay_lines.specs.Written.{event_line}
 use Rattle.station_drive.specs.Told.{Asks, Call, Grows, Heard, Sends}
-use Rattle.station_drive.specs.Doings.{added, recorded_line, Applies, Applying, Asking, Behaviour, Doing, Performs, Stops, after_doing, picture_after, calls_of, calls_of_doing, text_of, line_of_doing}
+use Rattle.station_drive.specs.Doings.{added, recorded_line, Applies, Applying, Asking, Behaviour, Doing, Performs, Stops, after_doing, state_after, calls_of, calls_of_doing, text_of, line_of_doing}
 
 -- ---- what is told grows
 
@@ -31,32 +31,32 @@ Grows-trans (Some x) (Some y) (Some z) xs ys p q = q ∙ ap (λ l. l ++ ys) p �
 
 -- ---- doings behind others
 
-module _ {Picture : Type 0} (does : Behaviour Picture) where
-  pub picture_after-append : (p : Picture) (xs ys : List Doing) → picture_after does p (xs ++ ys) ≡ picture_after does (picture_after does p xs) ys
-  picture_after-append p [] ys = refl
-  picture_after-append p (x ∷ xs) ys = picture_after-append (after_doing does p x) xs ys
+module _ {State : Type 0} (does : Behaviour State) where
+  pub state_after-append : (p : State) (xs ys : List Doing) → state_after does p (xs ++ ys) ≡ state_after does (state_after does p xs) ys
+  state_after-append p [] ys = refl
+  state_after-append p (x ∷ xs) ys = state_after-append (after_doing does p x) xs ys
 
-  pub calls_of-append : (p : Picture) (xs ys : List Doing) → calls_of does p (xs ++ ys) ≡ calls_of does p xs ++ calls_of does (picture_after does p xs) ys
+  pub calls_of-append : (p : State) (xs ys : List Doing) → calls_of does p (xs ++ ys) ≡ calls_of does p xs ++ calls_of does (state_after does p xs) ys
   calls_of-append p [] ys = refl
   calls_of-append p (x ∷ xs) ys =
       ap (λ l. calls_of_doing does p x ++ l) (calls_of-append (after_doing does p x) xs ys)
       ∙ sym (append_assoc (calls_of_doing does p x) (calls_of does (after_doing does p x) xs) _)
 
-  pub text_of-append : (site : Site) (p : Picture) (xs ys : List Doing) → text_of does site p (xs ++ ys) ≡ text_of does site p xs ++ text_of does site (picture_after does p xs) ys
+  pub text_of-append : (site : Site) (p : State) (xs ys : List Doing) → text_of does site p (xs ++ ys) ≡ text_of does site p xs ++ text_of does site (state_after does p xs) ys
   text_of-append site p [] ys = refl
   text_of-append site p (x ∷ xs) ys =
       ap (λ l. line_of_doing does site p x ++ l) (text_of-append site (after_doing does p x) xs ys)
       ∙ sym (append_assoc (line_of_doing does site p x) (text_of does site (after_doing does p x) xs) _)
 
-  -- the same of the pictures that were reached
-  calls_joined : (a b : Picture) (xs ys : List Doing) → b ≡ picture_after does a xs → calls_of does a xs ++ calls_of does b ys ≡ calls_of does a (xs ++ ys)
+  -- the same of the states that were reached
+  calls_joined : (a b : State) (xs ys : List Doing) → b ≡ state_after does a xs → calls_of does a xs ++ calls_of does b ys ≡ calls_of does a (xs ++ ys)
   calls_joined a b xs ys h = ap (λ p. calls_of does a xs ++ calls_of does p ys) h ∙ sym (calls_of-append a xs ys)
 
-  text_joined : (site : Site) (a b : Picture) (xs ys : List Doing) → b ≡ picture_after does a xs → text_of does site a xs ++ text_of does site b ys ≡ text_of does site a (xs ++ ys)
+  text_joined : (site : Site) (a b : State) (xs ys : List Doing) → b ≡ state_after does a xs → text_of does site a xs ++ text_of does site b ys ≡ text_of does site a (xs ++ ys)
   text_joined site a b xs ys h = ap (λ p. text_of does site a xs ++ text_of does site p ys) h ∙ sym (text_of-append site a xs ys)
 
   -- a part of the doings has no longer text
-  text_of-take : (site : Site) (p : Picture) (n : ℕ) (xs : List Doing) → length (text_of does site p (take n xs)) ≤ length (text_of does site p xs)
+  text_of-take : (site : Site) (p : State) (n : ℕ) (xs : List Doing) → length (text_of does site p (take n xs)) ≤ length (text_of does site p xs)
   text_of-take site p zero xs = omega arith
   text_of-take site p (suc n) [] = omega arith
   text_of-take site p (suc n) (x ∷ xs) =
@@ -67,7 +67,7 @@ module _ {Picture : Type 0} (does : Behaviour Picture) where
       omega (arith, rest, part, whole)
 
   -- all but the last line of doings behind others
-  lines_behind : (site : Site) (xs ys : List Doing) (a b : Picture) (count taken : ℕ) → b ≡ picture_after does a xs
+  lines_behind : (site : Site) (xs ys : List Doing) (a b : State) (count taken : ℕ) → b ≡ state_after does a xs
       → length (text_of does site b (take (count - 1) ys)) ≤ taken
       → length (text_of does site a (take (length xs + count - 1) (xs ++ ys))) ≤ length (text_of does site a xs) + taken
   lines_behind site xs ys a b zero taken is h =
@@ -87,24 +87,24 @@ module _ {Picture : Type 0} (does : Behaviour Picture) where
 
 -- ---- what was done, one behind another
 
-module _ {Picture : Type 0} {does : Behaviour Picture} {site : Site} where
-  pub performs_none : (a : Picture) (ca : Option (List Call)) (ta : Option (List ℕ)) → Performs does site [] a a ca ca ta ta
-  performs_none a ca ta = record { picture_is = refl; called = Grows-nil ca; written = Appends-nil ta }
+module _ {State : Type 0} {does : Behaviour State} {site : Site} where
+  pub performs_none : (a : State) (ca : Option (List Call)) (ta : Option (List ℕ)) → Performs does site [] a a ca ca ta ta
+  performs_none a ca ta = record { state_is = refl; called = Grows-nil ca; written = Appends-nil ta }
 
-  pub performs_then : {xs ys : List Doing} {a b c : Picture} {ca cb cc : Option (List Call)} {ta tb tc : Option (List ℕ)}
+  pub performs_then : {xs ys : List Doing} {a b c : State} {ca cb cc : Option (List Call)} {ta tb tc : Option (List ℕ)}
       → Performs does site xs a b ca cb ta tb → Performs does site ys b c cb cc tb tc → Performs does site (xs ++ ys) a c ca cc ta tc
   performs_then {xs} {ys} {a} {b} {c} {ca} {cb} {cc} {ta} {tb} {tc} first second = record {
-    picture_is = second.picture_is ∙ (ap (λ p. picture_after does p ys) first.picture_is ∙ sym (picture_after-append does a xs ys));
-    called = subst (Grows ca cc) (calls_joined does a b xs ys first.picture_is) (Grows-trans ca cb cc _ _ first.called second.called);
-    written = subst (Appends ta tc) (text_joined does site a b xs ys first.picture_is) (Appends-trans ta tb tc _ _ first.written second.written);
+    state_is = second.state_is ∙ (ap (λ p. state_after does p ys) first.state_is ∙ sym (state_after-append does a xs ys));
+    called = subst (Grows ca cc) (calls_joined does a b xs ys first.state_is) (Grows-trans ca cb cc _ _ first.called second.called);
+    written = subst (Appends ta tc) (text_joined does site a b xs ys first.state_is) (Appends-trans ta tb tc _ _ first.written second.written);
   }
 
   -- nothing was done
-  pub stops_none : (doings : List Doing) (a : Picture) (ca : Option (List Call)) (ta : Option (List ℕ)) → Stops does site doings a a ca ca ta ta
+  pub stops_none : (doings : List Doing) (a : State) (ca : Option (List Call)) (ta : Option (List ℕ)) → Stops does site doings a a ca ca ta ta
   stops_none doings a ca ta = record {
     count = 0;
     within = omega arith;
-    picture_is = refl;
+    state_is = refl;
     called = Grows-nil ca;
     taken = 0;
     written = Appends-nil ta;
@@ -112,7 +112,7 @@ module _ {Picture : Type 0} {does : Behaviour Picture} {site : Site} where
   }
 
   -- all was done, and then it was given up
-  pub stops_all : {xs : List Doing} {a b : Picture} {ca cb : Option (List Call)} {ta tb : Option (List ℕ)}
+  pub stops_all : {xs : List Doing} {a b : State} {ca cb : Option (List Call)} {ta tb : Option (List ℕ)}
       → Performs does site xs a b ca cb ta tb → (s : Stops does site xs a b ca cb ta tb) × (length xs ≤ s.count)
   stops_all {xs} {a} {b} {ca} {cb} {ta} {tb} done =
       let all : take (length xs) xs ≡ xs = take-length xs in
@@ -120,7 +120,7 @@ module _ {Picture : Type 0} {does : Behaviour Picture} {site : Site} where
         record {
           count = length xs;
           within = omega arith;
-          picture_is = done.picture_is ∙ ap (picture_after does a) (sym all);
+          state_is = done.state_is ∙ ap (state_after does a) (sym all);
           called = subst (Grows ca cb) (ap (calls_of does a) (sym all)) done.called;
           taken = length text;
           written = subst (Appends ta tb) (sym (take-length text) ∙ ap (λ (l : List Doing). take (length text) (text_of does site a l)) (sym all)) done.written;
@@ -130,7 +130,7 @@ module _ {Picture : Type 0} {does : Behaviour Picture} {site : Site} where
       )
 
   -- doings that were never come to
-  pub stops_before : {xs : List Doing} {a b : Picture} {ca cb : Option (List Call)} {ta tb : Option (List ℕ)} (ys : List Doing)
+  pub stops_before : {xs : List Doing} {a b : State} {ca cb : Option (List Call)} {ta tb : Option (List ℕ)} (ys : List Doing)
       → Stops does site xs a b ca cb ta tb → Stops does site (xs ++ ys) a b ca cb ta tb
   stops_before {xs} {a} {b} {ca} {cb} {ta} {tb} ys s =
       let within = s.within in
@@ -140,7 +140,7 @@ module _ {Picture : Type 0} {does : Behaviour Picture} {site : Site} where
       record {
         count = s.count;
         within = omega (arith, within, longer);
-        picture_is = s.picture_is ∙ ap (picture_after does a) (sym same);
+        state_is = s.state_is ∙ ap (state_after does a) (sym same);
         called = subst (Grows ca cb) (ap (calls_of does a) (sym same)) s.called;
         taken = s.taken;
         written = subst (Appends ta tb) (ap (λ (l : List Doing). take s.taken (text_of does site a l)) (sym same)) s.written;
@@ -148,7 +148,7 @@ module _ {Picture : Type 0} {does : Behaviour Picture} {site : Site} where
       }
 
   -- what was done whole, and then a beginning of more
-  pub stops_behind : {xs ys : List Doing} {a b c : Picture} {ca cb cc : Option (List Call)} {ta tb tc : Option (List ℕ)}
+  pub stops_behind : {xs ys : List Doing} {a b c : State} {ca cb cc : Option (List Call)} {ta tb tc : Option (List ℕ)}
       → Performs does site xs a b ca cb ta tb → Stops does site ys b c cb cc tb tc → (s : Stops does site (xs ++ ys) a c ca cc ta tc) × (length xs ≤ s.count)
   stops_behind {xs} {ys} {a} {b} {c} {ca} {cb} {cc} {ta} {tb} {tc} first second =
       let done : List Doing = take second.count ys in
@@ -160,62 +160,62 @@ module _ {Picture : Type 0} {does : Behaviour Picture} {site : Site} where
         record {
           count = length xs + second.count;
           within = omega (arith, within, longer);
-          picture_is = second.picture_is ∙ (ap (λ p. picture_after does p done) first.picture_is ∙ (sym (picture_after-append does a xs done) ∙ ap (picture_after does a) all));
-          called = subst (Grows ca cc) (calls_joined does a b xs done first.picture_is ∙ ap (calls_of does a) all) (Grows-trans ca cb cc _ _ first.called second.called);
+          state_is = second.state_is ∙ (ap (λ p. state_after does p done) first.state_is ∙ (sym (state_after-append does a xs done) ∙ ap (state_after does a) all));
+          called = subst (Grows ca cc) (calls_joined does a b xs done first.state_is ∙ ap (calls_of does a) all) (Grows-trans ca cb cc _ _ first.called second.called);
           taken = length before + second.taken;
           written = subst (Appends ta tc)
               (sym (take-append-add before behind second.taken)
-              ∙ ap (take (length before + second.taken)) (text_joined does site a b xs done first.picture_is ∙ ap (text_of does site a) all))
+              ∙ ap (take (length before + second.taken)) (text_joined does site a b xs done first.state_is ∙ ap (text_of does site a) all))
               (Appends-trans ta tb tc _ _ first.written second.written);
-          lines = lines_behind does site xs ys a b second.count second.taken first.picture_is second.lines;
+          lines = lines_behind does site xs ys a b second.count second.taken first.state_is second.lines;
         },
         omega arith,
       )
 
-  pub stops_then : {xs ys : List Doing} {a b c : Picture} {ca cb cc : Option (List Call)} {ta tb tc : Option (List ℕ)}
+  pub stops_then : {xs ys : List Doing} {a b c : State} {ca cb cc : Option (List Call)} {ta tb tc : Option (List ℕ)}
       → Performs does site xs a b ca cb ta tb → Stops does site ys b c cb cc tb tc → Stops does site (xs ++ ys) a c ca cc ta tc
   stops_then {xs} {ys} {a} {b} {c} {ca} {cb} {cc} {ta} {tb} {tc} first second = (stops_behind first second).0
 
   -- given up before what is behind
-  pub stops_now : {xs : List Doing} {a b : Picture} {ca cb : Option (List Call)} {ta tb : Option (List ℕ)} (ys : List Doing)
+  pub stops_now : {xs : List Doing} {a b : State} {ca cb : Option (List Call)} {ta tb : Option (List ℕ)} (ys : List Doing)
       → Performs does site xs a b ca cb ta tb → Stops does site (xs ++ ys) a b ca cb ta tb
   stops_now {xs} {a} {b} {ca} {cb} {ta} {tb} ys done = stops_before ys (stops_all done).0
 
-  pub stops_same : {xs ys : List Doing} {a b : Picture} {ca cb : Option (List Call)} {ta tb : Option (List ℕ)} → xs ≡ ys → Stops does site xs a b ca cb ta tb → Stops does site ys a b ca cb ta tb
+  pub stops_same : {xs ys : List Doing} {a b : State} {ca cb : Option (List Call)} {ta tb : Option (List ℕ)} → xs ≡ ys → Stops does site xs a b ca cb ta tb → Stops does site ys a b ca cb ta tb
   stops_same {xs} {ys} {a} {b} {ca} {cb} {ta} {tb} e s = subst (λ (l : List Doing). Stops does site l a b ca cb ta tb) e s
 
   -- what was written was handed on
-  pub performs_kept : {xs : List Doing} {a b : Picture} {ca cb : Option (List Call)} {ta tb tc : Option (List ℕ)} → Performs does site xs a b ca cb ta tb → Keeps tb tc → Performs does site xs a b ca cb ta tc
+  pub performs_kept : {xs : List Doing} {a b : State} {ca cb : Option (List Call)} {ta tb tc : Option (List ℕ)} → Performs does site xs a b ca cb ta tb → Keeps tb tc → Performs does site xs a b ca cb ta tc
   performs_kept {xs} {a} {b} {ca} {cb} {ta} {tb} {tc} done kept = record {
-    picture_is = done.picture_is;
+    state_is = done.state_is;
     called = done.called;
     written = Appends-kept ta tb tc _ done.written kept;
   }
 
   -- the same where the layout of what comes behind is the same, seen from there
-  pub performs_next : {other : Site} {xs ys : List Doing} {a b c : Picture} {ca cb cc : Option (List Call)} {ta tb tc : Option (List ℕ)}
+  pub performs_next : {other : Site} {xs ys : List Doing} {a b c : State} {ca cb cc : Option (List Call)} {ta tb tc : Option (List ℕ)}
       → other ≡ site → Performs does site xs a b ca cb ta tb → Performs does other ys b c cb cc tb tc → Performs does site (xs ++ ys) a c ca cc ta tc
   performs_next {other} {xs} {ys} {a} {b} {c} {ca} {cb} {cc} {ta} {tb} {tc} e first second =
       performs_then first (subst (λ (p : Site). Performs does p ys b c cb cc tb tc) e second)
 
-  pub stops_next : {other : Site} {xs ys : List Doing} {a b c : Picture} {ca cb cc : Option (List Call)} {ta tb tc : Option (List ℕ)}
+  pub stops_next : {other : Site} {xs ys : List Doing} {a b c : State} {ca cb cc : Option (List Call)} {ta tb tc : Option (List ℕ)}
       → other ≡ site → Performs does site xs a b ca cb ta tb → Stops does other ys b c cb cc tb tc → Stops does site (xs ++ ys) a c ca cc ta tc
   stops_next {other} {xs} {ys} {a} {b} {c} {ca} {cb} {cc} {ta} {tb} {tc} e first second =
       stops_then first (subst (λ (p : Site). Stops does p ys b c cb cc tb tc) e second)
 
   -- one more event was applied
-  pub performs_push : {other : Site} {event : Event} {a b c : Picture} {ca cb cc : Option (List Call)} {ta tb tc : Option (List ℕ)}
+  pub performs_push : {other : Site} {event : Event} {a b c : State} {ca cb cc : Option (List Call)} {ta tb tc : Option (List ℕ)}
       → (events : List Event) → other ≡ site → Performs does site (map Applying events) a b ca cb ta tb → Performs does other (Applying event ∷ []) b c cb cc tb tc
       → Performs does site (map Applying (events ++ event ∷ [])) a c ca cc ta tc
   performs_push {other} {event} {a} {b} {c} {ca} {cb} {cc} {ta} {tb} {tc} events e first second =
       subst (λ (l : List Doing). Performs does site l a c ca cc ta tc) (sym (map-append Applying events (event ∷ []))) (performs_next e first second)
 
-  pub performs_same : {xs ys : List Doing} {a b : Picture} {ca cb : Option (List Call)} {ta tb : Option (List ℕ)} → xs ≡ ys → Performs does site xs a b ca cb ta tb → Performs does site ys a b ca cb ta tb
+  pub performs_same : {xs ys : List Doing} {a b : State} {ca cb : Option (List Call)} {ta tb : Option (List ℕ)} → xs ≡ ys → Performs does site xs a b ca cb ta tb → Performs does site ys a b ca cb ta tb
   performs_same {xs} {ys} {a} {b} {ca} {cb} {ta} {tb} e done = subst (λ (l : List Doing). Performs does site l a b ca cb ta tb) e done
 
   -- a node asked
-  pub performs_asking : {node : NodeId} {heard : Heard} (a : Picture) {ca cb : Option (List Call)} (ta : Option (List ℕ)) → Grows ca cb (Asks node heard ∷ []) → Performs does site (Asking node heard ∷ []) a a ca cb ta ta
-  performs_asking a ta told = record { picture_is = refl; called = told; written = Appends-nil ta }
+  pub performs_asking : {node : NodeId} {heard : Heard} (a : State) {ca cb : Option (List Call)} (ta : Option (List ℕ)) → Grows ca cb (Asks node heard ∷ []) → Performs does site (Asking node heard ∷ []) a a ca cb ta ta
+  performs_asking a ta told = record { state_is = refl; called = told; written = Appends-nil ta }
 
 -- what was given up stays so, whatever fault is told
 pub stopped : {T E P : Type 0} (result : Result T E) → P → OnErr result P
@@ -225,7 +225,7 @@ stopped (Err fault) h = h
 -- ---- an event
 
 -- where memory was lacking nothing happened
-pub unchanged : {Picture : Type 0} (does : Behaviour Picture) (event : Event) (old : Picture) (reply : Result Reply Refused) (new : Picture)
+pub unchanged : {State : Type 0} (does : Behaviour State) (event : Event) (old : State) (reply : Result Reply Refused) (new : State)
     → recorded reply ≡ Err OutOfMemory → Applies does event old reply new → new ≡ old
 unchanged does event old (Ok reply) new e h = absurd (let f : ⊥ = cc in f)
 unchanged does event old (Err OutOfMemory) new e h = h
@@ -236,7 +236,7 @@ unchanged does event old (Err NotDriven) new e h = absurd (let f : ⊥ = cc in f
 unchanged does event old (Err ClockLimit) new e h = absurd (let f : ⊥ = cc in f)
 
 -- otherwise it was answered and happened
-pub happened : {Picture : Type 0} (does : Behaviour Picture) (event : Event) (old : Picture) (reply : Result Reply Refused) (new : Picture)
+pub happened : {State : Type 0} (does : Behaviour State) (event : Event) (old : State) (reply : Result Reply Refused) (new : State)
     → (recorded reply ≡ Err OutOfMemory → ⊥) → Applies does event old reply new → (recorded reply ≡ does.answer old event) × (new ≡ does.after old event)
 happened does event old (Ok reply) new e h = h
 happened does event old (Err OutOfMemory) new e h = absurd (e refl)
@@ -254,7 +254,7 @@ sent_more a b c done one first second =
     subst (Grows a c) (sym (map-append send done (one ∷ []))) (Grows-trans a b c (map send done) (send one ∷ []) first second)
 
 -- the datagrams that an event added were sent
-pub event_called : {Picture : Type 0} (does : Behaviour Picture) (event : Event) (old new : Picture) (count : ℕ) (a b : Option (List Call))
+pub event_called : {State : Type 0} (does : Behaviour State) (event : Event) (old new : State) (count : ℕ) (a b : Option (List Call))
     → new ≡ does.after old event → count ≡ length (does.sent old)
     → Grows a b (map (λ o. Sends o.0 o.1) (drop count (does.sent new))) → Grows a b (calls_of does old (Applying event ∷ []))
 event_called does event old new count a b is counted h =
@@ -266,7 +266,7 @@ event_called does event old new count a b is counted h =
     h
 
 -- the line of an event with its answer
-pub event_text : {Picture : Type 0} (does : Behaviour Picture) (site : Site) (event : Event) (old : Picture) (line : Option (List ℕ)) (table : Site) (answer : Result Answer Refused)
+pub event_text : {State : Type 0} (does : Behaviour State) (site : Site) (event : Event) (old : State) (line : Option (List ℕ)) (table : Site) (answer : Result Answer Refused)
     → line ≡ event_line site event → table ≡ site → answer ≡ does.answer old event
     → recorded_line line (answer_text table answer) ≡ text_of does site old (Applying event ∷ [])
 event_text does site event old line table answer is same answered =

@@ -6,43 +6,43 @@ use Rattle.replay_lines.specs.Names.{node_names}
 use Rattle.simulator_event.specs.declared.event.Event.{Event}
 use Rattle.station_drive.specs.Told.{Call, Grows}
 use Rattle.station_drive.specs.Doings.{Behaviour, Performs, Stops}
-use Rattle.station_drive.specs.Rounds.{Standing, Turn, rounds}
+use Rattle.station_drive.specs.Rounds.{RoundHeard, RunSoFar, rounds}
 
 -- no line of the script was applied, and no point was seen driven
-abbrev pub beginning : Site → List (ℕ × Event) → ℕ → Standing
+abbrev pub beginning : Site → List (ℕ × Event) → ℕ → RunSoFar
 beginning site script first = record { first = first; reading = first; left = script; drives = replicate (length site.points) None }
 
 -- in a round each node heard
-abbrev pub IsWhole : Site → Turn → Type 0
-IsWhole site turn = length turn.heard ≡ length (node_names site)
+abbrev pub IsWhole : Site → RoundHeard → Type 0
+IsWhole site one = length one.heard ≡ length (node_names site)
 
 -- After a first reading each further one made a round, up to and with the first that was `for_ms` or more behind it.
-pub record Driven {Picture : Type 0} (does : Behaviour Picture) (site : Site) (script : List (ℕ × Event)) (for_ms : ℕ)
-    (old new : Picture) (readings_old readings_new : Option (List ℕ)) (calls_old calls_new : Option (List Call)) (text_old text_new : Option (List ℕ)) : Type 0 where
+pub record Driven {State : Type 0} (does : Behaviour State) (site : Site) (script : List (ℕ × Event)) (for_ms : ℕ)
+    (old new : State) (readings_old readings_new : Option (List ℕ)) (calls_old calls_new : Option (List Call)) (text_old text_new : Option (List ℕ)) : Type 0 where
   pub first : ℕ
-  pub earlier : List Turn
-  pub last : Turn
-  pub read : Grows readings_old readings_new (first ∷ map (λ turn. turn.reading) (earlier ++ last ∷ []))
+  pub earlier : List RoundHeard
+  pub last : RoundHeard
+  pub read : Grows readings_old readings_new (first ∷ map (λ one. one.reading) (earlier ++ last ∷ []))
   pub whole : AllByRecursion (IsWhole site) (earlier ++ last ∷ [])
-  pub goes_on : AllByRecursion (λ turn. (turn.reading - first) / 1000 < for_ms) earlier
+  pub goes_on : AllByRecursion (λ one. (one.reading - first) / 1000 < for_ms) earlier
   pub over : for_ms ≤ (last.reading - first) / 1000
   pub performs : Performs does site (rounds does site old (beginning site script first) (earlier ++ last ∷ [])) old new calls_old calls_new text_old text_new
 
 -- the rounds that were made, and the one that was broken off, if one had begun
-abbrev pub begun : List Turn → Option Turn → List Turn
+abbrev pub begun : List RoundHeard → Option RoundHeard → List RoundHeard
 begun made None = made
 begun made (Some broken) = made ++ broken ∷ []
 
 -- The same drive, cut off by a fault. After a first reading each further one began a round. All rounds before the last were made
 -- whole, and none of them was `for_ms` behind the first. What was done is a beginning of what these rounds do: what a node would hear
 -- behind the cut doesn't count.
-pub record CutOff {Picture : Type 0} (does : Behaviour Picture) (site : Site) (script : List (ℕ × Event)) (for_ms : ℕ)
-    (old new : Picture) (readings_old readings_new : Option (List ℕ)) (calls_old calls_new : Option (List Call)) (text_old text_new : Option (List ℕ)) : Type 0 where
+pub record CutOff {State : Type 0} (does : Behaviour State) (site : Site) (script : List (ℕ × Event)) (for_ms : ℕ)
+    (old new : State) (readings_old readings_new : Option (List ℕ)) (calls_old calls_new : Option (List Call)) (text_old text_new : Option (List ℕ)) : Type 0 where
   pub first : ℕ
-  pub made : List Turn
-  pub broken : Option Turn
-  pub read : Grows readings_old readings_new (first ∷ map (λ turn. turn.reading) (begun made broken))
+  pub made : List RoundHeard
+  pub broken : Option RoundHeard
+  pub read : Grows readings_old readings_new (first ∷ map (λ one. one.reading) (begun made broken))
   pub whole : AllByRecursion (IsWhole site) (begun made broken)
-  pub goes_on : AllByRecursion (λ turn. (turn.reading - first) / 1000 < for_ms) made
+  pub goes_on : AllByRecursion (λ one. (one.reading - first) / 1000 < for_ms) made
   pub stops : Stops does site (rounds does site old (beginning site script first) (begun made broken)) old new calls_old calls_new text_old text_new
   pub all_made : length (rounds does site old (beginning site script first) made) ≤ stops.count

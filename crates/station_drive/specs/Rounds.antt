@@ -11,7 +11,7 @@ use Rattle.simulator_event.specs.declared.event.Event.TheVariants.{Deliver, Reac
 use Rattle.simulator_event.specs.declared.event.NodeId.{NodeId}
 use Rattle.station_drive.specs.declared.course.Drive.{Drive}
 use Rattle.station_drive.specs.Told.{Heard, Datagram, Nothing, Failed}
-use Rattle.station_drive.specs.Doings.{Behaviour, Doing, Asking, Applying, picture_after}
+use Rattle.station_drive.specs.Doings.{Behaviour, Doing, Asking, Applying, state_after}
 
 -- ---- what is told of a round
 
@@ -28,13 +28,13 @@ pub record Hearing : Type 0 where
   pub silent : IsSilence last
 
 -- the clock at a round, in microseconds, and what each node heard in it
-pub record Turn : Type 0 where
+pub record RoundHeard : Type 0 where
   pub reading : ℕ
   pub heard : List Hearing
 
 -- ---- how far a run has come
 
-pub record Standing : Type 0 where
+pub record RunSoFar : Type 0 where
   -- the clock when it began, and at its last round
   pub first : ℕ
   pub reading : ℕ
@@ -111,37 +111,37 @@ ticks zero = []
 ticks (suc node) = ticks node ++ Tick (record { 0 = node }) ∷ []
 
 -- how many whole milliseconds a reading lies behind the first
-abbrev pub passed : Standing → ℕ → ℕ
-passed standing reading = (reading - standing.first) / 1000
+abbrev pub passed : RunSoFar → ℕ → ℕ
+passed so_far reading = (reading - so_far.first) / 1000
 
 -- Time goes on at equal rates; each node hears; the lines of the script that are due; points reach their end positions; each
 -- node ticks.
-abbrev pub round : Site → Standing → Turn → List Doing
-round site standing turn =
-    let elapsed = turn.reading - standing.reading
+abbrev pub round : Site → RunSoFar → RoundHeard → List Doing
+round site so_far one =
+    let elapsed = one.reading - so_far.reading
     in let nodes = length (node_names site)
     in Applying (Time elapsed (replicate nodes elapsed))
-    ∷ (hearings 0 turn.heard
-    ++ (map Applying (due (passed standing turn.reading) standing.left)
-    ++ (map Applying (reaches turn.reading 0 standing.drives)
+    ∷ (hearings 0 one.heard
+    ++ (map Applying (due (passed so_far one.reading) so_far.left)
+    ++ (map Applying (reaches one.reading 0 so_far.drives)
     ++ map Applying (ticks nodes))))
 
 -- how far a run has come after a round at this reading that left the station so
-abbrev pub standing_after : {Picture : Type 0} → Behaviour Picture → Picture → Standing → ℕ → Standing
-standing_after does picture standing reading = record {
-  first = standing.first;
+abbrev pub run_after : {State : Type 0} → Behaviour State → State → RunSoFar → ℕ → RunSoFar
+run_after does state so_far reading = record {
+  first = so_far.first;
   reading = reading;
-  left = not_due (passed standing reading) standing.left;
-  drives = drives_after reading (does.driven picture) 0 standing.drives;
+  left = not_due (passed so_far reading) so_far.left;
+  drives = drives_after reading (does.driven state) 0 so_far.drives;
 }
 
-module _ {Picture : Type 0} (does : Behaviour Picture) (site : Site) where
-  abbrev pub after_round : Picture → Standing → Turn → Picture
-  after_round picture standing turn = picture_after does picture (round site standing turn)
+module _ {State : Type 0} (does : Behaviour State) (site : Site) where
+  abbrev pub after_round : State → RunSoFar → RoundHeard → State
+  after_round state so_far one = state_after does state (round site so_far one)
 
   -- what rounds do, one after another
-  abbrev pub rounds : Picture → Standing → List Turn → List Doing
-  rounds picture standing [] = []
-  rounds picture standing (turn ∷ turns) =
-      let new = after_round picture standing turn
-      in round site standing turn ++ rounds new (standing_after does new standing turn.reading) turns
+  abbrev pub rounds : State → RunSoFar → List RoundHeard → List Doing
+  rounds state so_far [] = []
+  rounds state so_far (one ∷ others) =
+      let new = after_round state so_far one
+      in round site so_far one ++ rounds new (run_after does new so_far one.reading) others

@@ -29,9 +29,9 @@ pub(crate) struct Course<'a> {
 
 impl<'a> Model for Course<'a> {
     ghost use Rattle.station_drive.specs.Inside.{waiting};
-    ghost use Rattle.station_drive.specs.Rounds.{Standing};
+    ghost use Rattle.station_drive.specs.Rounds.{RunSoFar};
 
-    ghost Value = { Standing };
+    ghost Value = { RunSoFar };
 
     ghost view = { λ c. record { first = c.first; reading = c.reading; left = waiting c.left.applied c.left.lines.now; drives = c.drives.items } };
 }

@@ -23,8 +23,8 @@ pub(crate) fn hear_all<S: Station, N: Datagrams, W: Write>(
     net: &mut N,
     recorder: &mut W,
 ) -> Result<(), DriveFault>
-    ensures done { OnOk result ((heard : List Hearing) × (length heard ≡ length (node_names (S.site station.old))) × Performs S.does (S.site station.old) (hearings 0 heard) (S.picture station.old) (S.picture station.new) (N.calls net.old) (N.calls net.new) (W.contents recorder.old) (W.contents recorder.new)) }
-    ensures stopped { OnErr result ((heard : List Hearing) × (length heard ≡ length (node_names (S.site station.old))) × Stops S.does (S.site station.old) (hearings 0 heard) (S.picture station.old) (S.picture station.new) (N.calls net.old) (N.calls net.new) (W.contents recorder.old) (W.contents recorder.new)) }
+    ensures done { OnOk result ((heard : List Hearing) × (length heard ≡ length (node_names (S.site station.old))) × Performs S.does (S.site station.old) (hearings 0 heard) (S.state station.old) (S.state station.new) (N.calls net.old) (N.calls net.new) (W.contents recorder.old) (W.contents recorder.new)) }
+    ensures stopped { OnErr result ((heard : List Hearing) × (length heard ≡ length (node_names (S.site station.old))) × Stops S.does (S.site station.old) (hearings 0 heard) (S.state station.old) (S.state station.new) (N.calls net.old) (N.calls net.new) (W.contents recorder.old) (W.contents recorder.new)) }
     ensures site { S.site station.new ≡ S.site station.old }
 {
     for node in 0..node_count(station.table().layout()) {
@@ -41,8 +41,8 @@ fn hear<S: Station, N: Datagrams, W: Write>(
     recorder: &mut W,
     node: NodeId,
 ) -> Result<(), DriveFault>
-    ensures done { OnOk result ((hearing : Hearing) × Performs S.does (S.site station.old) (hearing_of node hearing) (S.picture station.old) (S.picture station.new) (N.calls net.old) (N.calls net.new) (W.contents recorder.old) (W.contents recorder.new)) }
-    ensures stopped { OnErr result ((hearing : Hearing) × Stops S.does (S.site station.old) (hearing_of node hearing) (S.picture station.old) (S.picture station.new) (N.calls net.old) (N.calls net.new) (W.contents recorder.old) (W.contents recorder.new)) }
+    ensures done { OnOk result ((hearing : Hearing) × Performs S.does (S.site station.old) (hearing_of node hearing) (S.state station.old) (S.state station.new) (N.calls net.old) (N.calls net.new) (W.contents recorder.old) (W.contents recorder.new)) }
+    ensures stopped { OnErr result ((hearing : Hearing) × Stops S.does (S.site station.old) (hearing_of node hearing) (S.state station.old) (S.state station.new) (N.calls net.old) (N.calls net.new) (W.contents recorder.old) (W.contents recorder.new)) }
     ensures site { S.site station.new ≡ S.site station.old }
 {
     for _ in 0..u64::MAX {
@@ -75,8 +75,8 @@ fn deliver<S: Station, N: Datagrams, W: Write>(
     node: NodeId,
     bytes: &Received,
 ) -> Result<(), DriveFault>
-    ensures done { OnOk result (Performs S.does (S.site station.old) (Applying (Deliver node bytes.now.items) ∷ []) (S.picture station.old) (S.picture station.new) (N.calls net.old) (N.calls net.new) (W.contents recorder.old) (W.contents recorder.new)) }
-    ensures stopped { OnErr result (Stops S.does (S.site station.old) (Applying (Deliver node bytes.now.items) ∷ []) (S.picture station.old) (S.picture station.new) (N.calls net.old) (N.calls net.new) (W.contents recorder.old) (W.contents recorder.new)) }
+    ensures done { OnOk result (Performs S.does (S.site station.old) (Applying (Deliver node bytes.now.items) ∷ []) (S.state station.old) (S.state station.new) (N.calls net.old) (N.calls net.new) (W.contents recorder.old) (W.contents recorder.new)) }
+    ensures stopped { OnErr result (Stops S.does (S.site station.old) (Applying (Deliver node bytes.now.items) ∷ []) (S.state station.old) (S.state station.new) (N.calls net.old) (N.calls net.new) (W.contents recorder.old) (W.contents recorder.new)) }
     ensures site { S.site station.new ≡ S.site station.old }
 {
     let bytes = RawDatagram::of(Vec::from_slice(alloc, bytes)?);

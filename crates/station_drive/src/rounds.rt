@@ -4,7 +4,7 @@ ghost use Rattle.std.specs.Prelude.{◌≡◌, ◌-◌, ◌/◌, IfOk, List, OnE
 ghost use Rattle.replay_lines.specs.Names.{node_names};
 ghost use Rattle.station_drive.specs.Doings.{Performs, Stops};
 ghost use Rattle.station_drive.specs.Drives.{CutOff, Driven, beginning};
-ghost use Rattle.station_drive.specs.Rounds.{Hearing, drive_after, drives_after, is_same, round, standing_after};
+ghost use Rattle.station_drive.specs.Rounds.{Hearing, drive_after, drives_after, is_same, round, run_after};
 
 use crate::clock::Clock;
 use crate::course::{Course, Drive};
@@ -36,9 +36,9 @@ pub fn drive<S: Station, N: Datagrams, C: Clock, W: Write>(
     for_ms: u64,
     recorder: &mut W,
 ) -> Result<(), DriveFault>
-    ensures done { OnOk result (Driven S.does (S.site station.old) script.now for_ms (S.picture station.old) (S.picture station.new) (C.readings clock.old) (C.readings clock.new) (N.calls net.old) (N.calls net.new) (W.contents recorder.old) (W.contents recorder.new)) }
+    ensures done { OnOk result (Driven S.does (S.site station.old) script.now for_ms (S.state station.old) (S.state station.new) (C.readings clock.old) (C.readings clock.new) (N.calls net.old) (N.calls net.new) (W.contents recorder.old) (W.contents recorder.new)) }
     // It ends with a fault exactly as it would have ended without, but cut off.
-    ensures stopped { OnErr result (CutOff S.does (S.site station.old) script.now for_ms (S.picture station.old) (S.picture station.new) (C.readings clock.old) (C.readings clock.new) (N.calls net.old) (N.calls net.new) (W.contents recorder.old) (W.contents recorder.new)) }
+    ensures stopped { OnErr result (CutOff S.does (S.site station.old) script.now for_ms (S.state station.old) (S.state station.new) (C.readings clock.old) (C.readings clock.new) (N.calls net.old) (N.calls net.new) (W.contents recorder.old) (W.contents recorder.new)) }
 {
     let first = clock.read();
     let mut course = begin(alloc, station, script, first)?;
@@ -95,9 +95,9 @@ fn round<S: Station, N: Datagrams, W: Write>(
     reading: u64,
 ) -> Result<(), DriveFault>
     requires { length course.old.drives ≡ length (S.site station.old).points }
-    ensures done { OnOk result ((heard : List Hearing) × (length heard ≡ length (node_names (S.site station.old))) × Performs S.does (S.site station.old) (round (S.site station.old) course.old (record { reading = reading; heard = heard })) (S.picture station.old) (S.picture station.new) (N.calls net.old) (N.calls net.new) (W.contents recorder.old) (W.contents recorder.new)) }
-    ensures course { OnOk result (course.new ≡ standing_after S.does (S.picture station.new) course.old reading) }
-    ensures stopped { OnErr result ((heard : List Hearing) × (length heard ≡ length (node_names (S.site station.old))) × Stops S.does (S.site station.old) (round (S.site station.old) course.old (record { reading = reading; heard = heard })) (S.picture station.old) (S.picture station.new) (N.calls net.old) (N.calls net.new) (W.contents recorder.old) (W.contents recorder.new)) }
+    ensures done { OnOk result ((heard : List Hearing) × (length heard ≡ length (node_names (S.site station.old))) × Performs S.does (S.site station.old) (round (S.site station.old) course.old (record { reading = reading; heard = heard })) (S.state station.old) (S.state station.new) (N.calls net.old) (N.calls net.new) (W.contents recorder.old) (W.contents recorder.new)) }
+    ensures course { OnOk result (course.new ≡ run_after S.does (S.state station.new) course.old reading) }
+    ensures stopped { OnErr result ((heard : List Hearing) × (length heard ≡ length (node_names (S.site station.old))) × Stops S.does (S.site station.old) (round (S.site station.old) course.old (record { reading = reading; heard = heard })) (S.state station.old) (S.state station.new) (N.calls net.old) (N.calls net.new) (W.contents recorder.old) (W.contents recorder.new)) }
     ensures site { S.site station.new ≡ S.site station.old }
 {
     let passed = millis_since(course.first, reading);
@@ -117,7 +117,7 @@ fn round<S: Station, N: Datagrams, W: Write>(
 /// At the end of a round it is seen which points are driven.
 fn see_drives<S: Station>(station: &S, drives: &mut [Option<Drive>], reading: u64)
     requires { length drives.old ≡ length (S.site station.now).points }
-    ensures { drives.new ≡ drives_after reading (S.does.driven (S.picture station.now)) 0 drives.old }
+    ensures { drives.new ≡ drives_after reading (S.does.driven (S.state station.now)) 0 drives.old }
 {
     for place in 0..drives.len() {
         drives[place] = drive_after(reading, station.driven(PointId(place)), drives[place]);

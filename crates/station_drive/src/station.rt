@@ -20,20 +20,20 @@ pub trait Station {
     ghost use Rattle.station_drive.specs.Doings.{Applies, Behaviour};
 
     /// What answers depend on.
-    ghost Picture: { Type 0 };
+    ghost State: { Type 0 };
 
     /// How it is now.
-    ghost picture: { Self → Picture };
+    ghost state: { Self → State };
 
     /// How it behaves.
-    ghost does: { Behaviour Picture };
+    ghost does: { Behaviour State };
 
     /// Its layout.
     ghost site: { Self → Site };
 
     /// Applies an event. Want of memory is answered instead where it is lacking, and nothing has happened then.
     fn apply(&mut self, event: &Event) -> Result<Reply, Refused>
-        ensures applies { Applies does event.now (picture self.old) result (picture self.new) }
+        ensures applies { Applies does event.now (state self.old) result (state self.new) }
         ensures site { site self.new ≡ site self.old };
 
     /// Its control table, with its layout.
@@ -42,14 +42,14 @@ pub trait Station {
 
     /// How many datagrams its nodes have sent so far.
     fn sent_count(&self) -> usize
-        ensures { result ≡ length (does.sent (picture self.now)) };
+        ensures { result ≡ length (does.sent (state self.now)) };
 
     /// The datagram at a place of those that were sent, oldest first, counted from 0.
     fn sent_at(&self, place: usize) -> Option<Outgoing<'_>>
-        ensures { option_map (λ one. (one.to, one.bytes.now)) result ≡ slice_get (does.sent (picture self.now)) place };
+        ensures { option_map (λ one. (one.to, one.bytes.now)) result ≡ slice_get (does.sent (state self.now)) place };
 
     /// The side to which a point is driven now, if it is.
     fn driven(&self, point: PointId) -> Option<Side>
         requires { point.0 < length (site self.now).points }
-        ensures { result ≡ does.driven (picture self.now) point.0 };
+        ensures { result ≡ does.driven (state self.now) point.0 };
 }

@@ -1,3 +1,3 @@
 pub mod Places
 pub mod Advice
-pub mod Explaining
+pub mod AdviceTold

@@ -1,6 +1,6 @@
 //! Which advice a text needs.
 
-ghost use Rattle.station_explain.specs.Explaining.{IsAdvice, IsBroken, IsTableAdvice};
+ghost use Rattle.station_explain.specs.AdviceTold.{IsAdvice, IsBroken, IsTableAdvice};
 
 use crate::advice::Advice;
 use crate::text_place::place_behind;

@@ -3,7 +3,7 @@
 ghost use Rattle.std.specs.Prelude.{◌≡◌, ◌≤◌};
 ghost use Rattle.control_table.specs.layout.Entries.{Site};
 ghost use Rattle.station_check.specs.Report.{IsSound, Reported};
-ghost use Rattle.station_explain.specs.Explaining.{ExplainedTwice, Advised};
+ghost use Rattle.station_explain.specs.AdviceTold.{ExplainedTwice, Advised};
 
 use crate::advice::line;
 use crate::advised::advice_for;

@@ -22,9 +22,9 @@ impl Station for Running {
     ghost use Rattle.station_sim.specs.World.{Played};
     ghost use Rattle.station_run.specs.Worlds.{driven_worlds};
 
-    ghost Picture = { Played };
+    ghost State = { Played };
 
-    ghost picture = { λ s. record { sited = s.0.sited; run = s.0.run } };
+    ghost state = { λ s. record { sited = s.0.sited; run = s.0.run } };
 
     ghost does = { driven_worlds };
 

@@ -12,18 +12,18 @@ use Rattle.replay.specs.simulator.simulator_run.Flow.{Flowing}
 use Rattle.station_sim.specs.Sight.{Applies, Sight}
 use Rattle.station_sim.specs.Transcript.{Answers, answers_so, lacks_memory}
 
--- a picture, with what the flows so far left
-abbrev pub at : {Picture : Type 0} → ℕ → List (Option FoundDriven) → Picture → Flowing Picture
-at passed drives picture = record { picture = picture; passed = passed; drives = drives }
+-- a state, with what the flows so far left
+abbrev pub at : {State : Type 0} → ℕ → List (Option FoundDriven) → State → Flowing State
+at passed drives state = record { state = state; passed = passed; drives = drives }
 
-pub answered : {Picture : Type 0} (sight : Sight Picture) (event : Event) (passed : ℕ) (drives : List (Option FoundDriven)) (old new : Picture) (reply : Result Reply Refused)
+pub answered : {State : Type 0} (sight : Sight State) (event : Event) (passed : ℕ) (drives : List (Option FoundDriven)) (old new : State) (reply : Result Reply Refused)
     → Applies sight event old reply new → Answers sight event (at passed drives old) (recorded reply) (at passed drives new)
-answered {Picture} sight event passed drives old new reply (inl h) =
+answered {State} sight event passed drives old new reply (inl h) =
     subst (λ (said : Result Answer Refused). Answers sight event (at passed drives old) said (at passed drives new)) (sym h.0)
-    (subst (λ (p : Picture). Answers sight event (at passed drives old) (sight.answer old event) (at passed drives p)) (sym h.1) answers_so)
-answered {Picture} sight event passed drives old new reply (inr h) =
+    (subst (λ (p : State). Answers sight event (at passed drives old) (sight.answer old event) (at passed drives p)) (sym h.1) answers_so)
+answered {State} sight event passed drives old new reply (inr h) =
     subst (λ (said : Result Reply Refused). Answers sight event (at passed drives old) (recorded said) (at passed drives new)) (sym h.0)
-    (subst (λ (p : Picture). Answers sight event (at passed drives old) (Err OutOfMemory) (at passed drives p)) (sym h.1) lacks_memory)
+    (subst (λ (p : State). Answers sight event (at passed drives old) (Err OutOfMemory) (at passed drives p)) (sym h.1) lacks_memory)
 
 -- what holds of a failure
 pub on_err : {A E : Type 0} {P : Type 0} (result : Result A E) → P → OnErr result P

@@ -83,17 +83,17 @@ reaches-all passed place drives old whole past before =
 
 -- ---- events one after the other
 
-module _ {Picture : Type 0} (station : Flowable Picture) where
-  all_did-one : (first : List RoundEvent) (one : RoundEvent) (flowing : Flowing Picture) → all_did station (first ++ one ∷ []) flowing ≡ did station one (all_did station first flowing)
+module _ {State : Type 0} (station : Flowable State) where
+  all_did-one : (first : List RoundEvent) (one : RoundEvent) (flowing : Flowing State) → all_did station (first ++ one ∷ []) flowing ≡ did station one (all_did station first flowing)
   unfolding all_did
   all_did-one [] one flowing = refl
   all_did-one (other ∷ first) one flowing = all_did-one first one (did station other flowing)
 
-  pub none_did : (flowing : Flowing Picture) → flowing ≡ all_did station [] flowing
+  pub none_did : (flowing : Flowing State) → flowing ≡ all_did station [] flowing
   unfolding all_did
   none_did flowing = refl
 
-  pub did-next : (all : List RoundEvent) (index : ℕ) (one : RoundEvent) (old now new : Flowing Picture) → index < length all → one ≡ get_or all index one
+  pub did-next : (all : List RoundEvent) (index : ℕ) (one : RoundEvent) (old now new : Flowing State) → index < length all → one ≡ get_or all index one
       → now ≡ all_did station (take index all) old → new ≡ did station one now → new ≡ all_did station (take (index + 1) all) old
   did-next all index one old now new h at before e =
       e ∙ ap (did station one) before
@@ -103,20 +103,20 @@ module _ {Picture : Type 0} (station : Flowable Picture) where
 
 -- ---- rounds one after the other
 
-module _ {Picture : Type 0} (station : Flowable Picture) where
-  pub rounds-none : (flowing : Flowing Picture) → flowing ≡ rounds station 0 flowing
+module _ {State : Type 0} (station : Flowable State) where
+  pub rounds-none : (flowing : Flowing State) → flowing ≡ rounds station 0 flowing
   unfolding rounds
   rounds-none flowing = refl
 
-  pub rounds-next : (count : ℕ) (flowing : Flowing Picture) → round station (rounds station count flowing) ≡ rounds station (count + 1) flowing
+  pub rounds-next : (count : ℕ) (flowing : Flowing State) → round station (rounds station count flowing) ≡ rounds station (count + 1) flowing
   unfolding rounds
   rounds-next count flowing = ap (λ (n : ℕ). rounds station n flowing) (one_more count)
 
   -- a flow goes to its end, or stops in a round
-  pub flow-goes : (count done : ℕ) (old new : Flowing Picture) → new ≡ rounds station done old → done ≡ count → Flows station count old (Ok Done) new
+  pub flow-goes : (count done : ℕ) (old new : Flowing State) → new ≡ rounds station done old → done ≡ count → Flows station count old (Ok Done) new
   flow-goes count done old new e whole =
       subst (Flows station count old (Ok Done)) (sym (e ∙ ap (λ (n : ℕ). rounds station n old) whole)) goes
 
-  pub flow-stops : (count done : ℕ) (old now new : Flowing Picture) → now ≡ rounds station done old → done < count → StopsIn station now new
+  pub flow-stops : (count done : ℕ) (old now new : Flowing State) → now ≡ rounds station done old → done < count → StopsIn station now new
       → Flows station count old (Err OutOfMemory) new
-  flow-stops count done old now new e less within = stops done less (subst (λ (from : Flowing Picture). StopsIn station from new) e within)
+  flow-stops count done old now new e less within = stops done less (subst (λ (from : Flowing State). StopsIn station from new) e within)

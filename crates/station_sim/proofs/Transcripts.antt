@@ -12,17 +12,17 @@ use Rattle.station_sim.specs.Outset.{outset_of}
 use Rattle.station_sim.specs.Sight.{Sight}
 use Rattle.station_sim.specs.Transcript.{IsBeginning, IsTold, Transcript, Writes, feed, line, nothing, picture}
 
-module _ {Picture : Type 0} (sight : Sight Picture) where
+module _ {State : Type 0} (sight : Sight State) where
   -- What was written so far goes on to a transcript of all lines, whatever those from a place on write.
-  pub record GoesOn (first : Flowing Picture) (all : List SimLine) (place : ℕ) (now : Flowing Picture) (old new : Option (List ℕ)) : Type 0 where
+  pub record GoesOn (first : Flowing State) (all : List SimLine) (place : ℕ) (now : Flowing State) (old new : Option (List ℕ)) : Type 0 where
     pub written : List ℕ
     pub appended : Appends old new written
     pub on : (rest : List ℕ) → Transcript sight now (drop place all) rest → Transcript sight first all (written ++ rest)
 
-  pub goes-on-begins : (first : Flowing Picture) (all : List SimLine) (known : Option (List ℕ)) → GoesOn first all 0 first known known
+  pub goes-on-begins : (first : Flowing State) (all : List SimLine) (known : Option (List ℕ)) → GoesOn first all 0 first known known
   goes-on-begins first all known = record { written = []; appended = Appends-nil known; on = λ rest t. t }
 
-  pub goes-on-next : (first : Flowing Picture) (all : List SimLine) (place : ℕ) (this : SimLine) (now next : Flowing Picture) (old was new : Option (List ℕ)) (text : List ℕ)
+  pub goes-on-next : (first : Flowing State) (all : List SimLine) (place : ℕ) (this : SimLine) (now next : Flowing State) (old was new : Option (List ℕ)) (text : List ℕ)
       → place < length all → this ≡ get_or all place this → Writes sight now this text next → Appends was new text
       → GoesOn first all place now old was → GoesOn first all (place + 1) next old new
   goes-on-next first all place this now next old was new text h at writes grows before =
@@ -35,7 +35,7 @@ module _ {Picture : Type 0} (sight : Sight Picture) where
             (before.on (text ++ rest) (subst (λ (left : List SimLine). Transcript sight now left (text ++ rest)) (sym split) (line writes t)));
       }
 
-  pub goes-on-ends : (site : Site) (first : Flowing Picture) → (all : List SimLine) → IsBeginning sight site (outset_of site all) first → (place : ℕ) (now : Flowing Picture) (old was new : Option (List ℕ)) → length all ≤ place
+  pub goes-on-ends : (site : Site) (first : Flowing State) → (all : List SimLine) → IsBeginning sight site (outset_of site all) first → (place : ℕ) (now : Flowing State) (old was new : Option (List ℕ)) → length all ≤ place
       → GoesOn first all place now old was → Keeps was new → IsTold sight site all old new
   goes-on-ends site first all begins place now old was new past before kept = record {
     first = first;
@@ -48,15 +48,15 @@ module _ {Picture : Type 0} (sight : Sight Picture) where
   }
 
   -- what a line writes
-  pub wrote : {E : Type 0} (result : Result (Unit {0}) E) (old new : Option (List ℕ)) (was is : Flowing Picture) (said : SimLine) (text : List ℕ)
+  pub wrote : {E : Type 0} (result : Result (Unit {0}) E) (old new : Option (List ℕ)) (was is : Flowing State) (said : SimLine) (text : List ℕ)
       → OnOk result (Appends old new text) → Writes sight was said text is
       → OnOk result ((written : List ℕ) × Writes sight was said written is × Appends old new written)
   wrote (Ok done) old new was is said text bytes writes = (text, writes, bytes)
   wrote (Err why) old new was is said text bytes writes = tt
 
   -- what a line that asks for the picture writes
-  pub wrote_picture : {E : Type 0} (result : Result (Unit {0}) E) (old new : Option (List ℕ)) (now : Flowing Picture) (asked : SimLine) → asked ≡ said.Picture
-      → OnOk result ((text : List ℕ) × sight.IsText now.picture text × Appends old new (feed text))
+  pub wrote_picture : {E : Type 0} (result : Result (Unit {0}) E) (old new : Option (List ℕ)) (now : Flowing State) (asked : SimLine) → asked ≡ said.Picture
+      → OnOk result ((text : List ℕ) × sight.IsText now.state text × Appends old new (feed text))
       → OnOk result ((written : List ℕ) × Writes sight now asked written now × Appends old new written)
   wrote_picture (Ok done) old new now asked e told =
       (feed told.0, subst (λ (l : SimLine). Writes sight now l (feed told.0) now) (sym e) (picture told.1), told.2)

@@ -1,4 +1,4 @@
-pub mod Replaying
+pub mod ReplayedSession
 pub mod Sight
 pub mod Outset
 pub mod Transcript

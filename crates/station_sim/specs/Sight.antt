@@ -9,16 +9,16 @@ use Rattle.replay.specs.simulator.simulator_run.First.{Outset}
 use Rattle.replay.specs.simulator.simulator_run.Flow.{Flowable}
 use Rattle.replay.specs.replay_lines.Replay as replaying
 
-pub record Sight (Picture : Type 0) : Type 1 where
-  -- a picture is that of a station of this table that lies so when it is started
-  pub IsAt : Site → Outset → Picture → Type 0
+pub record Sight (State : Type 0) : Type 1 where
+  -- a state is that of a station of this table that lies so when it is started
+  pub IsAt : Site → Outset → State → Type 0
   -- what an event answers
-  pub answer : Picture → Event → Result Answer Refused
+  pub answer : State → Event → Result Answer Refused
   -- its layout, what an event changes, and what a flow of time needs to know
-  pub station : Flowable Picture
-  -- a text is that of the picture, without a line feed at its end
-  pub IsText : Picture → List ℕ → Type 0
+  pub station : Flowable State
+  -- a text is the picture of a state, without a line feed at its end
+  pub IsText : State → List ℕ → Type 0
 
 -- an event is answered and happens, or memory is lacking and nothing happens
-abbrev pub Applies : {Picture : Type 0} → Sight Picture → Event → Picture → Result Reply Refused → Picture → Type 0
+abbrev pub Applies : {State : Type 0} → Sight State → Event → State → Result Reply Refused → State → Type 0
 Applies sight event old reply new = replaying.Applies sight.answer sight.station.after event old reply new

@@ -9,4 +9,4 @@ use Rattle.station_sim.specs.World.{AllSafe, sight_of_worlds}
 pub record IsSimulated (layout events : List ℕ) (before now : Option (List ℕ)) : Type 0 where
   pub played : IsPlayed sight_of_worlds layout events before now
   pub lies : LiesAs played.site played.lines (outset_of played.site played.lines)
-  pub safe : AllSafe played.told.first.picture
+  pub safe : AllSafe played.told.first.state

@@ -25,38 +25,38 @@ use Rattle.station_sim.specs.Sight.{Sight}
 abbrev pub feed : List ℕ → List ℕ
 feed text = text ++ codes "\n"
 
-module _ {Picture : Type 0} (sight : Sight Picture) where
+module _ {State : Type 0} (sight : Sight State) where
   -- a station that lies so when it is started, on which nothing has flowed
-  pub record IsBeginning (site : Site) (outset : Outset) (flowing : Flowing Picture) : Type 0 where
-    pub first : sight.IsAt site outset flowing.picture
+  pub record IsBeginning (site : Site) (outset : Outset) (flowing : Flowing State) : Type 0 where
+    pub first : sight.IsAt site outset flowing.state
     pub none_passed : flowing.passed ≡ 0
     pub none_driven : flowing.drives ≡ replicate (length site.points) None
 
   -- What an event answers and changes: it is answered, or memory is lacking for it.
-  pub data Answers (event : Event) (old : Flowing Picture) : Result Answer Refused → Flowing Picture → Type 0 where
-    answers_so : Answers event old (sight.answer old.picture event) (record old { picture = sight.station.after old.picture event })
+  pub data Answers (event : Event) (old : Flowing State) : Result Answer Refused → Flowing State → Type 0 where
+    answers_so : Answers event old (sight.answer old.state event) (record old { state = sight.station.after old.state event })
     lacks_memory : Answers event old (Err OutOfMemory) old
 
   -- the line of an answer
-  abbrev pub answer_line : Result Answer Refused → Flowing Picture → List ℕ
-  answer_line reply flowing = feed (answer_text (sight.station.layout flowing.picture) reply)
+  abbrev pub answer_line : Result Answer Refused → Flowing State → List ℕ
+  answer_line reply flowing = feed (answer_text (sight.station.layout flowing.state) reply)
 
   -- what a line writes and changes: as the first lines say, so the station has begun
-  pub data Writes (old : Flowing Picture) : SimLine → List ℕ → Flowing Picture → Type 0 where
+  pub data Writes (old : Flowing State) : SimLine → List ℕ → Flowing State → Type 0 where
     begun : {of : Begun} → Writes old (said.Begins of) (answer_line (Ok Done) old) old
-    event : {event : Event} {reply : Result Answer Refused} {new : Flowing Picture} → Answers event old reply new → Writes old (said.Event event) (answer_line reply new) new
-    flow : {length : ℕ} {reply : Result Answer Refused} {new : Flowing Picture} → Flows sight.station (length / 10) old reply new → Writes old (said.Flow length) (answer_line reply new) new
-    picture : {text : List ℕ} → sight.IsText old.picture text → Writes old said.Picture (feed text) old
+    event : {event : Event} {reply : Result Answer Refused} {new : Flowing State} → Answers event old reply new → Writes old (said.Event event) (answer_line reply new) new
+    flow : {length : ℕ} {reply : Result Answer Refused} {new : Flowing State} → Flows sight.station (length / 10) old reply new → Writes old (said.Flow length) (answer_line reply new) new
+    picture : {text : List ℕ} → sight.IsText old.state text → Writes old said.Picture (feed text) old
 
   -- what lines write, one after the other
-  pub data Transcript : Flowing Picture → List SimLine → List ℕ → Type 0 where
-    nothing : {old : Flowing Picture} → Transcript old [] []
-    line : {old new : Flowing Picture} {line : SimLine} {later : List SimLine} {text rest : List ℕ} → Writes old line text new → Transcript new later rest → Transcript old (line ∷ later) (text ++ rest)
+  pub data Transcript : Flowing State → List SimLine → List ℕ → Type 0 where
+    nothing : {old : Flowing State} → Transcript old [] []
+    line : {old new : Flowing State} {line : SimLine} {later : List SimLine} {text rest : List ℕ} → Writes old line text new → Transcript new later rest → Transcript old (line ∷ later) (text ++ rest)
 
   -- Where what was written before is known, what lines write with a station of this site, which lies as they say when it is
   -- started, stands behind it.
   pub record IsTold (site : Site) (lines : List SimLine) (before now : Option (List ℕ)) : Type 0 where
-    pub first : Flowing Picture
+    pub first : Flowing State
     pub begins : IsBeginning site (outset_of site lines) first
     pub written : List ℕ
     pub transcript : Transcript first lines written

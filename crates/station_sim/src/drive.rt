@@ -31,7 +31,7 @@ fn next_drive(found: Option<Side>, before: Option<FoundDriven>) -> Option<FoundD
 
 /// Notes at the end of a round which points are driven.
 pub(crate) fn note_drives<S: Playable>(station: &S, drives: &mut [Option<FoundDriven>])
-    ensures { drives.new ≡ next_drives (S.sight.station.driven (S.picture station.now)) 0 drives.old }
+    ensures { drives.new ≡ next_drives (S.sight.station.driven (S.state station.now)) 0 drives.old }
 {
     for place in 0..drives.len() {
         let found = station.driven(PointId(place));

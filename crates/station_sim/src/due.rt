@@ -32,7 +32,7 @@ pub(crate) fn add_deliveries<S: Playable>(
     end: usize,
     due: &mut Vec<RoundEvent>,
 ) -> Result<(), AllocError>
-    ensures { OnOk result (due.new.items ≡ due.old.items ++ deliveries (S.sight.station.arrival (S.picture station.now)) first (end - first)) }
+    ensures { OnOk result (due.new.items ≡ due.old.items ++ deliveries (S.sight.station.arrival (S.state station.now)) first (end - first)) }
 {
     for place in first..end {
         add_delivery(alloc, station, place, due)?;
@@ -48,7 +48,7 @@ fn add_delivery<S: Playable>(
     due: &mut Vec<RoundEvent>,
 ) -> Result<(), AllocError>
     requires { place + 1 < 2 ^ 64 }
-    ensures { OnOk result (due.new.items ≡ due.old.items ++ delivery place (S.sight.station.arrival (S.picture station.now) place)) }
+    ensures { OnOk result (due.new.items ≡ due.old.items ++ delivery place (S.sight.station.arrival (S.state station.now) place)) }
 {
     let Some((node, bytes)) = station.arrival(place) else {
         return Ok(());

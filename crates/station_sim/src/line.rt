@@ -21,7 +21,7 @@ pub(crate) fn carry_out<S: Playable, W: Write>(
     line: &SimLine,
     out: &mut W,
 ) -> Result<(), Failure>
-    ensures done { OnOk result ((text : List ℕ) × Writes S.sight (flowing_of S.picture run.old) line.now text (flowing_of S.picture run.new) × Appends (W.contents out.old) (W.contents out.new) text) }
+    ensures done { OnOk result ((text : List ℕ) × Writes S.sight (flowing_of S.state run.old) line.now text (flowing_of S.state run.new) × Appends (W.contents out.old) (W.contents out.new) text) }
     ensures failed { IfErr result IsLate }
 {
     match line {
@@ -45,7 +45,7 @@ fn write_answer<S: Playable, W: Write>(
     answer: Result<Answer, Refused>,
     out: &mut W,
 ) -> Result<(), Failure>
-    ensures done { OnOk result (Appends (W.contents out.old) (W.contents out.new) (answer_line S.sight answer (flowing_of S.picture run.now))) }
+    ensures done { OnOk result (Appends (W.contents out.old) (W.contents out.new) (answer_line S.sight answer (flowing_of S.state run.now))) }
     ensures failed { IfErr result IsLate }
 {
     let layout = run.station.layout();
@@ -59,7 +59,7 @@ fn write_picture<S: Playable, W: Write>(
     run: &Run<S>,
     out: &mut W,
 ) -> Result<(), Failure>
-    ensures done { OnOk result ((text : List ℕ) × S.sight.IsText (S.picture run.now.station) text × Appends (W.contents out.old) (W.contents out.new) (feed text)) }
+    ensures done { OnOk result ((text : List ℕ) × S.sight.IsText (S.state run.now.station) text × Appends (W.contents out.old) (W.contents out.new) (feed text)) }
     ensures failed { IfErr result IsLate }
 {
     let picture = run.station.picture_text(alloc)?;

@@ -13,13 +13,13 @@ use std::alloc::{AllocError, Global};
 /// A station that is made of its table, to which events happen, and of which can be seen what a flow of time needs.
 pub trait Playable: Drop {
     /// What answers depend on.
-    ghost Picture: { Type 0 };
+    ghost State: { Type 0 };
 
     /// How it is now.
-    ghost picture: { Self → Picture };
+    ghost state: { Self → State };
 
-    /// What is seen of it in each picture, and what events answer and change.
-    ghost sight: { Sight Picture };
+    /// What is seen of it in each state, and what events answer and change.
+    ghost sight: { Sight State };
 
     /// A station of this table as it lies when it is started: where each point stands, and which sections are occupied.
     fn at(
@@ -30,30 +30,30 @@ pub trait Playable: Drop {
     ) -> Result<Self, AllocError>
         requires positions { length positions.now ≡ length table.points }
         requires occupancies { length occupancies.now ≡ length table.sections }
-        ensures { IfOk result (λ station. sight.IsAt table (record { positions = positions.now; occupancies = occupancies.now }) (picture station)) };
+        ensures { IfOk result (λ station. sight.IsAt table (record { positions = positions.now; occupancies = occupancies.now }) (state station)) };
 
     /// Applies an event. Want of memory is answered instead where it is lacking, and nothing has happened then.
     fn apply(&mut self, event: &Event) -> Result<Reply, Refused>
-        ensures applies { Applies sight event.now (picture self.old) result (picture self.new) }
-        ensures same { OnErr result (picture self.new ≡ picture self.old) };
+        ensures applies { Applies sight event.now (state self.old) result (state self.new) }
+        ensures same { OnErr result (state self.new ≡ state self.old) };
 
     /// Its layout.
     fn layout(&self) -> &Layout
-        ensures { result.now ≡ sight.station.layout (picture self.now) };
+        ensures { result.now ≡ sight.station.layout (state self.now) };
 
     /// How many datagrams were sent, lost ones too.
     fn sent(&self) -> usize
-        ensures { result ≡ sight.station.sent (picture self.now) };
+        ensures { result ≡ sight.station.sent (state self.now) };
 
     /// The datagram at a place of those that were sent, and the node that it is for, unless it is lost.
     fn arrival(&self, place: usize) -> Option<(NodeId, &[u8])>
-        ensures { option_map (λ a. (a.0, a.1.now)) result ≡ sight.station.arrival (picture self.now) place };
+        ensures { option_map (λ a. (a.0, a.1.now)) result ≡ sight.station.arrival (state self.now) place };
 
     /// The side to which a point is driven.
     fn driven(&self, point: PointId) -> Option<Side>
-        ensures { result ≡ sight.station.driven (picture self.now) point };
+        ensures { result ≡ sight.station.driven (state self.now) point };
 
     /// The text of its picture, without a line feed at its end.
     fn picture_text(&self, alloc: Global) -> Result<String, AllocError>
-        ensures { IfOk result (λ text. sight.IsText (picture self.now) (string_bytes text)) };
+        ensures { IfOk result (λ text. sight.IsText (state self.now) (string_bytes text)) };
 }

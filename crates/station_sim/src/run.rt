@@ -32,7 +32,7 @@ impl<S: Playable> Run<S> {
     /// A station that lies so when it is started, on which nothing has flowed.
     pub(crate) fn at(alloc: Global, table: Checked, outset: &Outset) -> Result<Self, AllocError>
         requires { IsOutsetOf table (outset_in outset.now) }
-        ensures { IfOk result (λ run. IsBeginning S.sight table (outset_in outset.now) (flowing_of S.picture run)) }
+        ensures { IfOk result (λ run. IsBeginning S.sight table (outset_in outset.now) (flowing_of S.state run)) }
     {
         let points = table.layout().points().len();
         Ok(Run {
@@ -44,14 +44,14 @@ impl<S: Playable> Run<S> {
 
     /// Applies an event.
     pub(crate) fn event(&mut self, event: &Event) -> Result<Answer, Refused>
-        ensures { Answers S.sight event.now (flowing_of S.picture self.old) result (flowing_of S.picture self.new) }
+        ensures { Answers S.sight event.now (flowing_of S.state self.old) result (flowing_of S.state self.new) }
     {
         recorded(self.station.apply(event))
     }
 
     /// Lets time flow for so many milliseconds.
     pub(crate) fn flow(&mut self, alloc: Global, length: u64) -> Result<Answer, Refused>
-        ensures { Flows S.sight.station (length / 10) (flowing_of S.picture self.old) result (flowing_of S.picture self.new) }
+        ensures { Flows S.sight.station (length / 10) (flowing_of S.state self.old) result (flowing_of S.state self.new) }
     {
         for _ in 0..length / ROUND {
             let Ok(()) = self.round(alloc) else {
@@ -63,8 +63,8 @@ impl<S: Playable> Run<S> {
 
     /// A round of a flow. Where memory is lacking it stops, in front of one of its events.
     fn round(&mut self, alloc: Global) -> Result<(), AllocError>
-        ensures ok { OnOk result (flowing_of S.picture self.new ≡ round S.sight.station (flowing_of S.picture self.old)) }
-        ensures err { OnErr result (StopsIn S.sight.station (flowing_of S.picture self.old) (flowing_of S.picture self.new)) }
+        ensures ok { OnOk result (flowing_of S.state self.new ≡ round S.sight.station (flowing_of S.state self.old)) }
+        ensures err { OnErr result (StopsIn S.sight.station (flowing_of S.state self.old) (flowing_of S.state self.new)) }
     {
         let due = self.due(alloc)?;
         self.apply_all(&due)?;
@@ -74,8 +74,8 @@ impl<S: Playable> Run<S> {
 
     /// Tries the events of a round, one after the other.
     fn apply_all(&mut self, due: &[RoundEvent]) -> Result<(), AllocError>
-        ensures ok { OnOk result (flowing_of S.picture self.new ≡ all_did S.sight.station due.now (flowing_of S.picture self.old)) }
-        ensures err { OnErr result ((count : ℕ) × (flowing_of S.picture self.new ≡ all_did S.sight.station (take count due.now) (flowing_of S.picture self.old))) }
+        ensures ok { OnOk result (flowing_of S.state self.new ≡ all_did S.sight.station due.now (flowing_of S.state self.old)) }
+        ensures err { OnErr result ((count : ℕ) × (flowing_of S.state self.new ≡ all_did S.sight.station (take count due.now) (flowing_of S.state self.old))) }
     {
         for one in due {
             self.apply(one)?;
@@ -85,7 +85,7 @@ impl<S: Playable> Run<S> {
 
     /// The events of a round that begins now.
     fn due(&self, alloc: Global) -> Result<Vec<RoundEvent>, AllocError>
-        ensures { IfOk result (λ all. all.items ≡ due S.sight.station (flowing_of S.picture self.now)) }
+        ensures { IfOk result (λ all. all.items ≡ due S.sight.station (flowing_of S.state self.now)) }
     {
         let layout = self.station.layout();
         let sent = self.station.sent();
@@ -103,8 +103,8 @@ impl<S: Playable> Run<S> {
 
     /// Tries an event of a round: where it can't happen, it is passed over.
     fn apply(&mut self, one: &RoundEvent) -> Result<(), AllocError>
-        ensures ok { OnOk result (flowing_of S.picture self.new ≡ did S.sight.station one.now (flowing_of S.picture self.old)) }
-        ensures err { OnErr result (flowing_of S.picture self.new ≡ flowing_of S.picture self.old) }
+        ensures ok { OnOk result (flowing_of S.state self.new ≡ did S.sight.station one.now (flowing_of S.state self.old)) }
+        ensures err { OnErr result (flowing_of S.state self.new ≡ flowing_of S.state self.old) }
     {
         match self.station.apply(&one.event) {
             Err(Refused::OutOfMemory) => Err(AllocError),
@@ -117,7 +117,7 @@ impl<S: Playable> Run<S> {
 
     /// A round ends: it is noted which points are driven.
     fn rest(&mut self)
-        ensures { flowing_of S.picture self.new ≡ rested S.sight.station (flowing_of S.picture self.old) }
+        ensures { flowing_of S.state self.new ≡ rested S.sight.station (flowing_of S.state self.old) }
     {
         note_drives(&self.station, &mut self.drives);
     }

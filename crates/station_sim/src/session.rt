@@ -4,7 +4,7 @@ ghost use Rattle.std.specs.Prelude.{◌≡◌, ◌⊎◌, ℕ, IsErr, IfErr, IfO
 ghost use Rattle.std.specs.Io.KnownBytes.{Appends};
 ghost use Rattle.replay.specs.replay_lines.declared.agreement.Replayed.TheVariants.{Same, Differs as DiffersAt};
 ghost use Rattle.station_check.specs.Failures.{Leaves};
-ghost use Rattle.station_sim.specs.Replaying.{CanReplay, Explained, Explains, IsReplayed, verdict_line, verdict_text};
+ghost use Rattle.station_sim.specs.ReplayedSession.{CanReplay, Explained, Explains, IsReplayed, verdict_line, verdict_text};
 
 use crate::laws::played_worlds_are_safe;
 use replay::{Replayed, read_session};

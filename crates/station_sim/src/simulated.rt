@@ -18,7 +18,7 @@ use std::alloc::{AllocError, Global};
 #[derive(Drop)]
 pub struct Simulated(World);
 
-/// The node at the other end of a link: the station is 0, and the controller of a link stands behind it at the link's place.
+/// The node at the other end of a link: the interlocking is 0, and the controller of a link stands behind it at the link's place.
 pub fn receiver(sender: Role, link: usize) -> NodeId
     ensures { result ≡ receiver sender link }
 {
@@ -31,9 +31,9 @@ pub fn receiver(sender: Role, link: usize) -> NodeId
 impl Playable for Simulated {
     ghost use Rattle.station_sim.specs.World.{Played, played, sight_of_worlds};
 
-    ghost Picture = { Played };
+    ghost State = { Played };
 
-    ghost picture = { λ s. played s.0 };
+    ghost state = { λ s. played s.0 };
 
     ghost sight = { sight_of_worlds };
 

@@ -7,7 +7,7 @@ use Rattle.std.specs.List.{Contains}
 use Rattle.control_table.specs.layout.declared.ids.RouteId.{RouteId}
 use Rattle.control_table.specs.layout.Entries.{Site}
 use Rattle.control_table.specs.Table.{Conflict}
-use Rattle.station_table.specs.Listing.{ListsBelow, TellsIf}
+use Rattle.station_table.specs.ListedPlaces.{ListsBelow, TellsIf}
 use Rattle.station_table.specs.Row.{IsConflictText, TellsConflicts, route_at}
 
 -- ---- one place

@@ -1,5 +1,5 @@
 pub mod Names
-pub mod Listing
+pub mod ListedPlaces
 pub mod Reasons
 pub mod Row
 pub mod Lines

@@ -9,10 +9,10 @@ use Rattle.control_table.specs.layout.declared.ids.SectionId.{SectionId}
 use Rattle.control_table.specs.layout.declared.port.Element.{Element}
 use Rattle.control_table.specs.layout.declared.port.Element.TheVariants as element
 use Rattle.control_table.specs.layout.Entries.{RouteEntry, Site}
-use Rattle.control_table.specs.Freeing.{Awaits}
+use Rattle.control_table.specs.AwaitedSections.{Awaits}
 use Rattle.control_table.specs.Table.{AreSections, Conflict, RouteRequires}
 use Rattle.station_table.specs.declared.conflict_reasons.ConflictReasons.{ConflictReasons}
-use Rattle.station_table.specs.Listing.{ListsBelow}
+use Rattle.station_table.specs.ListedPlaces.{ListsBelow}
 use Rattle.station_table.specs.Names.{aspect_word, exit_name, parted, point_name, route_name, section_name, side_word, signal_name, spaced, with_word}
 use Rattle.station_table.specs.Reasons.{AreReasons, reason_words}
 

@@ -6,7 +6,7 @@ ghost use Rattle.station_table.specs.Row.{IsConflictText, IsConflictsCell};
 use crate::cells::{parted, spaced, with_word};
 use crate::conflict_reasons::{reason_words, reasons};
 use crate::entry_names::route_name;
-use crate::listing::{Listing, listed};
+use crate::listed_places::{Listing, listed};
 use control_table::Checked;
 use control_table::layout::RouteId;
 use std::alloc::{AllocError, Global};

@@ -8,7 +8,7 @@ mod entry_names;
 mod form;
 mod laws;
 mod lines;
-mod listing;
+mod listed_places;
 mod points_let_go;
 mod row;
 mod table;

@@ -6,7 +6,7 @@ ghost use Rattle.station_table.specs.Row.{IsLetGoCell, IsLetGoText, IsRequired, 
 use crate::cells::{parted, spaced, with_word};
 use crate::conflict_reasons::either;
 use crate::entry_names::{point_name, section_name};
-use crate::listing::{Listing, listed};
+use crate::listed_places::{Listing, listed};
 use control_table::Checked;
 use control_table::layout::{PointId, RouteId, SectionId};
 use std::alloc::{AllocError, Global};
@@ -22,7 +22,7 @@ struct Awaited<'a> {
 
 impl<'a> Listing for Awaited<'a> {
     ghost use Rattle.std.specs.Prelude.{◌≡◌, length};
-    ghost use Rattle.control_table.specs.Freeing.{Awaits};
+    ghost use Rattle.control_table.specs.AwaitedSections.{Awaits};
     ghost use Rattle.station_table.specs.Names.{section_name};
     ghost use Rattle.station_table.specs.Row.{section_at};
 

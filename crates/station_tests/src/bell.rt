@@ -17,9 +17,9 @@ impl Station for Bell {
     ghost use Rattle.std.specs.Prelude.{Bool};
     ghost use Rattle.station_tests.specs.Bell.{bell};
 
-    ghost Picture = { Bool };
+    ghost State = { Bool };
 
-    ghost picture = { λ station. station.rang };
+    ghost state = { λ station. station.rang };
 
     ghost does = { bell };
 

@@ -9,7 +9,7 @@ use Rattle.ixl_rules.specs.layout.Entries.{DetectorEntry, Site}
 use Rattle.ixl_rules.specs.layout.Once.{Once}
 use Rattle.ixl_rules.specs.layout.Station.{IsStation}
 use Rattle.ixl_rules.specs.bit_row.Places.{Places}
-use Rattle.ixl_rules.specs.control_table.Freeing.{Awaits}
+use Rattle.ixl_rules.specs.control_table.AwaitedSections.{Awaits}
 use Rattle.ixl_rules.specs.control_table.Table.{Sound}
 use Rattle.ixl_rules.specs.Table.{Need, Row, Table}
 use Rattle.ixl_table.specs.Table.{AreNeededAt, IsReportedIn, IsRowOf, IsSetOf, IsTableOf, as_route, as_section, required}

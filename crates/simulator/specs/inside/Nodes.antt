@@ -4,7 +4,7 @@ use Rattle.simulator.specs.declared.nodes.Node.{Node}
 use Rattle.simulator.specs.declared.nodes.Node.TheVariants as nodes
 
 abbrev pub meant_node : Node → run.Node
-meant_node nodes.Station = run.Station
+meant_node nodes.Interlocking = run.Interlocking
 meant_node (nodes.Signal place) = run.Signal place
 meant_node (nodes.Point place) = run.Point place
 meant_node (nodes.Detector place) = run.Detector place

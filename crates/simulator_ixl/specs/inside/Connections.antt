@@ -3,7 +3,7 @@ use Rattle.std.specs.Prelude.{◌≡◌}
 use Rattle.ixl_state.specs.layout.Entries.{Site}
 use Rattle.simulator_field.specs.Network.{NetworkState}
 use Rattle.simulator_run.specs.Nodes.{partners}
-use Rattle.simulator_run.specs.Station.{Sending}
+use Rattle.simulator_run.specs.Interlocking.{Sending}
 use Rattle.simulator_ixl.specs.declared.connections.Connections.{Connections}
 
 -- They are those of the links of a site.

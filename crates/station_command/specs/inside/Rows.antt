@@ -4,7 +4,7 @@ use Rattle.std.specs.Str.{bytes_eq}
 use Rattle.std.specs.Str.Parse.{digits_value, without_leading_plus}
 use Rattle.clap.specs.ValueTests.{is_numeral}
 use Rattle.clap.specs.Words.{Row, Text, first_of}
-use Rattle.station_command.specs.Asking.{Request, both_of, check_of, decode_of, is_on, replay_of, run_of, sim_of, table_of}
+use Rattle.station_command.specs.CommandWords.{Request, both_of, check_of, decode_of, is_on, replay_of, run_of, sim_of, table_of}
 
 -- the two files of a subcommand
 abbrev pub files_of : List Row → Option (Text × Text)

@@ -1,6 +1,6 @@
 use Rattle.std.proofs.Common.{List, subst, sym, ap, ◌∙◌, length}
 use Rattle.layout.specs.Entries.{RouteEntry}
-use Rattle.control_table.specs.inside.Judging.{AreWithin, TableRow}
+use Rattle.control_table.specs.inside.TableTests.{AreWithin, TableRow}
 use Rattle.control_table.proofs.Joints.{one-beyond}
 use Rattle.control_table.proofs.ConflictLaws.{table-length}
 use Rattle.control_table.proofs.MaskLaws.{station-within}

@@ -1,5 +1,5 @@
 use Rattle.std.proofs.Common.{◌≡◌, ◌++◌, drop}
-use Rattle.control_table.specs.inside.Judging.{AreWithin, all_masks}
+use Rattle.control_table.specs.inside.TableTests.{AreWithin, all_masks}
 use Rattle.control_table.proofs.masks.all_masks.Given as goal
 
 abbrev pub invariant-loop-index : goal.invariant-loop-index

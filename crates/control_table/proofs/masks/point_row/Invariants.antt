@@ -1,7 +1,7 @@
 use Rattle.std.proofs.Common.{◌≡◌, drop, if◌then◌else◌}
 use Rattle.std.specs.FinSet.{empty, insert}
 use Rattle.std.specs.List.{fold}
-use Rattle.control_table.specs.inside.Judging.{point_row, same_side}
+use Rattle.control_table.specs.inside.TableTests.{point_row, same_side}
 use Rattle.control_table.proofs.masks.point_row.Given as goal
 
 abbrev pub invariant-loop-need : goal.invariant-loop-need

@@ -1,7 +1,7 @@
 use Rattle.std.proofs.Common.{◌≡◌, drop}
 use Rattle.std.specs.FinSet.{empty, insert}
 use Rattle.std.specs.List.{fold}
-use Rattle.control_table.specs.inside.Judging.{section_row}
+use Rattle.control_table.specs.inside.TableTests.{section_row}
 use Rattle.control_table.proofs.masks.section_row.Given as goal
 
 abbrev pub invariant-loop-section : goal.invariant-loop-section

@@ -1,5 +1,5 @@
 use Rattle.std.proofs.Common.{sym}
-use Rattle.control_table.specs.inside.Judging.{passages}
+use Rattle.control_table.specs.inside.TableTests.{passages}
 use Rattle.control_table.proofs.Loops.{passages-goes_on, passages-ends, passages-is_done}
 use Rattle.control_table.proofs.passage.passages.Goals as goal
 

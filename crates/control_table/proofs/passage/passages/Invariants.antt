@@ -1,5 +1,5 @@
 use Rattle.std.proofs.Common.{◌≡◌, drop}
-use Rattle.control_table.specs.inside.Judging.{passages}
+use Rattle.control_table.specs.inside.TableTests.{passages}
 use Rattle.control_table.proofs.Loops.{with_front}
 use Rattle.control_table.proofs.passage.passages.Given as goal
 

@@ -1,5 +1,5 @@
 use Rattle.std.proofs.lemmas.Result.{err_from_is_err_and}
-use Rattle.control_table.specs.inside.Judging.{rows_from}
+use Rattle.control_table.specs.inside.TableTests.{rows_from}
 use Rattle.control_table.proofs.Loops.{rows-goes_on, rows-ends, rows-is_done}
 use Rattle.control_table.proofs.row.each_row.Goals as goal
 

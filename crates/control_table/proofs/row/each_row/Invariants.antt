@@ -1,5 +1,5 @@
 use Rattle.std.proofs.Common.{◌≡◌, drop}
-use Rattle.control_table.specs.inside.Judging.{rows_from}
+use Rattle.control_table.specs.inside.TableTests.{rows_from}
 use Rattle.control_table.proofs.Loops.{with_front}
 use Rattle.control_table.proofs.row.each_row.Given as goal
 

@@ -1,5 +1,5 @@
 use Rattle.std.proofs.Common.{sym, ◌∙◌}
-use Rattle.control_table.specs.inside.Judging.{all_different}
+use Rattle.control_table.specs.inside.TableTests.{all_different}
 use Rattle.control_table.proofs.Loops.{different-goes_on, different-ends, different-is_done}
 use Rattle.control_table.proofs.sections.all_different.Goals as goal
 

@@ -1,5 +1,5 @@
 use Rattle.std.proofs.Common.{◌≡◌, length}
-use Rattle.control_table.specs.inside.Judging.{all_different}
+use Rattle.control_table.specs.inside.TableTests.{all_different}
 use Rattle.control_table.proofs.sections.all_different.Given as goal
 
 abbrev pub invariant-loop-item : goal.invariant-loop-item

@@ -1,6 +1,6 @@
 use Rattle.std.proofs.Common.{◌≡◌, ◌++◌, drop}
 use Rattle.std.specs.List.{flat_map}
-use Rattle.control_table.specs.inside.Judging.{used, needs_at}
+use Rattle.control_table.specs.inside.TableTests.{used, needs_at}
 use Rattle.control_table.proofs.sides.needs.Given as goal
 
 abbrev pub invariant-loop-passage : goal.invariant-loop-passage

@@ -1,6 +1,6 @@
 use Rattle.std.proofs.Common.{◌≡◌, ◌++◌, drop}
 use Rattle.std.specs.List.{flat_map}
-use Rattle.control_table.specs.inside.Judging.{used, protections_at}
+use Rattle.control_table.specs.inside.TableTests.{used, protections_at}
 use Rattle.control_table.proofs.sides.protections.Given as goal
 
 abbrev pub invariant-loop-passage : goal.invariant-loop-passage

@@ -1,5 +1,5 @@
 use Rattle.std.proofs.Common.{sym, ◌∙◌}
-use Rattle.control_table.specs.inside.Judging.{no_other_at}
+use Rattle.control_table.specs.inside.TableTests.{no_other_at}
 use Rattle.control_table.proofs.Loops.{other-goes_on, other-ends, other-is_done}
 use Rattle.control_table.proofs.signals.no_other_at.Goals as goal
 

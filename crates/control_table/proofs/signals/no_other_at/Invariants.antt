@@ -1,5 +1,5 @@
 use Rattle.std.proofs.Common.{◌≡◌, drop}
-use Rattle.control_table.specs.inside.Judging.{no_other_at}
+use Rattle.control_table.specs.inside.TableTests.{no_other_at}
 use Rattle.control_table.proofs.signals.no_other_at.Given as goal
 
 abbrev pub invariant-loop-place : goal.invariant-loop-place

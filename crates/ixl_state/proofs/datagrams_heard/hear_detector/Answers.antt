@@ -5,7 +5,7 @@ use Rattle.ixl_rules.specs.ixl_client.declared.indication.Indication.{Indication
 use Rattle.ixl_rules.specs.StepSoFar.{along}
 use Rattle.ixl_rules.specs.State.{KnownDetectorState}
 use Rattle.ixl_rules.specs.Step.{looking}
-use Rattle.ixl_state.specs.inside.Hearing.{Passes, told_since}
+use Rattle.ixl_state.specs.inside.DetectorHeard.{Passes, told_since}
 use Rattle.ixl_table.specs.Table.{SitedTable}
 use Rattle.ixl_field.specs.Field.{FieldState}
 use Rattle.ixl_state.proofs.Heard.{ready_heard, still_there, unready_heard}

@@ -2,7 +2,7 @@ use Rattle.std.proofs.Common.{ℕ, ◌<◌, ◌∙◌, length, ap, sym, subst, a
 use Rattle.ixl_rules.specs.StepSoFar.{over}
 use Rattle.ixl_rules.specs.Step.{looking_by}
 use Rattle.ixl_table.specs.Table.{SitedTable}
-use Rattle.ixl_state.specs.inside.Hearing.{Passes}
+use Rattle.ixl_state.specs.inside.DetectorHeard.{Passes}
 use Rattle.ixl_state.proofs.Chaining.{one_over, passed_clock, passed_site}
 use Rattle.ixl_state.proofs.datagrams_heard.look.Goals as goal
 

@@ -1,6 +1,6 @@
 use Rattle.ixl_rules.specs.StepSoFar.{over}
 use Rattle.ixl_rules.specs.Step.{looking_by}
-use Rattle.ixl_state.specs.inside.Hearing.{Passes}
+use Rattle.ixl_state.specs.inside.DetectorHeard.{Passes}
 use Rattle.ixl_state.proofs.datagrams_heard.look.Given as goal
 
 abbrev pub invariant-loop-number : goal.invariant-loop-number

@@ -4,7 +4,7 @@ use Rattle.std.proofs.lemmas.Option.{slice_get_past}
 use Rattle.ixl_rules.specs.StepSoFar.{along}
 use Rattle.ixl_rules.specs.Step.{looking, told_now}
 use Rattle.ixl_table.specs.Table.{SitedTable}
-use Rattle.ixl_state.specs.inside.Hearing.{Passes}
+use Rattle.ixl_state.specs.inside.DetectorHeard.{Passes}
 use Rattle.ixl_state.proofs.Looks.{for_some, none_looked, one_looked, same_list}
 use Rattle.ixl_state.proofs.Looks.{get_within}
 use Rattle.ixl_state.proofs.datagrams_heard.look_at.Goals as goal

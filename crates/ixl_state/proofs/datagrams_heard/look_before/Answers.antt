@@ -3,7 +3,7 @@ use Rattle.std.specs.Prelude.{slice_get}
 use Rattle.ixl_rules.specs.StepSoFar.{along}
 use Rattle.ixl_rules.specs.Step.{looking, told_before}
 use Rattle.ixl_table.specs.Table.{SitedTable}
-use Rattle.ixl_state.specs.inside.Hearing.{Passes}
+use Rattle.ixl_state.specs.inside.DetectorHeard.{Passes}
 use Rattle.ixl_state.proofs.Looks.{all_before, for_some, looked_before, none_before, same_list}
 use Rattle.ixl_state.proofs.datagrams_heard.look_before.Goals as goal
 

@@ -6,7 +6,7 @@ use Rattle.ixl_rules.specs.ixl_client.declared.indication.ObjectState.TheVariant
 use Rattle.ixl_table.specs.Table.{SitedTable}
 use Rattle.ixl_rules.specs.StepSoFar.{along}
 use Rattle.ixl_rules.specs.Step.{looking, told_now}
-use Rattle.ixl_state.specs.inside.Hearing.{Passes}
+use Rattle.ixl_state.specs.inside.DetectorHeard.{Passes}
 use Rattle.ixl_state.proofs.Looks.{all_now, at_list, for_some, looked_now, none_now, told_site}
 use Rattle.ixl_state.proofs.datagrams_heard.look_now.Goals as goal
 

@@ -1,5 +1,5 @@
 use Rattle.std.proofs.lemmas.Result.{err_from_is_err_and}
-use Rattle.layout_text.specs.Reading.{all_of}
+use Rattle.layout_text.specs.FirstFault.{all_of}
 use Rattle.layout_text.proofs.Loops.{all-goes_on, all-ends, all-is_done}
 use Rattle.layout_text.proofs.steps.all.Goals as goal
 

@@ -1,5 +1,5 @@
 use Rattle.std.proofs.Common.{◌≡◌, drop}
-use Rattle.layout_text.specs.Reading.{all_of}
+use Rattle.layout_text.specs.FirstFault.{all_of}
 use Rattle.layout_text.proofs.Loops.{with_front}
 use Rattle.layout_text.proofs.steps.all.Given as goal
 

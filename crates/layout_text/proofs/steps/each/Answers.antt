@@ -1,5 +1,5 @@
 use Rattle.std.proofs.lemmas.Result.{err_from_is_err_and}
-use Rattle.layout_text.specs.Reading.{each_of}
+use Rattle.layout_text.specs.FirstFault.{each_of}
 use Rattle.layout_text.proofs.Loops.{each-goes_on, each-ends, each-is_done}
 use Rattle.layout_text.proofs.steps.each.Goals as goal
 

@@ -1,5 +1,5 @@
 use Rattle.std.proofs.Common.{◌≡◌, ◌+◌, drop}
-use Rattle.layout_text.specs.Reading.{each_of}
+use Rattle.layout_text.specs.FirstFault.{each_of}
 use Rattle.layout_text.proofs.Loops.{with_front}
 use Rattle.layout_text.proofs.steps.each.Given as goal
 

@@ -1,5 +1,5 @@
 use Rattle.std.proofs.Common.{◌≡◌, length}
-use Rattle.rasta_core_link.specs.Receiving.{still_waiting}
+use Rattle.rasta_core_link.specs.Receipt.{still_waiting}
 use Rattle.rasta_core_link.proofs.window.drop_confirmed.Given as goal
 
 abbrev pub invariant-loop-first : goal.invariant-loop-first

@@ -5,7 +5,7 @@ use Rattle.rasta_pdu.specs.declared.key.Key.{Key}
 use Rattle.rasta_pdu.specs.declared.pdu.Pdu.{Pdu}
 use Rattle.rasta_pdu.specs.Values.{IsPdu}
 use Rattle.rasta_pdu.specs.Spelling.{writing}
-use Rattle.rasta_pdu.specs.Reading.{reading}
+use Rattle.rasta_pdu.specs.PduRead.{reading}
 use Rattle.rasta_pdu.specs.Faults.{IsFault}
 use Rattle.rasta_pdu.specs.Values.{IsBytes}
 use Rattle.rasta_pdu.proofs.CodecLaws.{reading_found, reading_writing}

@@ -1,6 +1,6 @@
 use Rattle.std.proofs.Common.{sym, ap, subst, ◌∙◌, ℕ, List}
 use Rattle.rasta_pdu.specs.SafetyCode.{IsIntact}
-use Rattle.rasta_pdu.specs.Reading.{reading}
+use Rattle.rasta_pdu.specs.PduRead.{reading}
 use Rattle.rasta_pdu.proofs.CodecLaws.{writing_long, writing_short, writing_intact, reading_writing}
 use Rattle.rasta_pdu.proofs.writer.write.Goals as goal
 

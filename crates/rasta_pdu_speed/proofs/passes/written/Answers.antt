@@ -1,7 +1,7 @@
 use Rattle.std.proofs.Common.{◌≡◌, ◌+◌, suc, drop, refl, ap, ◌∙◌, arith}
 use Rattle.std.specs.Int.{w32, from_le_bytes}
 use Rattle.rasta_pdu.specs.declared.pdu.Pdu.{Pdu}
-use Rattle.rasta_pdu.specs.Reading.{u32_at}
+use Rattle.rasta_pdu.specs.PduRead.{u32_at}
 use Rattle.rasta_pdu.specs.SafetyCode.{code}
 use Rattle.rasta_pdu.specs.Spelling.{text}
 use Rattle.rasta_pdu_speed.specs.Passes.{numbered, standard, written}

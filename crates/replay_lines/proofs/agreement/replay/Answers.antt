@@ -11,7 +11,7 @@ returns-then-not-branch g c =
     let place = c.loop-place.place in
     let left : drop place entries ≡ entry ∷ drop (place + 1) entries =
     drop_more entries place entry c.loop-place-test.true ∙ ap (λ e. e ∷ drop (place + 1) entries) (sym c.index-entries-place.is) in
-    let other : station.answer (station.picture c.loop-place.station) entry.event ≢ entry.answer = failed c.in_ok-agrees.field-0 c.in_ok-agrees.ensures.0 c.if-not-branch.true in
+    let other : station.answer (station.state c.loop-place.station) entry.event ≢ entry.answer = failed c.in_ok-agrees.field-0 c.in_ok-agrees.ensures.0 c.if-not-branch.true in
     (place, refl, ends station.answer station.after entries _ _ place entry left other c.loop-place.invariant)
 
 pub loop-place-preserved : goal.loop-place-preserved
@@ -22,7 +22,7 @@ loop-place-preserved g c =
     let place = c.loop-place.place in
     let left : drop place entries ≡ entry ∷ drop (place + 1) entries =
     drop_more entries place entry c.loop-place-test.true ∙ ap (λ e. e ∷ drop (place + 1) entries) (sym c.index-entries-place.is) in
-    let same : station.answer (station.picture c.loop-place.station) entry.event ≡ entry.answer = c.in_ok-agrees.ensures.0.0 c.if-not-branch.false in
+    let same : station.answer (station.state c.loop-place.station) entry.event ≡ entry.answer = c.in_ok-agrees.ensures.0.0 c.if-not-branch.false in
     goes_on station.answer station.after entries _ _ _ place entry left same c.in_ok-agrees.ensures.1 c.loop-place.invariant
 
 pub returns : goal.returns

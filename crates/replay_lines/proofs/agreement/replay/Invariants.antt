@@ -5,4 +5,4 @@ use Rattle.replay_lines.proofs.agreement.replay.Given as goal
 abbrev pub invariant-loop-place : goal.invariant-loop-place
 invariant-loop-place g l =
     let station = g.S.Apply in
-    Stands station.answer station.after l.entries (station.picture l.fn.station) l.place (station.picture l.station)
+    Stands station.answer station.after l.entries (station.state l.fn.station) l.place (station.state l.station)

@@ -4,7 +4,7 @@ use Rattle.rasta_pdu.specs.Values.{IsBytes}
 use Rattle.sci_telegram.specs.declared.fault.SciFault.{SciFault}
 use Rattle.sci_telegram.specs.declared.telegram.Telegram.{Telegram}
 use Rattle.sci_telegram.specs.Telegrams.{IsTelegram, writing}
-use Rattle.sci_telegram.specs.Reading.{reading}
+use Rattle.sci_telegram.specs.TelegramRead.{reading}
 use Rattle.sci_telegram.specs.Faults.{IsFault}
 use Rattle.sci_telegram.proofs.Codec.{read_takes, read_again}
 use Rattle.sci_telegram.proofs.FaultLaws.{fault_means, fault_told}

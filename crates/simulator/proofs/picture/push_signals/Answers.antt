@@ -3,7 +3,7 @@ use Rattle.simulator_ixl.specs.layout.Entries.{Site}
 use Rattle.simulator_ixl.specs.layout.declared.entries.Signal.{Signal}
 use Rattle.simulator_ixl.specs.simulator_snapshot.declared.snapshot.Held.{Held}
 use Rattle.simulator_ixl.specs.simulator_run.Picture.{authority_text}
-use Rattle.simulator_ixl.specs.simulator_run.Station.{held_of}
+use Rattle.simulator_ixl.specs.simulator_run.Interlocking.{held_of}
 use Rattle.simulator.specs.inside.Lines.{signal_line}
 use Rattle.simulator.proofs.Lines.{signals-add, signals-all}
 use Rattle.simulator.proofs.picture.push_signals.Goals as goal

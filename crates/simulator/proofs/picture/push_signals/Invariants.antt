@@ -1,6 +1,6 @@
 use Rattle.std.proofs.Common.{◌≡◌, ◌++◌, drop, string_bytes}
 use Rattle.simulator_ixl.specs.simulator_run.Picture.{signal_lines}
-use Rattle.simulator_ixl.specs.simulator_run.Station.{held_of}
+use Rattle.simulator_ixl.specs.simulator_run.Interlocking.{held_of}
 use Rattle.simulator.proofs.picture.push_signals.Given as goal
 
 -- what was added so far, and behind it the lines that are left

@@ -20,7 +20,7 @@ returns c =
       point_named = c.links_are_named_by_their_controllers.ensures.point;
       made_seen = c.made_interlockings_are_seen.ensures.seen;
       quiet = c.made_interlockings_are_seen.ensures.first;
-      holds = c.a_restarted_station_holds.ensures;
+      holds = c.a_restarted_interlocking_holds.ensures;
     }
     in λ site table outset station once is.
     let lawful : AreLawful (links site) (names_at site) (begun (names_at site) starts_at_zero)

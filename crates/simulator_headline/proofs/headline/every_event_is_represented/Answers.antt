@@ -5,10 +5,10 @@ pub returns : goal.returns
 returns c =
     let laws : KeepingLaws = record {
       controllers = c.controllers_events_are_represented.ensures;
-      request = c.steps_of_stations_are_represented.ensures.request;
-      tick = c.steps_of_stations_are_represented.ensures.tick;
-      delivery = c.steps_of_stations_are_represented.ensures.delivery;
+      request = c.steps_of_interlockings_are_represented.ensures.request;
+      tick = c.steps_of_interlockings_are_represented.ensures.tick;
+      delivery = c.steps_of_interlockings_are_represented.ensures.delivery;
       time = c.time_keeps_representations.ensures;
-      restart = c.restarts_of_stations_are_represented.ensures;
+      restart = c.restarts_of_interlockings_are_represented.ensures;
     }
     in λ site table happening world machine once station is represented none. kept laws site table once station is world machine represented happening none

@@ -1,7 +1,7 @@
 use Rattle.std.proofs.Common.{◌≡◌, ap, ◌∙◌, ◌∷◌, [], length, drop, arith, rules}
 use Rattle.ixl_state.specs.layout.Entries.{Site}
 use Rattle.ixl_state.specs.rasta_core.Outbox.{OutboxState}
-use Rattle.simulator_run.specs.Station.{sending_all, sending_one}
+use Rattle.simulator_run.specs.Interlocking.{sending_all, sending_one}
 use Rattle.simulator_ixl.specs.inside.Connections.{sending_by}
 use Rattle.simulator_ixl.proofs.Sending.{all_sent, first_taken, none_taken, others_sent}
 use Rattle.simulator_ixl.proofs.clocked_interlocking.send_all.Goals as goal

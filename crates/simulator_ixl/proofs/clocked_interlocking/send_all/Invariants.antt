@@ -1,6 +1,6 @@
 use Rattle.std.proofs.Common.{◌≡◌, ◌+◌, length}
 use Rattle.ixl_state.specs.layout.Entries.{Site}
-use Rattle.simulator_run.specs.Station.{sending_all}
+use Rattle.simulator_run.specs.Interlocking.{sending_all}
 use Rattle.simulator_ixl.specs.inside.Connections.{AreOf, sending_by}
 use Rattle.simulator_ixl.proofs.clocked_interlocking.send_all.Given as goal
 

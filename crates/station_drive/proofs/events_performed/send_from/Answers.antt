@@ -7,7 +7,7 @@ use Rattle.station_drive.proofs.events_performed.send_from.Goals as goal
 pub loop-place-preserved : goal.loop-place-preserved
 loop-place-preserved g c =
     let s = g.S.Station in
-    let all = s.does.sent (s.picture c.args.station.now) in
+    let all = s.does.sent (s.state c.args.station.now) in
     let before = c.loop-place.invariant in
     let one : NodeId × List ℕ = (c.in-Some.outgoing.to, c.in-Some.outgoing.bytes.now) in (
       before.0 ++ one ∷ [],

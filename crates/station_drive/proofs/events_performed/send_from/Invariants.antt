@@ -6,7 +6,7 @@ use Rattle.station_drive.proofs.events_performed.send_from.Given as goal
 -- what was sent so far, and behind it what is left
 abbrev pub invariant-loop-place : goal.invariant-loop-place
 invariant-loop-place g l =
-    let all : List (NodeId × List ℕ) = g.S.Station.does.sent (g.S.Station.picture l.station) in
+    let all : List (NodeId × List ℕ) = g.S.Station.does.sent (g.S.Station.state l.station) in
     (done : List (NodeId × List ℕ))
     × (done ++ drop l.place all ≡ drop l.first all)
     × Grows (g.N.Datagrams.calls l.fn.net) (g.N.Datagrams.calls l.net) (map (λ one. Sends one.0 one.1) done)

@@ -2,7 +2,7 @@ use Rattle.std.proofs.Common.{◌<◌, ◌≤◌, ◌∙◌, [], ◌∷◌, ◌+
 use Rattle.std.proofs.lemmas.List.{length-replicate}
 use Rattle.replay_lines.specs.Names.{node_names}
 use Rattle.station_drive.specs.Drives.{beginning}
-use Rattle.station_drive.specs.Rounds.{Turn}
+use Rattle.station_drive.specs.Rounds.{RoundHeard}
 use Rattle.station_drive.proofs.Composed.{performs_none, stopped, stops_all, stops_none}
 use Rattle.station_drive.proofs.Rows.{all-push, length-drives_after}
 use Rattle.station_drive.proofs.Turns.{broken_round, next_read, next_round, next_standing}
@@ -41,7 +41,7 @@ pub returns-in_err-round-clause-stopped : goal.returns-in_err-round-clause-stopp
 returns-in_err-round-clause-stopped g c =
     let before = c.loop.invariant in
     let last = c.in_err-round.ensures.stopped in
-    let turn : Turn = record { reading = c.read-reading.result; heard = last.0 } in
+    let turn : RoundHeard = record { reading = c.read-reading.result; heard = last.0 } in
     let cut = broken_round _ c.loop.course before.0 turn before.8 before.5 before.4 last.2 in
     stopped c.from_residual-in_err-round.result (record {
       first = c.read-first.result;
@@ -60,7 +60,7 @@ returns-then-millis_since-for_ms-clause-done g c =
     let site = s.site c.args.station.now in
     let before = c.loop.invariant in
     let done = c.in_ok-round.ensures.done in
-    let turn : Turn = record { reading = c.read-reading.result; heard = done.0 } in
+    let turn : RoundHeard = record { reading = c.read-reading.result; heard = done.0 } in
     record {
       first = c.read-first.result;
       earlier = before.0;
@@ -78,7 +78,7 @@ loop-preserved g c =
     let site = s.site c.args.station.now in
     let before = c.loop.invariant in
     let done = c.in_ok-round.ensures.done in
-    let turn : Turn = record { reading = c.read-reading.result; heard = done.0 } in
+    let turn : RoundHeard = record { reading = c.read-reading.result; heard = done.0 } in
     let start = beginning site c.args.script.now c.read-first.result in
     let performs = next_round start c.loop.course before.0 turn before.8 before.5 before.4 done.2 in
     let course = c.in_ok-round.ensures.course in (

@@ -9,6 +9,6 @@ use Rattle.station_sim.proofs.play.perform.Given as goal
 abbrev pub invariant-loop-line : goal.invariant-loop-line
 invariant-loop-line g l =
     let sight = g.S.Playable.sight
-    in (first : Flowing g.S.Playable.Picture)
+    in (first : Flowing g.S.Playable.State)
     × IsBeginning sight l.fn.table (outset_of l.fn.table l.lines) first
-    × GoesOn sight first l.lines l.line-index (flowing_of g.S.Playable.picture l.run) (g.W.Write.contents l.fn.out) (g.W.Write.contents l.out)
+    × GoesOn sight first l.lines l.line-index (flowing_of g.S.Playable.state l.run) (g.W.Write.contents l.fn.out) (g.W.Write.contents l.out)

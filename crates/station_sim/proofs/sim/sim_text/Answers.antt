@@ -7,5 +7,5 @@ returns-clause-done g c = λ e.
     in record {
       played = played;
       lies = c.stations_lie_as_lines_say.ensures.said played.site c.args.events.now played.lines played.says;
-      safe = c.played_worlds_are_safe.ensures.at played.site (outset_of played.site played.lines) played.told.first.picture played.told.begins.first;
+      safe = c.played_worlds_are_safe.ensures.at played.site (outset_of played.site played.lines) played.told.first.state played.told.begins.first;
     }

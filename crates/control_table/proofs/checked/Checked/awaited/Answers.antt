@@ -3,7 +3,7 @@ use Rattle.std.proofs.lemmas.Bool.Decides.{Decides-at}
 use Rattle.layout.specs.Entries.{Site, RouteEntry}
 use Rattle.std.specs.FinSet.{contains}
 use Rattle.control_table.specs.Topology.{IsRoute}
-use Rattle.control_table.specs.inside.Judging.{awaited_by}
+use Rattle.control_table.specs.inside.TableTests.{awaited_by}
 use Rattle.control_table.proofs.ConflictLaws.{get-at}
 use Rattle.control_table.proofs.FreeingLaws.{awaits-decides}
 use Rattle.control_table.proofs.checked.Checked.awaited.Goals as goal

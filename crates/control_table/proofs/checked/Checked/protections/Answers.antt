@@ -1,6 +1,6 @@
 use Rattle.std.proofs.Common.{sym, ap, ◌∙◌, subst}
 use Rattle.control_table.specs.Table.{AreProtections}
-use Rattle.control_table.specs.inside.Judging.{TableRow}
+use Rattle.control_table.specs.inside.TableTests.{TableRow}
 use Rattle.control_table.proofs.Joints.{one-beyond}
 use Rattle.control_table.proofs.ConflictLaws.{get-below, row-facts, protections-are}
 use Rattle.control_table.proofs.checked.Checked.protections.Goals as goal

@@ -2,7 +2,7 @@ use Rattle.std.proofs.Common.{◌≡◌, ap, ◌∙◌, [], length, rules}
 use Rattle.std.proofs.lemmas.List.{length-map}
 use Rattle.std.specs.List.{zip}
 use Rattle.simulator_run.specs.layout.Entries.{Site}
-use Rattle.simulator_run.specs.First.{Outset, first_station}
+use Rattle.simulator_run.specs.First.{Outset, first_interlocking}
 use Rattle.simulator_run.specs.State.{WorldState}
 use Rattle.simulator_field.specs.Controllers.{world_of}
 use Rattle.simulator_field.specs.Network.{NetworkState}
@@ -16,7 +16,7 @@ returns-clause-first c = λ table.
     in let outset : Outset = record { positions = c.args.positions.now; occupancies = c.args.occupancies.now }
     in let seen : NetworkState → WorldState = λ network. record {
       time = network.time;
-      station = first_station site table;
+      station = first_interlocking site table;
       signals = c.in_ok-first_signals.field-0.items;
       points = c.in_ok-first_points.field-0.items;
       detectors = c.in_ok-first_detectors.field-0.items;

@@ -4,7 +4,7 @@ use Rattle.std.proofs.lemmas.List.{append-nil, length-append}
 use Rattle.ixl_state.specs.layout.Entries.{Site}
 use Rattle.ixl_state.specs.layout.declared.ids.RouteId.{RouteId}
 use Rattle.ixl_state.specs.ixl_table.Table.{SitedTable}
-use Rattle.simulator_run.specs.Station.{pair_then}
+use Rattle.simulator_run.specs.Interlocking.{pair_then}
 use Rattle.simulator_ixl.proofs.Pairs.{next_signal}
 use Rattle.simulator_ixl.proofs.clocked_interlocking.ClockedInterlocking.authorities.Goals as goal
 use Rattle.simulator_ixl.proofs.clocked_interlocking.ClockedInterlocking.authorities.Goals.{in-Some, in-None}

@@ -1,5 +1,5 @@
 use Rattle.std.proofs.Common.{◌≡◌, ◌≤◌, ◌-◌, ◌++◌, length}
-use Rattle.simulator_run.specs.Station.{authorities}
+use Rattle.simulator_run.specs.Interlocking.{authorities}
 use Rattle.simulator_ixl.proofs.clocked_interlocking.ClockedInterlocking.authorities.Given as goal
 
 abbrev pub invariant-loop-place : goal.invariant-loop-place

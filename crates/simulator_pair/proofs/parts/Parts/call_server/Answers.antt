@@ -2,7 +2,7 @@ use Rattle.std.proofs.Common.{◌≤◌, ℕ, ◌+◌, refl, sym, ap, ◌∙◌,
 use Rattle.std.specs.Vec.{vec_len}
 use Rattle.rasta_core.specs.Outbox.{spellings}
 use Rattle.rasta_core.specs.Ends.{Sent, outcome, end_after}
-use Rattle.simulator_pair.specs.inside.Calling.{meant}
+use Rattle.simulator_pair.specs.inside.CallsMade.{meant}
 use Rattle.rasta_core.specs.identity.Role.TheVariants.{Server}
 use Rattle.simulator_pair.specs.Events.{clock_limit}
 use Rattle.simulator_pair.specs.inside.Order.{AreInOrder}

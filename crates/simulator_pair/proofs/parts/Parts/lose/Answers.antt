@@ -1,7 +1,7 @@
 use Rattle.std.proofs.Common.{◌≡◌, sym, ap, ◌∙◌, subst, List, ◌++◌, take, drop, length, arith}
 use Rattle.std.proofs.Math.Seq.{take-append_seam}
 use Rattle.rasta_core.specs.Ends.{Sent}
-use Rattle.simulator_pair.specs.inside.Finding.{StandsAt}
+use Rattle.simulator_pair.specs.inside.EventTest.{StandsAt}
 use Rattle.simulator_pair.specs.inside.Indexed.{keys_of}
 use Rattle.simulator_pair.specs.inside.Order.{AreInOrder}
 use Rattle.simulator_pair.proofs.Order.{in_order_losing}

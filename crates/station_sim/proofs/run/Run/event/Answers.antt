@@ -9,7 +9,7 @@ pub returns : goal.returns
 returns g c =
     let sight = g.S.Playable.sight
     in let run = c.args.self.now
-    in let old = g.S.Playable.picture run.station
-    in let new = g.S.Playable.picture c.apply.new.self
+    in let old = g.S.Playable.state run.station
+    in let new = g.S.Playable.state c.apply.new.self
     in subst (λ (said : Result Answer Refused). Answers sight c.args.event.now (at run.passed run.drives.items old) said (at run.passed run.drives.items new)) (sym c.recorded.ensures)
     (answered sight c.args.event.now run.passed run.drives.items old new c.apply.result c.apply.ensures.applies)

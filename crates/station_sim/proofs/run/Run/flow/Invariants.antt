@@ -5,4 +5,4 @@ use Rattle.station_sim.proofs.run.Run.flow.Given as goal
 
 -- so many rounds were done
 abbrev pub invariant-loop : goal.invariant-loop
-invariant-loop g l = flowing_of g.S.Playable.picture l.self ≡ rounds g.S.Playable.sight.station l.counter (flowing_of g.S.Playable.picture l.fn.self)
+invariant-loop g l = flowing_of g.S.Playable.state l.self ≡ rounds g.S.Playable.sight.station l.counter (flowing_of g.S.Playable.state l.fn.self)

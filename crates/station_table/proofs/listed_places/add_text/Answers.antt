@@ -1,6 +1,6 @@
 use Rattle.std.proofs.Common.{string_bytes}
 use Rattle.station_table.proofs.ListingLaws.{adds_one}
-use Rattle.station_table.proofs.listing.add_text.Goals as goal
+use Rattle.station_table.proofs.listed_places.add_text.Goals as goal
 
 pub returns : goal.returns
 returns g c =

@@ -1,6 +1,6 @@
 use Rattle.std.proofs.Common.{map, string_bytes}
 use Rattle.station_table.proofs.ListingLaws.{lists_none, lists_more}
-use Rattle.station_table.proofs.listing.listed.Goals as goal
+use Rattle.station_table.proofs.listed_places.listed.Goals as goal
 
 pub loop-place-init : goal.loop-place-init
 loop-place-init g c = rw c.new-texts.ensures.items (lists_none (g.L.Listing.belongs c.args.listing.now) (g.L.Listing.is_text c.args.listing.now))

@@ -1,7 +1,7 @@
 use Rattle.simulator_run.specs.rasta_core.identity.Role.TheVariants as role
 use Rattle.simulator_machine_interlocking.specs.Rows.{machine_table}
 use Rattle.simulator_headline.proofs.StationStepping.{EventLaws, delivery_represented, request_represented, tick_represented}
-use Rattle.simulator_headline.proofs.steps.steps_of_stations_are_represented.Goals as goal
+use Rattle.simulator_headline.proofs.steps.steps_of_interlockings_are_represented.Goals as goal
 
 pub returns : goal.returns
 returns c =
@@ -30,7 +30,7 @@ returns c =
       named = c.layouts_name_their_links.ensures;
       exactly = c.events_are_those_of_the_links.ensures.exactly;
       network = c.networks_follow_their_worlds.ensures;
-      of_nodes = c.stations_call_their_nodes.ensures;
+      of_nodes = c.interlockings_call_their_nodes.ensures;
       delivered = c.deliveries_may_come.ensures.links;
     }
     in record {

@@ -9,7 +9,7 @@ use Rattle.simulator_run.specs.Nodes.{Node}
 use Rattle.simulator_run.specs.Refusals.{refusal}
 use Rattle.simulator_headline.specs.Represents.{IsNetworkOf, RepresentsAfter}
 use Rattle.simulator_headline.proofs.Restart.{AnewLaws, restart_represented, restart_within}
-use Rattle.simulator_headline.proofs.clocks.restarts_of_stations_are_represented.Goals as goal
+use Rattle.simulator_headline.proofs.clocks.restarts_of_interlockings_are_represented.Goals as goal
 
 pub returns : goal.returns
 unfolding happens events_of refusal

@@ -3,8 +3,8 @@ use Rattle.std.specs.Prelude.{◌≡◌, ℕ, ◌^◌, ◌<◌, ◌≤◌, Bool,
 use Rattle.rasta_core_run.specs.Parameters.{most_sent, stops_at_greatest}
 use Rattle.rasta_core_run.specs.State.{LinkState, is_open, is_up, is_asking}
 use Rattle.rasta_core_run.specs.Clock.{open_state}
-use Rattle.rasta_core_run.specs.Sending.{Step}
-use Rattle.rasta_core_run.specs.Receiving.{Receipt}
+use Rattle.rasta_core_run.specs.PdusHandedOut.{Step}
+use Rattle.rasta_core_run.specs.Receipt.{Receipt}
 use Rattle.rasta_core_run.specs.fault.SendFault.{SendFault}
 use Rattle.rasta_core_run.specs.phase.State.{State}
 use Rattle.rasta_core_run.specs.phase.State.TheVariants as state

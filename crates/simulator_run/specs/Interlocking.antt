@@ -14,17 +14,17 @@ use Rattle.ixl_rules.specs.Table.{Table}
 use Rattle.ixl_rules.specs.View.{authority_from, is_holding}
 use Rattle.simulator_snapshot.specs.declared.snapshot.Held.{Held}
 use Rattle.simulator_run.specs.Nodes.{key_of, partners}
-use Rattle.simulator_run.specs.State.{StationState}
+use Rattle.simulator_run.specs.State.{ClockedInterlockingState}
 
 -- ---- a step
 
--- what a step does at the station's clock
-abbrev pub station_step : Site → Table → ixl.Input → StationState → StepSoFar
-station_step site table input station =
+-- what a step does at the interlocking's clock
+abbrev pub interlocking_step : Site → Table → ixl.Input → ClockedInterlockingState → StepSoFar
+interlocking_step site table input station =
     ixl.stepped (reading_of station.clock) table (key_of site) input (begun_with station.ixl empty_outbox)
 
-abbrev pub station_reply : Site → Table → ixl.Input → StationState → ixl.Reply
-station_reply site table input station = ixl.reply (reading_of station.clock) table (key_of site) input station.ixl
+abbrev pub interlocking_reply : Site → Table → ixl.Input → ClockedInterlockingState → ixl.Reply
+interlocking_reply site table input station = ixl.reply (reading_of station.clock) table (key_of site) input station.ixl
 
 -- the link to the controller that a datagram names as its receiver
 abbrev pub link_of : Site → List ℕ → ℕ
@@ -68,15 +68,15 @@ authorities table ixl place (suc more) =
 
 -- The pairs that are held: in the hold the frozen ones, and otherwise each signal with the route that has authority from
 -- it; of such a route nothing is freed.
-unfoldable pub held_of : Table → StationState → List Held → List Held
+unfoldable pub held_of : Table → ClockedInterlockingState → List Held → List Held
 held_of table station frozen =
     if is_holding (reading_of station.clock) station.ixl then frozen else authorities table station.ixl 0 (length station.ixl.known_signals)
 
 -- The pairs that stand for the locks in the hold of an interlocking that is made anew now: inside a hold those of the
 -- last stop outside one.
-abbrev pub frozen_by_restart : Table → StationState → List Held → List Held
+abbrev pub frozen_by_restart : Table → ClockedInterlockingState → List Held → List Held
 frozen_by_restart table station frozen = held_of table station frozen
 
 -- it is made anew, with this clock in milliseconds
-abbrev pub station_anew : IxlState → ℕ → StationState → StationState
-station_anew ixl clock station = record station { ixl = ixl; clock = clock * 1000 }
+abbrev pub interlocking_anew : IxlState → ℕ → ClockedInterlockingState → ClockedInterlockingState
+interlocking_anew ixl clock station = record station { ixl = ixl; clock = clock * 1000 }

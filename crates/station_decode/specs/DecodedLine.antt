@@ -1,9 +1,9 @@
 -- What `station decode --hex HEX` writes.
 use Rattle.std.specs.Prelude.{◌≡◌, ℕ, List, ◌++◌, take, codes, Option, Some, None, Ok, Err}
 use Rattle.std.specs.Io.KnownBytes.{Appends}
-use Rattle.layout_text.specs.Reading.{Fails}
+use Rattle.layout_text.specs.FirstFault.{Fails}
 use Rattle.ixl_rules.specs.layout.Entries.{Site}
-use Rattle.ixl_rules.specs.layout.Resolving.{layout_in}
+use Rattle.ixl_rules.specs.layout.NamesResolved.{layout_in}
 use Rattle.replay_words.specs.Read.{hexadecimal_or_none}
 use Rattle.replay_words.specs.declared.fault.Fault.{Fault}
 use Rattle.layout_text.specs.declared.fault.LayoutFault.{LayoutFault}

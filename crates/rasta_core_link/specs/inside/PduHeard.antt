@@ -2,7 +2,7 @@
 use Rattle.std.specs.Prelude.{◌≡◌, ℕ, ◌<◌, ◌≤◌, List, [], IsTrue}
 use Rattle.rasta_core_link.specs.Outbox.{HasRoomFor, OutboxState, posted}
 use Rattle.rasta_core_link.specs.Parameters.{connection_limit, sequence_range}
-use Rattle.rasta_core_link.specs.Receiving.{Receipt, ahead, behind}
+use Rattle.rasta_core_link.specs.Receipt.{Receipt, ahead, behind}
 use Rattle.rasta_core_link.specs.State.{LinkState, is_open}
 use Rattle.rasta_core_link.specs.declared.verdict.Verdict.{Verdict}
 use Rattle.rasta_pdu.specs.declared.pdu.Pdu.{Pdu}

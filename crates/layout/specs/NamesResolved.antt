@@ -30,7 +30,7 @@ use Rattle.layout_text.specs.declared.entries.WrittenJoint.{WrittenJoint}
 use Rattle.layout_text.specs.declared.entries.WrittenSignal.{WrittenSignal}
 use Rattle.layout.specs.Entries.{DetectorEntry, RouteEntry, Site}
 use Rattle.layout_text.specs.Written.{DetectorText, RouteText, LayoutText}
-use Rattle.layout_text.specs.Reading.{Read, ◌>>=◌, each_of, all_of}
+use Rattle.layout_text.specs.FirstFault.{Read, ◌>>=◌, each_of, all_of}
 use Rattle.layout.specs.Known.{same_name}
 use Rattle.toml.specs.Parse.{parse_document}
 use Rattle.layout_text.specs.Text.{text_of, document_of}

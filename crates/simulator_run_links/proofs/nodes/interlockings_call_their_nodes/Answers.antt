@@ -2,7 +2,7 @@ use Rattle.simulator_run.specs.rasta_core.identity.Role.TheVariants as role
 use Rattle.simulator_run_links.proofs.Laws.{ClientLaws, LinkLaws}
 use Rattle.simulator_run_links.proofs.Parts.{StepLaws}
 use Rattle.simulator_run_links.proofs.Station.{NodeLaws, may_come, reached}
-use Rattle.simulator_run_links.proofs.nodes.stations_call_their_nodes.Goals as goal
+use Rattle.simulator_run_links.proofs.nodes.interlockings_call_their_nodes.Goals as goal
 
 pub returns : goal.returns
 returns c =

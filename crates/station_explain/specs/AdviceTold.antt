@@ -2,10 +2,10 @@
 use Rattle.std.specs.Prelude.{◌≡◌, ◌≤◌, ℕ, List, length, take, Option, Ok}
 use Rattle.std.specs.Io.KnownBytes.{Appends}
 use Rattle.control_table.specs.layout.Entries.{Site}
-use Rattle.control_table.specs.layout.Resolving.{layout_in}
+use Rattle.control_table.specs.layout.NamesResolved.{layout_in}
 use Rattle.control_table.specs.Faults.{IsFirstFault}
 use Rattle.control_table.specs.Table.{Sound}
-use Rattle.layout_text.specs.Reading.{Fails}
+use Rattle.layout_text.specs.FirstFault.{Fails}
 use Rattle.layout_text.specs.declared.fault.LayoutFault.TheVariants.{Toml}
 use Rattle.station_check.specs.Report.{Explained, IsSound}
 use Rattle.station_explain.specs.Advice.{advice_line}

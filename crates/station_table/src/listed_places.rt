@@ -1,7 +1,7 @@
 //! Lists that tell of the places of a table, one after the other.
 
 ghost use Rattle.std.specs.Prelude.{◌≡◌, ◌++◌, ◌<◌, List, ℕ, map, IfOk, OnOk, string_bytes};
-ghost use Rattle.station_table.specs.Listing.{ListsBelow, TellsIf};
+ghost use Rattle.station_table.specs.ListedPlaces.{ListsBelow, TellsIf};
 
 use std::alloc::{AllocError, Global};
 

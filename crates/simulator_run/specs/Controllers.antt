@@ -10,7 +10,7 @@ use Rattle.object_host.specs.Behaviour.{Behaviour}
 use Rattle.object_host.specs.Host.{HostState, HostSoFar}
 use Rattle.object_host.specs.Step.{host_step}
 use Rattle.object_host.specs.declared.input.Input.{Input}
-use Rattle.simulator_run.specs.State.{ServerState}
+use Rattle.simulator_run.specs.State.{ClockedControllerState}
 
 -- whether a link is in a connection at an exact clock
 abbrev pub is_inside_at : ℕ → LinkState → Bool
@@ -22,17 +22,17 @@ is_some_sent (first ∷ others) = true
 
 module _ {Object : Type 0} where
   -- what the step of a controller does at its clock
-  abbrev pub step_of : Behaviour Object → Input → ServerState Object → HostSoFar Object
+  abbrev pub step_of : Behaviour Object → Input → ClockedControllerState Object → HostSoFar Object
   step_of does input server = host_step does (reading_of server.clock) input server.host
 
   -- A server outside sends nothing but its answer to a request, which it has taken then.
-  abbrev pub has_entered : ServerState Object → HostSoFar Object → Bool
+  abbrev pub has_entered : ClockedControllerState Object → HostSoFar Object → Bool
   has_entered server done = not (is_inside_at server.clock server.host.link) && is_some_sent done.pdus
 
   -- The controller after a step in which it may have taken a datagram that was sent in this connection, when so many were
   -- sent before it. It has left its connection where it was in one and is in none any more.
-  unfoldable pub server_after : HostSoFar Object → ℕ → ℕ → ServerState Object → ServerState Object
-  server_after done connection moment server = record server {
+  unfoldable pub controller_after : HostSoFar Object → ℕ → ℕ → ClockedControllerState Object → ClockedControllerState Object
+  controller_after done connection moment server = record server {
     host = done.host;
     connection = if has_entered server done then Some connection else server.connection;
     left =
@@ -42,13 +42,13 @@ module _ {Object : Type 0} where
   }
 
   -- what a step hands out on the controller's link, at this true time
-  unfoldable pub sent_by_server : HostSoFar Object → ℕ → ℕ → ServerState Object → ServerState Object → List OnLink
-  sent_by_server done time link old new =
+  unfoldable pub sent_by_controller : HostSoFar Object → ℕ → ℕ → ClockedControllerState Object → ClockedControllerState Object → List OnLink
+  sent_by_controller done time link old new =
       sent_on link (handed_out time role.Server new.connection (spellings old.host.link.identity.key done.pdus))
 
   -- Its clock goes on: its link may close by time.
-  unfoldable pub server_later : ℕ → ℕ → ServerState Object → ServerState Object
-  server_later elapsed moment server = record server {
+  unfoldable pub controller_later : ℕ → ℕ → ClockedControllerState Object → ClockedControllerState Object
+  controller_later elapsed moment server = record server {
     clock = server.clock + elapsed;
     left =
         if is_inside_at server.clock server.host.link && not (is_inside_at (server.clock + elapsed) server.host.link)
@@ -57,5 +57,5 @@ module _ {Object : Type 0} where
   }
 
   -- It is made anew, with this host and this clock in milliseconds.
-  unfoldable pub server_anew : HostState Object → ℕ → ℕ → ServerState Object → ServerState Object
-  server_anew host clock moment server = record server { host = host; clock = clock * 1000; left = moment }
+  unfoldable pub controller_anew : HostState Object → ℕ → ℕ → ClockedControllerState Object → ClockedControllerState Object
+  controller_anew host clock moment server = record server { host = host; clock = clock * 1000; left = moment }

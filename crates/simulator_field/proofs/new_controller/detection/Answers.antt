@@ -3,7 +3,7 @@ use Rattle.simulator_run.specs.layout.Entries.{Site}
 use Rattle.simulator_run.specs.tds_ctl.Sections.{made}
 use Rattle.simulator_run.specs.First.{named_section}
 use Rattle.simulator_field.proofs.Lists.{map_map}
-use Rattle.simulator_field.proofs.first_server.detection.Goals as goal
+use Rattle.simulator_field.proofs.new_controller.detection.Goals as goal
 
 pub returns : goal.returns
 returns c =
