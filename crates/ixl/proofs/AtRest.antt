@@ -13,7 +13,7 @@ use Rattle.ixl_state.specs.ixl_rules.declared.phase.Phase.TheVariants as phase
 use Rattle.ixl_state.specs.ixl_table.Locks.{IsKeptRoute}
 use Rattle.ixl_state.specs.State.{AtRoute, Goes, StateView}
 use Rattle.ixl.specs.inside.RoutesAtRest.{AllRest, rests}
-use Rattle.ixl.proofs.Going.{goes_next, goes_nowhere}
+use Rattle.ixl.proofs.PartsFollow.{goes_next, goes_nowhere}
 use Rattle.ixl.proofs.Rules.{along_still, repeated_still}
 
 -- what holds of free routes and of those that proceed holds of all that rest

@@ -12,7 +12,7 @@ use Rattle.ixl_state.specs.ixl_rules.declared.phase.Phase.TheVariants as phase
 use Rattle.ixl_state.specs.ixl_table.Locks.{IsKeptRoute}
 use Rattle.ixl_state.specs.State.{AllAt, StateView, route_changed}
 use Rattle.ixl.specs.inside.Parts.{Passes}
-use Rattle.ixl.proofs.Chaining.{route_passes, route_stays}
+use Rattle.ixl.proofs.StepParts.{route_passes, route_stays}
 
 pub authority_is : (p : Phase) → (is_proceeding p || is_withdrawn p) ≡ has_authority p
 authority_is phase.Free = refl

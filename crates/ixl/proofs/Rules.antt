@@ -20,7 +20,7 @@ use Rattle.ixl_state.specs.ixl_table.Locks.{IsKeptRoute}
 use Rattle.ixl_state.specs.ixl_table.Table.{SitedTable}
 use Rattle.ixl_state.specs.State.{AllAt, AtRoute, Goes, HasRoute, StateView, route_changed}
 use Rattle.ixl.specs.inside.Changes.{Changes}
-use Rattle.ixl.proofs.Going.{at_kept, changes_as, changes_go, changes_nowhere, changes_then, goes_as, goes_next, goes_nowhere, goes_then, goes_within, route_changes}
+use Rattle.ixl.proofs.PartsFollow.{at_kept, changes_as, changes_go, changes_nowhere, changes_then, goes_as, goes_next, goes_nowhere, goes_then, goes_within, route_changes}
 use Rattle.ixl.proofs.RowLaws.{all_pass}
 
 -- ---- tests

@@ -12,7 +12,7 @@ use Rattle.ixl_state.specs.First.{key_of}
 use Rattle.ixl.specs.Interlocking.{HasStepped, InterlockingState, step_of}
 use Rattle.ixl_state.specs.State.{Goes, StateView}
 use Rattle.ixl.specs.inside.Parts.{Passes, answer_in}
-use Rattle.ixl.proofs.Chaining.{goes_then, leads_at, part_at, passed_site}
+use Rattle.ixl.proofs.StepParts.{goes_then, leads_at, part_at, passed_site}
 
 abbrev pub settled_state : ℕ → StateView → StateView
 settled_state now old = record old { ixl = all_clocked now old.ixl }

@@ -29,7 +29,7 @@ use Rattle.ixl_client.specs.declared.indication.Indication.{Indication}
 use Rattle.ixl_client.specs.declared.indication.ObjectState.{ObjectState}
 use Rattle.ixl_client.specs.declared.stage.Stage.{Stage}
 use Rattle.ixl_client.specs.declared.stage.Stage.TheVariants as stage
-use Rattle.ixl_client.proofs.Acting.{fallen_link}
+use Rattle.ixl_client.proofs.ItemActions.{fallen_link}
 
 -- ---- a close leaves no link open
 

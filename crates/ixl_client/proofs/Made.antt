@@ -19,7 +19,7 @@ use Rattle.ixl_client.specs.declared.command.Command.{Command}
 use Rattle.ixl_client.specs.declared.meaning.Meaning.{Meaning}
 use Rattle.ixl_client.specs.declared.meaning.Meaning.TheVariants as meanings
 use Rattle.ixl_client.specs.declared.stage.Stage.TheVariants as stage
-use Rattle.ixl_client.proofs.Acting.{fallen_link}
+use Rattle.ixl_client.proofs.ItemActions.{fallen_link}
 
 own_joined : (first others : List LinkCall) → AreOwn first → AreOwn others → AreOwn (first ++ others)
 own_joined [] others one more = more

@@ -10,7 +10,7 @@ use Rattle.rasta_core.specs.State.{LinkState, is_client, is_open, is_up}
 use Rattle.rasta_core.specs.Clock.{deadline, settled}
 use Rattle.rasta_core.specs.Parameters.{connection_limit}
 use Rattle.rasta_core.specs.PdusHandedOut.{Step, beating, closing, entered, giving, is_told, limited, sending, silent, telling}
-use Rattle.rasta_core.specs.Opening.{beginning, may_open, requesting}
+use Rattle.rasta_core.specs.Establishment.{beginning, may_open, requesting}
 use Rattle.rasta_core.specs.Calls.{IsAt, acceptance, answer_to_send, closing_by, created, opening, receiving, sending_item, ticking as beats}
 use Rattle.rasta_core.specs.phase.Phase.{Phase}
 use Rattle.rasta_core.specs.phase.Phase.TheVariants as phase

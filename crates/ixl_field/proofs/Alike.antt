@@ -23,7 +23,7 @@ use Rattle.ixl_field.specs.declared.rows.SectionRows.{SectionRows}
 use Rattle.ixl_field.specs.inside.Alike.{AreKnownAlike, IsKnownAlike, TellTheSame, TellsTheSame}
 use Rattle.ixl_field.specs.inside.Rows.{ArePointRows, AreSectionRows, told_by}
 use Rattle.ixl_field.proofs.RowLaws.{clear_by, occupied_by, says_clear, says_occupied}
-use Rattle.ixl_field.proofs.Settling.{detector_client, detector_of, known_point_client, known_point_of}
+use Rattle.ixl_field.proofs.ClockOnNodes.{detector_client, detector_of, known_point_client, known_point_of}
 
 pub same_tests_answer : (x y : Bool) → beq x y ≡ true → x ≡ y
 same_tests_answer true true is = refl

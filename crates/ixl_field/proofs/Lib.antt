@@ -1,12 +1,12 @@
 pub mod Fallen
 pub mod Peers
 pub mod Went
-pub mod Renewing
+pub mod RowsRenewed
 pub mod RowLaws
-pub mod Leading
-pub mod Turning
-pub mod Settling
-pub mod FieldGoing
+pub mod NodeEffects
+pub mod NodeByNode
+pub mod ClockOnNodes
+pub mod FieldAfter
 pub mod Known
 pub mod Alike
 pub mod Sought

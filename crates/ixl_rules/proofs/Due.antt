@@ -16,7 +16,7 @@ use Rattle.ixl_rules.specs.declared.phase.Phase.TheVariants as phase
 use Rattle.ixl_rules.specs.EndDue.{EndDue, SomeFreeable}
 use Rattle.ixl_rules.proofs.Decide.{Decides, and_shown, and_yes, at_decides, both_decide, equal_decides, equally, itself_decides, negation_decides, not_decides, or_decide}
 use Rattle.ixl_rules.proofs.Knows.{all_clear_decides, all_known_decides, available_decides, clear_decides, known_decides, known_stop_decides, signal_ready_decides}
-use Rattle.ixl_rules.proofs.Holding.{held_with_authority_decides}
+use Rattle.ixl_rules.proofs.HoldTests.{held_with_authority_decides}
 
 waiting_decides : (p : Phase) → Decides (is_waiting p) (p ≡ phase.Waiting)
 waiting_decides phase.Free = record { yes = λ is. absurd (false≢true is); shown = λ is. ap is_waiting is }

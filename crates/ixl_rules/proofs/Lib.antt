@@ -1,7 +1,7 @@
 pub mod Lists
 pub mod Decide
 pub mod Knows
-pub mod Holding
+pub mod HoldTests
 pub mod Due
-pub mod Passing
+pub mod FreedByPassage
 pub mod Requests

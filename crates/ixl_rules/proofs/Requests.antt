@@ -18,7 +18,7 @@ use Rattle.ixl_rules.specs.Refusals.{AreThere, IsCause, IsFirstOf, IsRequestRefu
 use Rattle.ixl_rules.proofs.Lists.{contains-here}
 use Rattle.ixl_rules.proofs.Decide.{Decides, all_decides, both_decide, equally, negation_decides, no, one_fails, or_decide}
 use Rattle.ixl_rules.proofs.Knows.{available_decides, clear_decides, known_stop_decides, occupied_decides, signal_ready_decides}
-use Rattle.ixl_rules.proofs.Holding.{first_found, held_at_decides, none_found, none_is}
+use Rattle.ixl_rules.proofs.HoldTests.{first_found, held_at_decides, none_found, none_is}
 
 -- two facts of what a list has at a place are facts of one
 at_one_place : {A : Type 0} (list : List A) (place : ℕ) (P Q : A → Type 0) → At list place P → At list place Q → (one : A) × (P one × Q one)

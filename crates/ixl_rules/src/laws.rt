@@ -46,7 +46,7 @@ pub fn section_is_freed_where_passage_lets_it_go()
 {}
 
 /// It goes on until no further section of the route may be freed so.
-#[tactic(auto, using(crate::proofs::Passing::nothing_more))]
+#[tactic(auto, using(crate::proofs::FreedByPassage::nothing_more))]
 pub fn passage_frees_all_that_it_may()
     ensures { (table : Table) (number : ℕ) (part : StepSoFar) (row : Row) (route after : RouteState) → IsRouteOf table part.ixl number row route → IsRouteOf table (freeing_by_passage table number part).ixl number row after → after.passage.sections ≡ length row.sections → SomeFreeable table (freeing_by_passage table number part).ixl row after → ⊥ }
 {}

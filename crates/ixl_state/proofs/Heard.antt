@@ -26,7 +26,7 @@ use Rattle.ixl_state.specs.inside.DetectorHeard.{Passes, told_since}
 use Rattle.ixl_state.specs.State.{heard_from}
 use Rattle.std.proofs.lemmas.Option.{slice_get_within}
 use Rattle.ixl_state.proofs.Lists.{get-below}
-use Rattle.ixl_state.proofs.Chaining.{Comes, goes_nowhere, goes_then, goes_as, leads_at, part_at}
+use Rattle.ixl_state.proofs.StepParts.{Comes, goes_nowhere, goes_then, goes_as, leads_at, part_at}
 
 -- ---- the node of a sender
 

@@ -1,11 +1,11 @@
 pub mod Lists
 pub mod Sections
-pub mod Putting
-pub mod Freeing
-pub mod Looking
+pub mod RouteChange
+pub mod LocksFreed
+pub mod SectionLook
 pub mod Turns
-pub mod Walking
+pub mod RouteFound
 pub mod Made
-pub mod Chaining
+pub mod StepParts
 pub mod Looks
 pub mod Heard

@@ -16,7 +16,7 @@ use Rattle.ixl_table.specs.Table.{SitedTable}
 use Rattle.ixl_state.specs.State.{AllAt, StateView, route_changed}
 use Rattle.ixl_state.specs.inside.DetectorHeard.{Passes, Remains}
 use Rattle.ixl_state.proofs.Lists.{get-below}
-use Rattle.ixl_state.proofs.Chaining.{Comes, all_remains, goes_as, goes_nowhere, goes_then, leads_at, none_remains, part_at, part_remains, passed_site, passed_clock, route_passes, route_stays, told_then}
+use Rattle.ixl_state.proofs.StepParts.{Comes, all_remains, goes_as, goes_nowhere, goes_then, leads_at, none_remains, part_at, part_remains, passed_site, passed_clock, route_passes, route_stays, told_then}
 
 -- ---- one route looks at a section
 

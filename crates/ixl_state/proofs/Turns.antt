@@ -12,7 +12,7 @@ use Rattle.ixl_field.specs.Field as field
 use Rattle.ixl_field.specs.Field.{FieldGoes, FieldState, Rest, field_clocked}
 use Rattle.ixl_state.specs.State.{AllAt, Goes, MayStepAll, StateView}
 use Rattle.ixl_state.specs.inside.Kept.{IsFieldOf, IsState}
-use Rattle.ixl_state.proofs.Putting.{view_of}
+use Rattle.ixl_state.proofs.RouteChange.{view_of}
 
 -- how many controllers there are
 pub few-controllers : (sited : SitedTable) (f : FieldState) → IsFieldOf sited f → IsStation sited.site → (length f.known_signals ≤ 32) × (length f.known_points ≤ 32) × (length f.detectors ≤ 16)

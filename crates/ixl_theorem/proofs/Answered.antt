@@ -22,10 +22,10 @@ use Rattle.ixl_state.specs.First.{Beginning, key_of, new_ixl, new_known_point_of
 use Rattle.ixl.specs.Interlocking.{HasStepped, InterlockingState, step_of}
 use Rattle.ixl_theorem.specs.Answered.{GoesOnAnswered, IsAnswered, IsCounted, IsOfPoint, kept_by, last_told, move_items, told_in}
 use Rattle.ixl_theorem.specs.Nodes.{of_node}
-use Rattle.ixl_theorem.proofs.Answering.{Begins, Hears, Says, SaysNoMore, SoFar, available_completed, given_stays, ruled_stays, seen_stays, known_point_none, known_point_side, ticked_stays}
+use Rattle.ixl_theorem.proofs.PointAnswers.{Begins, Hears, Says, SaysNoMore, SoFar, available_completed, given_stays, ruled_stays, seen_stays, known_point_none, known_point_side, ticked_stays}
 use Rattle.ixl_theorem.proofs.Clients.{mapped, known_point_client}
 use Rattle.ixl_theorem.proofs.Hears.{Counts, counts_inside, counts_within, fallen_peer, inside_stays, nothing_outside}
-use Rattle.ixl_theorem.proofs.Picking.{none_is, some_same}
+use Rattle.ixl_theorem.proofs.PickedByTest.{none_is, some_same}
 
 counted_outside : (s : Stage) (moves : List Side) (told : List ObjectState) → is_outside s ≡ true → IsCounted s moves told
 counted_outside stage.Outside moves told is = tt

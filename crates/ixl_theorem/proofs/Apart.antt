@@ -20,8 +20,8 @@ use Rattle.ixl_state.specs.First.{Beginning, new_ixl, new_route_of}
 use Rattle.ixl.specs.Interlocking.{HasStepped, InterlockingState}
 use Rattle.ixl_theorem.specs.Apart.{AllApart, StandApart}
 use Rattle.ixl_theorem.specs.Onward.{GoesOn, IsOnward}
-use Rattle.ixl_theorem.proofs.Going.{routes_were_there, steps_go_on}
-use Rattle.ixl_theorem.proofs.Picking.{none_is, some_same}
+use Rattle.ixl_theorem.proofs.RoutesGoOn.{routes_were_there, steps_go_on}
+use Rattle.ixl_theorem.proofs.PickedByTest.{none_is, some_same}
 
 -- ---- what a route holds, it held before in its setting
 

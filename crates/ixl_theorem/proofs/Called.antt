@@ -18,7 +18,7 @@ use Rattle.ixl_theorem.proofs.CalledSoFar.{Called, CalledAt, SoFar}
 use Rattle.ixl_theorem.proofs.CalledSteps.{ClientLaws, rules_called, tick_called}
 use Rattle.ixl_theorem.proofs.Clients.{detection_at, detector_client, detector_kept, known_signal_client, known_signal_kept, mapped_option, point_at, signal_at, known_point_client, known_point_kept}
 use Rattle.ixl_theorem.proofs.Hears.{fallen_peer}
-use Rattle.ixl_theorem.proofs.Picking.{either}
+use Rattle.ixl_theorem.proofs.PickedByTest.{either}
 
 -- ---- the clock
 

@@ -20,7 +20,7 @@ use Rattle.ixl_theorem.proofs.CalledSoFar.{Called, CalledAt, SoFar, alike, label
 use Rattle.ixl_theorem.proofs.CalledSteps.{ClientLaws}
 use Rattle.ixl_theorem.proofs.Clients.{Puts}
 use Rattle.ixl_theorem.proofs.Nodes.{node_same, node_self, of_another, of_itself}
-use Rattle.ixl_theorem.proofs.Picking.{none_is}
+use Rattle.ixl_theorem.proofs.PickedByTest.{none_is}
 
 one_is_none : {A : Type 0} {one : A} {others : List A} → one ∷ others ≡ [] → ⊥
 one_is_none {A} {one} {others} is = false≢true (ap is_empty is) where

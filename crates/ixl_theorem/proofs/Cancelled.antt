@@ -10,7 +10,7 @@ use Rattle.ixl_state.specs.ixl_rules.declared.phase.Phase.{Phase}
 use Rattle.ixl_state.specs.ixl_rules.declared.phase.Phase.TheVariants as phase
 use Rattle.ixl_theorem.specs.Onward.{order_of}
 use Rattle.ixl_theorem.specs.WholeStep.{Beat, DoesItsTurn, EndAuthority, FreeCancelled, FreeSection, MovePoint, Passed, Proceed, Turn, Watch, Withdraw, approach_seen, beaten}
-use Rattle.ixl_theorem.proofs.Picking.{either, some_same}
+use Rattle.ixl_theorem.proofs.PickedByTest.{either, some_same}
 use Rattle.ixl_theorem.proofs.TurnKeeps.{Stays, where_stays}
 use Rattle.ixl_theorem.proofs.TurnOrder.{beaten_keeps, stopped_keeps}
 use Rattle.ixl_theorem.proofs.WholeFits.{aspect_keeps, changed_or_same, move_keeps}

@@ -7,7 +7,7 @@ use Rattle.ixl_state.specs.ixl_rules.StepSoFar.{Detector, Node, Point, Signal, d
 use Rattle.ixl_state.specs.ixl_rules.State.{KnownDetectorState, IxlState, KnownSignalState, KnownPointState, changed}
 use Rattle.ixl_state.specs.ixl_rules.Step.{client_at}
 use Rattle.ixl_theorem.specs.Nodes.{is_node}
-use Rattle.ixl_theorem.proofs.Picking.{changed_elsewhere, either, none_is, some_same}
+use Rattle.ixl_theorem.proofs.PickedByTest.{changed_elsewhere, either, none_is, some_same}
 
 pub known_signal_client : (aspect : _) (number : ℕ) (indicated : _) (client : ClientState) → (known_signal_after aspect number indicated client).client ≡ client
 unfolding known_signal_after

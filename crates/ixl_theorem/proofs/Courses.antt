@@ -21,7 +21,7 @@ use Rattle.ixl_state.specs.ixl_client.declared.indication.Indication.{Indication
 use Rattle.ixl_state.specs.ixl_client.declared.indication.ObjectState.{ObjectState}
 use Rattle.ixl_state.specs.ixl_client.declared.stage.Stage.{Stage}
 use Rattle.ixl_state.specs.ixl_client.declared.stage.Stage.TheVariants as stage
-use Rattle.ixl_theorem.proofs.Picking.{both, picked}
+use Rattle.ixl_theorem.proofs.PickedByTest.{both, picked}
 
 place_within : (peer : PeerState) (sender : List ℕ) (place : ℕ) → place_of peer sender ≡ Some place → place < length peer.objects
 place_within peer sender place found = (position-Some (λ name. bytes_eq name sender) peer.objects place sender found).0

@@ -11,7 +11,7 @@ use Rattle.ixl_state.specs.ixl_rules.declared.phase.Phase.TheVariants as phase
 use Rattle.ixl_theorem.specs.GivenOnce.{GivesMove, GivesProceed, GivesStop, NoneBehind}
 use Rattle.ixl_theorem.specs.Onward.{order_of}
 use Rattle.ixl_theorem.specs.WholeStep.{DoesItsTurn, Follow, MovePoint, Proceed, Turn, TurnTaken, Withdraw}
-use Rattle.ixl_theorem.proofs.Picking.{changed_here, some_same}
+use Rattle.ixl_theorem.proofs.PickedByTest.{changed_here, some_same}
 use Rattle.ixl_theorem.proofs.TurnKeeps.{between, turn_at}
 use Rattle.ixl_theorem.proofs.TurnMoves.{HasMoved, given_moved, moved_kept, moved_not_due}
 use Rattle.ixl_theorem.proofs.TurnOrder.{HasCome, order_kept, stopped_keeps}

@@ -18,7 +18,7 @@ use Rattle.ixl_state.specs.ixl_client.declared.stage.Stage.{Stage}
 use Rattle.ixl_state.specs.ixl_client.declared.stage.Stage.TheVariants as stage
 use Rattle.ixl_theorem.specs.Answered.{IsCounted, IsOfPoint, states_of}
 use Rattle.ixl_theorem.proofs.Courses.{acts}
-use Rattle.ixl_theorem.proofs.Picking.{both, either}
+use Rattle.ixl_theorem.proofs.PickedByTest.{both, either}
 
 -- as the definition counts; and outside nothing was given or told
 abbrev pub Counts : Stage → List Side → List ObjectState → Type 0

@@ -11,9 +11,9 @@ use Rattle.ixl_state.specs.ixl_rules.Table.{Need, Row, Table}
 use Rattle.ixl_state.specs.ixl_rules.View.{has_authority, is_approach_clear, is_at_known_stop, is_clear, is_set, is_signal_ready, place_in, was_authorised}
 use Rattle.ixl_state.specs.ixl_rules.declared.phase.Phase.{Phase}
 use Rattle.ixl_state.specs.ixl_rules.declared.phase.Phase.TheVariants as phase
-use Rattle.ixl_theorem.proofs.Going.{looks_phase}
+use Rattle.ixl_theorem.proofs.RoutesGoOn.{looks_phase}
 use Rattle.ixl_theorem.proofs.HistoryLists.{look_all, look_by}
-use Rattle.ixl_theorem.proofs.Picking.{both, changed_elsewhere, either, none_is, picked, some_same}
+use Rattle.ixl_theorem.proofs.PickedByTest.{both, changed_elsewhere, either, none_is, picked, some_same}
 use Rattle.ixl_theorem.proofs.Ruled.{IsKeptByChanges, along_holds, freed_holds, moving_holds, over_holds, proceeding_holds, repeated_holds, seen_holds, watching_holds, with_one_holds, withdrawing_holds}
 
 changed_there : {A : Type 0} (change : A → A) (place : ℕ) (list : List A) (one : A) → slice_get list place ≡ Some one → slice_get (changed change place list) place ≡ Some (change one)

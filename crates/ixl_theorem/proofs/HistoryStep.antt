@@ -33,11 +33,11 @@ use Rattle.ixl_theorem.specs.History.{BeginsTold, GoesOnTold, History, IsApproac
 use Rattle.ixl_theorem.specs.Nodes.{of_node}
 use Rattle.ixl_theorem.proofs.CalledSteps.{commanding_acts}
 use Rattle.ixl_theorem.proofs.Clients.{becomes_there, detection_at, detector_client, detector_kept}
-use Rattle.ixl_theorem.proofs.Going.{request_free}
+use Rattle.ixl_theorem.proofs.RoutesGoOn.{request_free}
 use Rattle.ixl_theorem.proofs.HistoryLists.{approached_more, before_told, begins_approached, look_all, looks_at, looks_joined, now_told, occupied_is, seen_after, seen_is, seen_more, told_last}
 use Rattle.ixl_theorem.proofs.HistoryParts.{Has, HasBegun, IsKept, IsUnauthorised, Keeps, Of, along_looks, along_unauthorised, authorised_set, changes_has, changing_all, ruled_begins, ruled_kept, seen_unauthorised, seen_watched, ticked_of, watched}
 use Rattle.ixl_theorem.proofs.Nodes.{node_self, of_itself}
-use Rattle.ixl_theorem.proofs.Picking.{both, none_is, some_same}
+use Rattle.ixl_theorem.proofs.PickedByTest.{both, none_is, some_same}
 use Rattle.ixl_theorem.proofs.Ruled.{IsKeptByChanges, looking_holds, along_holds, ruled_holds, seen_holds, with_one_holds}
 
 -- ---- what is known of the approach

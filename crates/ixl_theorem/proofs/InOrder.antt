@@ -5,7 +5,7 @@ use Rattle.ixl_state.specs.ixl_rules.StepSoFar.{StepSoFar, along, at_route, over
 use Rattle.ixl_state.specs.ixl_rules.State.{RouteState}
 use Rattle.ixl_state.specs.ixl_rules.Table.{Row, Table}
 use Rattle.ixl_theorem.specs.Order.{AtMostOne, CallsAtLink, InOrderOf, calls_of}
-use Rattle.ixl_theorem.proofs.Picking.{none_is, some_same}
+use Rattle.ixl_theorem.proofs.PickedByTest.{none_is, some_same}
 use Rattle.ixl_theorem.proofs.Ruled.{over_holds}
 
 pub calls_joined : (some more : List CallsAtLink) → calls_of (some ++ more) ≡ calls_of some ++ calls_of more

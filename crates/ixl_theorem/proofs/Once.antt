@@ -16,9 +16,9 @@ use Rattle.ixl_state.specs.ixl_rules.Due.{MoveDue}
 use Rattle.ixl_state.specs.ixl_rules.StepSoFar.{StepSoFar, all_below, giving_move, known_point_after, with_one}
 use Rattle.ixl_state.specs.ixl_rules.State.{RouteState, KnownPointState}
 use Rattle.ixl_state.specs.ixl_rules.Table.{Need, Table}
-use Rattle.ixl_theorem.proofs.Answering.{moved_by}
+use Rattle.ixl_theorem.proofs.PointAnswers.{moved_by}
 use Rattle.ixl_theorem.proofs.Clients.{known_point_client}
-use Rattle.ixl_theorem.proofs.Picking.{changed_here, none_is, some_same}
+use Rattle.ixl_theorem.proofs.PickedByTest.{changed_here, none_is, some_same}
 
 get_inside : {A : Type 0} (list : List A) (place : ℕ) (one : A) → slice_get list place ≡ Some one → place < length list
 get_inside [] place one is = absurd (none_is is)

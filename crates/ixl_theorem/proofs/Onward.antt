@@ -5,7 +5,7 @@ use Rattle.ixl_state.specs.ixl_rules.State.{RouteState, changed}
 use Rattle.ixl_state.specs.ixl_rules.declared.phase.Phase.{Phase}
 use Rattle.ixl_state.specs.ixl_rules.declared.phase.Phase.TheVariants as phase
 use Rattle.ixl_theorem.specs.Onward.{IsOnward, KeepsFreed, order_of}
-use Rattle.ixl_theorem.proofs.Picking.{none_is, some_same}
+use Rattle.ixl_theorem.proofs.PickedByTest.{none_is, some_same}
 
 pub onward_same : (p : Phase) → IsOnward p p
 onward_same phase.Free = record { order = omega arith; freed = tt }

@@ -16,7 +16,7 @@ use Rattle.ixl_theorem.specs.Order.{datagrams_by, handed_out, links_behind}
 use Rattle.ixl_theorem.proofs.CallLists.{handed_out_behind, handed_out_joined}
 use Rattle.ixl_theorem.proofs.Clients.{Puts}
 use Rattle.ixl_theorem.proofs.Nodes.{node_same, node_self}
-use Rattle.ixl_theorem.proofs.Picking.{some_same}
+use Rattle.ixl_theorem.proofs.PickedByTest.{some_same}
 
 pub changed_length : {A : Type 0} (change : A → A) (place : ℕ) (list : List A) → length (changed change place list) ≡ length list
 changed_length change place [] = refl

@@ -27,7 +27,7 @@ use Rattle.ixl_theorem.proofs.Clients.{known_point_kept, known_signal_kept, poin
 use Rattle.ixl_theorem.proofs.InOrder.{Grows, along_grows, at_route_grows, at_route_none, grows_from, grows_nothing, grows_one, over_rows}
 use Rattle.ixl_theorem.proofs.Ordered.{Ordered, SpeaksAs, same_ordered}
 use Rattle.ixl_theorem.proofs.OrderedNext.{point_next, signal_next}
-use Rattle.ixl_theorem.proofs.Picking.{either}
+use Rattle.ixl_theorem.proofs.PickedByTest.{either}
 use Rattle.ixl_theorem.proofs.Ruled.{IsKeptByChanges, freed_holds, moving_holds, moving_one_holds, over_holds, proceeding_holds, withdrawing_holds, with_one_holds, with_one_or_none}
 
 -- ---- a command

@@ -28,7 +28,7 @@ use Rattle.ixl_theorem.proofs.InOrder.{Grows, calls_joined, grows_nothing, grows
 use Rattle.ixl_theorem.proofs.Ordered.{Ordered, SameSizes, SpeaksAs, begins_ordered, changed_length, link_of, same_ordered, sizes_then}
 use Rattle.ixl_theorem.proofs.OrderedNext.{Made, detector_next, point_next, signal_next}
 use Rattle.ixl_theorem.proofs.OrderedRules.{RulesGrow, route_ordered, rules_grow}
-use Rattle.ixl_theorem.proofs.Picking.{none_is, some_same}
+use Rattle.ixl_theorem.proofs.PickedByTest.{none_is, some_same}
 use Rattle.ixl_theorem.proofs.Ruled.{along_holds, looking_holds, seen_holds, with_one_or_none}
 
 -- ---- lists

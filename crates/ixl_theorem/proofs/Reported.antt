@@ -36,7 +36,7 @@ use Rattle.ixl_theorem.proofs.Clients.{becomes_there, detector_client, mapped}
 use Rattle.ixl_theorem.proofs.Hears.{fallen_peer, inside_stays}
 use Rattle.ixl_theorem.proofs.HistoryLists.{last_joined}
 use Rattle.ixl_theorem.proofs.Nodes.{noted_elsewhere, noted_here}
-use Rattle.ixl_theorem.proofs.Picking.{changed_elsewhere, some_same}
+use Rattle.ixl_theorem.proofs.PickedByTest.{changed_elsewhere, some_same}
 use Rattle.ixl_theorem.proofs.Ruled.{IsKeptByChanges, along_holds, looking_holds, over_holds, ruled_holds, seen_holds, with_one_holds}
 
 -- ---- what is heard

@@ -9,7 +9,7 @@ use Rattle.ixl_state.specs.ixl_rules.State.{IxlState, RouteState}
 use Rattle.ixl_state.specs.ixl_rules.Step.{looking, looking_by, watching}
 use Rattle.ixl_state.specs.ixl_rules.Table.{Need, Row, Table}
 use Rattle.ixl_state.specs.ixl_rules.View.{is_at_known_stop, is_point_available, is_signal_ready, was_authorised}
-use Rattle.ixl_theorem.proofs.Picking.{both, either, picked}
+use Rattle.ixl_theorem.proofs.PickedByTest.{both, either, picked}
 
 -- a move is given only where the point is available
 due_available : (table : Table) (ixl : IxlState) (number : ℕ) (route : RouteState) (need : Need) → is_move_due table ixl number route need ≡ true → is_point_available ixl need.point ≡ true

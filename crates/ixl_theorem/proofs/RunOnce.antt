@@ -12,8 +12,8 @@ use Rattle.ixl_theorem.specs.GivenOnce.{InNone, OneAfterAnother, ProceedGiven, S
 use Rattle.ixl_theorem.specs.Onward.{GoesOn, order_of}
 use Rattle.ixl_theorem.specs.WholeStep.{heard}
 use Rattle.ixl_theorem.proofs.GivenOnce.{not_earlier, proceed_comes}
-use Rattle.ixl_theorem.proofs.Going.{GoesBehindInput, IsOwnRequest, accepted_is, given_goes, routes_were_there, steps_go_on}
-use Rattle.ixl_theorem.proofs.Picking.{none_is, some_same}
+use Rattle.ixl_theorem.proofs.RoutesGoOn.{GoesBehindInput, IsOwnRequest, accepted_is, given_goes, routes_were_there, steps_go_on}
+use Rattle.ixl_theorem.proofs.PickedByTest.{none_is, some_same}
 use Rattle.ixl_theorem.proofs.TurnKeeps.{Stays, from_turn, turn_at, up_to}
 use Rattle.ixl_theorem.proofs.TurnOrder.{HasCome, order_kept}
 

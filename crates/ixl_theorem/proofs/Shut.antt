@@ -16,7 +16,7 @@ use Rattle.ixl_state.specs.ixl_client.Client.{ClientState}
 use Rattle.ixl_state.specs.ixl_client.ClientSoFar.{ClientSoFar, calling}
 use Rattle.ixl_state.specs.ixl_client.Step.{commanding, fallen, is_refused_by_window, message_of, posting, telegram_to}
 use Rattle.ixl_state.specs.ixl_client.declared.command.Command.{Command}
-use Rattle.ixl_theorem.proofs.Picking.{either}
+use Rattle.ixl_theorem.proofs.PickedByTest.{either}
 
 abbrev IsShut : LinkState → Type 0
 IsShut link = is_open link.phase ≡ false

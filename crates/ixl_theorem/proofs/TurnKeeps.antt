@@ -6,7 +6,7 @@ use Rattle.ixl_state.specs.ixl_rules.Due.{DoesWhere}
 use Rattle.ixl_state.specs.ixl_rules.StepSoFar.{StepSoFar}
 use Rattle.ixl_state.specs.ixl_rules.Table.{Table}
 use Rattle.ixl_theorem.specs.WholeStep.{DoesItsTurn, Follow, Turn, TurnTaken}
-use Rattle.ixl_theorem.proofs.Picking.{none_is, some_same}
+use Rattle.ixl_theorem.proofs.PickedByTest.{none_is, some_same}
 
 -- it isn't false that this holds
 abbrev pub Stays : Type 0 → Type 0

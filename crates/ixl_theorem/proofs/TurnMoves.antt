@@ -19,7 +19,7 @@ use Rattle.ixl_theorem.specs.WholeStep.{Beat, DoesItsTurn, EndAuthority, FreeCan
 use Rattle.ixl_theorem.proofs.Clients.{known_point_client}
 use Rattle.ixl_theorem.proofs.Hears.{inside_stays}
 use Rattle.ixl_theorem.proofs.Once.{inside_of, moved_is, moves_count}
-use Rattle.ixl_theorem.proofs.Picking.{changed_elsewhere, changed_here, either, some_same}
+use Rattle.ixl_theorem.proofs.PickedByTest.{changed_elsewhere, changed_here, either, some_same}
 use Rattle.ixl_theorem.proofs.Ruled.{with_one_or_none}
 use Rattle.ixl_theorem.proofs.TurnKeeps.{Stays, where_stays}
 use Rattle.ixl_theorem.proofs.WholeFits.{changed_or_same, move_keeps, with_one_keeps}

@@ -31,8 +31,8 @@ use Rattle.ixl.specs.Interlocking.{HasStepped, InterlockingState}
 use Rattle.ixl_theorem.specs.Refused.{IsInNoConnection, IsWithoutInput, MayHear, step_without_input}
 use Rattle.ixl_theorem.proofs.Blind.{Alike, seen_and_ruled}
 use Rattle.ixl_theorem.proofs.Clients.{detector_client, known_signal_client, known_point_client}
-use Rattle.ixl_theorem.proofs.LinkRefusing.{refused_still, settled_again}
-use Rattle.ixl_theorem.proofs.Picking.{either, none_is, picked, some_same}
+use Rattle.ixl_theorem.proofs.RefusedByLink.{refused_still, settled_again}
+use Rattle.ixl_theorem.proofs.PickedByTest.{either, none_is, picked, some_same}
 
 -- ---- a client
 

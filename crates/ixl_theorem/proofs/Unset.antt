@@ -9,7 +9,7 @@ use Rattle.ixl_state.specs.ixl_rules.declared.phase.Phase.{Phase}
 use Rattle.ixl.specs.Interlocking.{HasStepped, InterlockingState}
 use Rattle.ixl_theorem.specs.Onward.{GoesOn, IsOnward}
 use Rattle.ixl_theorem.proofs.Apart.{Accepts, set_back}
-use Rattle.ixl_theorem.proofs.Going.{steps_go_on}
+use Rattle.ixl_theorem.proofs.RoutesGoOn.{steps_go_on}
 
 onward_unset : (old new : Phase) (set : Bool) → is_set new ≡ set → IsOnward old new → is_set old ≡ false → is_set new ≡ false
 onward_unset old new true is onward unset = absurd (true≢false (sym (set_back old new onward is) ∙ unset))

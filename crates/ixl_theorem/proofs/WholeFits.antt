@@ -12,7 +12,7 @@ use Rattle.ixl_state.specs.ixl_rules.View.{is_at_known_stop, is_signal_ready}
 use Rattle.ixl_state.specs.ixl_rules.declared.phase.Phase.{Phase}
 use Rattle.ixl_state.specs.ixl_rules.declared.phase.Phase.TheVariants as phase
 use Rattle.ixl_theorem.specs.WholeStep.{Fits}
-use Rattle.ixl_theorem.proofs.Picking.{either, none_is, some_same}
+use Rattle.ixl_theorem.proofs.PickedByTest.{either, none_is, some_same}
 
 -- ---- lists
 

@@ -17,7 +17,7 @@ use Rattle.ixl_state.specs.ixl_rules.declared.command.Command.{Command}
 use Rattle.ixl_state.specs.ixl_rules.declared.command.Command.TheVariants as commands
 use Rattle.ixl_state.specs.ixl_rules.declared.command.Refusal.{Refusal}
 use Rattle.ixl_theorem.specs.WholeStep.{Fits, beaten}
-use Rattle.ixl_theorem.proofs.Picking.{either}
+use Rattle.ixl_theorem.proofs.PickedByTest.{either}
 use Rattle.ixl_theorem.proofs.Ruled.{along_holds, at_route_holds, over_holds, with_one_holds}
 use Rattle.ixl_theorem.proofs.WholeCounts.{heard_by}
 use Rattle.ixl_theorem.proofs.WholeFits.{fits_same, kept_fits, with_one_keeps}

@@ -10,7 +10,7 @@ use Rattle.ixl_state.specs.ixl_rules.Table.{SitedTable, Table}
 use Rattle.ixl.specs.Interlocking.{HasStepped, InterlockingState, step_of}
 use Rattle.ixl_theorem.specs.WholeStep.{Fits, WholeStep, heard, turns_of_input, turns_of_rules}
 use Rattle.ixl_theorem.proofs.Clients.{mapped}
-use Rattle.ixl_theorem.proofs.Picking.{some_same}
+use Rattle.ixl_theorem.proofs.PickedByTest.{some_same}
 use Rattle.ixl_theorem.proofs.Turns.{Taken}
 use Rattle.ixl_theorem.proofs.WholeFits.{passage_of}
 use Rattle.ixl_theorem.proofs.WholeRules.{RuleLaws}

@@ -48,7 +48,7 @@ use ixl_state::ixl_client::{
 /// In a step each route goes on in its order, or is freed, and never back: it waits, its aspect was given, it was
 /// withdrawn, its authority ended, and its sections are freed one after another. It is set only by a request that is
 /// accepted, where it wasn't set. So its aspect is given once in a setting, since it is given only where the route waits.
-#[tactic(auto, using(crate::proofs::Going::steps_go_on))]
+#[tactic(auto, using(crate::proofs::RoutesGoOn::steps_go_on))]
 pub fn routes_go_on_in_their_order()
     ensures { (now : ℕ) (input : Input) (old new : InterlockingState) (answer : Reply) (number : ℕ) (before after : RouteState) → HasStepped now input old new answer
         → slice_get old.state.ixl.routes number ≡ Some before → slice_get new.state.ixl.routes number ≡ Some after → GoesOn input answer number before.phase after.phase }
@@ -124,7 +124,7 @@ pub fn ticks_leave_no_link_down()
 }
 
 /// Of a route with authority nothing is freed: it holds all its sections, and each point that it requires.
-#[tactic(auto, using(crate::proofs::Holding::nothing_freed, crate::proofs::Holding::all_sections, crate::proofs::Holding::all_points))]
+#[tactic(auto, using(crate::proofs::AuthorityHolds::nothing_freed, crate::proofs::AuthorityHolds::all_sections, crate::proofs::AuthorityHolds::all_points))]
 pub fn routes_with_authority_hold_all()
     ensures nothing { (phase : Phase) → has_authority phase ≡ true → freed_sections phase ≡ 0 }
     ensures sections { (row : Row) (phase : Phase) (section : ℕ) → has_authority phase ≡ true → Contains row.sections section → HoldsSection row phase section }

@@ -1,3 +1,3 @@
-pub mod Standing
+pub mod AddressesSoFar
 pub mod Refuted
 pub mod Explained

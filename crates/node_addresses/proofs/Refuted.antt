@@ -12,7 +12,7 @@ use Rattle.replay_lines.specs.Names.{node_names}
 use Rattle.node_addresses.specs.declared.fault.AddressesFault.{AddressesFault}
 use Rattle.node_addresses.specs.declared.fault.AddressesFault.TheVariants.{Toml, MissingNode, WrongAddress, DoubleAddress, UnknownNode, WrongName, OutOfMemory}
 use Rattle.node_addresses.specs.Addresses.{AreOfNodes, GivesAddress, HasNone, IsFault, no_toml, at_node, at_key, IsSound, StandsUnder, StopsAtNode, WritesAddress, unknown_key}
-use Rattle.node_addresses.proofs.Standing.{something_at}
+use Rattle.node_addresses.proofs.AddressesSoFar.{something_at}
 
 none_some : {A : Type 0} {x : A} → None ≡ Some x → ⊥
 none_some e = cc

@@ -1,8 +1,8 @@
-pub mod Posting
+pub mod OutboxPosts
 pub mod UnderWay
 pub mod Status
-pub mod Acting
-pub mod Paying
+pub mod ItemActions
+pub mod OwedReports
 pub mod Closed
 pub mod Between
 pub mod Made
@@ -10,4 +10,4 @@ pub mod Acts
 pub mod Says
 pub mod Told
 pub mod Keeps
-pub mod Refusing
+pub mod RefusedDatagrams

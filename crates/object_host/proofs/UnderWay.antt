@@ -4,7 +4,7 @@ use Rattle.rasta_core.specs.Outbox.{OutboxState, posted}
 use Rattle.object_host.specs.Host.{HostState, LinkCall, HostSoFar, Ticks, Closes, Sends, Receives}
 use Rattle.object_host.specs.Made.{AreItems}
 use Rattle.object_host.specs.inside.Performed.{IsPerformed}
-use Rattle.object_host.proofs.Posting.{posted_nothing, posted_more, length-posted, capacity-posted}
+use Rattle.object_host.proofs.OutboxPosts.{posted_nothing, posted_more, length-posted, capacity-posted}
 
 -- two lists of calls that send items
 pub items_joined : (first others : List LinkCall) → AreItems first → AreItems others → AreItems (first ++ others)

@@ -20,7 +20,7 @@ const FIRST_WITH_SLOW: u8 = 2;
 
 impl<C: Controller> Host<C> {
     /// The object is told a telegram. One that doesn't fit closes the link.
-    #[tactic(auto, using(crate::proofs::Posting::posting, crate::proofs::UnderWay::items_joined), unfolding(crate::specs::Step::commanding))]
+    #[tactic(auto, using(crate::proofs::OutboxPosts::posting, crate::proofs::UnderWay::items_joined), unfolding(crate::specs::Step::commanding))]
     fn command(&mut self, now: Millis, telegram: &Telegram, outbox: &mut Outbox)
         requires clock { MayStep now self.old.link }
         requires at { self.old.link.clock ≡ now }
@@ -77,7 +77,7 @@ impl<C: Controller> Host<C> {
     }
 
     /// The items of a datagram. Those behind one that closed the link are dropped.
-    #[tactic(auto, using(crate::proofs::Posting::posting, crate::proofs::UnderWay::items_joined))]
+    #[tactic(auto, using(crate::proofs::OutboxPosts::posting, crate::proofs::UnderWay::items_joined))]
     pub(crate) fn act_all(&mut self, now: Millis, items: &[Item], outbox: &mut Outbox)
         requires at { self.old.link.clock ≡ now }
         requires items { length items.now ≤ 3 }

@@ -44,7 +44,7 @@ impl<C: Controller> Host<C> {
     }
 
     /// A datagram has come.
-    #[tactic(auto, using(crate::proofs::Posting::posting, crate::proofs::UnderWay::items_joined), unfolding(crate::specs::Step::hearing, crate::specs::Step::received))]
+    #[tactic(auto, using(crate::proofs::OutboxPosts::posting, crate::proofs::UnderWay::items_joined), unfolding(crate::specs::Step::hearing, crate::specs::Step::received))]
     fn hear(&mut self, now: Millis, datagram: &[u8], outbox: &mut Outbox)
         requires at { self.old.link.clock ≡ now }
         requires room { HasRoomFor 120 outbox.old }
@@ -70,7 +70,7 @@ impl<C: Controller> Host<C> {
     }
 
     /// What the step is made for.
-    #[tactic(auto, using(crate::proofs::Posting::posting, crate::proofs::UnderWay::items_joined), unfolding(crate::specs::Step::given))]
+    #[tactic(auto, using(crate::proofs::OutboxPosts::posting, crate::proofs::UnderWay::items_joined), unfolding(crate::specs::Step::given))]
     fn give(&mut self, now: Millis, input: &Input, outbox: &mut Outbox)
         requires at { self.old.link.clock ≡ now }
         requires room { HasRoomFor 120 outbox.old }
@@ -85,7 +85,7 @@ impl<C: Controller> Host<C> {
     }
 
     /// A tick is the link's too.
-    #[tactic(auto, using(crate::proofs::Posting::posting, crate::proofs::UnderWay::items_joined), unfolding(crate::specs::Step::beating))]
+    #[tactic(auto, using(crate::proofs::OutboxPosts::posting, crate::proofs::UnderWay::items_joined), unfolding(crate::specs::Step::beating))]
     fn beat(&mut self, now: Millis, input: &Input, outbox: &mut Outbox)
         requires at { self.old.link.clock ≡ now }
         requires room { HasRoomFor 24 outbox.old }
@@ -107,7 +107,7 @@ impl<C: Controller> Host<C> {
     }
 
     /// A step at a clock reading that hasn't fallen, with an empty outbox for two links.
-    #[tactic(auto, using(crate::proofs::Posting::posting, crate::proofs::UnderWay::items_joined), unfolding(crate::specs::Step::host_step))]
+    #[tactic(auto, using(crate::proofs::OutboxPosts::posting, crate::proofs::UnderWay::items_joined), unfolding(crate::specs::Step::host_step))]
     pub(crate) fn step(&mut self, now: Millis, input: &Input, outbox: &mut Outbox)
         requires clock { MayStep now self.old.link }
         requires room { HasRoomFor 128 outbox.old }

@@ -111,7 +111,7 @@ impl<C: Controller> Hosted<C> {
 
     /// A step at a clock reading: the clock with the object's tick, the input, the owed reports, and on a tick the
     /// link's. The outbox then has the datagrams of this step alone.
-    #[tactic(auto, using(crate::proofs::Posting::posting, crate::proofs::Refusing::leaves_refused))]
+    #[tactic(auto, using(crate::proofs::OutboxPosts::posting, crate::proofs::RefusedDatagrams::leaves_refused))]
     pub fn step(&mut self, now: Millis, input: Input)
         requires { MayStep now self.old.host.link }
         ensures host { self.new.host ≡ (host_step C.behaviour now input.entry self.old.host).host }

@@ -37,7 +37,7 @@ impl<C: Controller> Host<C> {
     }
 
     /// The initial status: the report of each object, in the controller's order.
-    #[tactic(auto, using(crate::proofs::Posting::posting, crate::proofs::UnderWay::items_joined))]
+    #[tactic(auto, using(crate::proofs::OutboxPosts::posting, crate::proofs::UnderWay::items_joined))]
     fn post_status(&mut self, now: Millis, outbox: &mut Outbox)
         requires at { self.old.link.clock ≡ now }
         requires room { HasRoomFor 40 outbox.old }
@@ -54,7 +54,7 @@ impl<C: Controller> Host<C> {
     }
 
     /// The initialisation: start, the state of each object, completed.
-    #[tactic(auto, using(crate::proofs::Posting::posting, crate::proofs::UnderWay::items_joined), unfolding(crate::specs::Step::initialising))]
+    #[tactic(auto, using(crate::proofs::OutboxPosts::posting, crate::proofs::UnderWay::items_joined), unfolding(crate::specs::Step::initialising))]
     pub(crate) fn initialise(&mut self, now: Millis, outbox: &mut Outbox)
         requires at { self.old.link.clock ≡ now }
         requires room { HasRoomFor 42 outbox.old }

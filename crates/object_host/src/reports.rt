@@ -15,7 +15,7 @@ const MOST_OWED: usize = 20;
 impl<C: Controller> Host<C> {
     /// The first owed report is sent, once the initialisation was completed. Before, nothing is owed. Answers whether
     /// there was one that is owed no longer.
-    #[tactic(auto, using(crate::proofs::Posting::posting, crate::proofs::UnderWay::items_joined))]
+    #[tactic(auto, using(crate::proofs::OutboxPosts::posting, crate::proofs::UnderWay::items_joined))]
     fn pay_first(&mut self, now: Millis, outbox: &mut Outbox) -> bool
         requires at { self.old.link.clock ≡ now }
         requires room { HasRoomFor 24 outbox.old }
@@ -33,7 +33,7 @@ impl<C: Controller> Host<C> {
     }
 
     /// The owed reports, as far as the link accepts them.
-    #[tactic(auto, using(crate::proofs::Posting::posting, crate::proofs::UnderWay::items_joined))]
+    #[tactic(auto, using(crate::proofs::OutboxPosts::posting, crate::proofs::UnderWay::items_joined))]
     pub(crate) fn pay(&mut self, now: Millis, outbox: &mut Outbox)
         requires at { self.old.link.clock ≡ now }
         requires room { HasRoomFor 44 outbox.old }

@@ -19,7 +19,7 @@ use Rattle.object_host.specs.Step.{host_step}
 use Rattle.object_host.specs.declared.input.Input.{Input}
 use Rattle.object_host_theorem.specs.Acted.{IsActedOn, IsNoHostCall}
 use Rattle.object_host_theorem.specs.World.{called_all, entering, told_since}
-use Rattle.object_host_theorem.proofs.Hearing.{settled_is}
+use Rattle.object_host_theorem.proofs.OutsideEnds.{settled_is}
 use Rattle.object_host_theorem.proofs.Server.{OpensNothing, links_after, now_of, stays_out, taken_after}
 
 commands_joined : (first others : List (List ℕ)) → commands_of (first ++ others) ≡ commands_of first ++ commands_of others

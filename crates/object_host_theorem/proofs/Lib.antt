@@ -1,4 +1,4 @@
-pub mod Hearing
+pub mod OutsideEnds
 pub mod Server
 pub mod Acted
 pub mod Told
@@ -7,5 +7,5 @@ pub mod Moves
 pub mod Points
 pub mod Found
 pub mod Signals
-pub mod Reporting
+pub mod PointReports
 pub mod Kept

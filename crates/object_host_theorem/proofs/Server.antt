@@ -20,7 +20,7 @@ use Rattle.object_host.specs.Made.{AreCallsFor, AreOwn, IsOwn, call_made, calls_
 use Rattle.object_host.specs.declared.input.Input.{Input}
 use Rattle.object_host.specs.declared.input.Input.TheVariants as inputs
 use Rattle.object_host_theorem.specs.World.{as_call, called_all, entering}
-use Rattle.object_host_theorem.proofs.Hearing.{entered_is, receiving_outside}
+use Rattle.object_host_theorem.proofs.OutsideEnds.{entered_is, receiving_outside}
 
 -- what the host's clock reads
 abbrev pub now_of : Ends → ℕ

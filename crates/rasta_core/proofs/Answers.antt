@@ -13,8 +13,8 @@ use Rattle.rasta_core.specs.EndFlow.{IsAt, EndFlow, sent, later, items_of}
 use Rattle.rasta_core.specs.Order.{IsLevel, Brings, Carries, IsClosing, OpensOn, IsSent, Rises, Waits, Counts, Way}
 use Rattle.rasta_core.proofs.Places.{split, within, only_one, IsAfter, CloseNothing, opens_more}
 use Rattle.rasta_core.proofs.Tags.{retagged_length, retagged_items, retagged_rises, retagged_later, rises_lower}
-use Rattle.rasta_core.proofs.Growing.{Extends, HasNo, place_of, is_sent_kept}
-use Rattle.rasta_core.proofs.OrderTaking.{taker_sent}
+use Rattle.rasta_core.proofs.GiverGrowth.{Extends, HasNo, place_of, is_sent_kept}
+use Rattle.rasta_core.proofs.OrderOfTaken.{taker_sent}
 use Rattle.rasta_core.proofs.Sends.{upto, upto_old, upto_new, below, below_old, below_new}
 use Rattle.rasta_core.proofs.Repeats.{length-items_of, items_of-append, length-repeated, IsRepeat, repeated_at, take_before, take_with}
 

@@ -21,9 +21,9 @@ use Rattle.rasta_core.specs.Invariant.{InFlight, Timely}
 use Rattle.rasta_core_run.specs.Events.{IsAmong, IsDelivered, IsFor as IsMeant, AreForeign, MayCall}
 use Rattle.rasta_core.proofs.Deeds.{Own, Word, IsFor, Steps, ticking_does, closing_does, sending_does, opening_does}
 use Rattle.rasta_core.proofs.Receipts.{Receives as Hears}
-use Rattle.rasta_core.proofs.Hearing.{read_pdu, AreRead, receiving_does}
+use Rattle.rasta_core.proofs.HeardTimes.{read_pdu, AreRead, receiving_does}
 use Rattle.rasta_core.proofs.Conversation.{WrittenIsRead}
-use Rattle.rasta_core.proofs.Finishing.{Follows}
+use Rattle.rasta_core.proofs.BothEndsAfter.{Follows}
 use Rattle.rasta_core.proofs.DeedsKept.{Delivered}
 use Rattle.rasta_core.proofs.CallsKept.{Enters, made_kept, ends_ready, ends_clock}
 

@@ -4,7 +4,7 @@ use Rattle.std.specs.Prelude.{is_ok}
 use Rattle.rasta_core_run.specs.State.{LinkState, is_client}
 use Rattle.rasta_core_run.specs.Clock.{state_at}
 use Rattle.rasta_core_run.specs.PdusHandedOut.{Step, entered}
-use Rattle.rasta_core_run.specs.Opening.{may_open, is_down}
+use Rattle.rasta_core_run.specs.Establishment.{may_open, is_down}
 use Rattle.rasta_core_run.specs.Calls.{answer_to_send, opens, opening, ticking, closing_by, sending_item}
 use Rattle.rasta_core_run.specs.identity.Identity.{Identity}
 use Rattle.rasta_core_run.specs.identity.Role.{Role}
@@ -14,14 +14,14 @@ use Rattle.rasta_core_run.specs.Ends.{Outcome, Ticks, Opens, Closes, Sends, outc
 use Rattle.rasta_core_run.specs.Run.{Ends, end_of, called}
 use Rattle.rasta_core.specs.Order.{InOrder}
 use Rattle.rasta_core.specs.LinkAndFlow.{GoesOn}
-use Rattle.rasta_core.specs.Beginning.{EarlyGoesOn}
+use Rattle.rasta_core.specs.FirstPdus.{EarlyGoesOn}
 use Rattle.rasta_core_run.specs.Each.{Each}
 use Rattle.rasta_core.specs.TimedEnds.{IsInside, standing}
 use Rattle.rasta_core_run.specs.Names.{Names}
 use Rattle.rasta_core.specs.Invariant.{Timely}
 use Rattle.rasta_core_run.specs.Events.{MayCall}
 use Rattle.rasta_core.proofs.Deeds.{Own, Steps, ticking_does, closing_does, sending_does, opening_does}
-use Rattle.rasta_core.proofs.Finishing.{made_at}
+use Rattle.rasta_core.proofs.BothEndsAfter.{made_at}
 use Rattle.rasta_core.proofs.CallsKept.{ends_ready, ends_clock}
 use Rattle.rasta_core.specs.Ordered.{IsAlone, AreTogether, Ordered, unbegun, alone, together}
 use Rattle.rasta_core.proofs.OrderLaws.{Laws}

@@ -14,7 +14,7 @@ use Rattle.rasta_core.proofs.Sounds.{standing_open}
 use Rattle.rasta_core.proofs.States.{IsReady}
 use Rattle.rasta_core.proofs.Deeds.{Heard, Own, Word, IsFor, Deed, rests, speaks, asks, grants, joins, takes, Does}
 use Rattle.rasta_core.proofs.Conversation.{WrittenIsRead}
-use Rattle.rasta_core.proofs.Finishing.{made_at, Follows}
+use Rattle.rasta_core.proofs.BothEndsAfter.{made_at, Follows}
 use Rattle.rasta_core.proofs.DeedsKept.{Delivered, client_rests, client_speaks, client_takes, server_rests, server_speaks, server_takes, not_client, not_server}
 use Rattle.rasta_core.proofs.Openings.{client_joins, client_asks, server_grants}
 

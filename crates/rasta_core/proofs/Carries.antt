@@ -6,7 +6,7 @@ use Rattle.rasta_core_run.specs.Parameters.{sequence_range, connection_limit, he
 use Rattle.rasta_core_run.specs.State.{LinkState, is_open, is_up, is_client}
 use Rattle.rasta_core_run.specs.Clock.{open_state, settled, state_at}
 use Rattle.rasta_core_run.specs.PdusHandedOut.{Step, silent, header_of, pdu_of, sending, telling, closing, is_told, closed, limited, entered, beating, giving}
-use Rattle.rasta_core_run.specs.Opening.{own_opening, may_open, requesting, beginning, meeting, judging, granting, joining}
+use Rattle.rasta_core_run.specs.Establishment.{own_opening, may_open, requesting, beginning, meeting, judging, granting, joining}
 use Rattle.rasta_core_run.specs.Receipt as hears
 use Rattle.rasta_core_run.specs.Receipt.{Receipt, accepting, refusing, violating, ahead, is_stale, confirms, taking, repeated, repeating, answering, missing, handing, bringing, in_turn, admission, admitting, testing, is_opening_again, connected, answers_request, asking, resting, by_state, hearing}
 use Rattle.rasta_core_run.specs.Calls.{opening, ticking, closing_by, acceptance, answer_to_send, sending_item, hearing_bytes, receiving}

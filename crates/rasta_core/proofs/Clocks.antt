@@ -23,7 +23,7 @@ use Rattle.rasta_core.proofs.Datagrams.{known_sent_on, known_time_on, known_clie
 use Rattle.rasta_core.proofs.Sounds.{standing_open}
 use Rattle.rasta_core.proofs.States.{and_first}
 use Rattle.rasta_core.proofs.Conversation.{in_flight_turned}
-use Rattle.rasta_core.proofs.Finishing.{Follows, not_shut}
+use Rattle.rasta_core.proofs.BothEndsAfter.{Follows, not_shut}
 
 -- ---- time
 

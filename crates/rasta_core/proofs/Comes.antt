@@ -16,7 +16,7 @@ use Rattle.rasta_core_run.specs.Events.{IsDelivered, IsFor as IsMeant, MayCall}
 use Rattle.rasta_core.proofs.EachLaws.{each_turned}
 use Rattle.rasta_core.proofs.Reception.{alive_newest}
 use Rattle.rasta_core.proofs.Deeds.{Heard, Own, Word, IsFor, Deed, rests, speaks, asks, grants, joins, takes}
-use Rattle.rasta_core.proofs.Hearing.{read_pdu}
+use Rattle.rasta_core.proofs.HeardTimes.{read_pdu}
 use Rattle.rasta_core.proofs.Called.{ReadIsIntact, among_each}
 use Rattle.rasta_core.proofs.Conclusions.{of_datagram}
 use Rattle.rasta_core.specs.Ordered.{IsSpelledIn, IsAlone}

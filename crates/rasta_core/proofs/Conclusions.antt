@@ -25,13 +25,13 @@ use Rattle.rasta_core_run.specs.Events.{IsDelivered}
 use Rattle.rasta_core.proofs.EachLaws.{each_turned}
 use Rattle.rasta_core.proofs.Phases.{up_open, up_heard}
 use Rattle.rasta_core.proofs.Sounds.{standing_open, standing_closed, inside_open, of_heard}
-use Rattle.rasta_core.proofs.Taking.{IsFresh, client_taking_kept, server_taking_kept}
+use Rattle.rasta_core.proofs.TakenDatagram.{IsFresh, client_taking_kept, server_taking_kept}
 use Rattle.rasta_core.proofs.States.{IsDownAt, tells, Tells, settled_same}
 use Rattle.rasta_core.proofs.Reception.{IsDown, IsAlive, alive_newest, request_fresh, server_gone, not_long, long_away}
 use Rattle.rasta_core.proofs.Deeds.{Own, IsFor, Deed, rests, speaks, asks, grants, joins, takes}
 use Rattle.rasta_core.proofs.Receipts.{Receives as Hears}
-use Rattle.rasta_core.proofs.Hearing.{read_pdu}
-use Rattle.rasta_core.proofs.Finishing.{open_inside, reading as read_at}
+use Rattle.rasta_core.proofs.HeardTimes.{read_pdu}
+use Rattle.rasta_core.proofs.BothEndsAfter.{open_inside, reading as read_at}
 use Rattle.rasta_core.proofs.Openings.{down_then}
 use Rattle.rasta_core.proofs.CallsKept.{ends_ready, ends_clock}
 use Rattle.rasta_core.proofs.Called.{among_each, sent_brings, read_is, bytes_do, end_identity}

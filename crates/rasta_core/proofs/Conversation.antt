@@ -20,7 +20,7 @@ use Rattle.rasta_core.proofs.MovesOfEnds.{sent_on_kept, client_out_kept, server_
 use Rattle.rasta_core.proofs.Reception.{Reads}
 use Rattle.rasta_core.proofs.Datagrams.{not_both, spoken_known, known_sent_on, known_client_out, known_server_out}
 use Rattle.rasta_core.proofs.Sounds.{IsUttered}
-use Rattle.rasta_core.proofs.Speaking.{Acts}
+use Rattle.rasta_core.proofs.InsidePdus.{Acts}
 
 -- what is written is read again: a law of the PDUs, handed in by who has it
 abbrev pub WrittenIsRead : Type 0

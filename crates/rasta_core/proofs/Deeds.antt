@@ -5,7 +5,7 @@ use Rattle.rasta_core_run.specs.Sequence.{stamp}
 use Rattle.rasta_core_run.specs.State.{LinkState, is_open, is_up, is_client}
 use Rattle.rasta_core_run.specs.Clock.{state_at}
 use Rattle.rasta_core_run.specs.PdusHandedOut.{Step, silent, then_do, sending, telling, closing, beating, giving, entered, header_of, pdu_of}
-use Rattle.rasta_core_run.specs.Opening.{own_opening, is_down, may_open, beginning, requesting}
+use Rattle.rasta_core_run.specs.Establishment.{own_opening, is_down, may_open, beginning, requesting}
 use Rattle.rasta_core_run.specs.Calls.{opens, opening, ticking, closing_by, acceptance, sending_item}
 use Rattle.rasta_core_run.specs.phase.State.{State}
 use Rattle.rasta_core_run.specs.phase.State.TheVariants as state
@@ -26,9 +26,9 @@ use Rattle.rasta_core_run.specs.Sentences.{IsRequest}
 use Rattle.rasta_core.proofs.Phases.{up_open, up_heard}
 use Rattle.rasta_core.specs.Invariant.{IsSound}
 use Rattle.rasta_core.proofs.Sounds.{standing_closed, inside_open}
-use Rattle.rasta_core.proofs.Speaking.{Acts, IsKept, Speaks, IsSpeaker, sending_speaks, telling_speaks, closing_speaks, giving_speaks}
+use Rattle.rasta_core.proofs.InsidePdus.{Acts, IsKept, Speaks, IsSpeaker, sending_speaks, telling_speaks, closing_speaks, giving_speaks}
 use Rattle.rasta_core.proofs.States.{IsReady, IsDownAt, and_first, and_second, and_false, entering, tells, Tells, calm}
-use Rattle.rasta_core.proofs.Taking.{IsFresh, returned_by}
+use Rattle.rasta_core.proofs.TakenDatagram.{IsFresh, returned_by}
 
 -- a request
 pub record IsAsked (identity : Identity) (now : ℕ) (pdu : Pdu) : Type 0 where

@@ -15,12 +15,12 @@ use Rattle.rasta_core.specs.Timely.{AreTimed, IsKnown, IsAnswering}
 use Rattle.rasta_core.specs.Invariant.{InFlight, Timely}
 use Rattle.rasta_core.proofs.EachLaws.{each_turned}
 use Rattle.rasta_core.proofs.Reception.{IsAlive}
-use Rattle.rasta_core.proofs.Taking.{IsFresh, returned_by, client_taking_kept, server_taking_kept}
+use Rattle.rasta_core.proofs.TakenDatagram.{IsFresh, returned_by, client_taking_kept, server_taking_kept}
 use Rattle.rasta_core.proofs.Datagrams.{known_client_hearing, known_server_hearing}
-use Rattle.rasta_core.proofs.Speaking.{Acts, IsKept}
+use Rattle.rasta_core.proofs.InsidePdus.{Acts, IsKept}
 use Rattle.rasta_core.proofs.Deeds.{IsFor}
 use Rattle.rasta_core.proofs.Conversation.{WrittenIsRead, in_flight_turned}
-use Rattle.rasta_core.proofs.Finishing.{made_at, open_inside, reading, client_done, client_finished, server_done, server_finished, Follows, not_shut, client_follows, server_follows}
+use Rattle.rasta_core.proofs.BothEndsAfter.{made_at, open_inside, reading, client_done, client_finished, server_done, server_finished, Follows, not_shut, client_follows, server_follows}
 
 -- ---- what is delivered
 

@@ -5,8 +5,8 @@ use Rattle.rasta_core_run.specs.Receipt.{still_waiting}
 use Rattle.rasta_core.specs.EndFlow.{EndFlow, sent}
 use Rattle.rasta_core.specs.Order.{Waits, Way}
 use Rattle.rasta_core.proofs.Tags.{still_few, still_later, still_rises, still_last}
-use Rattle.rasta_core.proofs.Growing.{Extends, grown}
-use Rattle.rasta_core.proofs.OrderTaking.{holding}
+use Rattle.rasta_core.proofs.GiverGrowth.{Extends, grown}
+use Rattle.rasta_core.proofs.OrderOfTaken.{holding}
 
 -- the items up to a number are confirmed
 abbrev pub drops : ℕ → EndFlow → EndFlow

@@ -12,10 +12,10 @@ use Rattle.rasta_core_run.specs.body.Body.TheVariants.{RetransmissionRequest, Re
 use Rattle.rasta_core.specs.EndFlow.{IsAt, EndFlow, sent}
 use Rattle.rasta_core.specs.Order.{Brings, Carries, IsClosing, IsSent, Counts}
 use Rattle.rasta_core.specs.LinkAndFlow.{IsInside, Plays, asking, left}
-use Rattle.rasta_core.specs.Beginning.{IsEarly, PlaysEarly, asks, gone, EarlyGoesOn}
+use Rattle.rasta_core.specs.FirstPdus.{IsEarly, PlaysEarly, asks, gone, EarlyGoesOn}
 use Rattle.rasta_core.proofs.OrderTests.{by_test}
 use Rattle.rasta_core.proofs.Places.{split, within, only_one, begins_before, IsAfter}
-use Rattle.rasta_core.proofs.Growing.{Extends, is_sent_kept}
+use Rattle.rasta_core.proofs.GiverGrowth.{Extends, is_sent_kept}
 use Rattle.rasta_core.proofs.Sends.{sends, upto_old, upto_new, below_old, below_new}
 
 -- such a client is in order with whatever server enters

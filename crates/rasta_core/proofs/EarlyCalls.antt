@@ -18,7 +18,7 @@ use Rattle.rasta_core_run.specs.pdu.Pdu.{Pdu}
 use Rattle.rasta_core_run.specs.pdu_fault.PduFault.{PduFault}
 use Rattle.rasta_core.specs.EndFlow.{EndFlow}
 use Rattle.rasta_core.specs.LinkAndFlow.{Keeps, IsNew, IsInside, accepted}
-use Rattle.rasta_core.specs.Beginning.{IsEarly, PlaysEarly, asks, gone, EarlyGoesOn}
+use Rattle.rasta_core.specs.FirstPdus.{IsEarly, PlaysEarly, asks, gone, EarlyGoesOn}
 use Rattle.rasta_core.proofs.OrderTests.{by_test}
 use Rattle.rasta_core.proofs.Enters.{both_left, not_right, told_closed, still_alive}
 use Rattle.rasta_core.proofs.OrderCalls.{not_up, false_then, and_false, both_not, same_ends}

@@ -14,7 +14,7 @@ use Rattle.rasta_core_run.specs.Run.{Ends, called, later, lost, restarted}
 use Rattle.rasta_core.specs.Order.{InOrder}
 use Rattle.rasta_core.specs.EndFlow.{EndFlow}
 use Rattle.rasta_core.specs.LinkAndFlow.{Keeps, Plays, joined, asking, left}
-use Rattle.rasta_core.specs.Beginning.{IsEarly, PlaysEarly, asks, gone}
+use Rattle.rasta_core.specs.FirstPdus.{IsEarly, PlaysEarly, asks, gone}
 use Rattle.rasta_core_run.specs.Each.{Each}
 use Rattle.rasta_core_run.specs.Names.{Names, AreNames}
 use Rattle.rasta_core.specs.Invariant.{Timely}

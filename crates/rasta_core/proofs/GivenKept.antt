@@ -20,10 +20,10 @@ use Rattle.rasta_core.proofs.EachLaws.{each_turned}
 use Rattle.rasta_core.proofs.CallsKept.{ends_ready}
 use Rattle.rasta_core.proofs.Deeds.{IsFor, ticking_does, closing_does, sending_does, opening_does}
 use Rattle.rasta_core.proofs.Receipts.{Receives as Hears}
-use Rattle.rasta_core.proofs.Hearing.{read_pdu}
+use Rattle.rasta_core.proofs.HeardTimes.{read_pdu}
 use Rattle.rasta_core.proofs.OrderLaws.{CarryingLaws, Laws}
 use Rattle.rasta_core.proofs.Called.{ReadIsIntact, read_is, bytes_do, bytes_bring}
-use Rattle.rasta_core.proofs.Finishing.{made_at}
+use Rattle.rasta_core.proofs.BothEndsAfter.{made_at}
 use Rattle.rasta_core_run.specs.pdu.Pdu.{Pdu}
 use Rattle.rasta_core_run.specs.Items.{IsItem}
 use Rattle.rasta_core_run.specs.PduRead.{reading}
@@ -34,7 +34,7 @@ use Rattle.rasta_core.proofs.Comes.{deed_pdus, client_enters_none, Comes, comes,
 use Rattle.rasta_core.proofs.Calls.{client_key, server_key, at_clock, step_pdus}
 use Rattle.rasta_core.proofs.Receptions.{both_true, not_true}
 use Rattle.rasta_core.proofs.Events.{KeepsTime}
-use Rattle.rasta_core.proofs.Givings.{client_gives, server_gives, client_given_kept, server_given_kept, without_given}
+use Rattle.rasta_core.proofs.GivenRead.{client_gives, server_gives, client_given_kept, server_given_kept, without_given}
 
 -- of both ends
 pub record AreGiven (names : Names) (ends : Ends) : Type 0 where

@@ -9,7 +9,7 @@ use Rattle.rasta_core.specs.EndFlow.{IsAt, EndFlow, sent, later, items_of}
 use Rattle.rasta_core.specs.Order.{Brings, Carries, IsUnanswered, IsSent, Rises, Waits, Counts, Way}
 use Rattle.rasta_core.proofs.Places.{only_one}
 use Rattle.rasta_core.proofs.Tags.{later_none, later_one_more, rises_one_more, items_one_more}
-use Rattle.rasta_core.proofs.Growing.{Extends, grown}
+use Rattle.rasta_core.proofs.GiverGrowth.{Extends, grown}
 use Rattle.rasta_core.proofs.Sends.{upto, upto_old, upto_new, below, below_old, below_new, IsNext}
 
 abbrev pub held : ℕ → List ℕ → Unconfirmed

@@ -7,7 +7,7 @@ use Rattle.rasta_core_run.specs.Sequence.{wire}
 use Rattle.rasta_core_run.specs.State.{LinkState, is_open, is_up, is_asking, is_client}
 use Rattle.rasta_core_run.specs.Clock.{open_state, deadline, state_at}
 use Rattle.rasta_core_run.specs.PdusHandedOut.{Step, silent, sending, telling, closed}
-use Rattle.rasta_core_run.specs.Opening.{meeting, judging, joining}
+use Rattle.rasta_core_run.specs.Establishment.{meeting, judging, joining}
 use Rattle.rasta_core_run.specs.Receipt as receiving
 use Rattle.rasta_core_run.specs.Receipt.{Receipt, accepting, refusing, violating, ahead, is_stale, confirms, taking, admission, admitting, testing, is_opening_again, connected, answers_request, asking, by_state, hearing}
 use Rattle.rasta_core_run.specs.phase.State.{State}

@@ -5,10 +5,10 @@ use Rattle.rasta_core_run.specs.identity.Role.TheVariants as role
 use Rattle.rasta_core_run.specs.Ends.{Sent, Outcome, end_after, newer, kept}
 use Rattle.rasta_core_run.specs.Run.{Ends}
 use Rattle.rasta_core.specs.LinkAndFlow.{GoesOn}
-use Rattle.rasta_core.specs.Beginning.{EarlyGoesOn, Asks, Grants}
+use Rattle.rasta_core.specs.FirstPdus.{EarlyGoesOn, Asks, Grants}
 use Rattle.rasta_core_run.specs.Each.{Each}
 use Rattle.rasta_core_run.specs.Names.{Names}
-use Rattle.rasta_core.proofs.Finishing.{made_at}
+use Rattle.rasta_core.proofs.BothEndsAfter.{made_at}
 use Rattle.rasta_core.specs.Ordered.{IsAlone, AreTogether}
 use Rattle.rasta_core.proofs.OrderLaws.{Laws}
 use Rattle.rasta_core.proofs.Few.{empty_few, longer_few}

@@ -13,9 +13,9 @@ use Rattle.rasta_core_run.specs.Newest.{IsNewest, newest_connection}
 use Rattle.rasta_core_run.specs.Run.{Ends, end_of, called, later, lost, restarted}
 use Rattle.rasta_core_run.specs.Sentences.{IsIn}
 use Rattle.rasta_core.specs.Invariant.{Timely}
-use Rattle.rasta_core.proofs.Entering.{IsSome, does_nothing, entering_speaks}
+use Rattle.rasta_core.proofs.OutsideEntries.{IsSome, does_nothing, entering_speaks}
 use Rattle.rasta_core.proofs.Events.{KeepsTime}
-use Rattle.rasta_core.proofs.Givings.{same_self}
+use Rattle.rasta_core.proofs.GivenRead.{same_self}
 use Rattle.rasta_core.proofs.Outside.{EnteringLaws}
 use Rattle.rasta_core.proofs.Tests.{by_test}
 use Rattle.rasta_core_run.specs.key.Key.{Key}

@@ -18,13 +18,13 @@ use Rattle.rasta_core_run.specs.Names.{Names, AreNames}
 use Rattle.rasta_core.specs.Invariant.{InFlight, IsEnd, Timely}
 use Rattle.rasta_core.proofs.EachLaws.{each_join, each_turned}
 use Rattle.rasta_core.proofs.Reception.{IsDown, alive_newest, asking_kept, connection_fresh}
-use Rattle.rasta_core.proofs.Taking.{granting_kept, joining_kept}
+use Rattle.rasta_core.proofs.TakenDatagram.{granting_kept, joining_kept}
 use Rattle.rasta_core.proofs.Datagrams.{known_asking, known_granting, known_client_hearing, request_known}
-use Rattle.rasta_core.proofs.Speaking.{Acts, IsKept}
+use Rattle.rasta_core.proofs.InsidePdus.{Acts, IsKept}
 use Rattle.rasta_core.proofs.States.{IsDownAt}
 use Rattle.rasta_core.proofs.Deeds.{IsAsked, IsFor}
 use Rattle.rasta_core.proofs.Conversation.{WrittenIsRead, in_flight_turned}
-use Rattle.rasta_core.proofs.Finishing.{made_at, open_inside, reading, client_finished, server_finished, Follows, not_shut, client_follows, server_follows}
+use Rattle.rasta_core.proofs.BothEndsAfter.{made_at, open_inside, reading, client_finished, server_finished, Follows, not_shut, client_follows, server_follows}
 use Rattle.rasta_core.proofs.DeedsKept.{Delivered, DeliveredBy, by_partner, client_ready, four_same, entering_stays, build_client}
 
 -- the client takes the response

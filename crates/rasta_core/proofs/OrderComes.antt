@@ -14,7 +14,7 @@ use Rattle.rasta_core.specs.Order.{IsSent, InOrder}
 use Rattle.rasta_core.specs.LinkAndFlow.{reads, HaveCome, HasJoined}
 use Rattle.rasta_core.proofs.Numbers.{ahead_is, behind_is, next_is}
 use Rattle.rasta_core.proofs.Places.{within}
-use Rattle.rasta_core.proofs.OrderTaking.{taker_held}
+use Rattle.rasta_core.proofs.OrderOfTaken.{taker_held}
 use Rattle.rasta_core.proofs.Drops.{drops, giver_dropped, farther}
 
 module _ (link : LinkState) (own other : EndFlow) (order : InOrder own other) (plays : HasJoined link own other) (pdu : Pdu) (place : ℕ) (at : IsAt place pdu other.flow) where

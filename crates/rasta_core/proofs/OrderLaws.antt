@@ -4,13 +4,13 @@ use Rattle.std.specs.Prelude.{◌==◌, ◌&&◌}
 use Rattle.rasta_core_run.specs.State.{LinkState, confirmed_items, is_client, is_open}
 use Rattle.rasta_core_run.specs.Clock.{settled}
 use Rattle.rasta_core_run.specs.PdusHandedOut.{entered, silent}
-use Rattle.rasta_core_run.specs.Opening.{granting, own_opening}
+use Rattle.rasta_core_run.specs.Establishment.{granting, own_opening}
 use Rattle.rasta_core_run.specs.Receipt.{hearing, refusing}
 use Rattle.rasta_core_run.specs.Calls.{answer_to_send, closing_by, created, opening, opens, receiving, sending_item, ticking}
 use Rattle.rasta_core_run.specs.identity.Identity.{Identity}
 use Rattle.rasta_core_run.specs.reason.Reason.{Reason}
 use Rattle.rasta_core_run.specs.verdict.Verdict.{Verdict}
-use Rattle.rasta_core.specs.Beginning.{Asks, EarlyGoesOn, Grants, HearsOutside, IsEarly, PlaysEarly}
+use Rattle.rasta_core.specs.FirstPdus.{Asks, EarlyGoesOn, Grants, HearsOutside, IsEarly, PlaysEarly}
 use Rattle.rasta_core.specs.Carried.{carried}
 use Rattle.rasta_core.specs.Order.{InOrder, Way}
 use Rattle.rasta_core.specs.EndFlow.{IsAt, IsOf, EndFlow}

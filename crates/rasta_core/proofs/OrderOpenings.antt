@@ -4,13 +4,13 @@ use Rattle.std.specs.Prelude.{if◌then◌else◌}
 use Rattle.rasta_core_run.specs.Sequence.{wire, before}
 use Rattle.rasta_core_run.specs.State.{LinkState, is_client}
 use Rattle.rasta_core_run.specs.PdusHandedOut.{header_of, pdu_of, sending}
-use Rattle.rasta_core_run.specs.Opening.{own_opening, beginning, requesting, meeting, judging, granting}
+use Rattle.rasta_core_run.specs.Establishment.{own_opening, beginning, requesting, meeting, judging, granting}
 use Rattle.rasta_core_run.specs.pdu.Pdu.{Pdu}
 use Rattle.rasta_core_run.specs.body.Body.TheVariants.{ConnectionRequest, ConnectionResponse, RetransmissionRequest, RetransmissionResponse}
 use Rattle.rasta_core.specs.EndFlow.{IsAt, EndFlow, sent, later, items_of}
 use Rattle.rasta_core.specs.Order.{IsLevel, Carries, IsRequest, IsResponse, IsSent, Rises, Waits, Way}
 use Rattle.rasta_core.specs.LinkAndFlow.{joined}
-use Rattle.rasta_core.specs.Beginning.{IsEarly, asks, Asks, Grants}
+use Rattle.rasta_core.specs.FirstPdus.{IsEarly, asks, Asks, Grants}
 use Rattle.rasta_core.proofs.Places.{only_one, short}
 use Rattle.rasta_core.proofs.Numbers.{wire_0, wire_fits}
 

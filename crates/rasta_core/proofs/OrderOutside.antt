@@ -6,7 +6,7 @@ use Rattle.rasta_core_run.specs.Parameters.{connection_limit}
 use Rattle.rasta_core_run.specs.State.{LinkState, is_open, is_client}
 use Rattle.rasta_core_run.specs.Clock.{deadline, settled, state_at}
 use Rattle.rasta_core_run.specs.PdusHandedOut.{Step, silent, telling, limited, entered}
-use Rattle.rasta_core_run.specs.Opening.{may_open, requesting, granting}
+use Rattle.rasta_core_run.specs.Establishment.{may_open, requesting, granting}
 use Rattle.rasta_core_run.specs.Receipt.{accepting, refusing, resting, by_state, hearing}
 use Rattle.rasta_core_run.specs.Calls.{opening, opens}
 use Rattle.rasta_core_run.specs.phase.State.{State}
@@ -19,7 +19,7 @@ use Rattle.rasta_core_run.specs.body.Body.TheVariants.{ConnectionRequest, Connec
 use Rattle.rasta_core.specs.EndFlow.{EndFlow}
 use Rattle.rasta_core.specs.Order.{InOrder}
 use Rattle.rasta_core.specs.LinkAndFlow.{Plays, GoesOn, StepGoesOn}
-use Rattle.rasta_core.specs.Beginning.{Asks, IsEarly, PlaysEarly, EarlyGoesOn, HearsOutside, refuses, grants}
+use Rattle.rasta_core.specs.FirstPdus.{Asks, IsEarly, PlaysEarly, EarlyGoesOn, HearsOutside, refuses, grants}
 use Rattle.rasta_core.proofs.OrderTests.{by_test}
 use Rattle.rasta_core.proofs.Enters.{both_left}
 use Rattle.rasta_core.proofs.OrderOpenings.{requesting_on}

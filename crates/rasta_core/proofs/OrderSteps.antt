@@ -13,11 +13,11 @@ use Rattle.rasta_core.specs.Order.{BeginsByResponse, OpensOn, InOrder}
 use Rattle.rasta_core.specs.LinkAndFlow.{IsInside, HasJoined, IsStillAsking, Plays, joined, left, GoesOn}
 use Rattle.rasta_core.proofs.OrderTests.{by_test}
 use Rattle.rasta_core.proofs.Places.{only_one, opens_more, close_one}
-use Rattle.rasta_core.proofs.OrderTaking.{taker_sent, taker_asked, waits_for}
+use Rattle.rasta_core.proofs.OrderOfTaken.{taker_sent, taker_asked, waits_for}
 use Rattle.rasta_core.proofs.Drops.{giver_went_on}
 use Rattle.rasta_core.proofs.Sends.{sends, upto, below, below_old, below_new, giver_sent}
 use Rattle.rasta_core.proofs.Gives.{gives, giver_gave, held}
-use Rattle.rasta_core.proofs.OrderSpeaking.{Confirms, joined_confirms, next_pdu, sends_in_order, brings_none}
+use Rattle.rasta_core.proofs.OrderOfSent.{Confirms, joined_confirms, next_pdu, sends_in_order, brings_none}
 
 -- a part that stays as it is
 pub stays : (own other : EndFlow) (link : LinkState) → InOrder own other → Plays link own other → GoesOn own other link [] [] []

@@ -4,7 +4,7 @@ use Rattle.std.specs.Prelude.{if◌then◌else◌, is_ok}
 use Rattle.rasta_core_run.specs.Parameters.{connection_limit, heartbeat_interval}
 use Rattle.rasta_core_run.specs.Clock.{deadline, settled, state_at}
 use Rattle.rasta_core_run.specs.State.{LinkState, is_client, is_open, is_up}
-use Rattle.rasta_core_run.specs.Opening.{is_down, may_open, requesting}
+use Rattle.rasta_core_run.specs.Establishment.{is_down, may_open, requesting}
 use Rattle.rasta_core_run.specs.PdusHandedOut.{Step, silent, then_do, entered, limited, sending, telling, beating, giving, closing}
 use Rattle.rasta_core_run.specs.Receipt.{Receipt, hearing}
 use Rattle.rasta_core_run.specs.Calls.{opens, opening, ticking, closing_by, acceptance, sending_item, hearing_bytes, receiving}
@@ -15,7 +15,7 @@ use Rattle.rasta_core_run.specs.reason.Reason.{Reason}
 use Rattle.rasta_core_run.specs.reason.Reason.TheVariants as reason
 use Rattle.rasta_core_run.specs.verdict.Verdict.{Verdict}
 use Rattle.rasta_core_run.specs.Ends.{EndState, Call, Ticks, Opens, Closes, Sends, Receives, outcome, entered_by, is_taken, reading_of}
-use Rattle.rasta_core.specs.Beginning.{HearsOutside, refuses, grants}
+use Rattle.rasta_core.specs.FirstPdus.{HearsOutside, refuses, grants}
 use Rattle.rasta_core.proofs.Tests.{by_test}
 use Rattle.rasta_core_run.specs.body.Body.TheVariants.{Heartbeat}
 use Rattle.rasta_core_run.specs.pdu_fault.PduFault.{PduFault}

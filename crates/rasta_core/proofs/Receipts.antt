@@ -19,10 +19,10 @@ use Rattle.rasta_core.specs.Timely.{IsAnswering}
 use Rattle.rasta_core.proofs.Phases.{Admits, violates, closes, in_turn_value, discards, resumes, heartbeat_admission, data_admission, again_admission, request_admission, response_admission}
 use Rattle.rasta_core.specs.Invariant.{IsSound}
 use Rattle.rasta_core.proofs.Sounds.{standing_open, inside_open, held_later}
-use Rattle.rasta_core.proofs.Speaking.{Acts, IsKept, Speaks, IsSpeaker, sending_speaks, telling_speaks, answering_speaks}
+use Rattle.rasta_core.proofs.InsidePdus.{Acts, IsKept, Speaks, IsSpeaker, sending_speaks, telling_speaks, answering_speaks}
 use Rattle.rasta_core.proofs.States.{and_false}
 use Rattle.rasta_core.proofs.Deeds.{Heard, Word, IsFor, rests, takes, Does, kept_same, speaking}
-use Rattle.rasta_core.proofs.Taking.{IsFresh, returned_by}
+use Rattle.rasta_core.proofs.TakenDatagram.{IsFresh, returned_by}
 
 abbrev pub Receives : LinkState → Heard → Receipt → Type 0
 Receives link heard receipt = Does link heard (not (is_open link.phase) && is_taken receipt.verdict) receipt.items receipt.link receipt.pdus

@@ -5,7 +5,7 @@ use Rattle.std.proofs.lemmas.Bool.{eqb-true}
 use Rattle.rasta_core_run.specs.State.{LinkState, is_open, is_client}
 use Rattle.rasta_core_run.specs.Clock.{state_at}
 use Rattle.rasta_core_run.specs.PdusHandedOut.{Step, silent, entered, telling, sending}
-use Rattle.rasta_core_run.specs.Opening.{granting, own_opening}
+use Rattle.rasta_core_run.specs.Establishment.{granting, own_opening}
 use Rattle.rasta_core_run.specs.Receipt.{Receipt, accepting, hearing}
 use Rattle.rasta_core_run.specs.Calls.{receiving, hearing_bytes}
 use Rattle.rasta_core_run.specs.identity.Identity.{Identity}
@@ -19,7 +19,7 @@ use Rattle.rasta_core_run.specs.Run.{Ends, called}
 use Rattle.rasta_core.specs.EndFlow.{EndFlow, IsOf, IsAt}
 use Rattle.rasta_core.specs.Order.{Carries}
 use Rattle.rasta_core.specs.LinkAndFlow.{GoesOn}
-use Rattle.rasta_core.specs.Beginning.{EarlyGoesOn, Grants, HearsOutside, refuses, grants}
+use Rattle.rasta_core.specs.FirstPdus.{EarlyGoesOn, Grants, HearsOutside, refuses, grants}
 use Rattle.rasta_core.specs.TimedEnds.{standing}
 use Rattle.rasta_core_run.specs.Names.{Names, AreNames}
 use Rattle.rasta_core.specs.Invariant.{Timely}
@@ -28,8 +28,8 @@ use Rattle.rasta_core_run.specs.Sentences.{IsOpening}
 use Rattle.rasta_core.proofs.States.{IsReady, entering, calm}
 use Rattle.rasta_core.proofs.Deeds.{IsFor}
 use Rattle.rasta_core.proofs.Receipts.{Receives as Hears}
-use Rattle.rasta_core.proofs.Hearing.{read_pdu}
-use Rattle.rasta_core.proofs.Finishing.{made_at, shut_outside}
+use Rattle.rasta_core.proofs.HeardTimes.{read_pdu}
+use Rattle.rasta_core.proofs.BothEndsAfter.{made_at, shut_outside}
 use Rattle.rasta_core.proofs.CallsKept.{ends_ready, ends_clock}
 use Rattle.rasta_core.proofs.Called.{ReadIsIntact, read_is, bytes_do, bytes_bring}
 use Rattle.rasta_core.specs.Ordered.{IsAlone, AreTogether, Ordered, unbegun, alone, together}

@@ -13,7 +13,7 @@ use Rattle.rasta_core.specs.Order.{InOrder}
 use Rattle.rasta_core.specs.LinkAndFlow.{HasJoined, joined, GoesOn}
 use Rattle.rasta_core.proofs.Answers.{answer, answer_goes_on, answered, IsHeader, giver_answered, partner_answered, sent_answered}
 use Rattle.rasta_core.proofs.Places.{opens_more}
-use Rattle.rasta_core.proofs.OrderSpeaking.{joined_confirms}
+use Rattle.rasta_core.proofs.OrderOfSent.{joined_confirms}
 
 module _ (link : LinkState) (own other : EndFlow) (order : InOrder own other) (plays : HasJoined link own other) (is_up_now : is_up link.phase ≡ true) (room : link.sent < connection_limit)
     (unanswered : (place : ℕ) (pdu : Pdu) → IsAt place pdu own.flow → pdu.body ≡ RetransmissionResponse → place < other.reached)

@@ -9,7 +9,7 @@ use Rattle.rasta_core_run.specs.Events.{Event, Calls, Passes, Loses, Restarts, E
 use Rattle.rasta_core.proofs.Conversation.{WrittenIsRead}
 use Rattle.rasta_core.proofs.Called.{ReadIsIntact, called_kept}
 use Rattle.rasta_core.proofs.Clocks.{later_kept, lost_kept, client_restarted, server_restarted, elsewhere_kept, Renewed, started_timely}
-use Rattle.rasta_core.proofs.Finishing.{Follows}
+use Rattle.rasta_core.proofs.BothEndsAfter.{Follows}
 
 -- an event that doesn't make the client anew
 pub event_follows : WrittenIsRead → ReadIsIntact → (names : Names) (event : Event) (ends : Ends) → AreNames names → (is : Timely names ends) → May names event ends → LeavesClient event → Follows names ends is (happened event ends)

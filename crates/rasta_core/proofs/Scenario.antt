@@ -7,7 +7,7 @@ use Rattle.rasta_core_run.specs.PduRead.{text_of, opening_of, disconnection_of, 
 use Rattle.rasta_core_run.specs.Calls.{created, opens, opening, ticking, sending_item, acceptance, answer_to_send, hearing_bytes, receiving}
 use Rattle.rasta_core_run.specs.Clock.{settled, deadline, quiet_until, state_at}
 use Rattle.rasta_core_run.specs.PdusHandedOut.{header_of, pdu_of, sending, telling, limited, entered, beating, giving}
-use Rattle.rasta_core_run.specs.Opening.{beginning, requesting, meeting, judging, granting, joining}
+use Rattle.rasta_core_run.specs.Establishment.{beginning, requesting, meeting, judging, granting, joining}
 use Rattle.rasta_core_run.specs.Receipt.{age, ahead, behind, still_waiting, taking, missing, handing, bringing, in_turn, admitting, testing, connected, asking, resting, by_state, hearing}
 use Rattle.rasta_core_run.specs.identity.Role.{Role}
 use Rattle.rasta_core_run.specs.identity.Role.TheVariants as role

@@ -11,7 +11,7 @@ use Rattle.rasta_core.specs.Order.{Brings, Carries, OpensOn, IsUnanswered, IsSen
 use Rattle.rasta_core.proofs.OrderTests.{by_test}
 use Rattle.rasta_core.proofs.Places.{only_one}
 use Rattle.rasta_core.proofs.Tags.{later_none, rises_higher}
-use Rattle.rasta_core.proofs.Growing.{Extends, grown}
+use Rattle.rasta_core.proofs.GiverGrowth.{Extends, grown}
 
 -- a function of places, as it was up to the last, and another from there on
 pub upto : ℕ → (ℕ → ℕ) → (ℕ → ℕ) → ℕ → ℕ

@@ -20,7 +20,7 @@ use Rattle.rasta_core.specs.LinkAndFlow.{reads, HasJoined, joined, left, GoesOn}
 use Rattle.rasta_core.proofs.OrderTests.{by_test}
 use Rattle.rasta_core.proofs.Places.{within, same_at}
 use Rattle.rasta_core.proofs.Tags.{still_above, later_all}
-use Rattle.rasta_core.proofs.OrderTaking.{took, taker_took, taker_held, resumed, taker_resumed}
+use Rattle.rasta_core.proofs.OrderOfTaken.{took, taker_took, taker_held, resumed, taker_resumed}
 use Rattle.rasta_core.proofs.Drops.{drops, giver_dropped, giver_went_on}
 use Rattle.rasta_core.proofs.OrderSteps.{asked_on}
 use Rattle.rasta_core.proofs.Replies.{replied_on}

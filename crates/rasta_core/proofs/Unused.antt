@@ -12,7 +12,7 @@ use Rattle.rasta_core_run.specs.Run.{Ends, end_of, called, later, lost, restarte
 use Rattle.rasta_core_run.specs.Safe.{DoesNothing}
 use Rattle.rasta_core.specs.Invariant.{Timely}
 use Rattle.rasta_core.specs.Ordered.{Ordered, unbegun, alone, together}
-use Rattle.rasta_core.proofs.Entering.{does_nothing}
+use Rattle.rasta_core.proofs.OutsideEntries.{does_nothing}
 use Rattle.rasta_core.proofs.Events.{KeepsTime}
 use Rattle.rasta_core.proofs.Newest.{InsideIsSome}
 use Rattle.rasta_core.proofs.Outside.{EnteringLaws}

@@ -2,7 +2,7 @@
 pub mod EndFlow
 pub mod Order
 pub mod LinkAndFlow
-pub mod Beginning
+pub mod FirstPdus
 pub mod Carried
 pub mod TimedEnds
 pub mod Timely
@@ -19,7 +19,7 @@ pub use Rattle.rasta_core_run.specs.Sequence
 pub use Rattle.rasta_core_run.specs.State
 pub use Rattle.rasta_core_run.specs.Clock
 pub use Rattle.rasta_core_run.specs.PdusHandedOut
-pub use Rattle.rasta_core_run.specs.Opening
+pub use Rattle.rasta_core_run.specs.Establishment
 pub use Rattle.rasta_core_run.specs.Receipt
 pub use Rattle.rasta_core_run.specs.Verdicts
 pub use Rattle.rasta_core_run.specs.Calls

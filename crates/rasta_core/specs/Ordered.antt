@@ -7,7 +7,7 @@ use Rattle.rasta_core_run.specs.Run.{Ends}
 use Rattle.rasta_core.specs.EndFlow.{EndFlow, IsOf}
 use Rattle.rasta_core.specs.Order.{InOrder}
 use Rattle.rasta_core.specs.LinkAndFlow.{Plays}
-use Rattle.rasta_core.specs.Beginning.{IsEarly, PlaysEarly}
+use Rattle.rasta_core.specs.FirstPdus.{IsEarly, PlaysEarly}
 use Rattle.rasta_core_run.specs.Each.{Each}
 use Rattle.rasta_core_run.specs.Names.{Names}
 use Rattle.rasta_core_run.specs.pdu.Pdu.{Pdu}

@@ -3,14 +3,14 @@
 ghost use Rattle.std.specs.Prelude.{◌≡◌, ◌≤◌, ◌<◌, ◌^◌, ◌&&◌, ◌==◌, true, false, ℕ, List, [], ◌++◌, length, Ok, Err};
 ghost use Rattle.rasta_core_run.specs.Calls.{answer_to_send, closing_by, created, opening, opens, receiving, sending_item, ticking};
 ghost use Rattle.rasta_core_run.specs.Clock.{settled};
-ghost use Rattle.rasta_core_run.specs.Opening.{granting, own_opening};
+ghost use Rattle.rasta_core_run.specs.Establishment.{granting, own_opening};
 ghost use Rattle.rasta_core_run.specs.Receipt.{hearing, refusing};
 ghost use Rattle.rasta_core_run.specs.PdusHandedOut.{entered, silent};
 ghost use Rattle.rasta_core_run.specs.State.{LinkState, confirmed_items, is_client, is_open};
 ghost use Rattle.rasta_core_run.specs.identity.Identity.{Identity};
 ghost use Rattle.rasta_core_run.specs.reason.Reason.{Reason};
 ghost use Rattle.rasta_core_run.specs.verdict.Verdict.{Verdict};
-ghost use Rattle.rasta_core.specs.Beginning.{Asks, EarlyGoesOn, Grants, HearsOutside, IsEarly, PlaysEarly};
+ghost use Rattle.rasta_core.specs.FirstPdus.{Asks, EarlyGoesOn, Grants, HearsOutside, IsEarly, PlaysEarly};
 ghost use Rattle.rasta_core.specs.Carried.{carried};
 ghost use Rattle.rasta_core.specs.Order.{InOrder, Way};
 ghost use Rattle.rasta_core.specs.EndFlow.{IsAt, IsOf, EndFlow};

@@ -6,7 +6,7 @@ use Rattle.rasta_core_link.specs.Parameters.{quiet_time, sequence_range}
 use Rattle.rasta_core_link.specs.State.{LinkState, is_open, is_client}
 use Rattle.rasta_core_link.specs.Clock.{deadline, state_at}
 use Rattle.rasta_core_link.specs.PdusHandedOut.{Step, silent, then_do, closed, sending, telling, closing, limited, entered, beating, giving}
-use Rattle.rasta_core_link.specs.Opening.{is_down, may_open, requesting, judging, granting, joining}
+use Rattle.rasta_core_link.specs.Establishment.{is_down, may_open, requesting, judging, granting, joining}
 use Rattle.rasta_core_link.specs.Receipt.{Receipt, refusing, violating, accepting, ahead, is_stale, confirms, answers_request, taking, repeating, answering, missing, handing, bringing, in_turn, admission, admitting, testing, connected, asking, resting, by_state, hearing}
 use Rattle.rasta_core_link.specs.Calls.{opening, ticking, closing_by, acceptance, sending_item, hearing_bytes, receiving}
 use Rattle.rasta_core_link.specs.declared.admission.Admission.{Admission}
@@ -18,9 +18,9 @@ use Rattle.rasta_core_link.specs.declared.reason.Reason.{Reason}
 use Rattle.rasta_core_link.specs.declared.reason.Reason.TheVariants as reason
 use Rattle.rasta_core_link.specs.declared.verdict.Verdict.{Verdict}
 use Rattle.rasta_core_link.specs.declared.verdict.Verdict.TheVariants as verdict
-use Rattle.rasta_core_link.proofs.Posting.{posting}
+use Rattle.rasta_core_link.proofs.OutboxPosts.{posting}
 use Rattle.rasta_core_link.proofs.Steps.{one-telling, few-entered}
-use Rattle.rasta_core_link.proofs.Waiting.{length-repeated, length-still_waiting}
+use Rattle.rasta_core_link.proofs.UnconfirmedItems.{length-repeated, length-still_waiting}
 use Rattle.rasta_pdu.specs.PduRead.{reading}
 use Rattle.rasta_pdu.specs.declared.fault.PduFault.{PduFault}
 use Rattle.rasta_pdu.specs.declared.pdu.Pdu.{Pdu}

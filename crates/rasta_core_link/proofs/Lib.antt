@@ -1,7 +1,7 @@
-pub mod Posting
-pub mod Waiting
+pub mod OutboxPosts
+pub mod UnconfirmedItems
 pub mod Steps
-pub mod Keeping
+pub mod LinkIdentity
 pub mod Few
 pub mod Verdicts
 pub mod Refusals

@@ -5,7 +5,7 @@ use Rattle.rasta_core_link.specs.Parameters.{sequence_range}
 use Rattle.rasta_core_link.specs.State.{LinkState, is_client}
 use Rattle.rasta_core_link.specs.Clock.{state_at}
 use Rattle.rasta_core_link.specs.PdusHandedOut.{silent, entered, closed}
-use Rattle.rasta_core_link.specs.Opening.{granting, joining}
+use Rattle.rasta_core_link.specs.Establishment.{granting, joining}
 use Rattle.rasta_core_link.specs.Receipt.{Receipt, refusing, violating, accepting, ahead, missing, handing, bringing, in_turn, admission, admitting, is_stale, confirms, testing, is_opening_again, connected, answers_request, asking, resting, by_state, hearing, taking}
 use Rattle.rasta_core_link.specs.Calls.{hearing_bytes, receiving}
 use Rattle.rasta_core_link.specs.Verdicts.{is_refusal, refusal_leaves, refused}

@@ -7,7 +7,7 @@ use Rattle.rasta_core_link.specs.Clock.{settled}
 use Rattle.rasta_core_link.specs.PdusHandedOut.{sending, telling, limited, entered}
 use Rattle.rasta_core_link.specs.declared.phase.Phase.TheVariants as phase
 use Rattle.rasta_core_link.specs.declared.reason.Reason.{Reason}
-use Rattle.rasta_core_link.proofs.Posting.{posting}
+use Rattle.rasta_core_link.proofs.OutboxPosts.{posting}
 
 pub identity-settled : (now : ℕ) (link : LinkState) → (settled now link).identity ≡ link.identity
 unfolding settled

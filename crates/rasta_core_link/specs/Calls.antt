@@ -3,7 +3,7 @@ use Rattle.std.specs.Prelude.{◌≡◌, ℕ, ◌≤◌, nat_lt, Bool, List, [],
 use Rattle.rasta_core_link.specs.Parameters.{window_size}
 use Rattle.rasta_core_link.specs.State.{LinkState, is_open, is_up}
 use Rattle.rasta_core_link.specs.PdusHandedOut.{Step, silent, then_do, entered, beating, giving, closing}
-use Rattle.rasta_core_link.specs.Opening.{may_open, requesting}
+use Rattle.rasta_core_link.specs.Establishment.{may_open, requesting}
 use Rattle.rasta_core_link.specs.Receipt.{Receipt, refusing, hearing}
 use Rattle.rasta_core_link.specs.declared.identity.Identity.{Identity}
 use Rattle.rasta_core_link.specs.declared.phase.Phase.TheVariants as phase

@@ -3,7 +3,7 @@ pub mod Sequence
 pub mod State
 pub mod Clock
 pub mod PdusHandedOut
-pub mod Opening
+pub mod Establishment
 pub mod Receipt
 pub mod Verdicts
 pub mod Calls

@@ -5,7 +5,7 @@ use Rattle.rasta_core_link.specs.Sequence.{wire, before, distance, stamp}
 use Rattle.rasta_core_link.specs.State.{LinkState, is_client}
 use Rattle.rasta_core_link.specs.Clock.{state_at}
 use Rattle.rasta_core_link.specs.PdusHandedOut.{Step, silent, then_do, header_of, pdu_of, sending, telling, closed}
-use Rattle.rasta_core_link.specs.Opening.{granting, joining}
+use Rattle.rasta_core_link.specs.Establishment.{granting, joining}
 use Rattle.rasta_core_link.specs.declared.phase.Phase.{Phase}
 use Rattle.rasta_core_link.specs.declared.phase.Phase.TheVariants as phase
 use Rattle.rasta_core_link.specs.declared.phase.State.{State}

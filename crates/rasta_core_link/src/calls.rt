@@ -20,7 +20,7 @@ impl Link {
     ghost use Rattle.rasta_core_link.specs.Calls.{MayStep, IsAt, opens, opening, ticking, closing_by, acceptance, answer_to_send, sending_item, receiving};
 
     /// A client that is down asks for a connection, and answers true; otherwise false.
-    #[tactic(auto, using(crate::proofs::Few::calls, crate::proofs::Keeping::kept), unfolding(crate::specs::Calls::opening, crate::specs::Calls::opens))]
+    #[tactic(auto, using(crate::proofs::Few::calls, crate::proofs::LinkIdentity::kept), unfolding(crate::specs::Calls::opening, crate::specs::Calls::opens))]
     pub fn open(&mut self, now: Millis, outbox: &mut Outbox) -> bool
         requires clock { MayStep now self.old }
         requires room { HasRoomFor 24 outbox.old }
@@ -39,7 +39,7 @@ impl Link {
     }
 
     /// A heartbeat, where it is up and has sent nothing for 300 ms.
-    #[tactic(auto, using(crate::proofs::Few::calls, crate::proofs::Keeping::kept), unfolding(crate::specs::Calls::ticking))]
+    #[tactic(auto, using(crate::proofs::Few::calls, crate::proofs::LinkIdentity::kept), unfolding(crate::specs::Calls::ticking))]
     pub fn tick(&mut self, now: Millis, outbox: &mut Outbox)
         requires clock { MayStep now self.old }
         requires room { HasRoomFor 24 outbox.old }
@@ -53,7 +53,7 @@ impl Link {
     }
 
     /// Closes for this reason, where it is in a connection; otherwise nothing but what the clock does.
-    #[tactic(auto, using(crate::proofs::Few::calls, crate::proofs::Keeping::kept), unfolding(crate::specs::Calls::closing_by))]
+    #[tactic(auto, using(crate::proofs::Few::calls, crate::proofs::LinkIdentity::kept), unfolding(crate::specs::Calls::closing_by))]
     pub fn close(&mut self, now: Millis, why: Reason, outbox: &mut Outbox)
         requires clock { MayStep now self.old }
         requires room { HasRoomFor 24 outbox.old }
@@ -83,7 +83,7 @@ impl Link {
     }
 
     /// Sends an item, which waits until the partner confirms it. Refused where the link isn't up or 20 items wait.
-    #[tactic(auto, using(crate::proofs::Few::calls, crate::proofs::Keeping::kept), unfolding(crate::specs::Calls::sending_item, crate::specs::Calls::answer_to_send, crate::specs::Calls::acceptance))]
+    #[tactic(auto, using(crate::proofs::Few::calls, crate::proofs::LinkIdentity::kept), unfolding(crate::specs::Calls::sending_item, crate::specs::Calls::answer_to_send, crate::specs::Calls::acceptance))]
     pub fn send(&mut self, now: Millis, item: &Item, outbox: &mut Outbox) -> Result<(), SendFault>
         requires clock { MayStep now self.old }
         requires room { HasRoomFor 24 outbox.old }
@@ -100,7 +100,7 @@ impl Link {
     }
 
     /// A datagram has come. The inbox is emptied first, and then has the items that it brought.
-    #[tactic(auto, using(crate::proofs::Few::calls, crate::proofs::Keeping::kept, crate::proofs::Verdicts::verdicts, crate::proofs::Refusals::refusals), unfolding(crate::specs::Calls::receiving, crate::specs::Calls::hearing_bytes))]
+    #[tactic(auto, using(crate::proofs::Few::calls, crate::proofs::LinkIdentity::kept, crate::proofs::Verdicts::verdicts, crate::proofs::Refusals::refusals), unfolding(crate::specs::Calls::receiving, crate::specs::Calls::hearing_bytes))]
     pub fn receive(
         &mut self,
         now: Millis,

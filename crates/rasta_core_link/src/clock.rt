@@ -78,7 +78,7 @@ impl Link {
 
     /// Applies the clock rules alone: a link whose time has come has closed at that moment, however late the
     /// reading. Every other call does this first.
-    #[tactic(auto, using(crate::proofs::Keeping::kept), unfolding(crate::specs::Clock::settled))]
+    #[tactic(auto, using(crate::proofs::LinkIdentity::kept), unfolding(crate::specs::Clock::settled))]
     pub fn settle(&mut self, now: Millis)
         requires { MayStep now self.old }
         ensures link { self.new ≡ settled now self.old }

@@ -5,12 +5,12 @@
 mod admission;
 mod calls;
 mod clock;
+mod establishment;
 mod fault;
 mod header;
 mod identity;
 mod laws;
 mod link;
-mod opening;
 mod outbox;
 mod parameters;
 mod phase;

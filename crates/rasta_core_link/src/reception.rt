@@ -92,7 +92,7 @@ impl Link {
     }
 
     /// A PDU is taken: what it returns and confirms is kept.
-    #[tactic(auto, using(crate::proofs::Waiting::dropping), unfolding(crate::specs::Receipt::taking))]
+    #[tactic(auto, using(crate::proofs::UnconfirmedItems::dropping), unfolding(crate::specs::Receipt::taking))]
     fn take(&mut self, pdu: &Pdu)
         requires { IsTested pdu.now self.old }
         ensures { self.new ≡ taking pdu.now self.old }
@@ -107,7 +107,7 @@ impl Link {
     }
 
     /// A retransmission request is answered: the response, the items again, a heartbeat.
-    #[tactic(auto, using(crate::proofs::Waiting::repeating), unfolding(crate::specs::Receipt::answering, crate::specs::Receipt::repeating, crate::specs::PdusHandedOut::sending))]
+    #[tactic(auto, using(crate::proofs::UnconfirmedItems::repeating), unfolding(crate::specs::Receipt::answering, crate::specs::Receipt::repeating, crate::specs::PdusHandedOut::sending))]
     fn answer(&mut self, outbox: &mut Outbox)
         requires below { self.old.sent < connection_limit }
         requires room { HasRoomFor 22 outbox.old }
@@ -145,7 +145,7 @@ impl Link {
     }
 
     /// What the expected PDU brings, once it is taken.
-    #[tactic(auto, using(crate::proofs::Posting::posting), unfolding(crate::specs::Receipt::bringing, crate::specs::Receipt::handing))]
+    #[tactic(auto, using(crate::proofs::OutboxPosts::posting), unfolding(crate::specs::Receipt::bringing, crate::specs::Receipt::handing))]
     fn bring(&mut self, body: &Body, outbox: &mut Outbox, inbox: &mut Inbox) -> Verdict
         requires below { self.old.sent < connection_limit }
         requires room { HasRoomFor 22 outbox.old }
@@ -170,7 +170,7 @@ impl Link {
     }
 
     /// The PDU at the expected number is taken, and a later one shows that one is missing.
-    #[tactic(auto, using(crate::proofs::Posting::posting), unfolding(crate::specs::Receipt::in_turn, crate::specs::Receipt::taking))]
+    #[tactic(auto, using(crate::proofs::OutboxPosts::posting), unfolding(crate::specs::Receipt::in_turn, crate::specs::Receipt::taking))]
     fn follow(&mut self, pdu: &Pdu, outbox: &mut Outbox, inbox: &mut Inbox) -> Verdict
         requires ready { IsReady self.old outbox.old inbox.old.items }
         requires tested { IsTested pdu.now self.old }
@@ -194,7 +194,7 @@ impl Link {
     }
 
     /// What becomes of a PDU by its type and the phase, once its numbers and stamps were tested.
-    #[tactic(auto, using(crate::proofs::Posting::posting), unfolding(crate::specs::Receipt::admitting, crate::specs::Receipt::taking))]
+    #[tactic(auto, using(crate::proofs::OutboxPosts::posting), unfolding(crate::specs::Receipt::admitting, crate::specs::Receipt::taking))]
     fn admit(&mut self, pdu: &Pdu, outbox: &mut Outbox, inbox: &mut Inbox) -> Verdict
         requires ready { IsReady self.old outbox.old inbox.old.items }
         requires tested { IsTested pdu.now self.old }
@@ -218,7 +218,7 @@ impl Link {
     }
 
     /// The tests of numbers and stamps in a connection, in their order.
-    #[tactic(auto, using(crate::proofs::Posting::posting), unfolding(crate::specs::Receipt::testing))]
+    #[tactic(auto, using(crate::proofs::OutboxPosts::posting), unfolding(crate::specs::Receipt::testing))]
     fn test(&mut self, pdu: &Pdu, outbox: &mut Outbox, inbox: &mut Inbox) -> Verdict
         requires ready { IsReady self.old outbox.old inbox.old.items }
         ensures { IsDone (testing pdu.now self.old) self.old self.new outbox.old outbox.new inbox.new.items result }
@@ -245,7 +245,7 @@ impl Link {
     }
 
     /// In a connection.
-    #[tactic(auto, using(crate::proofs::Posting::posting), unfolding(crate::specs::Receipt::connected))]
+    #[tactic(auto, using(crate::proofs::OutboxPosts::posting), unfolding(crate::specs::Receipt::connected))]
     fn receive_connected(&mut self, pdu: &Pdu, outbox: &mut Outbox, inbox: &mut Inbox) -> Verdict
         requires ready { IsReady self.old outbox.old inbox.old.items }
         ensures { IsDone (connected pdu.now.body pdu.now self.old) self.old self.new outbox.old outbox.new inbox.new.items result }
@@ -266,7 +266,7 @@ impl Link {
     }
 
     /// At a client that asked for a connection.
-    #[tactic(auto, using(crate::proofs::Posting::posting), unfolding(crate::specs::Receipt::asking))]
+    #[tactic(auto, using(crate::proofs::OutboxPosts::posting), unfolding(crate::specs::Receipt::asking))]
     fn receive_asking(&mut self, pdu: &Pdu, outbox: &mut Outbox) -> Verdict
         requires open { IsTrue (is_open self.old.phase) }
         requires below { self.old.sent < connection_limit }
@@ -289,7 +289,7 @@ impl Link {
     }
 
     /// At an end that is down: only a server takes something, a request.
-    #[tactic(auto, using(crate::proofs::Posting::posting), unfolding(crate::specs::Receipt::resting))]
+    #[tactic(auto, using(crate::proofs::OutboxPosts::posting), unfolding(crate::specs::Receipt::resting))]
     fn receive_resting(&mut self, pdu: &Pdu, outbox: &mut Outbox) -> Verdict
         requires room { HasRoomFor 1 outbox.old }
         ensures { IsDone (resting pdu.now.body pdu.now self.old) self.old self.new outbox.old outbox.new [] result }
@@ -304,7 +304,7 @@ impl Link {
     }
 
     /// What the state makes of it.
-    #[tactic(auto, using(crate::proofs::Posting::posting), unfolding(crate::specs::Receipt::by_state, crate::specs::Clock::state_at))]
+    #[tactic(auto, using(crate::proofs::OutboxPosts::posting), unfolding(crate::specs::Receipt::by_state, crate::specs::Clock::state_at))]
     fn receive_by_state(&mut self, pdu: &Pdu, outbox: &mut Outbox, inbox: &mut Inbox) -> Verdict
         requires below { IsTrue (is_open self.old.phase) → self.old.sent < connection_limit }
         requires room { HasRoomFor 22 outbox.old }
@@ -320,7 +320,7 @@ impl Link {
     }
 
     /// Who it is for and from, and then the state.
-    #[tactic(auto, using(crate::proofs::Posting::posting), unfolding(crate::specs::Receipt::hearing))]
+    #[tactic(auto, using(crate::proofs::OutboxPosts::posting), unfolding(crate::specs::Receipt::hearing))]
     pub(crate) fn hear(&mut self, pdu: &Pdu, outbox: &mut Outbox, inbox: &mut Inbox) -> Verdict
         requires below { IsTrue (is_open self.old.phase) → self.old.sent < connection_limit }
         requires room { HasRoomFor 22 outbox.old }

@@ -99,7 +99,7 @@ impl Link {
     }
 
     /// Closes, and tells the partner where the reason is one that is told.
-    #[tactic(auto, using(crate::proofs::Posting::posting), unfolding(crate::specs::PdusHandedOut::closing))]
+    #[tactic(auto, using(crate::proofs::OutboxPosts::posting), unfolding(crate::specs::PdusHandedOut::closing))]
     pub(crate) fn shut(&mut self, why: Reason, outbox: &mut Outbox)
         requires open { IsTrue (is_open self.old.phase) }
         requires room { HasRoomFor 1 outbox.old }
@@ -114,7 +114,7 @@ impl Link {
     }
 
     /// An end that has sent so many PDUs in its connection closes it.
-    #[tactic(auto, using(crate::proofs::Posting::posting), unfolding(crate::specs::PdusHandedOut::limited))]
+    #[tactic(auto, using(crate::proofs::OutboxPosts::posting), unfolding(crate::specs::PdusHandedOut::limited))]
     fn limit(&mut self, outbox: &mut Outbox)
         requires room { HasRoomFor 1 outbox.old }
         ensures link { self.new ≡ (limited self.old).link }
@@ -140,7 +140,7 @@ impl Link {
     }
 
     /// A heartbeat, where it is up and was silent for 300 ms.
-    #[tactic(auto, using(crate::proofs::Posting::posting), unfolding(crate::specs::PdusHandedOut::beating))]
+    #[tactic(auto, using(crate::proofs::OutboxPosts::posting), unfolding(crate::specs::PdusHandedOut::beating))]
     pub(crate) fn beat(&mut self, outbox: &mut Outbox)
         requires below { IsTrue (is_open self.old.phase) → self.old.sent < connection_limit }
         requires room { HasRoomFor 1 outbox.old }
@@ -153,7 +153,7 @@ impl Link {
     }
 
     /// A new item goes out, and waits under the count of its PDU.
-    #[tactic(auto, using(crate::proofs::Posting::posting), unfolding(crate::specs::PdusHandedOut::sending, crate::specs::PdusHandedOut::giving))]
+    #[tactic(auto, using(crate::proofs::OutboxPosts::posting), unfolding(crate::specs::PdusHandedOut::sending, crate::specs::PdusHandedOut::giving))]
     pub(crate) fn give(&mut self, item: &Item, outbox: &mut Outbox)
         requires below { self.old.sent < connection_limit }
         requires window { length self.old.waiting < window_size }
@@ -171,7 +171,7 @@ impl Link {
     }
 
     /// The unconfirmed items go out again.
-    #[tactic(auto, using(crate::proofs::Waiting::repeating), unfolding(crate::specs::Receipt::repeating))]
+    #[tactic(auto, using(crate::proofs::UnconfirmedItems::repeating), unfolding(crate::specs::Receipt::repeating))]
     pub(crate) fn repeat(&mut self, outbox: &mut Outbox)
         requires below { self.old.sent ≤ connection_limit }
         requires room { HasRoomFor 20 outbox.old }

@@ -18,7 +18,7 @@ pub struct Unconfirmed {
 }
 
 /// Lets the items go that are confirmed: those with a tag up to this count.
-#[tactic(auto, using(crate::proofs::Waiting::dropping))]
+#[tactic(auto, using(crate::proofs::UnconfirmedItems::dropping))]
 pub(crate) fn drop_confirmed(waiting: &mut HeapCircularBuffer<Unconfirmed>, confirmed: u32)
     ensures { waiting.new ≡ buffer (still_waiting confirmed waiting.old.items) waiting.old.capacity }
 {

@@ -6,7 +6,7 @@ use Rattle.rasta_core_run.specs.Parameters.{own_version, window_size}
 use Rattle.rasta_core_run.specs.State.{LinkState, is_open, is_asking, is_client, is_up}
 use Rattle.rasta_core_run.specs.Clock.{settled, state_at, open_state}
 use Rattle.rasta_core_run.specs.PdusHandedOut.{Step, silent, then_do, sending, telling, closed, entered, limited, beating, pdu_of}
-use Rattle.rasta_core_run.specs.Opening.{meeting, judging, joining}
+use Rattle.rasta_core_run.specs.Establishment.{meeting, judging, joining}
 use Rattle.rasta_core_run.specs.Receipt.{refusing, violating, accepting, answers_request, connected, asking, by_state, hearing}
 use Rattle.rasta_core_run.specs.Calls.{ticking}
 use Rattle.rasta_core_run.specs.verdict.Verdict.TheVariants as verdict
@@ -28,7 +28,7 @@ use Rattle.rasta_core_recovery.proofs.Words.{IsTalk}
 use Rattle.rasta_core_recovery.proofs.Deed.{Deed, Leaves, leaves, keeps, asks, takes, hears, lives_state}
 use Rattle.rasta_core_recovery.proofs.Fold.{Out, Lively, heard_case, Next, gone_next, stays_next, all_hear, Work, gone_work, calm_work, beats_work, works, Begins, late, on, begins, stays_out, works_out, round_on}
 use Rattle.rasta_core_recovery.proofs.Course.{Joined, lively, taken_joined, asked_joined}
-use Rattle.rasta_core_recovery.proofs.Tuning.{each_append}
+use Rattle.rasta_core_recovery.proofs.TunedEnds.{each_append}
 use Rattle.rasta_core_recovery.proofs.Turn.{Either, gone, so, reading_joined, spoken_joined, Ended, gone_end, done, ends}
 
 abbrev pub IsTalkPdu : Pdu → Type 0

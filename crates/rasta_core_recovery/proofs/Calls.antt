@@ -4,7 +4,7 @@ use Rattle.std.proofs.lemmas.Bool.Decides.{nat_tests}
 use Rattle.rasta_core_run.specs.State.{LinkState, is_open, is_up, is_client}
 use Rattle.rasta_core_run.specs.Clock.{settled, deadline, state_at, open_state}
 use Rattle.rasta_core_run.specs.PdusHandedOut.{Step, silent, then_do, sending, limited, entered, beating}
-use Rattle.rasta_core_run.specs.Opening.{requesting, is_down, may_open}
+use Rattle.rasta_core_run.specs.Establishment.{requesting, is_down, may_open}
 use Rattle.rasta_core_run.specs.Receipt.{hearing}
 use Rattle.rasta_core_run.specs.Calls.{opening, ticking}
 use Rattle.rasta_core_run.specs.identity.Role.{Role}

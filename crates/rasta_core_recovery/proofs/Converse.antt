@@ -14,7 +14,7 @@ use Rattle.rasta_core_recovery.proofs.Healthy.{beats, waits}
 use Rattle.rasta_core_recovery.proofs.Calls.{at_reading}
 use Rattle.rasta_core_recovery.proofs.Words.{voice_of, Chain, chain_ends}
 use Rattle.rasta_core_recovery.proofs.Course.{Joined}
-use Rattle.rasta_core_recovery.proofs.Tuning.{IsPlainPdu, not_before, Shut, far_off, outdated, missed, stuck, nothing, unheard, Round, Bounds, Ghost, Tuned, Mode, Hearing}
+use Rattle.rasta_core_recovery.proofs.TunedEnds.{IsPlainPdu, not_before, Shut, far_off, outdated, missed, stuck, nothing, unheard, Round, Bounds, Ghost, Tuned, Mode, Hearing}
 use Rattle.rasta_core_recovery.proofs.Turn.{Either, gone, so, Notes, Turn, EndMode, turns}
 
 -- a tuned end takes what is under way to it, and has heard the last but that; one that isn't has heard nothing that was

@@ -11,7 +11,7 @@ pub mod Words
 pub mod Deed
 pub mod Fold
 pub mod Course
-pub mod Tuning
+pub mod TunedEnds
 pub mod Turn
 pub mod Asks
 pub mod Pasts

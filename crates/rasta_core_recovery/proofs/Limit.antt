@@ -5,7 +5,7 @@ use Rattle.rasta_core_run.specs.Sequence.{wire, stamp}
 use Rattle.rasta_core_run.specs.State.{LinkState, is_open}
 use Rattle.rasta_core_run.specs.PdusHandedOut.{Step, silent, then_do, sending, telling, limited, entered, beating, header_of, pdu_of}
 use Rattle.rasta_core_run.specs.Clock.{settled}
-use Rattle.rasta_core_run.specs.Opening.{requesting, may_open}
+use Rattle.rasta_core_run.specs.Establishment.{requesting, may_open}
 use Rattle.rasta_core_run.specs.Receipt.{hearing}
 use Rattle.rasta_core_run.specs.Calls.{opening, ticking}
 use Rattle.rasta_core_run.specs.identity.Role.{Role}

@@ -5,7 +5,7 @@ use Rattle.rasta_core_run.specs.Sequence.{wire, stamp, distance}
 use Rattle.rasta_core_run.specs.State.{LinkState}
 use Rattle.rasta_core_run.specs.Clock.{settled, deadline, state_at}
 use Rattle.rasta_core_run.specs.PdusHandedOut.{Step, silent, header_of, pdu_of, sending, limited, entered, beating}
-use Rattle.rasta_core_run.specs.Opening.{own_opening, beginning, requesting, meeting, judging, granting, joining}
+use Rattle.rasta_core_run.specs.Establishment.{own_opening, beginning, requesting, meeting, judging, granting, joining}
 use Rattle.rasta_core_run.specs.Receipt.{age, ahead, behind, still_waiting, taking, bringing, in_turn, admitting, testing, connected, asking, resting, by_state, hearing}
 use Rattle.rasta_core_run.specs.Calls.{opens, opening, ticking}
 use Rattle.rasta_core_run.specs.window.Unconfirmed.{Unconfirmed}

@@ -6,7 +6,7 @@ use Rattle.rasta_core_run.specs.Parameters.{own_version, window_size}
 use Rattle.rasta_core_run.specs.State.{LinkState, is_open, is_asking, is_client, is_up}
 use Rattle.rasta_core_run.specs.Clock.{settled, deadline, state_at, open_state}
 use Rattle.rasta_core_run.specs.PdusHandedOut.{Step, silent, sending, telling, closing, closed, entered, limited, beating, giving, is_told}
-use Rattle.rasta_core_run.specs.Opening.{beginning, meeting, judging, granting, requesting, may_open, own_opening}
+use Rattle.rasta_core_run.specs.Establishment.{beginning, meeting, judging, granting, requesting, may_open, own_opening}
 use Rattle.rasta_core_run.specs.Receipt.{refusing, accepting, resting, by_state, hearing}
 use Rattle.rasta_core_run.specs.Calls.{created, opening, ticking, closing_by, sending_item, acceptance, hearing_bytes, receiving}
 use Rattle.rasta_core_run.specs.PduRead.{reading}

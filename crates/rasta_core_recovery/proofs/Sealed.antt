@@ -10,7 +10,7 @@ use Rattle.rasta_core_run.specs.Names.{Names}
 use Rattle.rasta_core_recovery.proofs.Links.{Pair, pair_rounds}
 use Rattle.rasta_core_recovery.proofs.Healthy.{waits}
 use Rattle.rasta_core_recovery.proofs.Words.{Voice, Chain, chain_ends}
-use Rattle.rasta_core_recovery.proofs.Tuning.{IsPlainPdu, IsNoAnswerPdu, Round, Reached, unheard, waiting, off, low, Deaf, far_off, missed, stuck, nothing}
+use Rattle.rasta_core_recovery.proofs.TunedEnds.{IsPlainPdu, IsNoAnswerPdu, Round, Reached, unheard, waiting, off, low, Deaf, far_off, missed, stuck, nothing}
 use Rattle.rasta_core_recovery.proofs.Turn.{Notes}
 use Rattle.rasta_core_recovery.proofs.Converse.{Way, Talk, client_round, server_round, Goes, tuned_by_then}
 use Rattle.rasta_core_recovery.proofs.Seen.{Seen, Stay, talk_step, tuned_up}

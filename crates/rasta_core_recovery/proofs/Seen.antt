@@ -10,7 +10,7 @@ use Rattle.rasta_core_recovery.proofs.Healthy.{beats, count, IsRecent, IsSteady,
 use Rattle.rasta_core_recovery.proofs.Words.{Row, Voice, voice_of, IsNumbered, Chain, chain_ends}
 use Rattle.rasta_core_recovery.proofs.Course.{Joined}
 use Rattle.rasta_core_recovery.proofs.Fold.{Begins, late, on, begins, stays_out}
-use Rattle.rasta_core_recovery.proofs.Tuning.{Round}
+use Rattle.rasta_core_recovery.proofs.TunedEnds.{Round}
 use Rattle.rasta_core_recovery.proofs.Turn.{Either, gone, so, Numbers, numbers, Spoke, loosely}
 use Rattle.rasta_core_recovery.proofs.Converse.{Way, Talk, Goes, talks_on}
 use Rattle.rasta_core_recovery.proofs.Facts.{Young, Kept, Shares, Facts}

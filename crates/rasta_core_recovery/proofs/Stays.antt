@@ -4,7 +4,7 @@ use Rattle.std.proofs.lemmas.Bool.Decides.{nat_tests}
 use Rattle.rasta_core_run.specs.State.{LinkState, is_open, is_up, is_client}
 use Rattle.rasta_core_run.specs.Clock.{settled, deadline, state_at}
 use Rattle.rasta_core_run.specs.PdusHandedOut.{Step, silent, then_do, limited, entered, beating}
-use Rattle.rasta_core_run.specs.Opening.{requesting, may_open}
+use Rattle.rasta_core_run.specs.Establishment.{requesting, may_open}
 use Rattle.rasta_core_run.specs.verdict.Verdict.{Verdict}
 use Rattle.rasta_core_run.specs.verdict.Verdict.TheVariants as verdict
 use Rattle.rasta_core_run.specs.Receipt.{Receipt, refusing, by_state, hearing}

@@ -17,7 +17,7 @@ use Rattle.rasta_core_recovery.proofs.Words.{IsTalk, IsPlain, plain_talk, Row, V
 use Rattle.rasta_core_recovery.proofs.Deed.{Deed, leaves, keeps, asks, takes, hears}
 use Rattle.rasta_core_recovery.proofs.Fold.{Out, heard_case, Next, gone_next, stays_next, all_hear, Work, gone_work, calm_work, beats_work, works, Begins, late, on, begins, stays_out, works_out, round_on}
 use Rattle.rasta_core_recovery.proofs.Course.{Joined, lively, Goes, goes_none, goes_then, voice_goes, taken_joined, placed, answers_chain, asked_chain, asked_joined, asked_goes, taken_goes}
-use Rattle.rasta_core_recovery.proofs.Tuning.{IsPlainPdu, IsNoAnswerPdu, not_before, IsShut, IsOutdated, Reached, unheard, waiting, off, low, Deaf, each_append, Round, Bounds, Ghost, Tuned, Mode, Hearing, Answers, tunes}
+use Rattle.rasta_core_recovery.proofs.TunedEnds.{IsPlainPdu, IsNoAnswerPdu, not_before, IsShut, IsOutdated, Reached, unheard, waiting, off, low, Deaf, each_append, Round, Bounds, Ghost, Tuned, Mode, Hearing, Answers, tunes}
 
 -- ---- its own work
 

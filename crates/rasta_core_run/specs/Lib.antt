@@ -15,7 +15,7 @@ pub use Rattle.rasta_core_link.specs.Sequence
 pub use Rattle.rasta_core_link.specs.State
 pub use Rattle.rasta_core_link.specs.Clock
 pub use Rattle.rasta_core_link.specs.PdusHandedOut
-pub use Rattle.rasta_core_link.specs.Opening
+pub use Rattle.rasta_core_link.specs.Establishment
 pub use Rattle.rasta_core_link.specs.Receipt
 pub use Rattle.rasta_core_link.specs.Verdicts
 pub use Rattle.rasta_core_link.specs.Calls

@@ -10,11 +10,11 @@ mod clock;
 #[cfg(test)]
 mod digests;
 #[cfg(test)]
+mod establishment;
+#[cfg(test)]
 mod faults;
 #[cfg(test)]
 mod one_byte;
-#[cfg(test)]
-mod opening;
 #[cfg(test)]
 mod pdu_rows;
 #[cfg(test)]

@@ -1,2 +1,2 @@
-pub mod Applying
+pub mod WorldAnswers
 pub mod Verdicts

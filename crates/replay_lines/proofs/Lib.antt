@@ -4,6 +4,6 @@ pub mod NameWords
 pub mod Clocks
 pub mod LinesKept
 pub mod SessionsKept
-pub mod Standing
+pub mod AgreedSoFar
 pub mod ReadAgain
 pub mod Placed

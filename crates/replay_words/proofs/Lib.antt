@@ -1,4 +1,4 @@
 pub mod Cuts
 pub mod Spelled
 pub mod Written
-pub mod Taking
+pub mod TextInParts

@@ -6,7 +6,7 @@ ghost use Rattle.std.specs.Io.KnownBytes.{Appends};
 use std::io::{ErrorKind, Write};
 
 /// Writes a text to its end, or as far as the writer takes it, and answers how far that is.
-#[tactic(auto, using(crate::proofs::Taking::more_taken, crate::proofs::Taking::none_taken))]
+#[tactic(auto, using(crate::proofs::TextInParts::more_taken, crate::proofs::TextInParts::none_taken))]
 pub fn write_as_taken<E: Write>(text: &[u8], err: &mut E) -> usize
     ensures bound { result ≤ length text.now }
     ensures bytes { Appends (E.contents err.old) (E.contents err.new) (take result text.now) }

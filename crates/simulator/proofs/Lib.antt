@@ -1,10 +1,10 @@
 mod Below
-mod Coming
+mod ContactReaches
 mod Few
-mod Going
+mod PartsOfWorld
 mod Lines
 mod Memory
-mod Reading
+mod ControllerReadings
 mod Runs
 mod Whole
 mod Within

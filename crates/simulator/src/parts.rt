@@ -90,7 +90,7 @@ impl Parts {
     }
 
     /// The side to which a point is driven at its controller's clock.
-    #[tactic(auto, using(crate::proofs::Reading::driven_read))]
+    #[tactic(auto, using(crate::proofs::ControllerReadings::driven_read))]
     pub(crate) fn driven(&self, point: PointId) -> Option<Side>
         requires { point.0 < length self.now.controllers.points.items }
         ensures { result ≡ driven_at point.0 self.now.controllers.points.items }

@@ -21,7 +21,7 @@ use Rattle.simulator_run.specs.Controllers.{controller_after, is_inside_at, is_s
 use Rattle.simulator_run.specs.State.{ClockedControllerState}
 use Rattle.simulator_field.specs.declared.stay.Stay.{Stay}
 use Rattle.simulator_field.specs.inside.Stay.{noted}
-use Rattle.simulator_field.proofs.Taking.{by_server}
+use Rattle.simulator_field.proofs.OutboxTaken.{by_server}
 
 -- ---- whether a link is in a connection
 

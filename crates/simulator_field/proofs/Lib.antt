@@ -4,7 +4,7 @@ mod Order
 mod Searches
 mod Views
 mod Below
-mod Taking
+mod OutboxTaken
 mod Inside
 mod Lists
 mod Changes

@@ -18,7 +18,7 @@ use Rattle.simulator_run.specs.Controllers.{controller_after, sent_by_controller
 use Rattle.simulator_run.specs.State.{ClockedControllerState, WorldState}
 use Rattle.simulator_headline.specs.Represents.{IsNetworkOf, Represents, RepresentsAfter}
 use Rattle.simulator_headline.specs.Change.{NoneChanges}
-use Rattle.simulator_headline.proofs.ControllerStepping.{CallLaws, SeesAnew, clients_anew, clients_stepped, servers_anew, servers_stepped}
+use Rattle.simulator_headline.proofs.ControllerSteps.{CallLaws, SeesAnew, clients_anew, clients_stepped, servers_anew, servers_stepped}
 
 abbrev pub NoneLaw : Type 0
 NoneLaw = (site : Site) (table : Table) (world new : WorldState) (machine : Machine) (represented : Represents site table world machine) (after : Links)

@@ -52,7 +52,7 @@ use Rattle.simulator_headline.specs.Represents.{IsHostOf, IsNetworkOf, Represent
 use Rattle.simulator_headline.specs.Change.{PointChanges}
 use Rattle.simulator_headline.proofs.AtSignals.{named_still}
 use Rattle.simulator_headline.proofs.ControllerLists.{changed_one, get_set, get_set_other, length_set, none_some, some_within, within_some}
-use Rattle.simulator_headline.proofs.ControllerStepping.{LinkLaws, clients_anew, clients_stepped, host_after, host_anew, own_anew, own_stepped, servers_anew, servers_stepped}
+use Rattle.simulator_headline.proofs.ControllerSteps.{LinkLaws, clients_anew, clients_stepped, host_after, host_anew, own_anew, own_stepped, servers_anew, servers_stepped}
 
 -- the laws of points that this stands on
 pub record PointLaws : Type 0 where

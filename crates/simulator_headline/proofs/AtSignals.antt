@@ -43,7 +43,7 @@ use Rattle.simulator_run.specs.State.{ClockedControllerState, WorldState}
 use Rattle.simulator_headline.specs.Represents.{IsHostOf, IsNetworkOf, Represents, RepresentsAfter}
 use Rattle.simulator_headline.specs.Change.{SignalChanges}
 use Rattle.simulator_headline.proofs.ControllerLists.{changed_one, some_within, within_some}
-use Rattle.simulator_headline.proofs.ControllerStepping.{LinkLaws, clients_anew, clients_stepped, host_after, host_anew, own_anew, own_stepped, servers_anew, servers_stepped}
+use Rattle.simulator_headline.proofs.ControllerSteps.{LinkLaws, clients_anew, clients_stepped, host_after, host_anew, own_anew, own_stepped, servers_anew, servers_stepped}
 
 -- the laws of signals that this stands on
 pub record SignalLaws : Type 0 where

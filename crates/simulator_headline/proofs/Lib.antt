@@ -1,6 +1,6 @@
 pub mod FarEndCalls
 pub mod Told
-pub mod Knowing
+pub mod ClientKnowledge
 pub mod Quiet
 pub mod Readable
 mod WorldLists
@@ -18,14 +18,14 @@ mod StationLists
 mod StationCalls
 mod StationEnds
 mod Step
-mod StationStepping
+mod InterlockingSteps
 mod Restart
-mod Passing
+mod TimePasses
 mod Time
 mod ControllerLists
 mod Elsewhere
 mod Changed
-mod ControllerStepping
+mod ControllerSteps
 mod AtSignals
 mod AtPoints
 mod ControllersReached

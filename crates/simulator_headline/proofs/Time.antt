@@ -46,7 +46,7 @@ use Rattle.simulator_run.specs.Controllers as servers_of
 use Rattle.simulator_run.specs.State.{ClockedControllerState, WorldState}
 use Rattle.simulator_headline.specs.Represents.{AreFrozen, ArePointsSeen, AreSignalsSeen, IsHostOf, IsNetworkOf, Represents, RepresentsAfter, IsInterlockingSeen, given_in}
 use Rattle.simulator_headline.specs.Seen.{AreHeldPairs}
-use Rattle.simulator_headline.proofs.Passing.{client_seen, point_passed, server_seen, signal_passed}
+use Rattle.simulator_headline.proofs.TimePasses.{client_seen, point_passed, server_seen, signal_passed}
 use Rattle.simulator_headline.proofs.StationEnds.{EndLaws, server_represented}
 use Rattle.simulator_headline.proofs.StationLists.{get_below, none_above, none_long, within_some}
 

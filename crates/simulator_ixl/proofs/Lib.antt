@@ -3,4 +3,4 @@ mod Clocks
 mod Made
 mod Pairs
 mod Places
-mod Sending
+mod DatagramsSent

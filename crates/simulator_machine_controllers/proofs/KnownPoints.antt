@@ -35,7 +35,7 @@ use Rattle.simulator_machine_controllers.specs.Ends.{IsAtEnd, Steps, hosted_on}
 use Rattle.simulator_machine_controllers.specs.Point.{AreSaid, IsMovedDriven, IsNamed, IsPointSeen, PointGoes}
 use Rattle.simulator_machine_controllers.proofs.Moves.{IsTrueAt, Leads, Work, joined, made_more, one, work_leads, worked}
 use Rattle.simulator_machine_controllers.proofs.Places.{gone_where_closed, in_where_open}
-use Rattle.simulator_machine_controllers.proofs.Telling.{answers_tell_none, finals_tell_each, finals_true, initial_tells_one, initial_true, items_said, moves_same, nothing_said, positions_in, positions_join, said_by_same, said_items_tell, said_then, some_finals}
+use Rattle.simulator_machine_controllers.proofs.ItemsTold.{answers_tell_none, finals_tell_each, finals_true, initial_tells_one, initial_true, items_said, moves_same, nothing_said, positions_in, positions_join, said_by_same, said_items_tell, said_then, some_finals}
 use Rattle.simulator_machine_controllers.proofs.Starts.{Starts}
 
 -- a list of moves that leads to what is seen

@@ -3,7 +3,7 @@ pub mod Places
 pub mod Lamps
 pub mod Turns
 pub mod Moves
-pub mod Telling
+pub mod ItemsTold
 pub mod Starts
 pub mod KnownPoints
 pub mod Reported

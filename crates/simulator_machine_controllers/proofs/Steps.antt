@@ -29,7 +29,7 @@ use Rattle.simulator_machine_controllers.proofs.Moves.{one}
 use Rattle.simulator_machine_controllers.proofs.Places.{gone_where_closed, in_where_open, server_opens_none}
 use Rattle.simulator_machine_controllers.proofs.Starts.{starts_entering, starts_inside}
 use Rattle.simulator_machine_controllers.proofs.KnownPoints.{IsStep, inside_goes}
-use Rattle.simulator_machine_controllers.proofs.Telling.{said_by_same}
+use Rattle.simulator_machine_controllers.proofs.ItemsTold.{said_by_same}
 use Rattle.simulator_machine_controllers.proofs.Turns.{linked_seen, reports_stay}
 
 -- an end that has left, or that has entered, hasn't the connection before it

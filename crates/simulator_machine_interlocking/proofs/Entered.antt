@@ -4,7 +4,7 @@ use Rattle.std.specs.Prelude.{◌&&◌, ◌-◌, nat_le, nat_lt}
 use Rattle.std.proofs.lemmas.Bool.{true≢false, false≢true, lt-ltb}
 use Rattle.ixl_rules.specs.rasta_core.Calls.{opening, opens, ticking}
 use Rattle.ixl_rules.specs.rasta_core.Clock.{deadline, settled, state_at}
-use Rattle.ixl_rules.specs.rasta_core.Opening.{beginning, is_down, may_open, requesting}
+use Rattle.ixl_rules.specs.rasta_core.Establishment.{beginning, is_down, may_open, requesting}
 use Rattle.ixl_rules.specs.rasta_core.Parameters.{connection_limit, heartbeat_interval, quiet_time, time_limit}
 use Rattle.ixl_rules.specs.rasta_core.PdusHandedOut.{Step, beating, closed, entered, limited, sending, silent, telling}
 use Rattle.ixl_rules.specs.rasta_core.State.{LinkState, confirmed_items, is_client, is_open, is_up}

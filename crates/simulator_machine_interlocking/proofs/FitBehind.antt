@@ -16,9 +16,9 @@ use Rattle.simulator_machine_interlocking.specs.Link.{ClientFits, is_inside}
 use Rattle.simulator_machine_interlocking.proofs.Places.{open_inside}
 use Rattle.simulator_machine_interlocking.proofs.Clients.{Standing}
 use Rattle.simulator_machine_interlocking.proofs.Entered.{TickedAnew, TickedOn, ticked_link, ticks_anew, ticks_on}
-use Rattle.simulator_machine_interlocking.proofs.Fitting.{begins, commands_on, fits_behind, inside_ready}
-use Rattle.simulator_machine_interlocking.proofs.Hearing.{hears}
-use Rattle.simulator_machine_interlocking.proofs.Ticking.{anew_fits, anew_outside, ticking_calls, ticking_client, two_take, went_fits}
+use Rattle.simulator_machine_interlocking.proofs.ClientFits.{begins, commands_on, fits_behind, inside_ready}
+use Rattle.simulator_machine_interlocking.proofs.DatagramHeard.{hears}
+use Rattle.simulator_machine_interlocking.proofs.ClientTicks.{anew_fits, anew_outside, ticking_calls, ticking_client, two_take, went_fits}
 
 module _ (now : ℕ) (client : ClientState) (outbox : OutboxState) (items : Items) (commands : List Command) (fits : ClientFits now client items commands) (alive : IsAlive now client.link) where
   inside : is_open client.link.phase ≡ true → is_inside now client.link ≡ true

@@ -38,7 +38,7 @@ use Rattle.simulator_machine_interlocking.proofs.Nodes.{known_signal_hears}
 use Rattle.simulator_machine_interlocking.proofs.Routes.{route_on, route_same}
 use Rattle.simulator_machine_interlocking.proofs.RulesKept.{one_move}
 use Rattle.simulator_machine_interlocking.proofs.KnownPointNodes.{known_point_hears}
-use Rattle.simulator_machine_interlocking.proofs.Watching.{detector_hears}
+use Rattle.simulator_machine_interlocking.proofs.UnseenWatches.{detector_hears}
 
 not_refused : (fails : Bool) (told : Refusal) (otherwise : Option Refusal) → refused_where fails told otherwise ≡ None → (fails ≡ false) × (otherwise ≡ None)
 not_refused true told otherwise is = absurd (cc (is))

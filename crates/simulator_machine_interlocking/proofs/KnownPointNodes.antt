@@ -33,10 +33,10 @@ use Rattle.simulator_machine_interlocking.proofs.Places.{inside_open, open_insid
 use Rattle.simulator_machine_interlocking.proofs.Clients.{Standing, calls_go, calls_then, items_then, link_then}
 use Rattle.simulator_machine_interlocking.proofs.Phases.{Goes, stays_open, up_is_open}
 use Rattle.ixl_rules.specs.ixl_client.Made.{link_after}
-use Rattle.simulator_machine_interlocking.proofs.Hearing.{hears}
-use Rattle.simulator_machine_interlocking.proofs.Fitting.{Commanded, begins, commands_on}
+use Rattle.simulator_machine_interlocking.proofs.DatagramHeard.{hears}
+use Rattle.simulator_machine_interlocking.proofs.ClientFits.{Commanded, begins, commands_on}
 use Rattle.simulator_machine_interlocking.specs.MachineSoFar.{During, Leads, KnownPointDuring}
-use Rattle.simulator_machine_interlocking.proofs.KnownPointing.{NextKnownPoint, first_known_point, known_point_facts, known_point_next, known_point_next_from}
+use Rattle.simulator_machine_interlocking.proofs.KnownPoint.{NextKnownPoint, first_known_point, known_point_facts, known_point_next, known_point_next_from}
 use Rattle.simulator_machine_interlocking.proofs.Signals.{all_hear, heard_all, may_hear}
 use Rattle.simulator_machine_interlocking.proofs.Nodes.{last_one, length_one, length_same, shut_not_open, stays_so}
 use Rattle.simulator_machine_interlocking.proofs.Changes.{at_here, at_other}

@@ -8,20 +8,20 @@ pub mod Receipts
 pub mod Calls
 pub mod Courses
 pub mod Clients
-pub mod Hearing
-pub mod Fitting
+pub mod DatagramHeard
+pub mod ClientFits
 pub mod Settled
 pub mod Entered
-pub mod Ticking
+pub mod ClientTicks
 pub mod FitBehind
 pub mod Totals
 pub mod Signals
-pub mod During
-pub mod KnownPointing
+pub mod MachineSoFar
+pub mod KnownPoint
 pub mod Nodes
 pub mod KnownPointNodes
 pub mod Routes
-pub mod Watching
+pub mod UnseenWatches
 pub mod NodeTicks
 pub mod Ticks
 mod Guards
@@ -32,6 +32,6 @@ mod Given
 mod Steps
 mod StepsSeen
 mod Whole
-mod Passing
+mod ClockPasses
 mod Anew
 mod Events

@@ -38,12 +38,12 @@ use Rattle.simulator_machine_interlocking.proofs.Places.{inside_start, open_insi
 use Rattle.simulator_machine_interlocking.proofs.Calls.{ticking_goes}
 use Rattle.simulator_machine_interlocking.proofs.Clients.{calls_then, items_one, items_then, link_one, link_then}
 use Rattle.simulator_machine_interlocking.proofs.Signals.{PointGoes, SignalGoes}
-use Rattle.simulator_machine_interlocking.proofs.During.{known_signal_arrives, known_signal_client, known_signal_facts, signal_facts_stay, stays_closed}
-use Rattle.simulator_machine_interlocking.proofs.KnownPointing.{point_facts_stay, known_point_arrives, known_point_client, known_point_facts}
+use Rattle.simulator_machine_interlocking.proofs.MachineSoFar.{known_signal_arrives, known_signal_client, known_signal_facts, signal_facts_stay, stays_closed}
+use Rattle.simulator_machine_interlocking.proofs.KnownPoint.{point_facts_stay, known_point_arrives, known_point_client, known_point_facts}
 use Rattle.simulator_machine_interlocking.proofs.Made.{link_quiet}
 use Rattle.simulator_machine_interlocking.proofs.Entered.{TickedAnew, TickedOn, down_at, opens_down, point_facts_entered, signal_facts_entered, ticked_link, ticks_anew, ticks_on}
-use Rattle.simulator_machine_interlocking.proofs.Fitting.{fallen_link}
-use Rattle.simulator_machine_interlocking.proofs.Ticking.{anew_fits, anew_outside, begins_where_opened, fallen_peer, still_down, ticks_take, two_calls, two_take, went_fits, went_inside, went_link, went_stage}
+use Rattle.simulator_machine_interlocking.proofs.ClientFits.{fallen_link}
+use Rattle.simulator_machine_interlocking.proofs.ClientTicks.{anew_fits, anew_outside, begins_where_opened, fallen_peer, still_down, ticks_take, two_calls, two_take, went_fits, went_inside, went_link, went_stage}
 
 -- moves of one signal, or of one point, that come to this
 pub record SignalComes (Is : MachineSignal → Type 0) (old : MachineSignal) : Type 0 where

@@ -33,10 +33,10 @@ use Rattle.simulator_machine_interlocking.specs.Totals.{IsReadable}
 use Rattle.simulator_machine_interlocking.proofs.Totals.{calls_say, datagram_calls, no_aspects, said_one, same_aspect}
 use Rattle.simulator_machine_interlocking.proofs.Places.{inside_open, open_inside}
 use Rattle.simulator_machine_interlocking.proofs.Clients.{Standing}
-use Rattle.simulator_machine_interlocking.proofs.Hearing.{hears}
-use Rattle.simulator_machine_interlocking.proofs.Fitting.{Commanded, begins, commands_on}
+use Rattle.simulator_machine_interlocking.proofs.DatagramHeard.{hears}
+use Rattle.simulator_machine_interlocking.proofs.ClientFits.{Commanded, begins, commands_on}
 use Rattle.simulator_machine_interlocking.specs.MachineSoFar.{During, KnownSignalDuring, Leads}
-use Rattle.simulator_machine_interlocking.proofs.During.{NextKnownSignal, known_signal_facts, known_signal_next}
+use Rattle.simulator_machine_interlocking.proofs.MachineSoFar.{NextKnownSignal, known_signal_facts, known_signal_next}
 use Rattle.simulator_machine_interlocking.proofs.Changes.{at_here, at_other}
 
 pub stays_so : (table : Table) (machine : Machine) → MovesTo table machine machine

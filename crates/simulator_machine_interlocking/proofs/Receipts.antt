@@ -12,7 +12,7 @@ use Rattle.ixl_rules.specs.rasta_pdu.declared.body.Body.TheVariants.{ConnectionR
 use Rattle.ixl_rules.specs.rasta_pdu.declared.fault.PduFault.{PduFault}
 use Rattle.ixl_rules.specs.rasta_core.Clock.{deadline, settled, state_at, open_state}
 use Rattle.ixl_rules.specs.rasta_core.Calls.{hearing_bytes, receiving}
-use Rattle.ixl_rules.specs.rasta_core.Opening.{joining, judging, meeting}
+use Rattle.ixl_rules.specs.rasta_core.Establishment.{joining, judging, meeting}
 use Rattle.ixl_rules.specs.rasta_core.Parameters.{connection_limit, own_version, quiet_time, sequence_range, window_size}
 use Rattle.ixl_rules.specs.rasta_core.Receipt.{Receipt, admission, admitting, ahead, answering, asking, bringing, by_state, connected, handing, hearing, in_turn, missing, repeating, resting, taking, testing, violating, is_stale, confirms, is_opening_again, answers_request, up as upped}
 use Rattle.ixl_rules.specs.rasta_core.PdusHandedOut.{Step, closed, entered, limited, sending, silent, telling}

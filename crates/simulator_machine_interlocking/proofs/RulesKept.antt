@@ -36,8 +36,8 @@ use Rattle.simulator_machine_interlocking.proofs.Tests.{by_test, both_true, not_
 use Rattle.simulator_machine_interlocking.proofs.Phases.{up_is_open}
 use Rattle.simulator_machine_interlocking.proofs.Places.{inside_up, open_inside}
 use Rattle.simulator_machine_interlocking.specs.MachineSoFar.{During, KnownSignalDuring, Leads, KnownPointDuring}
-use Rattle.simulator_machine_interlocking.proofs.During.{first_known_signal, known_signal_facts}
-use Rattle.simulator_machine_interlocking.proofs.KnownPointing.{first_known_point, known_point_facts}
+use Rattle.simulator_machine_interlocking.proofs.MachineSoFar.{first_known_signal, known_signal_facts}
+use Rattle.simulator_machine_interlocking.proofs.KnownPoint.{first_known_point, known_point_facts}
 use Rattle.simulator_machine_interlocking.proofs.Nodes.{aspect_given_on, ready_inside}
 use Rattle.simulator_machine_interlocking.proofs.KnownPointNodes.{move_given_on}
 use Rattle.simulator_machine_interlocking.proofs.Routes.{along_kept, at_kept, over_kept, route_on, route_same}

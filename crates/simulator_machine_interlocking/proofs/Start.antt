@@ -26,13 +26,13 @@ use Rattle.simulator_machine_interlocking.specs.Nodes.{IsLastGiven, IsOfPoint, K
 use Rattle.simulator_machine_interlocking.specs.Sees.{Given, IsClosedSince, Sees, SeesPoint, SeesSignal}
 use Rattle.simulator_machine_interlocking.specs.Telegrams.{AreHeard, given_by, position_seen, positions_told}
 use Rattle.simulator_machine_interlocking.proofs.Tests.{by_test}
-use Rattle.simulator_machine_interlocking.proofs.During.{stays_closed}
-use Rattle.simulator_machine_interlocking.proofs.Fitting.{fallen_link, not_ready}
-use Rattle.simulator_machine_interlocking.proofs.Hearing.{is_outside_at}
+use Rattle.simulator_machine_interlocking.proofs.MachineSoFar.{stays_closed}
+use Rattle.simulator_machine_interlocking.proofs.ClientFits.{fallen_link, not_ready}
+use Rattle.simulator_machine_interlocking.proofs.DatagramHeard.{is_outside_at}
 use Rattle.simulator_machine_interlocking.proofs.Nodes.{stays_so}
 use Rattle.simulator_machine_interlocking.proofs.Receipts.{settled_goes}
 use Rattle.simulator_machine_interlocking.proofs.Settled.{confirmed_settled, inside_settled, phase_settled, place_settled, up_settled}
-use Rattle.simulator_machine_interlocking.proofs.KnownPointing.{none_heard}
+use Rattle.simulator_machine_interlocking.proofs.KnownPoint.{none_heard}
 
 pub clocked_link : (now : ℕ) (client : ClientState) → (clocked now client).link ≡ settled now client.link
 unfolding clocked

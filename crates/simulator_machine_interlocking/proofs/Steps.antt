@@ -27,7 +27,7 @@ use Rattle.simulator_machine_interlocking.specs.Sees.{Sees}
 use Rattle.simulator_machine_interlocking.proofs.Given.{inputs_kept}
 use Rattle.simulator_machine_interlocking.proofs.RulesKept.{rules_kept}
 use Rattle.simulator_machine_interlocking.proofs.Start.{begins_so}
-use Rattle.simulator_machine_interlocking.proofs.Watching.{all_watch}
+use Rattle.simulator_machine_interlocking.proofs.UnseenWatches.{all_watch}
 
 module _ (now : ℕ) (input : Input) (rows : Rows) (ixl : IxlState) (given : Given) (machine : Machine) (far : FarEnds now input ixl given machine)
     (chain_signal : (machine : Machine) (place : ℕ) (moves : List SignalMove) → SignalMayChain moves (machine.signals place)

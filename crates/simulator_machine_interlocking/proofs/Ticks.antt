@@ -21,10 +21,10 @@ use Rattle.simulator_machine_interlocking.specs.Facts.{FarEnds}
 use Rattle.simulator_machine_interlocking.specs.Sees.{Given}
 use Rattle.simulator_machine_interlocking.specs.Step.{PointIsLeft, SignalIsLeft}
 use Rattle.simulator_machine_interlocking.proofs.Changes.{at_here, at_other, changed_elsewhere, changed_here, noted_elsewhere, noted_here, same_is, same_self}
-use Rattle.simulator_machine_interlocking.proofs.During.{first_known_signal}
-use Rattle.simulator_machine_interlocking.proofs.KnownPointing.{first_known_point}
+use Rattle.simulator_machine_interlocking.proofs.MachineSoFar.{first_known_signal}
+use Rattle.simulator_machine_interlocking.proofs.KnownPoint.{first_known_point}
 use Rattle.simulator_machine_interlocking.proofs.Routes.{over_kept}
-use Rattle.simulator_machine_interlocking.proofs.Ticking.{none_begins, ticking_calls, ticking_client}
+use Rattle.simulator_machine_interlocking.proofs.ClientTicks.{none_begins, ticking_calls, ticking_client}
 use Rattle.simulator_machine_interlocking.proofs.NodeTicks.{PointComes, SignalComes, known_signal_ticks, known_point_ticks}
 
 -- what is so of all below one number is so, behind it, of all below the next

@@ -17,7 +17,7 @@ use Rattle.rasta_core.specs.identity.Role.TheVariants as role
 use Rattle.simulator_machine.specs.Link.{Server, Before, Link}
 use Rattle.simulator_machine_links.specs.Flows.{ClientIsAfter, begins, given_after, given_by, has_begun, taken_after, taken_by, EntersRightly}
 use Rattle.simulator_machine_links.specs.EndsSeen.{server_of, is_inside, is_same_connection, represented, server_in, state_of}
-use Rattle.simulator_machine_links.proofs.Entering.{TakingLaws, enters_by, of_last}
+use Rattle.simulator_machine_links.proofs.EndEnters.{TakingLaws, enters_by, of_last}
 
 -- ---- what may be made stays so
 

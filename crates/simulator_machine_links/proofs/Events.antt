@@ -19,7 +19,7 @@ use Rattle.simulator_machine.specs.Link.{Client, Quiet, Down, Start, Up, Server,
 use Rattle.simulator_machine_links.specs.LinkMoves.{LinkGoes, moves_between, moves_by, server_enters, server_moves}
 use Rattle.simulator_machine_links.specs.EndsSeen.{client_in, client_of, is_inside, is_same_connection, represented, server_in, server_of, state_of}
 use Rattle.simulator_machine_links.proofs.Chains.{ClientMay, ServerMay, both_go, link, opening_goes}
-use Rattle.simulator_machine_links.proofs.Entering.{EntersBy, TakingLaws, enters_by, not_down, of_last, opening_start, opens_down}
+use Rattle.simulator_machine_links.proofs.EndEnters.{EntersBy, TakingLaws, enters_by, not_down, of_last, opening_start, opens_down}
 use Rattle.simulator_machine_links.proofs.Goes.{EntersNone, PlaceLaws, StaysUp, none_entered, same_self, IsMoved, by_phases}
 use Rattle.simulator_machine_links.proofs.Phases.{closing_by_fine, fine_up, opening_none_fine, receiving_fine, sending_item_fine, server_opens, settled_fine, ticking_fine, up_fine}
 use Rattle.simulator_machine_links.proofs.States.{IsShut, client_start, inside_shut, is_down}

@@ -4,7 +4,7 @@ use Rattle.std.specs.Prelude.{◌==◌, if◌then◌else◌, is_ok}
 use Rattle.rasta_core.specs.Parameters.{connection_limit, heartbeat_interval, sequence_range, quiet_time}
 use Rattle.rasta_core.specs.Clock.{deadline, open_state, settled, state_at}
 use Rattle.rasta_core.specs.State.{LinkState, is_client, is_open, is_up}
-use Rattle.rasta_core.specs.Opening.{is_down, may_open, requesting}
+use Rattle.rasta_core.specs.Establishment.{is_down, may_open, requesting}
 use Rattle.rasta_core.specs.PdusHandedOut.{Step, silent, entered, limited, sending, telling, beating, giving, closing}
 use Rattle.rasta_core.specs.Receipt.{Receipt, admission, admitting, ahead, answering, bringing, by_state, confirms, connected, handing, hearing, in_turn, is_opening_again, is_stale, missing, refusing, repeating, resting, taking, testing, violating}
 use Rattle.rasta_core.specs.Calls.{acceptance, closing_by, hearing_bytes, opening, opens, receiving, sending_item, ticking}

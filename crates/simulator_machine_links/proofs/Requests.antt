@@ -1,6 +1,6 @@
 -- A connection request is handed out where a client begins a connection, and nowhere else.
 use Rattle.simulator_machine_links.proofs.States.{IsSettled}
-use Rattle.simulator_machine_links.proofs.Entering.{later_not_down, told_shut, and_second}
+use Rattle.simulator_machine_links.proofs.EndEnters.{later_not_down, told_shut, and_second}
 use Rattle.std.proofs.Common.{◌≡◌, ℕ, true, false, ◌&&◌, not, nat_le, nat_lt, ◌-◌, ◌+◌, List, [], ◌∷◌, ◌++◌, Result, Ok, Err, refl, sym, subst}
 use Rattle.std.specs.Prelude.{◌==◌, if◌then◌else◌, is_ok, nat_eq}
 use Rattle.std.specs.Cmp.Lexicographic.{pointwise}
@@ -9,7 +9,7 @@ use Rattle.rasta_core.specs.Clock.{settled, state_at}
 use Rattle.rasta_core.specs.Ends.{Call, Ticks, Opens, Closes, Sends, Receives}
 use Rattle.rasta_core.specs.State.{LinkState, is_client, is_open, is_up}
 use Rattle.rasta_core.specs.Steps.{made_by}
-use Rattle.rasta_core.specs.Opening.{beginning, granting, joining, judging, may_open, meeting, own_opening, requesting}
+use Rattle.rasta_core.specs.Establishment.{beginning, granting, joining, judging, may_open, meeting, own_opening, requesting}
 use Rattle.rasta_core.specs.PdusHandedOut.{Step, beating, closed, closing, entered, giving, limited, pdu_of, sending, silent, telling}
 use Rattle.rasta_core.specs.Receipt.{Receipt, accepting, admission, admitting, ahead, answering, answers_request, asking, bringing, by_state, confirms, connected, handing, hearing, in_turn, is_opening_again, is_stale, missing, refusing, repeated, repeating, resting, taking, testing, violating}
 use Rattle.rasta_core.specs.Calls.{acceptance, closing_by, hearing_bytes, opening, opens, receiving, sending_item, ticking}

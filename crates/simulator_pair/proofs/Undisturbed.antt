@@ -6,7 +6,7 @@ use Rattle.std.proofs.lemmas.List.{append-nil}
 use Rattle.rasta_core.specs.Calls.{hearing_bytes, receiving}
 use Rattle.rasta_core.specs.Clock.{deadline, state_at}
 use Rattle.rasta_core.specs.Ends.{is_taken, reading_of}
-use Rattle.rasta_core.specs.Opening.{granting}
+use Rattle.rasta_core.specs.Establishment.{granting}
 use Rattle.rasta_core.specs.Parameters.{quiet_time}
 use Rattle.rasta_core.specs.Receipt.{Receipt, accepting, by_state, hearing, refusing, resting}
 use Rattle.rasta_core.specs.Run.{Ends, end_of}

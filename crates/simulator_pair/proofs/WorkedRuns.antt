@@ -7,7 +7,7 @@ use Rattle.rasta_pdu.specs.PduRead.{text_of, opening_of, disconnection_of, nothi
 use Rattle.rasta_core.specs.Calls.{created, opens, opening, ticking, closing_by, sending_item, acceptance, answer_to_send, hearing_bytes, receiving}
 use Rattle.rasta_core.specs.Clock.{settled, deadline, alive_until, quiet_until, state_at, is_up_at}
 use Rattle.rasta_core.specs.PdusHandedOut.{header_of, pdu_of, sending, telling, limited, entered, beating, giving, closing}
-use Rattle.rasta_core.specs.Opening.{beginning, requesting, meeting, judging, granting, joining}
+use Rattle.rasta_core.specs.Establishment.{beginning, requesting, meeting, judging, granting, joining}
 use Rattle.rasta_core.specs.Receipt.{age, ahead, behind, still_waiting, taking, repeated, retagged, repeating, answering, missing, handing, bringing, in_turn, admitting, testing, connected, asking, resting, by_state, hearing}
 use Rattle.rasta_core.specs.Ends.{outcome, end_after, end_later, end_restarted}
 use Rattle.rasta_core.specs.Run.{called, later, restarted}

@@ -1,6 +1,6 @@
-pub mod Answering
+pub mod EventAnswers
 pub mod Judged
 pub mod Names
 pub mod Rounds
 pub mod Transcripts
-pub mod Reading
+pub mod CommandLineRead

@@ -30,7 +30,7 @@ use Rattle.simulator_run_links.proofs.Lost.{lost_follows}
 use Rattle.simulator_run_links.proofs.Parts.{StepLaws}
 use Rattle.simulator_run_links.proofs.Partners.{partners_count}
 use Rattle.simulator_run_links.proofs.Places.{client_same, server_same}
-use Rattle.simulator_run_links.proofs.Restarting.{restarts_follow}
+use Rattle.simulator_run_links.proofs.NodesAnew.{restarts_follow}
 use Rattle.simulator_run_links.proofs.Station.{NodeLaws, station_follows}
 use Rattle.simulator_run_links.proofs.Steps.{HostLaws, detector_follows, point_follows, signal_follows}
 use Rattle.simulator_run_links.specs.Events.{FollowsBy, contact_events, delivery_events, events_of, interlocking_events, point_events, tick_events}

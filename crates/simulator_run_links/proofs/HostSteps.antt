@@ -28,7 +28,7 @@ use Rattle.simulator_machine_links.specs.Flows.{ServerIsAfter}
 use Rattle.simulator_run.specs.Links.{ServerEnd, end_of_server}
 use Rattle.simulator_run.specs.Controllers.{controller_after, has_entered, is_inside_at, is_some_sent, step_of}
 use Rattle.simulator_run.specs.State.{ClockedControllerState}
-use Rattle.simulator_run_links.proofs.Answering.{is_made, silent_outside, some_first, taken_is_answered}
+use Rattle.simulator_run_links.proofs.ServerAnswers.{is_made, silent_outside, some_first, taken_is_answered}
 use Rattle.simulator_run_links.proofs.Laws.{CallLaws, LinkLaws, ServerLaws}
 use Rattle.simulator_run_links.proofs.Places.{IsKept}
 use Rattle.simulator_run_links.proofs.Settled.{settled_identity}

@@ -18,7 +18,7 @@ use Rattle.simulator_run.specs.State.{ClockedControllerState, WorldState}
 use Rattle.simulator_run_links.proofs.HostItems.{TelegramsAreItems, step_is_sound}
 use Rattle.simulator_run_links.proofs.Lists.{get_set, get_set_other, length_set, same_or_other, within_some}
 use Rattle.simulator_run_links.proofs.Steps.{each_named}
-use Rattle.simulator_run_links.proofs.Tellings.{AnyPoint, AnySignal, AreSectionsNamed, detectors_tell, points_tell, signals_tell}
+use Rattle.simulator_run_links.proofs.ToldOfThemselves.{AnyPoint, AnySignal, AreSectionsNamed, detectors_tell, points_tell, signals_tell}
 use Rattle.simulator_run_links.specs.Whole.{HasSections, IsNamed, IsWhole}
 
 -- a fact of each place of a list

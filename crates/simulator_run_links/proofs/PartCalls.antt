@@ -16,7 +16,7 @@ use Rattle.simulator_run.specs.rasta_pdu.declared.pdu.Pdu.{Pdu}
 use Rattle.simulator_run.specs.Links.{names_at}
 use Rattle.simulator_run.specs.Nodes.{links}
 use Rattle.simulator_run.specs.Interlocking.{Sending, sending_all}
-use Rattle.simulator_run_links.proofs.Asking.{Tells, call_tells, clock_next, link_next, others_next, sending_joined}
+use Rattle.simulator_run_links.proofs.InterlockingCalls.{Tells, call_tells, clock_next, link_next, others_next, sending_joined}
 use Rattle.simulator_run_links.proofs.ClientItems.{AreSendable}
 use Rattle.simulator_run_links.proofs.Controllers.{may_later}
 use Rattle.simulator_run_links.proofs.Laws.{ClientLaws, LinkLaws}

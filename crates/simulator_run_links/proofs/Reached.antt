@@ -17,7 +17,7 @@ use Rattle.simulator_run.specs.rasta_core.identity.Role.TheVariants as role
 use Rattle.simulator_run.specs.Links.{names_at}
 use Rattle.simulator_run.specs.Nodes.{links}
 use Rattle.simulator_run.specs.Interlocking.{Sending, sending_all}
-use Rattle.simulator_run_links.proofs.Asking.{Tells}
+use Rattle.simulator_run_links.proofs.InterlockingCalls.{Tells}
 use Rattle.simulator_run_links.proofs.Laws.{ClientLaws, LinkLaws}
 use Rattle.simulator_run_links.proofs.Lists.{get_set, get_set_other, same_or_other, within_some}
 use Rattle.simulator_run_links.proofs.PartCalls.{AllMayMake, Leads, all_later, calls_lead, events_at}

@@ -23,7 +23,7 @@ use Rattle.simulator_run.specs.Links.{AreLinksOf, IsClientAt, IsServerAt, client
 use Rattle.simulator_run.specs.Nodes.{key_of, links, partners}
 use Rattle.simulator_run.specs.Interlocking.{Sending, interlocking_step, sending_all}
 use Rattle.simulator_run.specs.State.{WorldState}
-use Rattle.simulator_run_links.proofs.Asking.{Tells}
+use Rattle.simulator_run_links.proofs.InterlockingCalls.{Tells}
 use Rattle.simulator_run_links.proofs.Laws.{ClientLaws, LinkLaws}
 use Rattle.simulator_run_links.proofs.Lists.{by_test, get_map, length_joined, length_map, some_within}
 use Rattle.simulator_run_links.proofs.Partners.{below_links, partner_at}

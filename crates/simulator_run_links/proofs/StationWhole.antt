@@ -32,7 +32,7 @@ use Rattle.simulator_run.specs.State.{ClockedControllerState, WorldState}
 use Rattle.simulator_run_links.proofs.KeptWhole.{AllAt, sections_at}
 use Rattle.simulator_run_links.proofs.Lists.{by_test, length_map, some_within, within_some}
 use Rattle.simulator_run_links.proofs.Partners.{partners_count}
-use Rattle.simulator_run_links.proofs.Tellings.{AreSectionsNamed, losing_named}
+use Rattle.simulator_run_links.proofs.ToldOfThemselves.{AreSectionsNamed, losing_named}
 use Rattle.simulator_run_links.proofs.Names.{HasNames}
 use Rattle.simulator_run_links.specs.Whole.{HasClients, HasSections, IsNamed, IsPeer, IsWhole}
 

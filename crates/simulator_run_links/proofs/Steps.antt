@@ -29,7 +29,7 @@ use Rattle.simulator_run_links.proofs.HostItems.{TelegramsAreItems, step_is_soun
 use Rattle.simulator_run_links.proofs.Laws.{CallLaws, LinkLaws, ServerLaws}
 use Rattle.simulator_run_links.proofs.Lists.{some_within, within_some}
 use Rattle.simulator_run_links.proofs.Partners.{detector_partner, point_partner, signal_partner}
-use Rattle.simulator_run_links.proofs.Tellings.{AnyPoint, AnySignal, AreSectionsNamed, detectors_tell, points_tell, signals_tell}
+use Rattle.simulator_run_links.proofs.ToldOfThemselves.{AnyPoint, AnySignal, AreSectionsNamed, detectors_tell, points_tell, signals_tell}
 use Rattle.simulator_run_links.specs.Events.{FollowsBy, detector_events, host_events, point_events, signal_events}
 use Rattle.simulator_run_links.specs.Whole.{IsWhole}
 

@@ -8,7 +8,7 @@ use Rattle.simulator_run.specs.rasta_core.Sequence.{distance, stamp}
 use Rattle.simulator_run.specs.rasta_core.State.{LinkState, is_client, is_open, is_up}
 use Rattle.simulator_run.specs.rasta_core.Clock.{deadline, open_state, settled, state_at}
 use Rattle.simulator_run.specs.rasta_core.PdusHandedOut.{Step, beating, closed, closing, entered, giving, is_told, limited, sending, silent, telling}
-use Rattle.simulator_run.specs.rasta_core.Opening.{beginning, granting, judging, meeting, own_opening}
+use Rattle.simulator_run.specs.rasta_core.Establishment.{beginning, granting, judging, meeting, own_opening}
 use Rattle.simulator_run.specs.rasta_core.Receipt.{Receipt, accepting, admission, admitting, age, ahead, answering, asking, bringing, by_state, confirms, connected, handing, hearing, in_turn, is_opening_again, is_stale, missing, refusing, repeating, resting, taking, testing, violating}
 use Rattle.simulator_run.specs.rasta_core.Calls.{acceptance, closing_by, hearing_bytes, receiving, sending_item, ticking}
 use Rattle.simulator_run.specs.rasta_core.Ends.{is_taken}

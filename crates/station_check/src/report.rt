@@ -119,7 +119,7 @@ fn write_aspect<W: Write>(route: &Route, out: &mut W) -> io::Result<()>
 }
 
 /// Writes how large the station is, and then each pair of conflicting routes once, in table order.
-#[tactic(auto, using(crate::proofs::Telling::routes_begin))]
+#[tactic(auto, using(crate::proofs::ReportGrows::routes_begin))]
 fn write_pairs<W: Write>(table: &Checked, out: &mut W) -> io::Result<()>
     ensures { OnOk result (ToldRoutes table.now (length table.now.routes) (W.contents out.old) (W.contents out.new)) }
 {

@@ -5,6 +5,6 @@ pub mod Given
 pub mod LineRead
 pub mod Lines
 pub mod Numbers
-pub mod Reading
+pub mod CommandLineRead
 pub mod Rules
 pub mod WordsRead

@@ -1,4 +1,4 @@
-pub mod Spacing
+pub mod WordsInLine
 pub mod SaidAgain
 pub mod Identified
 pub mod Versions

@@ -35,7 +35,7 @@ use Rattle.ixl_rules.specs.sci_telegram.Telegrams.{IsMessage, IsTelegram}
 use Rattle.station_decode.specs.Words.{protocol_word, agreement_word, side_word, position_word, aspect_word, occupancy_word}
 use Rattle.station_decode.specs.Telegrams.{message_words, name_words, telegram_text, telegram_words}
 use Rattle.station_decode.specs.ReadBack.{protocol_said, agreement_said, side_said, position_said, aspect_said, occupancy_said, byte_in, version_said, with_value, initialisation_said, under, message_said, names_said, telegram_said}
-use Rattle.station_decode.proofs.Spacing.{message-begins}
+use Rattle.station_decode.proofs.WordsInLine.{message-begins}
 
 -- what is read of words and numbers
 pub record Reads : Type 0 where

@@ -1,4 +1,4 @@
 pub mod Composed
 pub mod Rows
 pub mod Turns
-pub mod Waiting
+pub mod WaitingLines

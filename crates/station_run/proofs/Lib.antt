@@ -1,2 +1,2 @@
-pub mod Applying
-pub mod Ending
+pub mod WorldAnswers
+pub mod RunEnds

@@ -1,4 +1,4 @@
-pub mod Answering
+pub mod EventAnswers
 pub mod Noted
 pub mod Rounds
 pub mod Transcripts

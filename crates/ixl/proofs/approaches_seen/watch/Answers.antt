@@ -3,7 +3,7 @@ use Rattle.ixl_state.specs.ixl_rules.StepSoFar.{over}
 use Rattle.ixl_state.specs.ixl_rules.Step.{watching}
 use Rattle.ixl_state.specs.ixl_table.Table.{SitedTable}
 use Rattle.ixl.specs.inside.Parts.{Passes}
-use Rattle.ixl.proofs.Chaining.{one_over, passed_clock, passed_site}
+use Rattle.ixl.proofs.StepParts.{one_over, passed_clock, passed_site}
 use Rattle.ixl.proofs.approaches_seen.watch.Goals as goal
 
 pub watch_by-requires-clause-there : goal.watch_by-requires-clause-there

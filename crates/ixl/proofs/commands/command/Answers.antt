@@ -1,5 +1,5 @@
 use Rattle.std.proofs.Common.{sym}
-use Rattle.ixl.proofs.Obeying.{command_obeyed, command_refused}
+use Rattle.ixl.proofs.CommandEffects.{command_obeyed, command_refused}
 use Rattle.ixl.proofs.commands.command.Goals as goal
 
 pub returns-in-None-clause-passes : goal.returns-in-None-clause-passes

@@ -1,4 +1,4 @@
-use Rattle.ixl.proofs.Giving.{fault_given, pdu_given}
+use Rattle.ixl.proofs.InputEffects.{fault_given, pdu_given}
 use Rattle.ixl.proofs.datagrams_heard.hear.Goals as goal
 
 pub returns-in-Ok-clause-goes : goal.returns-in-Ok-clause-goes

@@ -1,7 +1,7 @@
 use Rattle.ixl_state.specs.ixl_rules.Step.{all_clocked}
 use Rattle.ixl_state.specs.First.{key_of}
 use Rattle.ixl_state.specs.ixl_rules.declared.command.Command.TheVariants as commands
-use Rattle.ixl.proofs.Answering.{accepted_is, accepted_so, refused_is}
+use Rattle.ixl.proofs.StepAnswers.{accepted_is, accepted_so, refused_is}
 use Rattle.ixl.proofs.laws.requests_are_accepted_where_admissible.Goals as goal
 
 pub returns-clause-accepted : goal.returns-clause-accepted

@@ -1,4 +1,4 @@
-use Rattle.ixl.proofs.Answering.{may_follow}
+use Rattle.ixl.proofs.StepAnswers.{may_follow}
 use Rattle.ixl.proofs.laws.steps_may_follow_at_later_clocks.Goals as goal
 
 pub returns : goal.returns

@@ -1,6 +1,6 @@
 use Rattle.std.proofs.Common.{refl}
 use Rattle.ixl_state.specs.ixl_rules.Rules.{moving}
-use Rattle.ixl.proofs.Going.{goes_nowhere, one_goes}
+use Rattle.ixl.proofs.PartsFollow.{goes_nowhere, one_goes}
 use Rattle.ixl.proofs.point_moves.move_points_of_routes.Goals as goal
 
 pub loop-number-init : goal.loop-number-init

@@ -1,5 +1,5 @@
 use Rattle.ixl.specs.declared.input.Input.TheVariants as inputs
-use Rattle.ixl.proofs.Giving.{command_given, given_as, tick_given}
+use Rattle.ixl.proofs.InputEffects.{command_given, given_as, tick_given}
 use Rattle.ixl.proofs.step.give.Goals as goal
 
 pub returns-in-Tick-clause-goes : goal.returns-in-Tick-clause-goes

@@ -1,4 +1,4 @@
-use Rattle.ixl.proofs.Giving.{not_ticked}
+use Rattle.ixl.proofs.InputEffects.{not_ticked}
 use Rattle.ixl.proofs.step.tick.Goals as goal
 
 pub returns-in_default : goal.returns-in_default

@@ -2,7 +2,7 @@ use Rattle.std.proofs.Common.{ap, arith, sym, ◌∙◌}
 use Rattle.std.proofs.lemmas.Bool.{false≢true}
 use Rattle.ixl_rules.specs.Step.{clocked_detector}
 use Rattle.ixl_field.proofs.Alike.{all_tell_the_same, one_tells_the_same}
-use Rattle.ixl_field.proofs.Settling.{all_settled, none_settled, one_settled}
+use Rattle.ixl_field.proofs.ClockOnNodes.{all_settled, none_settled, one_settled}
 use Rattle.ixl_field.proofs.field_clock.settle_detectors.Goals.{then-settle_detector, else-settle_detector}
 use Rattle.ixl_field.proofs.field_clock.settle_detectors.Goals as goal
 

@@ -2,7 +2,7 @@ use Rattle.ixl_rules.specs.State.{KnownDetectorState}
 use Rattle.ixl_rules.specs.Step.{clocked_detector}
 use Rattle.std.specs.Prelude.{IsTrue}
 use Rattle.ixl_field.specs.inside.Alike.{TellTheSame}
-use Rattle.ixl_field.proofs.Settling.{HaveSettled}
+use Rattle.ixl_field.proofs.ClockOnNodes.{HaveSettled}
 use Rattle.ixl_field.proofs.field_clock.settle_detectors.Given as goal
 
 abbrev pub invariant-loop-detector : goal.invariant-loop-detector

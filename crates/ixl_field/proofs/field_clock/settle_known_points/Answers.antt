@@ -2,7 +2,7 @@ use Rattle.std.proofs.Common.{ap, arith, sym, ◌∙◌}
 use Rattle.std.proofs.lemmas.Bool.{false≢true}
 use Rattle.ixl_rules.specs.Step.{clocked_known_point}
 use Rattle.ixl_field.proofs.Alike.{all_known_alike, one_known_alike}
-use Rattle.ixl_field.proofs.Settling.{all_settled, none_settled, one_settled}
+use Rattle.ixl_field.proofs.ClockOnNodes.{all_settled, none_settled, one_settled}
 use Rattle.ixl_field.proofs.field_clock.settle_known_points.Goals.{then-settle_known_point, else-settle_known_point}
 use Rattle.ixl_field.proofs.field_clock.settle_known_points.Goals as goal
 

@@ -1,6 +1,6 @@
 use Rattle.std.proofs.Common.{ap, arith, sym, ◌∙◌}
 use Rattle.ixl_rules.specs.Step.{clocked_known_signal}
-use Rattle.ixl_field.proofs.Settling.{all_settled, none_settled, one_settled}
+use Rattle.ixl_field.proofs.ClockOnNodes.{all_settled, none_settled, one_settled}
 use Rattle.ixl_field.proofs.field_clock.settle_known_signals.Goals as goal
 
 pub loop-known_signal-init : goal.loop-known_signal-init

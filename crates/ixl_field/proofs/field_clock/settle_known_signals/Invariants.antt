@@ -1,6 +1,6 @@
 use Rattle.ixl_rules.specs.State.{KnownSignalState}
 use Rattle.ixl_rules.specs.Step.{clocked_known_signal}
-use Rattle.ixl_field.proofs.Settling.{HaveSettled}
+use Rattle.ixl_field.proofs.ClockOnNodes.{HaveSettled}
 use Rattle.ixl_field.proofs.field_clock.settle_known_signals.Given as goal
 
 abbrev pub invariant-loop-known_signal : goal.invariant-loop-known_signal

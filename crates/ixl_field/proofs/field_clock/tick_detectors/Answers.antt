@@ -5,8 +5,8 @@ use Rattle.ixl_rules.specs.Step.{detector_ticking}
 use Rattle.ixl_field.specs.Nodes.{detector_ticked}
 use Rattle.ixl_field.specs.inside.Turns.{DetectorsTurned, with_detectors}
 use Rattle.ixl_field.proofs.Alike.{all_tell_the_same, one_tells_the_same}
-use Rattle.ixl_field.proofs.Leading.{detector_ticks}
-use Rattle.ixl_field.proofs.Turning.{none_turned, one_turned_at}
+use Rattle.ixl_field.proofs.NodeEffects.{detector_ticks}
+use Rattle.ixl_field.proofs.NodeByNode.{none_turned, one_turned_at}
 use Rattle.ixl_field.proofs.field_clock.tick_detectors.Goals.{then-tick_detector, else-tick_detector}
 use Rattle.ixl_field.proofs.field_clock.tick_detectors.Goals as goal
 

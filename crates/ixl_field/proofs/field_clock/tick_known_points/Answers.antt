@@ -5,8 +5,8 @@ use Rattle.ixl_rules.specs.Step.{known_point_ticking}
 use Rattle.ixl_field.specs.Nodes.{known_point_ticked}
 use Rattle.ixl_field.specs.inside.Turns.{KnownPointsTurned, with_known_points}
 use Rattle.ixl_field.proofs.Alike.{all_known_alike, one_known_alike}
-use Rattle.ixl_field.proofs.Leading.{known_point_ticks}
-use Rattle.ixl_field.proofs.Turning.{none_turned, one_turned_at}
+use Rattle.ixl_field.proofs.NodeEffects.{known_point_ticks}
+use Rattle.ixl_field.proofs.NodeByNode.{none_turned, one_turned_at}
 use Rattle.ixl_field.proofs.field_clock.tick_known_points.Goals.{then-tick_known_point, else-tick_known_point}
 use Rattle.ixl_field.proofs.field_clock.tick_known_points.Goals as goal
 

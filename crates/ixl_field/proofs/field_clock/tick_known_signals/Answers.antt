@@ -3,8 +3,8 @@ use Rattle.ixl_rules.specs.State.{IxlState, KnownSignalState}
 use Rattle.ixl_rules.specs.Step.{known_signal_ticking}
 use Rattle.ixl_field.specs.Nodes.{known_signal_ticked}
 use Rattle.ixl_field.specs.inside.Turns.{with_known_signals}
-use Rattle.ixl_field.proofs.Leading.{known_signal_ticks}
-use Rattle.ixl_field.proofs.Turning.{none_turned, one_turned_at}
+use Rattle.ixl_field.proofs.NodeEffects.{known_signal_ticks}
+use Rattle.ixl_field.proofs.NodeByNode.{none_turned, one_turned_at}
 use Rattle.ixl_field.proofs.field_clock.tick_known_signals.Goals as goal
 
 pub loop-signal-init : goal.loop-signal-init

@@ -1,7 +1,7 @@
 use Rattle.std.proofs.Common.{ap, sym, ◌∙◌, if◌then◌else◌}
 use Rattle.std.specs.FinSet.{contains}
 use Rattle.std.specs.Prelude.{◌==◌}
-use Rattle.ixl_field.proofs.Renewing.{with_it, without_it}
+use Rattle.ixl_field.proofs.RowsRenewed.{with_it, without_it}
 use Rattle.ixl_field.proofs.rows.exactly_where.Goals as goal
 
 pub returns-then-passes : goal.returns-then-passes

@@ -3,7 +3,7 @@ use Rattle.ixl_rules.specs.StepSoFar.{over}
 use Rattle.ixl_rules.specs.Step.{looking_by}
 use Rattle.ixl_table.specs.Table.{SitedTable}
 use Rattle.ixl_state.specs.inside.DetectorHeard.{Passes}
-use Rattle.ixl_state.proofs.Chaining.{one_over, passed_clock, passed_site}
+use Rattle.ixl_state.proofs.StepParts.{one_over, passed_clock, passed_site}
 use Rattle.ixl_state.proofs.datagrams_heard.look.Goals as goal
 
 pub look_by-requires-clause-there : goal.look_by-requires-clause-there

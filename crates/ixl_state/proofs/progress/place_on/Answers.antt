@@ -1,6 +1,6 @@
 use Rattle.std.proofs.Common.{sym, ◌∙◌}
 use Rattle.std.proofs.lemmas.Bool.{false≢true}
-use Rattle.ixl_state.proofs.Looking.{place-absent}
+use Rattle.ixl_state.proofs.SectionLook.{place-absent}
 use Rattle.ixl_state.proofs.progress.place_on.Goals as goal
 
 pub returns-else-contains : goal.returns-else-contains

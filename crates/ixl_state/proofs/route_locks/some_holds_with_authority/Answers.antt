@@ -1,7 +1,7 @@
 use Rattle.std.proofs.Common.{◌∙◌, length, refl, sym}
 use Rattle.std.proofs.lemmas.Bool.{false≢true}
 use Rattle.std.proofs.lemmas.Option.{slice_get_read}
-use Rattle.ixl_state.proofs.Walking.{none-at-all, none-more}
+use Rattle.ixl_state.proofs.RouteFound.{none-at-all, none-more}
 use Rattle.ixl_state.proofs.route_locks.some_holds_with_authority.Goals as goal
 
 pub returns-then-holds_with_authority : goal.returns-then-holds_with_authority

@@ -1,4 +1,4 @@
-use Rattle.ixl_state.proofs.Walking.{NoneBefore}
+use Rattle.ixl_state.proofs.RouteFound.{NoneBefore}
 use Rattle.ixl_state.proofs.route_locks.some_holds_with_authority.Given as goal
 
 abbrev pub invariant-loop-number : goal.invariant-loop-number

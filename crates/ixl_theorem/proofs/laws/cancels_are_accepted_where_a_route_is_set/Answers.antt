@@ -1,4 +1,4 @@
-use Rattle.ixl_theorem.proofs.Cancelling.{cancel_accepted, cancel_refused}
+use Rattle.ixl_theorem.proofs.CancelAccepted.{cancel_accepted, cancel_refused}
 use Rattle.ixl_theorem.proofs.laws.cancels_are_accepted_where_a_route_is_set.Goals as goal
 
 pub returns-clause-accepted : goal.returns-clause-accepted

@@ -1,4 +1,4 @@
-use Rattle.ixl_theorem.proofs.Refusing.{lost_datagram_is_without, refused_command_is_without}
+use Rattle.ixl_theorem.proofs.RefusedInputs.{lost_datagram_is_without, refused_command_is_without}
 use Rattle.ixl_theorem.proofs.Unheard.{refused_datagram_is_without}
 use Rattle.ixl_theorem.proofs.laws.refused_inputs_change_nothing.Goals as goal
 

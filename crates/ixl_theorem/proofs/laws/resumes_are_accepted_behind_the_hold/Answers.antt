@@ -1,4 +1,4 @@
-use Rattle.ixl_theorem.proofs.Cancelling.{resume_accepted, resume_refused}
+use Rattle.ixl_theorem.proofs.CancelAccepted.{resume_accepted, resume_refused}
 use Rattle.ixl_theorem.proofs.laws.resumes_are_accepted_behind_the_hold.Goals as goal
 
 pub returns-clause-accepted : goal.returns-clause-accepted

@@ -1,4 +1,4 @@
-use Rattle.ixl_theorem.proofs.Tending.{none_down}
+use Rattle.ixl_theorem.proofs.NoneDown.{none_down}
 use Rattle.ixl_theorem.proofs.laws.ticks_leave_no_link_down.Goals as goal
 
 pub returns : goal.returns

@@ -2,7 +2,7 @@ use Rattle.std.proofs.Common.{ap, sym, ◌∙◌}
 use Rattle.std.specs.Prelude.{slice_get}
 use Rattle.ixl_state.specs.ixl_rules.State.{IxlState}
 use Rattle.ixl_theorem.specs.WholeStep.{heard, turns_of_input}
-use Rattle.ixl_theorem.proofs.Falling.{cancelled_falls, unsound_falls}
+use Rattle.ixl_theorem.proofs.UnsoundFalls.{cancelled_falls, unsound_falls}
 use Rattle.ixl_theorem.proofs.whole_step.an_unsound_aspect_falls.Goals as goal
 
 pub returns-clause-unsound : goal.returns-clause-unsound

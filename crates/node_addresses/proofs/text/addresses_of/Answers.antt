@@ -3,7 +3,7 @@ use Rattle.std.specs.List.{Contains}
 use Rattle.std.specs.declared.net.socket_addr.SocketAddr.{SocketAddr}
 use Rattle.toml.specs.View.{table_view}
 use Rattle.replay_lines.specs.Names.{node_names}
-use Rattle.node_addresses.proofs.Standing.{all_found, one_more}
+use Rattle.node_addresses.proofs.AddressesSoFar.{all_found, one_more}
 use Rattle.node_addresses.proofs.text.addresses_of.Goals as goal
 
 pub loop-name-preserved : goal.loop-name-preserved

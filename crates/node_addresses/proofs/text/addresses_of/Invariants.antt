@@ -1,7 +1,7 @@
 use Rattle.std.proofs.Common.{◌-◌, length}
 use Rattle.toml.specs.View.{table_view}
 use Rattle.replay_lines.specs.Names.{node_names}
-use Rattle.node_addresses.proofs.Standing.{AreSoFar}
+use Rattle.node_addresses.proofs.AddressesSoFar.{AreSoFar}
 use Rattle.node_addresses.proofs.text.addresses_of.Given as goal
 
 -- the nodes so far have their addresses

@@ -1,6 +1,6 @@
 -- the laws that the body calls are those that a point's steps stand on
 use Rattle.object_host_theorem.proofs.Kept.{begun_reported, driven_inside, event_reported, gives_standing}
-use Rattle.object_host_theorem.proofs.Reporting.{step_reported}
+use Rattle.object_host_theorem.proofs.PointReports.{step_reported}
 use Rattle.object_host_theorem.proofs.controllers.point_reports_its_moves.Goals as goal
 
 pub returns-clause-starts : goal.returns-clause-starts

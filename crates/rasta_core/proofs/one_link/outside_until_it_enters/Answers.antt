@@ -1,4 +1,4 @@
-use Rattle.rasta_core.proofs.Entering.{does_nothing}
+use Rattle.rasta_core.proofs.OutsideEntries.{does_nothing}
 use Rattle.rasta_core.proofs.Outside.{enters_from_outside, stays_outside}
 use Rattle.rasta_core.proofs.one_link.outside_until_it_enters.Goals as goal
 

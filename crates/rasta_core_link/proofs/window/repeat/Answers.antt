@@ -4,7 +4,7 @@ use Rattle.std.proofs.lemmas.List.{length-drop}
 use Rattle.rasta_core_link.specs.declared.window.Unconfirmed.{Unconfirmed}
 use Rattle.circular_buffer.specs.Buffer.{buffer}
 use Rattle.rasta_core_link.specs.Outbox.{posted}
-use Rattle.rasta_core_link.proofs.Waiting.{repeated_none, repeated_more, length-left, nothing_there, under, again}
+use Rattle.rasta_core_link.proofs.UnconfirmedItems.{repeated_none, repeated_more, length-left, nothing_there, under, again}
 use Rattle.rasta_core_link.proofs.window.repeat.Goals as goal
 use Rattle.rasta_core_link.proofs.window.repeat.Goals.{in-Some, in_default}
 

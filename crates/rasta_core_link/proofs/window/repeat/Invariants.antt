@@ -1,5 +1,5 @@
 use Rattle.std.proofs.Common.{◌≡◌}
-use Rattle.rasta_core_link.proofs.Waiting.{Repeated}
+use Rattle.rasta_core_link.proofs.UnconfirmedItems.{Repeated}
 use Rattle.rasta_core_link.proofs.window.repeat.Given as goal
 
 abbrev pub invariant-loop-index : goal.invariant-loop-index

@@ -1,4 +1,4 @@
-use Rattle.replay.proofs.Applying.{applied, stays}
+use Rattle.replay.proofs.WorldAnswers.{applied, stays}
 use Rattle.replay.specs.World.{played}
 use Rattle.replay.proofs.replayed_world.try_event.Goals as goal
 

@@ -1,6 +1,6 @@
 use Rattle.std.proofs.Common.{◌≡◌, ◌≢◌, ◌+◌, ◌∷◌, ◌∙◌, drop, sym, ap, refl}
 use Rattle.std.proofs.lemmas.List.{drop_more}
-use Rattle.replay_lines.proofs.Standing.{goes_on, ends, closes, failed}
+use Rattle.replay_lines.proofs.AgreedSoFar.{goes_on, ends, closes, failed}
 use Rattle.replay_lines.proofs.agreement.replay.Goals as goal
 
 pub returns-then-not-branch : goal.returns-then-not-branch

@@ -1,4 +1,4 @@
-use Rattle.replay_lines.proofs.Standing.{Stands}
+use Rattle.replay_lines.proofs.AgreedSoFar.{Stands}
 use Rattle.replay_lines.proofs.agreement.replay.Given as goal
 
 -- the events so far answered as it was recorded, so what is told of those that are left is told of all

@@ -1,5 +1,5 @@
 use Rattle.std.proofs.Common.{◌≡◌, ◌+◌, ◌++◌, length}
-use Rattle.simulator_field.proofs.Taking.{by_server}
+use Rattle.simulator_field.proofs.OutboxTaken.{by_server}
 use Rattle.simulator_field.proofs.datagrams_sent.send_all.Given as goal
 
 abbrev pub invariant-loop-datagram : goal.invariant-loop-datagram

@@ -12,7 +12,7 @@ use Rattle.simulator_machine_interlocking.specs.Sees.{SeesSignal, SignalFits}
 use Rattle.simulator_headline.specs.At.{IsClientAt}
 use Rattle.simulator_headline.specs.Calls.{as_calls}
 use Rattle.simulator_headline.proofs.FarEndCalls.{begins_none, may_each}
-use Rattle.simulator_headline.proofs.Knowing.{confirmed_done, known_then, link_facts, reports_heard}
+use Rattle.simulator_headline.proofs.ClientKnowledge.{confirmed_done, known_then, link_facts, reports_heard}
 use Rattle.simulator_headline.proofs.far_ends.far_ends_are_known.Goals as goal
 
 pub returns : goal.returns

@@ -1,4 +1,4 @@
-use Rattle.simulator_headline.proofs.Knowing.{made_is_heard}
+use Rattle.simulator_headline.proofs.ClientKnowledge.{made_is_heard}
 use Rattle.simulator_headline.proofs.far_ends.reports_made_are_heard.Goals as goal
 
 pub returns : goal.returns

@@ -3,7 +3,7 @@ use Rattle.ixl_state.specs.layout.Entries.{Site}
 use Rattle.ixl_state.specs.rasta_core.Outbox.{OutboxState}
 use Rattle.simulator_run.specs.Interlocking.{sending_all, sending_one}
 use Rattle.simulator_ixl.specs.inside.Connections.{sending_by}
-use Rattle.simulator_ixl.proofs.Sending.{all_sent, first_taken, none_taken, others_sent}
+use Rattle.simulator_ixl.proofs.DatagramsSent.{all_sent, first_taken, none_taken, others_sent}
 use Rattle.simulator_ixl.proofs.clocked_interlocking.send_all.Goals as goal
 
 pub send-requires : goal.send-requires

@@ -1,4 +1,4 @@
-use Rattle.simulator_machine_interlocking.proofs.Passing.{passes}
+use Rattle.simulator_machine_interlocking.proofs.ClockPasses.{passes}
 use Rattle.simulator_machine_interlocking.proofs.laws.passing_time_is_moves.Goals as goal
 
 pub returns : goal.returns

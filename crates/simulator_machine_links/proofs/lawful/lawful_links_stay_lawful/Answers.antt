@@ -1,4 +1,4 @@
-use Rattle.simulator_machine_links.proofs.Keeping.{event_lawful, run_lawful}
+use Rattle.simulator_machine_links.proofs.LawfulLinks.{event_lawful, run_lawful}
 use Rattle.simulator_machine_links.proofs.lawful.lawful_links_stay_lawful.Goals as goal
 
 pub returns-clause-starts : goal.returns-clause-starts

@@ -1,4 +1,4 @@
-use Rattle.simulator_machine_links.proofs.Keeping.{world_lawful, worlds_lawful}
+use Rattle.simulator_machine_links.proofs.LawfulLinks.{world_lawful, worlds_lawful}
 use Rattle.simulator_machine_links.proofs.lawful.lawful_worlds_stay_lawful.Goals as goal
 
 pub returns-clause-starts : goal.returns-clause-starts

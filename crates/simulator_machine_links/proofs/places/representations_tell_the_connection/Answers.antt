@@ -1,5 +1,5 @@
 use Rattle.simulator_machine_links.proofs.Goes.{down_not_in, up_not_before}
-use Rattle.simulator_machine_links.proofs.Placing.{all_alive, in_one, inside_in, outside_not_in, seen_up, up_seen}
+use Rattle.simulator_machine_links.proofs.EndsSeen.{all_alive, in_one, inside_in, outside_not_in, seen_up, up_seen}
 use Rattle.simulator_machine_links.proofs.places.representations_tell_the_connection.Goals as goal
 
 pub returns-clause-up : goal.returns-clause-up

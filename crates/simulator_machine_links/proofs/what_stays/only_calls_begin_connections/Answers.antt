@@ -1,4 +1,4 @@
-use Rattle.simulator_machine_links.proofs.Passing.{begins_none, down_stays}
+use Rattle.simulator_machine_links.proofs.TimePasses.{begins_none, down_stays}
 use Rattle.simulator_machine_links.proofs.what_stays.only_calls_begin_connections.Goals as goal
 
 pub returns-clause-begins : goal.returns-clause-begins

@@ -1,6 +1,6 @@
 use Rattle.std.proofs.Common.{rules, ◌∙◌, map}
 use Rattle.clap.specs.Words.{app_of}
-use Rattle.simulator_pair_text.proofs.Reading.{file_given, parse_fails}
+use Rattle.simulator_pair_text.proofs.CommandLineRead.{file_given, parse_fails}
 use Rattle.simulator_pair_text.proofs.command.read_words.Goals as goal
 
 pub returns-in_err-matches-clause-kinds : goal.returns-in_err-matches-clause-kinds

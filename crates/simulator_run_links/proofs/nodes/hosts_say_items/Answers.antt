@@ -2,7 +2,7 @@ use Rattle.simulator_run.specs.point_ctl.Controlled.{point_behaviour}
 use Rattle.simulator_run.specs.rasta_core.Ends.{reading_of}
 use Rattle.simulator_run.specs.signal_ctl.Signal.{signal_behaviour}
 use Rattle.simulator_run_links.proofs.HostItems.{step_is_sound}
-use Rattle.simulator_run_links.proofs.Tellings.{AnyPoint, AnySignal, points_tell, signals_tell}
+use Rattle.simulator_run_links.proofs.ToldOfThemselves.{AnyPoint, AnySignal, points_tell, signals_tell}
 use Rattle.simulator_run_links.proofs.nodes.hosts_say_items.Goals as goal
 
 pub returns : goal.returns

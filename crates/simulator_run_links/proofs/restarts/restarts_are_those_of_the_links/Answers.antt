@@ -1,7 +1,7 @@
 use Rattle.simulator_run.specs.Happens.{happens, made_anew}
 use Rattle.simulator_run.specs.Nodes.{node_at}
 use Rattle.simulator_run_links.proofs.ByKind.{followed}
-use Rattle.simulator_run_links.proofs.Restarting.{restarts_follow}
+use Rattle.simulator_run_links.proofs.NodesAnew.{restarts_follow}
 use Rattle.simulator_run_links.specs.Events.{restart_events}
 use Rattle.simulator_run_links.proofs.restarts.restarts_are_those_of_the_links.Goals as goal
 

@@ -1,5 +1,5 @@
 use Rattle.std.proofs.Common.{◌≡◌, ◌+◌, ◌-◌, suc, arith}
-use Rattle.station_check.proofs.Telling.{behind_begins, next_behind}
+use Rattle.station_check.proofs.ReportGrows.{behind_begins, next_behind}
 use Rattle.station_check.proofs.report.write_conflicts.Goals as goal
 
 pub loop-later-init : goal.loop-later-init

@@ -1,4 +1,4 @@
-use Rattle.station_check.proofs.Telling.{pair_free, pair_told}
+use Rattle.station_check.proofs.ReportGrows.{pair_free, pair_told}
 use Rattle.station_check.proofs.report.write_pair.Goals as goal
 
 pub returns-then-not-conflict : goal.returns-then-not-conflict

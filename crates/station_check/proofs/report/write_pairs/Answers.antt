@@ -1,4 +1,4 @@
-use Rattle.station_check.proofs.Telling.{next_route}
+use Rattle.station_check.proofs.ReportGrows.{next_route}
 use Rattle.station_check.proofs.report.write_pairs.Goals as goal
 
 pub loop-earlier-preserved : goal.loop-earlier-preserved

@@ -1,7 +1,7 @@
 use Rattle.std.proofs.Common.{ap, ◌∙◌, subst}
 use Rattle.control_table.specs.layout.Entries.{Site}
 use Rattle.station_check.specs.inside.Told.{ToldSlow}
-use Rattle.station_check.proofs.Telling.{reported}
+use Rattle.station_check.proofs.ReportGrows.{reported}
 use Rattle.station_check.proofs.report.write_report.Goals as goal
 
 pub returns : goal.returns

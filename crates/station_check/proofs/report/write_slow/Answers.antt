@@ -1,4 +1,4 @@
-use Rattle.station_check.proofs.Telling.{slow_next}
+use Rattle.station_check.proofs.ReportGrows.{slow_next}
 use Rattle.station_check.proofs.report.write_slow.Goals as goal
 
 pub loop-route-preserved : goal.loop-route-preserved

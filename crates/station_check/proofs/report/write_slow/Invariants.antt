@@ -1,4 +1,4 @@
-use Rattle.station_check.proofs.Telling.{ToldSlowTo}
+use Rattle.station_check.proofs.ReportGrows.{ToldSlowTo}
 use Rattle.station_check.proofs.report.write_slow.Given as goal
 
 abbrev pub invariant-loop-route : goal.invariant-loop-route

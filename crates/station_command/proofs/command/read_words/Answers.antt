@@ -1,7 +1,7 @@
 use Rattle.std.proofs.Common.{◌≡◌, [], map, sym, ◌∙◌, rules}
 use Rattle.clap.specs.Words.{HasKind, app_of, fault_of}
 use Rattle.station_command.specs.Line.{station_line}
-use Rattle.station_command.proofs.Reading.{meets, none≢some, parse_fails, refuses}
+use Rattle.station_command.proofs.CommandLineRead.{meets, none≢some, parse_fails, refuses}
 use Rattle.station_command.proofs.command.read_words.Goals as goal
 
 pub returns-in_err-matches-clause-kinds : goal.returns-in_err-matches-clause-kinds

@@ -1,6 +1,6 @@
 use Rattle.std.proofs.Common.{string_bytes}
 use Rattle.station_decode.specs.Datagrams.{other_text}
-use Rattle.station_decode.proofs.Spacing.{all-added, one-added}
+use Rattle.station_decode.proofs.WordsInLine.{all-added, one-added}
 use Rattle.station_decode.proofs.item.push_others.Goals as goal
 
 pub loop-item-preserved : goal.loop-item-preserved

@@ -1,6 +1,6 @@
 use Rattle.std.proofs.Common.{codes, string_bytes}
 use Rattle.station_decode.specs.Telegrams.{name_words}
-use Rattle.station_decode.proofs.Spacing.{names-added}
+use Rattle.station_decode.proofs.WordsInLine.{names-added}
 use Rattle.station_decode.proofs.item.push_telegram.Goals as goal
 
 pub returns : goal.returns

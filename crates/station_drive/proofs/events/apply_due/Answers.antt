@@ -6,7 +6,7 @@ use Rattle.station_drive.specs.Inside.{rises, waiting}
 use Rattle.station_drive.specs.Rounds.{due}
 use Rattle.station_drive.proofs.Composed.{performs_none, performs_push, performs_same, stopped, stops_before, stops_next, stops_same}
 use Rattle.station_drive.proofs.Rows.{moved}
-use Rattle.station_drive.proofs.Waiting.{due_later, due_waiting, none_due_from, rises_drop}
+use Rattle.station_drive.proofs.WaitingLines.{due_later, due_waiting, none_due_from, rises_drop}
 use Rattle.station_drive.proofs.events.apply_due.Goals as goal
 use Rattle.station_drive.proofs.events.apply_due.Goals.{then-passed-time+else-script, else-passed-time+then-waits+in_ok-perform, else-passed-time+else-waits}
 

@@ -1,4 +1,4 @@
-use Rattle.station_drive.proofs.Waiting.{none_left}
+use Rattle.station_drive.proofs.WaitingLines.{none_left}
 use Rattle.station_drive.proofs.laws.no_line_that_is_due_is_left.Goals as goal
 
 pub returns : goal.returns

@@ -4,7 +4,7 @@ use Rattle.std.proofs.Math.Seq.{take-length}
 use Rattle.std.proofs.lemmas.List.{drop_more, length-drop}
 use Rattle.station_drive.specs.Inside.{rises}
 use Rattle.station_drive.specs.Rounds.{not_due}
-use Rattle.station_drive.proofs.Waiting.{not_due_more, rises_drop}
+use Rattle.station_drive.proofs.WaitingLines.{not_due_more, rises_drop}
 use Rattle.station_drive.proofs.waiting_lines.behind.Goals as goal
 
 pub loop-place-init : goal.loop-place-init

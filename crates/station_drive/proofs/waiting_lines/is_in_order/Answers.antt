@@ -2,7 +2,7 @@ use Rattle.std.proofs.Common.{◌≡◌, ◌≤◌, ◌+◌, ◌∷◌, drop, le
 use Rattle.std.proofs.Math.ListN.{drop_of_length-le}
 use Rattle.std.proofs.lemmas.List.{drop_more}
 use Rattle.station_drive.specs.Inside.{rises}
-use Rattle.station_drive.proofs.Waiting.{rises_less, rises_more}
+use Rattle.station_drive.proofs.WaitingLines.{rises_less, rises_more}
 use Rattle.station_drive.proofs.waiting_lines.is_in_order.Goals as goal
 
 pub loop-place-init : goal.loop-place-init

@@ -1,5 +1,5 @@
 use Rattle.std.proofs.Common.{refl}
-use Rattle.station_run.proofs.Ending.{can_run, leaves_all, machine_explains, run_explains}
+use Rattle.station_run.proofs.RunEnds.{can_run, leaves_all, machine_explains, run_explains}
 use Rattle.station_run.specs.declared.failure.RunFailure.TheVariants.{Failed}
 use Rattle.station_run.proofs.machine.run.Goals as goal
 

@@ -1,4 +1,4 @@
-use Rattle.station_run.proofs.Ending.{early_is_of_run}
+use Rattle.station_run.proofs.RunEnds.{early_is_of_run}
 use Rattle.station_run.proofs.machine.run_on.Goals as goal
 
 pub returns-clause-told : goal.returns-clause-told

@@ -1,5 +1,5 @@
 use Rattle.std.proofs.Common.{refl}
-use Rattle.station_run.proofs.Ending.{drive_ends, ended, leaves_all, picture_ends, picture_leaves}
+use Rattle.station_run.proofs.RunEnds.{drive_ends, ended, leaves_all, picture_ends, picture_leaves}
 use Rattle.station_run.specs.Failures.{of_drive}
 use Rattle.station_run.specs.declared.failure.RunFailure.TheVariants.{Failed}
 use Rattle.station_run.proofs.prepared.go.Goals as goal

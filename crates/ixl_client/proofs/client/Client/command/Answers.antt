@@ -1,5 +1,5 @@
 use Rattle.std.proofs.Common.{[]}
-use Rattle.ixl_client.proofs.Acting.{commands, from_same}
+use Rattle.ixl_client.proofs.ItemActions.{commands, from_same}
 use Rattle.ixl_client.proofs.Steady.{commanding_rests, keeps}
 use Rattle.ixl_client.proofs.client.Client.command.Goals as goal
 

@@ -1,6 +1,6 @@
 -- the datagram is received, a connection may come up, and the items are acted on
 use Rattle.std.proofs.Common.{[], ◌∙◌, arith}
-use Rattle.ixl_client.proofs.Acting.{from_none, from_same, hears}
+use Rattle.ixl_client.proofs.ItemActions.{from_none, from_same, hears}
 use Rattle.ixl_client.proofs.Steady.{hearing_rests, keeps}
 use Rattle.ixl_client.proofs.client.Client.receive.Goals as goal
 

@@ -1,6 +1,6 @@
 -- the heartbeat that is due, and a link that is down is opened
 use Rattle.std.proofs.Common.{[], arith}
-use Rattle.ixl_client.proofs.Acting.{from_same, ticks}
+use Rattle.ixl_client.proofs.ItemActions.{from_same, ticks}
 use Rattle.ixl_client.proofs.Steady.{ticking_rests, keeps}
 use Rattle.ixl_client.proofs.client.Client.tick.Goals as goal
 

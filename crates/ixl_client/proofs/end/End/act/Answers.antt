@@ -1,4 +1,4 @@
-use Rattle.ixl_client.proofs.Going.{acts}
+use Rattle.ixl_client.proofs.PartsFollow.{acts}
 use Rattle.ixl_client.proofs.end.End.act.Goals as goal
 
 pub returns-clause-goes : goal.returns-clause-goes

@@ -2,7 +2,7 @@
 use Rattle.std.proofs.Common.{ap, sym, ◌∙◌, arith}
 use Rattle.rasta_core.specs.State.{is_open}
 use Rattle.ixl_client.specs.Client.{ClientState}
-use Rattle.ixl_client.proofs.Acting.{acts_on, begins, ends, ends_closed}
+use Rattle.ixl_client.proofs.ItemActions.{acts_on, begins, ends, ends_closed}
 use Rattle.ixl_client.proofs.end.End.act_all.Goals as goal
 
 pub loop-item-init : goal.loop-item-init

@@ -1,4 +1,4 @@
-use Rattle.ixl_client.proofs.Acting.{IsActing}
+use Rattle.ixl_client.proofs.ItemActions.{IsActing}
 use Rattle.ixl_client.proofs.end.End.act_all.Given as goal
 
 abbrev pub invariant-loop-item : goal.invariant-loop-item

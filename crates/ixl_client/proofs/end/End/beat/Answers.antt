@@ -1,6 +1,6 @@
 -- a call of the link
 use Rattle.ixl_client.specs.ClientSoFar.{Ticks}
-use Rattle.ixl_client.proofs.Going.{called_in}
+use Rattle.ixl_client.proofs.PartsFollow.{called_in}
 use Rattle.ixl_client.proofs.end.End.beat.Goals as goal
 
 pub returns : goal.returns

@@ -1,4 +1,4 @@
-use Rattle.ixl_client.proofs.Going.{called_in}
+use Rattle.ixl_client.proofs.PartsFollow.{called_in}
 use Rattle.ixl_client.specs.ClientSoFar.{Closes}
 use Rattle.ixl_client.proofs.end.End.close.Goals as goal
 

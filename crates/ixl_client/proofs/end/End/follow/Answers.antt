@@ -3,7 +3,7 @@ use Rattle.std.proofs.Common.{ap, sym, ◌∙◌, List, ℕ}
 use Rattle.ixl_client.specs.Client.{ClientState}
 use Rattle.ixl_client.specs.declared.stage.Stage.{Stage}
 use Rattle.ixl_client.specs.declared.stage.Stage.TheVariants as stage
-use Rattle.ixl_client.proofs.Going.{agrees, completes, differs, follows, indicates, starts, violates}
+use Rattle.ixl_client.proofs.PartsFollow.{agrees, completes, differs, follows, indicates, starts, violates}
 use Rattle.ixl_client.proofs.end.End.follow.Goals as goal
 
 pub returns-in-Agrees-clause-goes : goal.returns-in-Agrees-clause-goes

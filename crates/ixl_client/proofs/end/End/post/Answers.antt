@@ -1,7 +1,7 @@
 -- the telegram is sent, and the link closes where the window refuses it
 use Rattle.std.proofs.Common.{ap, sym, ◌∙◌, [], arith}
 use Rattle.ixl_client.specs.Step.{is_refused_by_window}
-use Rattle.ixl_client.proofs.Going.{posts, closes_for_window}
+use Rattle.ixl_client.proofs.PartsFollow.{posts, closes_for_window}
 use Rattle.ixl_client.proofs.end.End.post.Goals as goal
 
 pub close-requires-clause-clock : goal.close-requires-clause-clock

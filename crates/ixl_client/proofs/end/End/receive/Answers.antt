@@ -1,6 +1,6 @@
 -- a call of the link
 use Rattle.ixl_client.specs.ClientSoFar.{Receives}
-use Rattle.ixl_client.proofs.Going.{called_in}
+use Rattle.ixl_client.proofs.PartsFollow.{called_in}
 use Rattle.ixl_client.proofs.end.End.receive.Goals as goal
 
 pub returns-clause-goes : goal.returns-clause-goes

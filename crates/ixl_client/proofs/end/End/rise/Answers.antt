@@ -1,5 +1,5 @@
 use Rattle.std.proofs.Common.{sym, ◌∙◌}
-use Rattle.ixl_client.proofs.Going.{comes_up, stays_down}
+use Rattle.ixl_client.proofs.PartsFollow.{comes_up, stays_down}
 use Rattle.ixl_client.proofs.end.End.rise.Goals as goal
 
 pub returns-then-has_come_up : goal.returns-then-has_come_up

@@ -2,7 +2,7 @@
 use Rattle.std.proofs.Common.{ap, ◌∙◌}
 use Rattle.sci_telegram.specs.declared.message.Message.TheVariants as message
 use Rattle.ixl_client.specs.Client.{ClientState}
-use Rattle.ixl_client.proofs.Going.{posts_same, says}
+use Rattle.ixl_client.proofs.PartsFollow.{posts_same, says}
 use Rattle.ixl_client.proofs.end.End.say.Goals as goal
 
 pub returns : goal.returns

@@ -4,7 +4,7 @@ use Rattle.sci_telegram.specs.Telegrams.{writing}
 use Rattle.ixl_client.specs.Client.{ClientState}
 use Rattle.ixl_client.specs.ClientSoFar.{Sends}
 use Rattle.ixl_client.specs.Step.{telegram_to}
-use Rattle.ixl_client.proofs.Going.{called_in, sends_same}
+use Rattle.ixl_client.proofs.PartsFollow.{called_in, sends_same}
 use Rattle.ixl_client.proofs.end.End.send.Goals as goal
 
 pub returns-clause-goes : goal.returns-clause-goes

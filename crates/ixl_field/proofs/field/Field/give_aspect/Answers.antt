@@ -2,8 +2,8 @@ use Rattle.ixl_rules.specs.StepSoFar.{giving_aspect}
 use Rattle.std.proofs.Common.{◌≤◌, arith, length, subst}
 use Rattle.std.proofs.lemmas.Option.{slice_get_past}
 use Rattle.ixl_field.specs.Field.{FieldState}
-use Rattle.ixl_field.proofs.FieldGoing.{at_inside, field_in, known_signal_field, nothing_done}
-use Rattle.ixl_field.proofs.Leading.{known_signal_gives, no_known_signal}
+use Rattle.ixl_field.proofs.FieldAfter.{at_inside, field_in, known_signal_field, nothing_done}
+use Rattle.ixl_field.proofs.NodeEffects.{known_signal_gives, no_known_signal}
 use Rattle.ixl_field.proofs.field.Field.give_aspect.Goals as goal
 
 pub returns-then-signal-len : goal.returns-then-signal-len

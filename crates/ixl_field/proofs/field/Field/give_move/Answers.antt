@@ -2,8 +2,8 @@ use Rattle.ixl_field.specs.Field.{FieldState}
 use Rattle.ixl_rules.specs.StepSoFar.{giving_move}
 use Rattle.std.proofs.Common.{◌≤◌, arith, length, subst}
 use Rattle.std.proofs.lemmas.Option.{slice_get_past}
-use Rattle.ixl_field.proofs.FieldGoing.{at_inside, field_in, nothing_done, known_point_field}
-use Rattle.ixl_field.proofs.Leading.{no_known_point, known_point_gives}
+use Rattle.ixl_field.proofs.FieldAfter.{at_inside, field_in, nothing_done, known_point_field}
+use Rattle.ixl_field.proofs.NodeEffects.{no_known_point, known_point_gives}
 use Rattle.ixl_field.proofs.field.Field.give_move.Goals as goal
 
 pub returns-then-point-len : goal.returns-then-point-len

@@ -1,8 +1,8 @@
 use Rattle.std.proofs.Common.{◌<◌, length, subst, sym}
 use Rattle.ixl_field.specs.Field.{FieldState}
-use Rattle.ixl_field.proofs.FieldGoing.{at_inside, field_in, detector_field, detector_there}
-use Rattle.ixl_field.proofs.Leading.{detector_hears}
-use Rattle.ixl_field.proofs.Renewing.{field_renewed}
+use Rattle.ixl_field.proofs.FieldAfter.{at_inside, field_in, detector_field, detector_there}
+use Rattle.ixl_field.proofs.NodeEffects.{detector_hears}
+use Rattle.ixl_field.proofs.RowsRenewed.{field_renewed}
 use Rattle.ixl_field.proofs.field.Field.hear_detector.Goals as goal
 
 pub returns-clause-goes : goal.returns-clause-goes

@@ -1,7 +1,7 @@
 use Rattle.std.proofs.Common.{◌<◌, length, subst, sym}
 use Rattle.ixl_field.specs.Field.{FieldState}
-use Rattle.ixl_field.proofs.FieldGoing.{at_inside, field_in, known_point_field, known_point_there}
-use Rattle.ixl_field.proofs.Leading.{known_point_hears}
+use Rattle.ixl_field.proofs.FieldAfter.{at_inside, field_in, known_point_field, known_point_there}
+use Rattle.ixl_field.proofs.NodeEffects.{known_point_hears}
 use Rattle.ixl_field.proofs.field.Field.hear_point.Goals as goal
 
 pub returns-clause-goes : goal.returns-clause-goes

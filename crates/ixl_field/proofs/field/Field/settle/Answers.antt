@@ -2,8 +2,8 @@ use Rattle.std.proofs.Common.{arith, ◌∙◌}
 use Rattle.std.proofs.lemmas.List.{with_items_is}
 use Rattle.ixl_field.specs.Field.{AllAt, FieldState}
 use Rattle.ixl_field.proofs.Alike.{points_kept_from, sections_kept_from}
-use Rattle.ixl_field.proofs.FieldGoing.{same_lists}
-use Rattle.ixl_field.proofs.Settling.{settled_all}
+use Rattle.ixl_field.proofs.FieldAfter.{same_lists}
+use Rattle.ixl_field.proofs.ClockOnNodes.{settled_all}
 use Rattle.ixl_field.proofs.field.Field.settle.Goals as goal
 
 pub returns-clause-clock : goal.returns-clause-clock

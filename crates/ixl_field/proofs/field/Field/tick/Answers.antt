@@ -4,7 +4,7 @@ use Rattle.std.proofs.lemmas.List.{with_items_is}
 use Rattle.ixl_rules.specs.Step.{Tick, ticked}
 use Rattle.ixl_field.specs.Field.{FieldGoes, FieldState}
 use Rattle.ixl_field.proofs.Alike.{points_kept_from, sections_kept_from}
-use Rattle.ixl_field.proofs.FieldGoing.{all_tick_from, same_lists}
+use Rattle.ixl_field.proofs.FieldAfter.{all_tick_from, same_lists}
 use Rattle.ixl_field.proofs.field.Field.tick.Goals as goal
 
 pub returns : goal.returns

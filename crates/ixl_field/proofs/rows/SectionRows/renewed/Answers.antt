@@ -1,5 +1,5 @@
 use Rattle.std.proofs.lemmas.Option.{slice_get-get_or}
-use Rattle.ixl_field.proofs.Renewing.{all_rows_renewed, rows_passed_over, rows_renewed}
+use Rattle.ixl_field.proofs.RowsRenewed.{all_rows_renewed, rows_passed_over, rows_renewed}
 use Rattle.ixl_field.proofs.rows.SectionRows.renewed.Goals.{then-reporter-place, else-reporter-place}
 use Rattle.ixl_field.proofs.rows.SectionRows.renewed.Goals as goal
 

@@ -8,7 +8,7 @@ use Rattle.ixl_rules.specs.State.{RouteState}
 use Rattle.ixl_rules.specs.Table.{Row}
 use Rattle.ixl_rules.specs.declared.phase.Phase.TheVariants as phase
 use Rattle.ixl_state.specs.inside.Kept.{IsPassageOf}
-use Rattle.ixl_state.proofs.Putting.{alike-by, alike-from, passage-by}
+use Rattle.ixl_state.proofs.RouteChange.{alike-by, alike-from, passage-by}
 use Rattle.ixl_state.proofs.state.State.authorise.Goals as goal
 
 none-seen : (row : Row) (n : ℕ) → n ≡ length row.sections → IsPassageOf row (passage_after n [])

@@ -4,7 +4,7 @@ use Rattle.route_lock.specs.Locks.{IsFault}
 use Rattle.ixl_rules.specs.View.{first_blocking, is_set}
 use Rattle.ixl_table.specs.Table.{as_route}
 use Rattle.ixl_state.specs.State.{AtRoute, StateView}
-use Rattle.ixl_state.proofs.Putting.{at-inside, kept-at, place-below}
+use Rattle.ixl_state.proofs.RouteChange.{at-inside, kept-at, place-below}
 use Rattle.ixl_state.proofs.state.State.blocking.Goals as goal
 
 pub fault-requires-clause-free : goal.fault-requires-clause-free

@@ -5,8 +5,8 @@ use Rattle.std.proofs.lemmas.Bool.{false≢true}
 use Rattle.ixl_rules.specs.Rules.{freed}
 use Rattle.ixl_rules.specs.State.{RouteState}
 use Rattle.ixl_state.specs.inside.Kept.{IsState}
-use Rattle.ixl_state.proofs.Freeing.{none-held}
-use Rattle.ixl_state.proofs.Putting.{kept-at, lock-within, place-below, put-state, read-is, view-changed}
+use Rattle.ixl_state.proofs.LocksFreed.{none-held}
+use Rattle.ixl_state.proofs.RouteChange.{kept-at, lock-within, place-below, put-state, read-is, view-changed}
 use Rattle.ixl_state.proofs.state.State.free.Goals as goal
 
 pub invariant_of-self : goal.invariant_of-self

@@ -6,8 +6,8 @@ use Rattle.ixl_rules.specs.View.{freed_sections, is_set}
 use Rattle.ixl_rules.specs.declared.phase.Phase.{Phase}
 use Rattle.ixl_table.specs.Table.{IsTableThere, SitedTable}
 use Rattle.ixl_state.specs.State.{route_changed}
-use Rattle.ixl_state.proofs.Freeing.{last-freed, more-freed}
-use Rattle.ixl_state.proofs.Putting.{row-read}
+use Rattle.ixl_state.proofs.LocksFreed.{last-freed, more-freed}
+use Rattle.ixl_state.proofs.RouteChange.{row-read}
 use Rattle.ixl_state.proofs.state.State.free_next.Goals as goal
 
 pub returns-in_default : goal.returns-in_default

@@ -6,8 +6,8 @@ use Rattle.ixl_rules.specs.State.{RouteState}
 use Rattle.ixl_rules.specs.declared.phase.Phase.TheVariants as phase
 use Rattle.ixl_table.specs.Table.{as_route}
 use Rattle.ixl_state.specs.inside.Kept.{IsState}
-use Rattle.ixl_state.proofs.Freeing.{locks-next, one-freed}
-use Rattle.ixl_state.proofs.Putting.{at-inside, kept-at, lock-within, place-below, put-state, read-is, view-changed}
+use Rattle.ixl_state.proofs.LocksFreed.{locks-next, one-freed}
+use Rattle.ixl_state.proofs.RouteChange.{at-inside, kept-at, lock-within, place-below, put-state, read-is, view-changed}
 use Rattle.ixl_state.proofs.state.State.free_section.Goals as goal
 
 pub overflow_add-ended : goal.overflow_add-ended

@@ -2,7 +2,7 @@ use Rattle.std.proofs.Common.{◌≡◌, subst}
 use Rattle.ixl_rules.specs.View.{is_held_at}
 use Rattle.ixl_field.specs.Field.{kept}
 use Rattle.ixl_state.specs.State.{StateView}
-use Rattle.ixl_state.proofs.Walking.{same-truth}
+use Rattle.ixl_state.proofs.RouteFound.{same-truth}
 use Rattle.ixl_state.proofs.state.State.is_held_at.Goals as goal
 
 pub returns : goal.returns

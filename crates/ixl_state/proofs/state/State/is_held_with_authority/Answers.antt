@@ -4,7 +4,7 @@ use Rattle.ixl_rules.specs.State.{RouteState}
 use Rattle.ixl_rules.specs.View.{is_held_with_authority}
 use Rattle.ixl_state.specs.State.{StateView}
 use Rattle.ixl_state.specs.inside.Kept.{SomeHoldsWithAuthority}
-use Rattle.ixl_state.proofs.Walking.{held-with-authority}
+use Rattle.ixl_state.proofs.RouteFound.{held-with-authority}
 use Rattle.ixl_state.proofs.state.State.is_held_with_authority.Goals as goal
 
 pub returns : goal.returns

@@ -1,6 +1,6 @@
 use Rattle.std.proofs.Common.{◌≡◌}
 use Rattle.ixl_state.specs.inside.Kept.{HoldsAlike, IsPassageOf}
-use Rattle.ixl_state.proofs.Putting.{at-inside, kept-at, kept-state, place-below, view-changed}
+use Rattle.ixl_state.proofs.RouteChange.{at-inside, kept-at, kept-state, place-below, view-changed}
 use Rattle.ixl_state.proofs.state.State.keep.Goals as goal
 
 pub invariant_of-self : goal.invariant_of-self

@@ -4,8 +4,8 @@ use Rattle.ixl_rules.specs.Step.{route_looks}
 use Rattle.ixl_rules.specs.Table.{Row}
 use Rattle.ixl_rules.specs.View.{place_in}
 use Rattle.ixl_table.specs.Table.{SitedTable}
-use Rattle.ixl_state.proofs.Looking.{looks-alike, looks-passage, place-within}
-use Rattle.ixl_state.proofs.Putting.{alike-by, passage-by, row-read}
+use Rattle.ixl_state.proofs.SectionLook.{looks-alike, looks-passage, place-within}
+use Rattle.ixl_state.proofs.RouteChange.{alike-by, passage-by, row-read}
 use Rattle.ixl_state.proofs.state.State.look.Goals as goal
 
 pub looks-route-requires : goal.looks-route-requires

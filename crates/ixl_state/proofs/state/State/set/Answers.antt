@@ -9,8 +9,8 @@ use Rattle.ixl_table.specs.Table.{as_route}
 use Rattle.ixl_state.specs.State.{AtRoute, StateView}
 use Rattle.ixl_state.specs.inside.Kept.{IsState}
 use Rattle.ixl_state.proofs.Lists.{changed-is-set}
-use Rattle.ixl_state.proofs.Freeing.{all-locked, reserved}
-use Rattle.ixl_state.proofs.Putting.{at-inside, kept-at, lock-within, place-below, put-state, read-is, unmoved-state, view_of}
+use Rattle.ixl_state.proofs.LocksFreed.{all-locked, reserved}
+use Rattle.ixl_state.proofs.RouteChange.{at-inside, kept-at, lock-within, place-below, put-state, read-is, unmoved-state, view_of}
 use Rattle.ixl_state.proofs.state.State.set.Goals as goal
 
 pub reserve-reserved-requires-clause-free : goal.reserve-reserved-requires-clause-free

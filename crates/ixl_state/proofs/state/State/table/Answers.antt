@@ -1,6 +1,6 @@
 use Rattle.std.proofs.Common.{◌<◌, length, subst}
 use Rattle.ixl_state.specs.State.{HasRoute, StateView}
-use Rattle.ixl_state.proofs.Putting.{kept-at}
+use Rattle.ixl_state.proofs.RouteChange.{kept-at}
 use Rattle.ixl_state.proofs.state.State.table.Goals as goal
 
 pub returns-clause-there : goal.returns-clause-there

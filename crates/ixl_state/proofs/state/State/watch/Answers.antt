@@ -1,6 +1,6 @@
 use Rattle.std.proofs.Common.{◌∙◌, ◌||◌, not, ap, refl}
 use Rattle.ixl_rules.specs.State.{RouteState}
-use Rattle.ixl_state.proofs.Putting.{alike-by, passage-by}
+use Rattle.ixl_state.proofs.RouteChange.{alike-by, passage-by}
 use Rattle.ixl_state.proofs.state.State.watch.Goals as goal
 
 pub keep-requires-clause-alike : goal.keep-requires-clause-alike

@@ -1,7 +1,7 @@
 -- each round acts on one item; a closed link drops those that are left
 use Rattle.std.proofs.Common.{ap, sym, ◌∙◌, arith}
 use Rattle.rasta_core.specs.State.{is_open}
-use Rattle.object_host.proofs.Acting.{acting_next, closed_drops, nothing_at_end}
+use Rattle.object_host.proofs.ItemActions.{acting_next, closed_drops, nothing_at_end}
 use Rattle.object_host.proofs.UnderWay.{begins, comes_to_end}
 use Rattle.object_host.proofs.host.Host.act_all.Goals as goal
 

@@ -1,4 +1,4 @@
-use Rattle.object_host.proofs.Acting.{IsActing}
+use Rattle.object_host.proofs.ItemActions.{IsActing}
 use Rattle.object_host.proofs.host.Host.act_all.Given as goal
 
 abbrev pub invariant-loop-item : goal.invariant-loop-item

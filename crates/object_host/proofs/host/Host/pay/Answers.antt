@@ -1,6 +1,6 @@
 -- each round sends one report, and the first that isn't sent ends the loop
 use Rattle.std.proofs.Common.{sym, ◌∙◌, arith}
-use Rattle.object_host.proofs.Paying.{paying_next, paying_stops, nothing_at_end}
+use Rattle.object_host.proofs.OwedReports.{paying_next, paying_stops, nothing_at_end}
 use Rattle.object_host.proofs.UnderWay.{begins, comes_to_end}
 use Rattle.object_host.proofs.host.Host.pay.Goals as goal
 

@@ -1,4 +1,4 @@
-use Rattle.object_host.proofs.Paying.{IsPaying}
+use Rattle.object_host.proofs.OwedReports.{IsPaying}
 use Rattle.object_host.proofs.host.Host.pay.Given as goal
 
 abbrev pub invariant-loop-round : goal.invariant-loop-round

@@ -3,7 +3,7 @@ use Rattle.std.proofs.Common.{◌∙◌, ap, sym, subst}
 use Rattle.rasta_core.specs.Outbox.{OutboxState}
 use Rattle.object_host.specs.Hosted.{IsHosted}
 use Rattle.object_host.proofs.Between.{of_hosted, step_hosted}
-use Rattle.object_host.proofs.Posting.{capacity-posted}
+use Rattle.object_host.proofs.OutboxPosts.{capacity-posted}
 use Rattle.object_host.proofs.hosted.Hosted.step.Goals as goal
 
 pub invariant_of-self : goal.invariant_of-self

@@ -5,7 +5,7 @@ use Rattle.simulator_ixl.specs.simulator_run.Happens.{delivered_to, detector_ste
 use Rattle.simulator_ixl.specs.simulator_run.Nodes.{node_at}
 use Rattle.simulator.specs.inside.Nodes.{meant_node}
 use Rattle.simulator.specs.inside.Parts.{site_of, seen, table_of}
-use Rattle.simulator.proofs.Going.{detector_coming, goes_as, point_coming, signal_coming}
+use Rattle.simulator.proofs.PartsOfWorld.{detector_coming, goes_as, point_coming, signal_coming}
 use Rattle.simulator.proofs.parts.Parts.deliver_in.Goals as goal
 
 pub returns-in-Some-Signal : goal.returns-in-Some-Signal

@@ -7,8 +7,8 @@ use Rattle.simulator_ixl.specs.simulator_field.Controllers.{world_of}
 use Rattle.simulator_ixl.specs.simulator_run.Happens.{detector_stepped, sensed_by}
 use Rattle.simulator_ixl.specs.simulator_run.State.{WorldState}
 use Rattle.simulator.specs.inside.Parts.{Goes, site_of, table_of}
-use Rattle.simulator.proofs.Coming.{as_planned, is_reported, reporter_there, sensed_goes}
-use Rattle.simulator.proofs.Going.{goes_behind}
+use Rattle.simulator.proofs.ContactReaches.{as_planned, is_reported, reporter_there, sensed_goes}
+use Rattle.simulator.proofs.PartsOfWorld.{goes_behind}
 use Rattle.simulator.proofs.parts.Parts.occupy.Goals as goal
 
 pub bounds-reporters-section : goal.bounds-reporters-section

@@ -7,7 +7,7 @@ use Rattle.simulator_ixl.specs.simulator_run.Happens.{point_stepped}
 use Rattle.simulator_ixl.specs.simulator_run.State.{WorldState}
 use Rattle.simulator.specs.inside.Parts.{site_of}
 use Rattle.simulator_ixl.specs.simulator_field.Controllers.{world_of}
-use Rattle.simulator.proofs.Going.{goes_behind}
+use Rattle.simulator.proofs.PartsOfWorld.{goes_behind}
 use Rattle.simulator.proofs.parts.Parts.reach.Goals as goal
 
 pub returns : goal.returns

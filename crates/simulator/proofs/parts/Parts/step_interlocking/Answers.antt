@@ -1,5 +1,5 @@
 use Rattle.simulator_ixl.specs.ixl.Interlocking.{meant, told}
-use Rattle.simulator.proofs.Going.{station_goes}
+use Rattle.simulator.proofs.PartsOfWorld.{station_goes}
 use Rattle.simulator.proofs.parts.Parts.step_interlocking.Goals as goal
 
 pub returns-clause-goes : goal.returns-clause-goes

@@ -1,6 +1,6 @@
 use Rattle.std.proofs.Common.{rules}
 use Rattle.simulator_ixl.proofs.Places.{link_told}
-use Rattle.simulator_ixl.proofs.Sending.{one_sent}
+use Rattle.simulator_ixl.proofs.DatagramsSent.{one_sent}
 use Rattle.simulator_ixl.proofs.connections.Connections.send.Goals as goal
 
 pub returns-clause-sending : goal.returns-clause-sending

@@ -2,7 +2,7 @@ use Rattle.std.proofs.Common.{sym, subst}
 use Rattle.simulator_pair_text.specs.Flow.{Flowing}
 use Rattle.simulator_pair_text.specs.Transcript.{Answers}
 use Rattle.simulator_pair_text.specs.declared.answer.Answer.{Answer}
-use Rattle.simulator_pair_text.proofs.Answering.{answers, at}
+use Rattle.simulator_pair_text.proofs.EventAnswers.{answers, at}
 use Rattle.simulator_pair_text.proofs.run.Run.event.Goals as goal
 
 pub returns : goal.returns

@@ -1,7 +1,7 @@
 use Rattle.std.proofs.Common.{◌≡◌, ap, List, length, subst}
 use Rattle.rasta_core.specs.Ends.{Sent}
 use Rattle.simulator_pair_text.specs.Flow.{Flowing, round}
-use Rattle.simulator_pair_text.proofs.Answering.{at}
+use Rattle.simulator_pair_text.proofs.EventAnswers.{at}
 use Rattle.simulator_pair_text.proofs.Rounds.{made-round}
 use Rattle.simulator_pair_text.proofs.run.Run.round.Goals as goal
 

@@ -1,7 +1,7 @@
 use Rattle.std.proofs.Common.{◌∙◌, ap}
 use Rattle.station_drive.specs.Inside.{applied_to}
 use Rattle.station_drive.specs.Rounds.{not_due}
-use Rattle.station_drive.proofs.Waiting.{applied_above, not_due_twice}
+use Rattle.station_drive.proofs.WaitingLines.{applied_above, not_due_twice}
 use Rattle.station_drive.proofs.waiting_lines.WaitingLines.after.Goals as goal
 
 pub returns : goal.returns

@@ -1,4 +1,4 @@
-use Rattle.station_run.proofs.Applying.{applied}
+use Rattle.station_run.proofs.WorldAnswers.{applied}
 use Rattle.station_run.proofs.driven_world.RunningStation.apply.Goals as goal
 
 pub returns-clause-applies : goal.returns-clause-applies

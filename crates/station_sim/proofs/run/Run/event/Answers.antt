@@ -2,7 +2,7 @@ use Rattle.std.proofs.Common.{sym, subst, Result}
 use Rattle.replay.specs.simulator.simulator_event.refused.Refused.{Refused}
 use Rattle.replay.specs.simulator.simulator_event.declared.reply.Answer.{Answer}
 use Rattle.station_sim.specs.Transcript.{Answers}
-use Rattle.station_sim.proofs.Answering.{answered, at}
+use Rattle.station_sim.proofs.EventAnswers.{answered, at}
 use Rattle.station_sim.proofs.run.Run.event.Goals as goal
 
 pub returns : goal.returns

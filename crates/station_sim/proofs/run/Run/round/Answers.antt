@@ -1,5 +1,5 @@
 use Rattle.station_sim.specs.inside.Runs.{flowing_of}
-use Rattle.station_sim.proofs.Answering.{on_err}
+use Rattle.station_sim.proofs.EventAnswers.{on_err}
 use Rattle.station_sim.proofs.Rounds.{none_did}
 use Rattle.station_sim.proofs.run.Run.round.Goals as goal
 
