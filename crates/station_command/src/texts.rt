@@ -74,22 +74,6 @@ All lines are judged before the first event. Each is then answered on a line of 
 
 Example: station sim examples/small.toml examples/proceed.events";
 
-pub(crate) const REPLAY: &str = "Applies a recorded session to a station of a layout again";
-
-pub(crate) const REPLAY_DETAILS: &str = "Applies a recorded session to a station of a layout again.
-
-The station begins with each point at left and each section clear. Each line of a session is an event
-and what it answered, as EVENT = ANSWER. Where each event answers the same, it prints `same`. Otherwise
-it prints the first line that differs, and ends with status 3.
-
-Example: station replay examples/small.toml examples/commands.session";
-
-pub(crate) const SCRIPT: &str = "The lines that are applied, each at its time";
-
-pub(crate) const RECORD_OF_RUN: &str = "The file to which the session is written";
-
-pub(crate) const FOR: &str = "How long the station runs, from 1000 to 600000 milliseconds";
-
 pub(crate) const RUN: &str = "Runs a station of a layout over loopback sockets";
 
 pub(crate) const RUN_DETAILS: &str = "Runs a station of a layout over loopback sockets.
@@ -108,8 +92,9 @@ pub(crate) const REPLAY: &str = "Applies a recorded session to a station of a la
 
 pub(crate) const REPLAY_DETAILS: &str = "Applies a recorded session to a station of a layout again.
 
-Each line of a session is an event and what it answered, as EVENT = ANSWER. Where each event answers
-the same, it prints `same`. Otherwise it prints the first line that differs, and ends with status 3.
+The station begins with each point at left and each section clear. Each line of a session is an event
+and what it answered, as EVENT = ANSWER. Where each event answers the same, it prints `same`. Otherwise
+it prints the first line that differs, and ends with status 3.
 
 Example: station replay examples/small.toml examples/commands.session";
 
