@@ -10,6 +10,7 @@ import copy
 import os
 import pathlib
 import queue
+import shutil
 import subprocess
 import sys
 import tempfile
@@ -22,13 +23,28 @@ ROOT = str(pathlib.Path(__file__).resolve().parent.parent)
 printing = threading.Lock()
 
 
-def build(crate, jobs, behind):
+def build_library(rt, crate, jobs):
+    """Builds a library of which the crates above load what it states, and not its proofs once more, as those of the kit are built. It
+    notes what the library is made from, by which `rt` knows it as built."""
+    noted, stamp = f"{crate.folder}/out/rlib/stamp", crate.stamp()
+    if crate.is_built():
+        return 0
+    shutil.rmtree(os.path.dirname(noted), ignore_errors=True)
+    os.makedirs(os.path.dirname(noted))
+    words = [*crate.words(["--jobs", str(jobs)]), "--statements"]
+    status = crate.call(rt.rtlib.RATTLE, "build", *words, "-o", crate.rlib)
+    if not status and stamp == crate.stamp():
+        pathlib.Path(noted).write_text(stamp)
+    return status
+
+
+def build(rt, crate, jobs, behind):
     """Builds one library, behind others where it may wait, and tells what came of it."""
     if behind:
         os.setpriority(os.PRIO_PROCESS, threading.get_native_id(), 10)
     crate = copy.copy(crate)
     with tempfile.TemporaryFile("a+", errors="replace") as crate.out:
-        status = crate.build_rlib(["--jobs", str(jobs)], False)
+        status = build_library(rt, crate, jobs)
         with printing:
             print(f"{crate.name} {'not built' if status else 'built'}", flush=True)
             if status:
@@ -71,9 +87,14 @@ def chains(crates):
     return longest
 
 
+def memory_of(rt, crate, jobs):
+    """The most memory that a build takes, in bytes: its processes share most of what they read."""
+    return rt.need(crate) * (1 + 0.1 * (jobs - 1))
+
+
 def side_by_side(rt, crates):
     """Builds each crate once those below it are built, and ends where one can't be. The crate with the longest chain behind it is
-    what all others wait for: it has all processors. The others take what it leaves."""
+    what all others wait for: it has all processors, and others leave it room. The others take what it leaves."""
     longest, processors, memory = chains(crates), rt.processors(), 0.85 * rt.free()
     left = sorted(crates, key=lambda it: -longest[it.name])
     running, built, ended = {}, set(), queue.SimpleQueue()
@@ -81,21 +102,32 @@ def side_by_side(rt, crates):
     def work(crate, jobs, behind):
         done = False
         try:
-            done = build(crate, jobs, behind)
+            done = build(rt, crate, jobs, behind)
         finally:
             ended.put((crate, done))
 
-    while left or running:
+    def begin(crate, jobs, behind):
+        left.remove(crate)
+        running[crate.name] = memory_of(rt, crate, jobs)
+        threading.Thread(target=work, args=(crate, jobs, behind)).start()
+
+    def begin_those_that_may():
+        first = max([*running, *(it.name for it in left)], key=longest.get)
         ready = [it for it in left if all(low.name in built for low in it.below())]
+        waits = next((it for it in left if it.name == first), None)
+        if waits in ready:
+            begin(waits, processors, False)
+            ready.remove(waits)
+        kept = memory_of(rt, waits, processors) if waits in left else 0
         for place, crate in enumerate(ready):
-            first = crate.name == max([*running, *(it.name for it in left)], key=longest.get)
-            jobs = processors if first else max(1, (processors - len(running)) // (len(ready) - place))
-            needs = rt.need(crate) * (1 + 0.6 * (jobs - 1))
-            if running and (len(running) == processors or sum(running.values()) + needs > memory):
+            jobs = max(1, (processors - len(running)) // (len(ready) - place))
+            needs = sum(running.values()) + memory_of(rt, crate, jobs) + kept
+            if running and (len(running) >= processors or needs > memory):
                 break
-            left.remove(crate)
-            running[crate.name] = needs
-            threading.Thread(target=work, args=(crate, jobs, not first)).start()
+            begin(crate, jobs, True)
+
+    while left or running:
+        begin_those_that_may()
         crate, done = ended.get()
         running.pop(crate.name)
         if not done:
