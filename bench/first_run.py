@@ -1,7 +1,8 @@
 #!/usr/bin/env python3
 """The first `rt run` of a program, with its libraries built side by side: as many at a time as there are processors and memory. The
-longest chain of crates has all processors, and the others take what it leaves. `rt run` by itself builds one after the other. What is
-built is the same, and `rt run` finds it later. It tells the processor time and the time on the clock.
+longest chain of crates has all processors, and the others take what it leaves. Of a library the crates above load what it states,
+and not its proofs. `rt run` by itself builds one after the other, and loads all proofs below. It finds later what is built here. This
+tells the processor time and the time on the clock.
 
     python3 bench/first_run.py CRATE [WORD ..]      the words are the program's arguments
     python3 bench/first_run.py CRATE --libraries    builds the libraries alone
@@ -71,7 +72,7 @@ def build_libraries(rt, name):
     rt.share_work(True)
     # its first call sets the handler of a signal, which only the main thread may
     rt.rtlib.guarded()
-    built = side_by_side(rt, below)
+    built = SideBySide(rt, below).are_built()
     for it in held:
         os.close(it)
     return built
@@ -87,53 +88,56 @@ def chains(crates):
     return longest
 
 
-def memory_of(rt, crate, jobs):
-    """The most memory that a build takes, in bytes: its processes share most of what they read."""
-    return rt.need(crate) * (1 + 0.1 * (jobs - 1))
+class SideBySide:
+    """Libraries, each of which is built once those below it are. The crate with the longest chain behind it is what all others wait
+    for: it has all processors, and others leave it room in memory. The others take what it leaves."""
 
+    def __init__(self, rt, crates):
+        self.rt, self.longest = rt, chains(crates)
+        self.processors, self.memory = rt.processors(), 0.85 * rt.free()
+        self.left = sorted(crates, key=lambda it: -self.longest[it.name])
+        self.running, self.built, self.ended = {}, set(), queue.SimpleQueue()
 
-def side_by_side(rt, crates):
-    """Builds each crate once those below it are built, and ends where one can't be. The crate with the longest chain behind it is
-    what all others wait for: it has all processors, and others leave it room. The others take what it leaves."""
-    longest, processors, memory = chains(crates), rt.processors(), 0.85 * rt.free()
-    left = sorted(crates, key=lambda it: -longest[it.name])
-    running, built, ended = {}, set(), queue.SimpleQueue()
+    def needs(self, crate, jobs):
+        """The most memory that a build takes, in bytes: its processes share most of what they read."""
+        return self.rt.need(crate) * (1 + 0.1 * (jobs - 1))
 
-    def work(crate, jobs, behind):
-        done = False
-        try:
-            done = build(rt, crate, jobs, behind)
-        finally:
-            ended.put((crate, done))
+    def begin(self, crate, jobs, behind):
+        def work():
+            done = False
+            try:
+                done = build(self.rt, crate, jobs, behind)
+            finally:
+                self.ended.put((crate, done))
 
-    def begin(crate, jobs, behind):
-        left.remove(crate)
-        running[crate.name] = memory_of(rt, crate, jobs)
-        threading.Thread(target=work, args=(crate, jobs, behind)).start()
+        self.left.remove(crate)
+        self.running[crate.name] = self.needs(crate, jobs)
+        threading.Thread(target=work).start()
 
-    def begin_those_that_may():
-        first = max([*running, *(it.name for it in left)], key=longest.get)
-        ready = [it for it in left if all(low.name in built for low in it.below())]
-        waits = next((it for it in left if it.name == first), None)
-        if waits in ready:
-            begin(waits, processors, False)
-            ready.remove(waits)
-        kept = memory_of(rt, waits, processors) if waits in left else 0
+    def begin_those_that_may(self):
+        first = max([*self.running, *(it.name for it in self.left)], key=self.longest.get)
+        ready = [it for it in self.left if all(low.name in self.built for low in it.below())]
+        for crate in [it for it in ready if it.name == first]:
+            ready.remove(crate)
+            self.begin(crate, self.processors, False)
+        room = self.memory - sum(self.needs(it, self.processors) for it in self.left if it.name == first)
         for place, crate in enumerate(ready):
-            jobs = max(1, (processors - len(running)) // (len(ready) - place))
-            needs = sum(running.values()) + memory_of(rt, crate, jobs) + kept
-            if running and (len(running) >= processors or needs > memory):
+            jobs = max(1, (self.processors - len(self.running)) // (len(ready) - place))
+            is_full = len(self.running) >= self.processors
+            if self.running and (is_full or sum(self.running.values()) + self.needs(crate, jobs) > room):
                 break
-            begin(crate, jobs, True)
+            self.begin(crate, jobs, True)
 
-    while left or running:
-        begin_those_that_may()
-        crate, done = ended.get()
-        running.pop(crate.name)
-        if not done:
-            return False
-        built.add(crate.name)
-    return True
+    def are_built(self):
+        """Builds them all, and ends where one can't be."""
+        while self.left or self.running:
+            self.begin_those_that_may()
+            crate, done = self.ended.get()
+            self.running.pop(crate.name)
+            if not done:
+                return False
+            self.built.add(crate.name)
+        return True
 
 
 def main(name, *words):
