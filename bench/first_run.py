@@ -39,10 +39,10 @@ def build_library(rt, crate, jobs):
     return status
 
 
-def build(rt, crate, jobs, behind):
-    """Builds one library, behind others where it may wait, and tells what came of it."""
-    if behind:
-        os.setpriority(os.PRIO_PROCESS, threading.get_native_id(), 10)
+def build(rt, crate, jobs, priority):
+    """Builds one library, behind those of a lower number, and tells what came of it."""
+    if priority:
+        os.setpriority(os.PRIO_PROCESS, threading.get_native_id(), priority)
     crate = copy.copy(crate)
     with tempfile.TemporaryFile("a+", errors="replace") as crate.out:
         status = build_library(rt, crate, jobs)
@@ -90,50 +90,52 @@ def chains(crates):
 
 class SideBySide:
     """Libraries, each of which is built once those below it are. The crate with the longest chain behind it is what all others wait
-    for: it has all processors, and others leave it room in memory. The others take what it leaves."""
+    for: those that begin beside it leave it room in memory, and work behind it."""
 
     def __init__(self, rt, crates):
         self.rt, self.longest = rt, chains(crates)
         self.processors, self.memory = rt.processors(), 0.85 * rt.free()
         self.left = sorted(crates, key=lambda it: -self.longest[it.name])
+        # the crates that are built, each with its priority (0 is the first)
         self.running, self.built, self.ended = {}, set(), queue.SimpleQueue()
 
-    def needs(self, crate, jobs):
+    def needs(self, crate):
         """The most memory that a build takes, in bytes: its processes share most of what they read."""
-        return self.rt.need(crate) * (1 + 0.1 * (jobs - 1))
+        return self.rt.need(crate) * (1 + 0.1 * (self.processors - 1))
 
-    def begin(self, crate, jobs, behind):
+    def begin(self, crate, priority):
         def work():
             done = False
             try:
-                done = build(self.rt, crate, jobs, behind)
+                done = build(self.rt, crate, self.processors, priority)
             finally:
                 self.ended.put((crate, done))
 
         self.left.remove(crate)
-        self.running[crate.name] = self.needs(crate, jobs)
+        self.running[crate] = priority
         threading.Thread(target=work).start()
 
     def begin_those_that_may(self):
-        first = max([*self.running, *(it.name for it in self.left)], key=self.longest.get)
         ready = [it for it in self.left if all(low.name in self.built for low in it.below())]
-        for crate in [it for it in ready if it.name == first]:
-            ready.remove(crate)
-            self.begin(crate, self.processors, False)
-        room = self.memory - sum(self.needs(it, self.processors) for it in self.left if it.name == first)
-        for place, crate in enumerate(ready):
-            jobs = max(1, (self.processors - len(self.running)) // (len(ready) - place))
+        first = max([*self.running, *self.left], key=lambda it: self.longest[it.name])
+        if first in ready:
+            ready.remove(first)
+            self.begin(first, 0)
+        kept = 0 if first in self.running else self.needs(first)
+        priority = min(self.running.get(first, 0) + 5, 19)
+        for crate in ready:
             is_full = len(self.running) >= self.processors
-            if self.running and (is_full or sum(self.running.values()) + self.needs(crate, jobs) > room):
+            needs = sum(map(self.needs, self.running)) + self.needs(crate) + kept
+            if self.running and (is_full or needs > self.memory):
                 break
-            self.begin(crate, jobs, True)
+            self.begin(crate, priority)
 
     def are_built(self):
         """Builds them all, and ends where one can't be."""
         while self.left or self.running:
             self.begin_those_that_may()
             crate, done = self.ended.get()
-            self.running.pop(crate.name)
+            self.running.pop(crate)
             if not done:
                 return False
             self.built.add(crate.name)
