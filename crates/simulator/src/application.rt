@@ -8,7 +8,7 @@ ghost use Rattle.simulator.specs.inside.Parts.{IsWhole, site_of, seen, steps_of,
 
 use crate::parts::Parts;
 use simulator_ixl::MOST_SENT;
-use simulator_ixl::simulator_event::{Event, Refused, Reply};
+use simulator_ixl::simulator_run::simulator_event::{Event, Refused, Reply};
 use std::alloc::AllocError;
 
 impl Parts {

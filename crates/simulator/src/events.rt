@@ -13,7 +13,7 @@ ghost use Rattle.simulator.specs.inside.Parts.{Goes, IsWhole, site_of, room_of, 
 
 use crate::found::Found;
 use crate::parts::Parts;
-use simulator_ixl::simulator_event::{Answer, Event, NodeId};
+use simulator_ixl::simulator_run::simulator_event::{Answer, Event, NodeId};
 use std::alloc::AllocError;
 
 impl Parts {

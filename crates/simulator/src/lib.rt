@@ -19,18 +19,15 @@ mod world;
 pub use world::World;
 
 // What happens to a world, what it answers, and what is seen of it.
-pub use simulator_ixl::simulator_event::{
+pub use simulator_ixl::simulator_run::simulator_event::{
     Answer, ClockSteps, Event, NodeId, RawDatagram, Refused, Reply,
 };
-pub use simulator_ixl::simulator_snapshot::{Held, Shown, Snapshot, Stands};
+pub use simulator_ixl::simulator_run::simulator_snapshot::{Held, Shown, Snapshot, Stands};
 
 // The same for one client and one server.
 pub use simulator_pair::{Pair, PairAnswer, PairEvent, PairReply};
 
 // What crates above need of the crates below.
 pub use simulator_headline;
-pub use simulator_ixl::{
-    control_table, ixl_rules, ixl_state, ixl_table, layout, rasta_core, sci_telegram,
-    simulator_event, simulator_field, simulator_run, simulator_snapshot,
-};
+pub use simulator_ixl::{simulator_field, simulator_run};
 pub use simulator_pair;

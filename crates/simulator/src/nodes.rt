@@ -5,9 +5,9 @@ ghost use Rattle.std.specs.Option.{option_map};
 ghost use Rattle.simulator_ixl.specs.simulator_run.Nodes.{controller_at, node_at};
 ghost use Rattle.simulator.specs.inside.Nodes.{meant_node};
 
-use simulator_ixl::layout::Layout;
-use simulator_ixl::simulator_event::NodeId;
+use simulator_ixl::simulator_run::layout::Layout;
 use simulator_ixl::simulator_run::links;
+use simulator_ixl::simulator_run::simulator_event::NodeId;
 
 /// A node: the interlocking, or a controller by its place among those of its kind.
 #[derive(Clone, Copy, Debug)]

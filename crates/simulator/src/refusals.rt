@@ -10,12 +10,12 @@ ghost use Rattle.simulator.specs.inside.Parts.{IsWhole, site_of, seen};
 use crate::found::Found;
 use crate::parts::Parts;
 use crate::time_limits::CLOCK_LIMIT;
-use simulator_ixl::ixl_rules::key_of;
-use simulator_ixl::layout::{PointId, SectionId};
-use simulator_ixl::rasta_core::Millis;
-use simulator_ixl::sci_telegram::{Position, Side};
-use simulator_ixl::simulator_event::{Event, NodeId, Refused};
+use simulator_ixl::simulator_run::ixl_rules::key_of;
+use simulator_ixl::simulator_run::layout::{PointId, SectionId};
 use simulator_ixl::simulator_run::links;
+use simulator_ixl::simulator_run::rasta_core::Millis;
+use simulator_ixl::simulator_run::sci_telegram::{Position, Side};
+use simulator_ixl::simulator_run::simulator_event::{Event, NodeId, Refused};
 
 /// How many microseconds a millisecond has.
 const MICROS: u64 = 1000;

@@ -7,9 +7,9 @@ ghost use Rattle.simulator.specs.inside.Parts.{IsWhole, seen, table_of};
 
 use crate::parts::Parts;
 use arrayvec::ArrayVec;
-use simulator_ixl::layout::{PointId, SignalId};
-use simulator_ixl::sci_telegram::Side;
-use simulator_ixl::simulator_snapshot::{Shown, Snapshot, Stands};
+use simulator_ixl::simulator_run::layout::{PointId, SignalId};
+use simulator_ixl::simulator_run::sci_telegram::Side;
+use simulator_ixl::simulator_run::simulator_snapshot::{Shown, Snapshot, Stands};
 
 impl Parts {
     /// What each signal shows.

@@ -7,10 +7,10 @@ ghost use Rattle.simulator_ixl.specs.simulator_run.Refusals.{all_within, are_wit
 ghost use Rattle.simulator.specs.inside.Parts.{IsWhole, site_of, seen};
 
 use crate::parts::Parts;
-use simulator_ixl::object_host::Controller;
-use simulator_ixl::simulator_event::Refused;
 use simulator_ixl::simulator_field::ClockedController;
 use simulator_ixl::simulator_run::nodes;
+use simulator_ixl::simulator_run::object_host::Controller;
+use simulator_ixl::simulator_run::simulator_event::Refused;
 
 /// The greatest true time and the greatest clock, in microseconds.
 pub(crate) const CLOCK_LIMIT: u64 = 9_000_000_000_000_000;

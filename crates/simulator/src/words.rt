@@ -3,9 +3,9 @@
 ghost use Rattle.std.specs.Prelude.{◌≡◌};
 ghost use Rattle.simulator_ixl.specs.simulator_run.Picture.{aspect_text, authority_text, driven_text, occupancy_text, position_text, route_name, safe_text, set_text};
 
-use simulator_ixl::layout::{Layout, RouteId};
-use simulator_ixl::sci_telegram::{Aspect, Occupancy, Position, Side};
-use simulator_ixl::simulator_snapshot::Held;
+use simulator_ixl::simulator_run::layout::{Layout, RouteId};
+use simulator_ixl::simulator_run::sci_telegram::{Aspect, Occupancy, Position, Side};
+use simulator_ixl::simulator_run::simulator_snapshot::Held;
 
 /// The word of an aspect.
 pub(crate) fn aspect_word(aspect: Aspect) -> &'static str

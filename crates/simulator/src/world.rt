@@ -21,14 +21,14 @@ ghost use Rattle.simulator.specs.World.{IsSafeWorld};
 use crate::parts::Parts;
 use arrayvec::ArrayVec;
 use simulator_headline::reached_worlds_are_safe;
-use simulator_ixl::control_table::Checked;
-use simulator_ixl::ixl_state::State;
-use simulator_ixl::layout::{PointId, RouteId, SectionId, SignalId};
-use simulator_ixl::rasta_core::Millis;
-use simulator_ixl::sci_telegram::{Aspect, Occupancy, Position, Side};
-use simulator_ixl::simulator_event::{Event, Refused, Reply};
+use simulator_ixl::InterlockingState;
 use simulator_ixl::simulator_field::{Bag, Network};
-use simulator_ixl::simulator_snapshot::{Held, Snapshot};
+use simulator_ixl::simulator_run::control_table::Checked;
+use simulator_ixl::simulator_run::layout::{PointId, RouteId, SectionId, SignalId};
+use simulator_ixl::simulator_run::rasta_core::Millis;
+use simulator_ixl::simulator_run::sci_telegram::{Aspect, Occupancy, Position, Side};
+use simulator_ixl::simulator_run::simulator_event::{Event, Refused, Reply};
+use simulator_ixl::simulator_run::simulator_snapshot::{Held, Snapshot};
 use std::alloc::{AllocError, Global};
 use std::marker::Model;
 
@@ -241,7 +241,7 @@ impl World {
 
     /// All that the interlocking keeps: how far each route is, and what is known of each controller.
     #[tactic(auto, unfolding(crate::proofs::Below::world_of))]
-    pub fn interlocking(&self) -> &State
+    pub fn interlocking(&self) -> &InterlockingState
         ensures { result.now ≡ record { sited = self.now.sited; ixl = self.now.run.station.ixl } }
     {
         self.parts.station.state()

@@ -1,11 +1,11 @@
 //! The promise of a station, asked in plain words of what is seen of it and of its table.
 
 use simulator::World;
-use simulator::control_table::Checked;
-use simulator::layout::{PointId, RouteId};
-use simulator::rasta_core::Role;
-use simulator::sci_telegram::{Aspect, Position, Side};
-use simulator::simulator_snapshot::{Held, Snapshot};
+use simulator::simulator_run::control_table::Checked;
+use simulator::simulator_run::layout::{PointId, RouteId};
+use simulator::simulator_run::rasta_core::Role;
+use simulator::simulator_run::sci_telegram::{Aspect, Position, Side};
+use simulator::simulator_run::simulator_snapshot::{Held, Snapshot};
 
 /// For how long, in microseconds of true time, a signal shows more than stop after the interlocking was last heard.
 const FRESHNESS: u64 = 1_802_000;

@@ -4,11 +4,11 @@ use crate::events::is_open;
 use crate::promise::{are_alike, are_lately_heard, aspect_of, is_kept};
 use crate::tally::{Count, Tally};
 use simulator::World;
-use simulator::ixl_rules::Command;
-use simulator::layout::RouteId;
-use simulator::sci_telegram::Aspect;
-use simulator::simulator_event::{Answer, Event, NodeId, Refused, Reply};
-use simulator::simulator_snapshot::Snapshot;
+use simulator::simulator_run::ixl_rules::Command;
+use simulator::simulator_run::layout::RouteId;
+use simulator::simulator_run::sci_telegram::Aspect;
+use simulator::simulator_run::simulator_event::{Answer, Event, NodeId, Refused, Reply};
+use simulator::simulator_run::simulator_snapshot::Snapshot;
 use std::process::Abort;
 
 /// What was seen of a station.

@@ -10,12 +10,6 @@ pub use clocked_interlocking::{ClockedInterlocking, MOST_SENT};
 
 // What crates above need of the crates below.
 pub use ixl;
-pub use ixl_state;
-pub use ixl_state::{
-    bit_row, control_table, ixl_rules, ixl_table, layout, rasta_core, rasta_pdu, sci_telegram,
-};
+pub use ixl_state::State as InterlockingState;
 pub use simulator_field;
 pub use simulator_run;
-pub use simulator_run::{
-    object_host, point_ctl, signal_ctl, simulator_event, simulator_snapshot, tds_ctl,
-};

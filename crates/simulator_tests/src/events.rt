@@ -3,11 +3,13 @@
 use crate::seen::Seen;
 use crate::station::{listed, station};
 use simulator::World;
-use simulator::ixl_rules::Command;
-use simulator::layout::{PointId, RouteId};
-use simulator::rasta_core::Role;
-use simulator::sci_telegram::Position;
-use simulator::simulator_event::{Answer, ClockSteps, Event, NodeId, RawDatagram, Refused};
+use simulator::simulator_run::ixl_rules::Command;
+use simulator::simulator_run::layout::{PointId, RouteId};
+use simulator::simulator_run::rasta_core::Role;
+use simulator::simulator_run::sci_telegram::Position;
+use simulator::simulator_run::simulator_event::{
+    Answer, ClockSteps, Event, NodeId, RawDatagram, Refused,
+};
 use std::alloc::Global;
 use std::process::Abort;
 

@@ -1,6 +1,6 @@
 //! The numbers and texts of what an event is refused for. Those of commands are in the answers of stored event files.
 
-use simulator::simulator_event::Refused;
+use simulator::simulator_run::simulator_event::Refused;
 use std::alloc::Global;
 use std::process::Abort;
 

@@ -3,7 +3,7 @@
 use crate::events::{HOLD, in_bag, pass};
 use crate::station::station;
 use simulator::World;
-use simulator::simulator_event::{Event, NodeId};
+use simulator::simulator_run::simulator_event::{Event, NodeId};
 use std::process::Abort;
 
 /// Makes room for steps; where memory is lacking it is asked for once more.

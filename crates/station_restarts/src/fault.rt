@@ -1,6 +1,6 @@
 //! Why the program fails.
 
-use station_sim::simulator_event::Refused;
+use station_sim::replay::simulator::Refused;
 use std::fmt;
 
 /// Why the program fails.

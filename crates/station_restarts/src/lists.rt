@@ -2,8 +2,8 @@
 
 use crate::fault::Fault;
 use crate::trials::{List, events_of};
+use control_table::Checked;
 use replay_words::{Words, decimal};
-use station_sim::control_table::Checked;
 use station_sim::replay::{SimLine, node_named, read_lines};
 use station_sim::station_check::table_of;
 use std::fs;

@@ -2,10 +2,9 @@
 //! lie.
 
 use crate::worlds::driven;
-use station_sim::layout::PointId;
-use station_sim::sci_telegram::{Position, Side};
-use station_sim::simulator::World;
-use station_sim::simulator_event::{ClockSteps, Event};
+use control_table::layout::PointId;
+use control_table::sci_telegram::{Position, Side};
+use station_sim::replay::simulator::{ClockSteps, Event, World};
 use std::alloc::{AllocError, Global};
 
 /// How many milliseconds a round has.

@@ -6,10 +6,9 @@ use crate::rounds::{POINTS, ROUND, Rounds, time};
 use crate::tally::{Tally, count};
 use crate::watch::Watch;
 use crate::worlds::{answer, delivery, is_open, new_world, nodes, sent};
-use station_sim::control_table::Checked;
+use control_table::Checked;
 use station_sim::replay::SimLine;
-use station_sim::simulator::World;
-use station_sim::simulator_event::{Event, NodeId};
+use station_sim::replay::simulator::{Event, NodeId, World};
 use std::alloc::{AllocError, Global};
 
 /// After how many microseconds a node is made anew again.

@@ -5,10 +5,10 @@ use crate::known::Way;
 use crate::run::Run;
 use crate::tally::Tally;
 use crate::watch::STATION;
-use station_sim::control_table::Checked;
-use station_sim::ixl_rules::Command;
+use control_table::Checked;
 use station_sim::replay::SimLine;
-use station_sim::simulator_event::{Event, NodeId};
+use station_sim::replay::simulator::simulator_run::ixl_rules::Command;
+use station_sim::replay::simulator::{Event, NodeId};
 use std::alloc::Global;
 
 /// How many more times the interlocking is made anew in every second run.

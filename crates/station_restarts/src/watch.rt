@@ -3,8 +3,8 @@
 use crate::fault::Fault;
 use crate::known::Known;
 use crate::tally::{Tally, count};
-use station_sim::ixl_rules::Refusal;
-use station_sim::simulator_event::{Answer, Event, NodeId, Refused};
+use station_sim::replay::simulator::simulator_run::ixl_rules::Refusal;
+use station_sim::replay::simulator::{Answer, Event, NodeId, Refused};
 
 /// For how many microseconds an interlocking that was made holds.
 const HOLD: u64 = 6_000_000;

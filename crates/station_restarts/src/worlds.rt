@@ -1,13 +1,12 @@
 //! What is asked of a world. None of these says what it answers.
 
 use crate::fault::Fault;
-use station_sim::control_table::Checked;
-use station_sim::layout::{PointId, SignalId};
+use control_table::Checked;
+use control_table::layout::{PointId, SignalId};
+use control_table::sci_telegram::{Aspect, Side};
 use station_sim::receiver;
 use station_sim::replay::node_count;
-use station_sim::sci_telegram::{Aspect, Side};
-use station_sim::simulator::World;
-use station_sim::simulator_event::{Answer, Event, RawDatagram, Refused};
+use station_sim::replay::simulator::{Answer, Event, RawDatagram, Refused, World};
 use std::alloc::{AllocError, Global};
 
 /// A new world.

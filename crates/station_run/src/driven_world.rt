@@ -4,12 +4,12 @@ ghost use Rattle.std.specs.Prelude.{◌≡◌, ◌⊎◌, OnErr, OnOk};
 ghost use Rattle.station_drive.specs.Drives.{CutOff, Driven};
 ghost use Rattle.station_run.specs.Worlds.{driven_worlds, played};
 
+use control_table::Checked;
+use control_table::layout::PointId;
+use control_table::sci_telegram::Side;
 use station_drive::{Clock, Datagrams, DriveFault, Outgoing, Station};
-use station_sim::control_table::Checked;
-use station_sim::layout::PointId;
 use station_sim::receiver;
-use station_sim::sci_telegram::Side;
-use station_sim::simulator::{Event, Refused, Reply, World};
+use station_sim::replay::simulator::{Event, Refused, Reply, World};
 use std::alloc::Global;
 use std::io::Write;
 use std::mem;

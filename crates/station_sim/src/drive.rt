@@ -4,8 +4,8 @@ ghost use Rattle.std.specs.Prelude.{◌≡◌};
 ghost use Rattle.replay.specs.simulator.simulator_run.Flow.{next_drive, next_drives, position_of};
 
 use crate::playable::Playable;
-use replay::simulator::layout::PointId;
-use replay::simulator::sci_telegram::{Position, Side};
+use control_table::layout::PointId;
+use control_table::sci_telegram::{Position, Side};
 use replay::simulator::simulator_run::FoundDriven;
 
 /// At the ends of how many rounds one after the other a point is found driven before it comes to lie.

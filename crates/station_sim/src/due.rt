@@ -5,7 +5,7 @@ ghost use Rattle.replay.specs.simulator.simulator_run.Flow.{delivery, deliveries
 
 use crate::drive::{ROUNDS_DRIVEN, position_of};
 use crate::playable::Playable;
-use replay::simulator::layout::{Layout, PointId};
+use control_table::layout::{Layout, PointId};
 use replay::simulator::simulator_run::{FoundDriven, RoundEvent, nodes};
 use replay::simulator::{ClockSteps, Event, NodeId, RawDatagram};
 use std::alloc::{AllocError, Global};

@@ -23,9 +23,4 @@ pub use simulated::{Simulated, receiver};
 
 // What crates above need of the crates below.
 pub use replay;
-pub use replay::simulator;
-pub use replay::simulator::{
-    control_table, ixl_rules, ixl_table, layout, rasta_core, sci_telegram, simulator_event,
-    simulator_run,
-};
 pub use station_check;

@@ -5,10 +5,10 @@ ghost use Rattle.replay.specs.simulator.simulator_run.First.{IsOutsetOf, at_rest
 ghost use Rattle.station_sim.specs.Outset.{begun_in, line_in, outset_of};
 ghost use Rattle.station_sim.specs.inside.Outsets.{outset_in};
 
+use control_table::layout::{Layout, PointId, SectionId};
+use control_table::sci_telegram::{Occupancy, Position};
 use replay::SimLine;
 use replay::replay_lines::Begun;
-use replay::simulator::layout::{Layout, PointId, SectionId};
-use replay::simulator::sci_telegram::{Occupancy, Position};
 use std::alloc::{AllocError, Global};
 
 /// Where each point stands when a station is started, and which sections are occupied.

@@ -9,7 +9,7 @@ use crate::line::carry_out;
 use crate::outset::Outset;
 use crate::playable::Playable;
 use crate::run::Run;
-use replay::simulator::control_table::Checked;
+use control_table::Checked;
 use replay::{SimLine, read_lines};
 use station_check::{Failure, table_of, tell};
 use std::alloc::Global;

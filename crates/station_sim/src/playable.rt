@@ -4,9 +4,9 @@ ghost use Rattle.std.specs.Prelude.{◌≡◌, IfOk, OnErr, length, string_bytes
 ghost use Rattle.std.specs.Option.{option_map};
 ghost use Rattle.station_sim.specs.Sight.{Applies, Sight};
 
-use replay::simulator::control_table::Checked;
-use replay::simulator::layout::{Layout, PointId};
-use replay::simulator::sci_telegram::{Occupancy, Position, Side};
+use control_table::Checked;
+use control_table::layout::{Layout, PointId};
+use control_table::sci_telegram::{Occupancy, Position, Side};
 use replay::simulator::{Event, NodeId, Refused, Reply};
 use std::alloc::{AllocError, Global};
 

@@ -9,7 +9,7 @@ use crate::drive::note_drives;
 use crate::due::{add_deliveries, add_reaches, add_ticks, round_of_time};
 use crate::outset::Outset;
 use crate::playable::Playable;
-use replay::simulator::control_table::Checked;
+use control_table::Checked;
 use replay::simulator::simulator_run::{FoundDriven, RoundEvent, nodes};
 use replay::simulator::{Answer, Event, Refused};
 use replay::{ROUND, recorded};

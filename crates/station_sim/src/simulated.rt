@@ -6,10 +6,10 @@ ghost use Rattle.replay.specs.simulator.simulator_field.declared.sent_on.SentOn.
 ghost use Rattle.replay.specs.simulator.simulator_run.Tried.{receiver};
 
 use crate::Playable;
-use replay::simulator::control_table::Checked;
-use replay::simulator::layout::{Layout, PointId};
-use replay::simulator::rasta_core::Role;
-use replay::simulator::sci_telegram::{Occupancy, Position, Side};
+use control_table::Checked;
+use control_table::layout::{Layout, PointId};
+use control_table::sci_telegram::{Occupancy, Position, Side};
+use replay::simulator::simulator_run::rasta_core::Role;
 use replay::simulator::{Event, NodeId, Refused, Reply, World};
 use replay::try_event;
 use std::alloc::{AllocError, Global};

@@ -1,9 +1,9 @@
 //! The lines of failures that no text brings, and the numbers and texts of what ends a drive before its time.
 
 use arrayvec::{ArrayString, ArrayVec};
+use control_table::TableFault;
+use control_table::layout::LayoutFault;
 use station_drive::DriveFault;
-use station_run::station_sim::control_table::TableFault;
-use station_run::station_sim::layout::LayoutFault;
 use station_run::station_sim::station_check::{Failure, tell};
 use std::fmt::Write;
 

@@ -2,12 +2,12 @@
 
 use crate::bell::Bell;
 use crate::run_bench::SMALL;
+use control_table::check;
+use control_table::layout::{Layout, SectionId};
+use control_table::sci_telegram::Occupancy;
 use station_drive::drive;
 use station_network::{MemoryNetwork, SteppingClock};
-use station_run::station_sim::control_table::check;
-use station_run::station_sim::layout::{Layout, SectionId};
-use station_run::station_sim::sci_telegram::Occupancy;
-use station_run::station_sim::simulator_event::Event;
+use station_run::station_sim::replay::simulator::Event;
 use std::alloc::Global;
 use std::test::Fail;
 

@@ -3,8 +3,8 @@
 ghost use Rattle.std.specs.Prelude.{◌<◌, length};
 
 use crate::failure::Failure;
-use station_sim::control_table::{Checked, check};
-use station_sim::layout::{Layout, Route, RouteId};
+use control_table::layout::{Layout, Route, RouteId};
+use control_table::{Checked, check};
 use std::alloc::Global;
 use std::io;
 use std::io::Write;

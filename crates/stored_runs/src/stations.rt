@@ -3,7 +3,7 @@
 use crate::failure::Failure;
 use crate::files::{parts, read};
 use crate::status::write_told;
-use station_sim::control_table::Checked;
+use control_table::Checked;
 use station_sim::replay::read_script;
 use station_sim::station_check::table_of;
 use station_sim::{replay_text, sim_text};
