@@ -138,10 +138,10 @@ module _ (site : Site) (earlier : List SimLine) (this : SimLine) (outset : Outse
     sections = sections_stay (λ place occupancy same. not_two (sym (ap kind_of same) ∙ other)) before.sections;
   }
     where
-      not_one : 1 ≡ 0 → ⊥
+      not_one : ◌≡◌ {A = ℕ} 1 0 → ⊥
       not_one e = omega (arith, e)
 
-      not_two : 2 ≡ 0 → ⊥
+      not_two : ◌≡◌ {A = ℕ} 2 0 → ⊥
       not_two e = omega (arith, e)
 
 -- one line more
@@ -159,7 +159,7 @@ line_lies site earlier (said.Begins (begun.Point point position)) outset stands 
       sections = sections_stay site earlier this outset (λ place occupancy same. one_is_two (ap kind_of same)) before.sections;
     }
   where
-    one_is_two : 1 ≡ 2 → ⊥
+    one_is_two : ◌≡◌ {A = ℕ} 1 2 → ⊥
     one_is_two e = omega (arith, e)
 
     by_case : (place : ℕ) (lies : Position) → Stand earlier place lies ⊎ (said.Begins (begun.Point point position) ≡ point_line place lies) → Stand earlier place lies ⊎ ((place ≡ point.0) × (lies ≡ position))
@@ -178,14 +178,14 @@ line_lies site earlier (said.Begins (begun.Section section occupancy)) outset st
           before.sections;
     }
   where
-    two_is_one : 2 ≡ 1 → ⊥
+    two_is_one : ◌≡◌ {A = ℕ} 2 1 → ⊥
     two_is_one e = omega (arith, e)
 
     by_case : (place : ℕ) (lies : Occupancy) → AreOccupied earlier place lies ⊎ (said.Begins (begun.Section section occupancy) ≡ section_line place lies) → AreOccupied earlier place lies ⊎ ((place ≡ section.0) × (lies ≡ occupancy))
     by_case place lies (inl was) = inl was
     by_case place lies (inr same) = inr (sym (ap place_of same), sym (ap occupancy_of same))
 line_lies site earlier (said.Event event) outset stands before = stays site earlier (said.Event event) outset refl before
-line_lies site earlier (said.Flow length) outset stands before = stays site earlier (said.Flow length) outset refl before
+line_lies site earlier (said.Flow span) outset stands before = stays site earlier (said.Flow span) outset refl before
 line_lies site earlier said.Picture outset stands before = stays site earlier said.Picture outset refl before
 
 -- ---- all lines
@@ -220,7 +220,7 @@ pub none_begun : (lines : List SimLine) (outset : Outset) → list_any is_begun 
 none_begun [] outset e = refl
 none_begun (said.Begins of ∷ later) outset e = absurd (true≢false e)
 none_begun (said.Event of ∷ later) outset e = none_begun later outset e
-none_begun (said.Flow length ∷ later) outset e = none_begun later outset e
+none_begun (said.Flow span ∷ later) outset e = none_begun later outset e
 none_begun (said.Picture ∷ later) outset e = none_begun later outset e
 
 -- ---- at rest
@@ -248,7 +248,7 @@ pub line_fits : (site : Site) (outset : Outset) (line : SimLine) → IsOutsetOf 
 line_fits site outset (said.Begins (begun.Point point position)) fits = record { positions = length-set outset.positions point.0 position ∙ fits.positions; occupancies = fits.occupancies }
 line_fits site outset (said.Begins (begun.Section section occupancy)) fits = record { positions = fits.positions; occupancies = length-set outset.occupancies section.0 occupancy ∙ fits.occupancies }
 line_fits site outset (said.Event of) fits = fits
-line_fits site outset (said.Flow length) fits = fits
+line_fits site outset (said.Flow span) fits = fits
 line_fits site outset said.Picture fits = fits
 
 -- ---- the loop over lines
