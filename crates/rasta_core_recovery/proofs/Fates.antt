@@ -137,16 +137,20 @@ module _ (names : Names) (c s client_closed server_closed : ℕ) (client server 
       choose true e = record { rounds = 4; soon = omega arith; healthy = new_is_healthy names 1 c s client_closed server_closed client server over (leb-true _ _ e) (omega arith) }
       choose false e = record { rounds = 784; soon = omega arith; healthy = failing (leb-false _ _ e) before }
 
--- a client that is outside, and quiet no longer in the next round
-ready_comes : (names : Names) (p : Pair) → Facts names p → Past p.server → is_open p.client.phase ≡ false → p.client.closed_at + 6000 ≤ p.client.clock + 10 → Comes names 784 p
-ready_comes names p facts past client_out over = subst (Comes names 784) (sym same)
-    (opens_at_last names p.client.clock p.server.clock p.client.closed_at p.server.closed_at (left_of p.client) (left_of p.server) over (past.closed waited.0))
+-- a client that is outside, and quiet no longer in the next round: its server is outside, and nothing is under way
+pub both_rest : (names : Names) (p : Pair) → Facts names p → is_open p.client.phase ≡ false → p.client.closed_at + 6000 ≤ p.client.clock + 10
+    → p ≡ both_down names p.client.clock p.server.clock p.client.closed_at p.server.closed_at (left_of p.client) (left_of p.server)
+both_rest names p facts client_out over = four (out_is names role.Client p.client facts.client client_out) (out_is names role.Server p.server facts.server waited.0) waited.1 waited.2
   where
     waited : (is_open p.server.phase ≡ false) × (p.to_client ≡ []) × (p.to_server ≡ [])
     waited = facts.waited client_out (omega (arith, over))
 
-    same : p ≡ both_down names p.client.clock p.server.clock p.client.closed_at p.server.closed_at (left_of p.client) (left_of p.server)
-    same = four (out_is names role.Client p.client facts.client client_out) (out_is names role.Server p.server facts.server waited.0) waited.1 waited.2
+ready_comes : (names : Names) (p : Pair) → Facts names p → Past p.server → is_open p.client.phase ≡ false → p.client.closed_at + 6000 ≤ p.client.clock + 10 → Comes names 784 p
+ready_comes names p facts past client_out over = subst (Comes names 784) (sym (both_rest names p facts client_out over))
+    (opens_at_last names p.client.clock p.server.clock p.client.closed_at p.server.closed_at (left_of p.client) (left_of p.server) over (past.closed waited.0))
+  where
+    waited : (is_open p.server.phase ≡ false) × (p.to_client ≡ []) × (p.to_server ≡ [])
+    waited = facts.waited client_out (omega (arith, over))
 
 -- an end outside that is quiet stays so in a round
 pub client_quiet : (p : Pair) → is_open p.client.phase ≡ false → p.client.clock + 10 < p.client.closed_at + 6000 → (pair_round p).client ≡ record p.client { clock = p.client.clock + 10 }
@@ -302,15 +306,9 @@ unfolding pair_round
 server_round p none = ap (λ (ps : List Pdu). (end_round (p.server.clock + 10) ps p.server).link) none
 
 -- the client is ready, and so is the server
-pub quick : (names : Names) (p : Pair) → Facts names p → is_open p.client.phase ≡ false → p.client.closed_at + 6000 ≤ p.client.clock + 10 → p.server.closed_at + 6000 ≤ p.server.clock + 20 → Comes names 4 p
-quick names p facts client_out over server_over = subst (Comes names 4) (sym same)
+quick : (names : Names) (p : Pair) → Facts names p → is_open p.client.phase ≡ false → p.client.closed_at + 6000 ≤ p.client.clock + 10 → p.server.closed_at + 6000 ≤ p.server.clock + 20 → Comes names 4 p
+quick names p facts client_out over server_over = subst (Comes names 4) (sym (both_rest names p facts client_out over))
     (record { rounds = 4; soon = omega arith; healthy = new_is_healthy names 1 p.client.clock p.server.clock p.client.closed_at p.server.closed_at (left_of p.client) (left_of p.server) over server_over (omega arith) })
-  where
-    waited : (is_open p.server.phase ≡ false) × (p.to_client ≡ []) × (p.to_server ≡ [])
-    waited = facts.waited client_out (omega (arith, over))
-
-    same : p ≡ both_down names p.client.clock p.server.clock p.client.closed_at p.server.closed_at (left_of p.client) (left_of p.server)
-    same = four (out_is names role.Client p.client facts.client client_out) (out_is names role.Server p.server facts.server waited.0) waited.1 waited.2
 
 pub server_stays : (names : Names) (p : Pair) → Facts names p → is_open p.server.phase ≡ false → (p.to_server ≡ []) ⊎ (p.server.clock + 10 < p.server.closed_at + 6000) → (pair_round p).server ≡ record p.server { clock = p.server.clock + 10 }
 server_stays names p facts shut (inr quiet) = server_quiet p shut quiet

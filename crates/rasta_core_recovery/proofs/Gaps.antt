@@ -1,4 +1,5 @@
--- Two ends that have come up: where one of them comes to the limit of PDUs, both are up again 6040 ms later at the latest.
+-- Two ends that have come up: where one of them comes to the limit of PDUs, both are up again 6040 ms later at the latest, and for
+-- more than 20 years.
 use Rattle.std.proofs.Common.{◌≡◌, ℕ, zero, suc, ◌∙◌, ◌+◌, ◌*◌, ◌-◌, ◌≤◌, ◌<◌, ◌⊎◌, inl, inr, Bool, true, false, nat_le, List, [], ◌∷◌, ◌++◌, refl, sym, ap, subst, arith, leb-true, leb-false}
 use Rattle.rasta_core_run.specs.Sequence.{stamp}
 use Rattle.rasta_core_run.specs.State.{LinkState, is_open}
@@ -13,12 +14,13 @@ use Rattle.rasta_core_recovery.proofs.Links.{Pair, heard, worked, end_round, pai
 use Rattle.rasta_core_recovery.proofs.Healthy.{beats, count, is_reading, IsSteady, Follows, Beside, Healthy}
 use Rattle.rasta_core_recovery.proofs.Calls.{at_reading, heard_lives, spoken}
 use Rattle.rasta_core_recovery.proofs.Fold.{Out, settled_in, Begins, late, on, begins, stays_out}
-use Rattle.rasta_core_recovery.proofs.Health.{made, reading_open, Sides, Speaker, Heard, word, last_word, heeded, heard_by, word_is, word_heard, hears_then, healthy_round, fresh_by, fresh, heard_clock, heard_sent, heard_said, identity_stays, counts_by, hearing_leaves, speaker_stays, way_kept, steady_after, steady_young, beside_kept, client_counts, server_counts, beside_client_steady, beside_server_steady, count_most, beside}
-use Rattle.rasta_core_recovery.proofs.Opens.{step_is}
+use Rattle.rasta_core_recovery.proofs.Health.{made, reading_open, Sides, Speaker, Heard, word, last_word, heeded, heard_by, word_is, word_heard, hears_then, healthy_round, fresh_by, fresh, heard_clock, heard_sent, heard_said, identity_stays, counts_by, IsSlow, client_slow, server_slow, hearing_leaves, speaker_stays, way_kept, steady_after, steady_young, beside_kept, client_counts, server_counts, beside_client_steady, beside_server_steady, count_most, beside}
+use Rattle.rasta_core_recovery.proofs.Opens.{step_is, comes_up}
+use Rattle.rasta_core_recovery.proofs.Stays.{left_of, new_is_healthy}
 use Rattle.rasta_core_recovery.proofs.Facts.{Facts}
 use Rattle.rasta_core_recovery.proofs.Pasts.{Past}
-use Rattle.rasta_core_recovery.proofs.Seen.{round_first}
-use Rattle.rasta_core_recovery.proofs.Fates.{Comes, comes_later, quick, client_quiet, server_quiet, server_stays, mute_quiet}
+use Rattle.rasta_core_recovery.proofs.Seen.{round_first, rounds_add}
+use Rattle.rasta_core_recovery.proofs.Fates.{both_rest, client_quiet, server_quiet, server_stays, mute_quiet}
 use Rattle.rasta_core_recovery.proofs.Limit.{told, parting, full_round, closes_at_limit, parting_is, goes_out, out_by_one, out_by_two}
 
 abbrev the_pair : LinkState → LinkState → List Pdu → List Pdu → Pair
@@ -37,18 +39,48 @@ lasts_on names p lasts = record {
   server_past = λ k. subst (λ (q : Pair). Past q.server) (sym (round_first k p)) (lasts.server_past (suc k));
 }
 
+-- ---- both come up in a new connection
+
+-- what two ends have said in their connection is little
+abbrev pub AreFresh : Pair → Type 0
+AreFresh p = (300 * p.client.sent + p.client.clock ≤ p.client.sent_at + 610) × (300 * p.server.sent + p.server.clock ≤ p.server.sent_at + 610)
+
+-- healthy after so many rounds at most, in a connection that is new
+pub record Returns (names : Names) (most : ℕ) (p : Pair) : Type 0 where
+  pub rounds : ℕ
+  pub soon : rounds ≤ most
+  pub healthy : Healthy names 1 (pair_rounds rounds p)
+  pub fresh : AreFresh (pair_rounds rounds p)
+
+returns_later : (names : Names) (m most all : ℕ) (p : Pair) → m + most ≤ all → Returns names most (pair_rounds m p) → Returns names all p
+returns_later names m most all p le c = record {
+  rounds = c.rounds + m;
+  soon = omega (arith, le, c.soon);
+  healthy = subst (Healthy names 1) (rounds_add c.rounds m p) c.healthy;
+  fresh = subst AreFresh (rounds_add c.rounds m p) c.fresh;
+}
+
+-- both are ready
+at_once : (names : Names) (p : Pair) → Facts names p → is_open p.client.phase ≡ false → p.client.closed_at + 6000 ≤ p.client.clock + 10 → p.server.closed_at + 6000 ≤ p.server.clock + 20 → Returns names 4 p
+at_once names p facts client_out over server_over = subst (Returns names 4) (sym (both_rest names p facts client_out over)) (record {
+  rounds = 4;
+  soon = omega arith;
+  healthy = new_is_healthy names 1 p.client.clock p.server.clock p.client.closed_at p.server.closed_at (left_of p.client) (left_of p.server) over server_over (omega arith);
+  fresh = subst AreFresh (sym (comes_up names p.client.clock p.server.clock p.client.closed_at p.server.closed_at (left_of p.client) (left_of p.server) over server_over)) (omega arith, omega arith);
+})
+
 -- ---- both are outside: the client opens after so many rounds, and the server is quiet no longer
 
 opens_in : (names : Names) (fuel : ℕ) (p : Pair) → Lasts names p → is_open p.client.phase ≡ false → is_open p.server.phase ≡ false → (p.to_server ≡ []) ⊎ (p.server.clock + 10 < p.server.closed_at + 6000)
-    → p.client.clock + 10 * fuel < p.client.closed_at + 6000 → p.client.closed_at + 6000 ≤ p.client.clock + 10 + 10 * fuel → p.server.closed_at + 6000 ≤ p.server.clock + 20 + 10 * fuel → Comes names (fuel + 4) p
+    → p.client.clock + 10 * fuel < p.client.closed_at + 6000 → p.client.closed_at + 6000 ≤ p.client.clock + 10 + 10 * fuel → p.server.closed_at + 6000 ≤ p.server.clock + 20 + 10 * fuel → Returns names (fuel + 4) p
 opens_in names zero p lasts shut server_shut rests early over server_over =
-    let r = quick names p (lasts.facts 0) shut (omega (arith, over)) (omega (arith, server_over)) in record { rounds = r.rounds; soon = omega (arith, r.soon); healthy = r.healthy }
+    returns_later names 0 4 _ p (omega arith) (at_once names p (lasts.facts 0) shut (omega (arith, over)) (omega (arith, server_over)))
 opens_in names (suc fuel) p lasts shut server_shut rests early over server_over =
     let on = client_quiet p shut quiet in
     let server_on = server_stays names p (lasts.facts 0) server_shut rests in
     let c = ap (λ (l : LinkState). l.closed_at) on in let d = ap (λ (l : LinkState). l.clock) on in
     let g = ap (λ (l : LinkState). l.closed_at) server_on in let h = ap (λ (l : LinkState). l.clock) server_on in
-    comes_later names 1 (fuel + 4) (suc fuel + 4) p (omega arith)
+    returns_later names 1 (fuel + 4) (suc fuel + 4) p (omega arith)
     (opens_in names fuel (pair_round p) (lasts_on names p lasts) (ap (λ (l : LinkState). is_open l.phase) on ∙ shut) (ap (λ (l : LinkState). is_open l.phase) server_on ∙ server_shut)
     (inl (mute_quiet p shut quiet)) (omega (arith, early, c, d)) (omega (arith, over, c, d)) (omega (arith, server_over, g, h)))
   where
@@ -234,8 +266,8 @@ module _ (names : Names) (p : Pair) (u : UpNow names p) where
     unfolding pair_round
     server_now = server_out.clock
 
-    by_client : Lasts names (pair_round p) → Comes names 604 (pair_round p)
-    by_client lasts = subst (Comes names 604) (sym to_q) (comes_later names 1 602 604 q (omega arith)
+    by_client : Lasts names (pair_round p) → Returns names 604 (pair_round p)
+    by_client lasts = subst (Returns names 604) (sym to_q) (returns_later names 1 602 604 q (omega arith)
         (opens_in names 598 (pair_round q) after (ap (λ (l : LinkState). is_open l.phase) waits) left_in (inl (mute_quiet q refl quiet))
         (omega (arith, closed, clock)) (omega (arith, closed, clock)) (omega (arith, (after.server_past 0).closed left_in))))
       where
@@ -264,8 +296,8 @@ module _ (names : Names) (p : Pair) (u : UpNow names p) where
     server_closes = full_round (s.clock + 10) p.to_server s server_role (reading_open s.phase back.reads) server_young full
 
     -- and so is the client in this round
-    by_both : gc ≡ true → c.sent + 1 ≡ 2147483000 → Lasts names (pair_round p) → Comes names 604 (pair_round p)
-    by_both due last lasts = subst (Comes names 604) (sym to_q) (comes_later names 0 603 604 q (omega arith)
+    by_both : gc ≡ true → c.sent + 1 ≡ 2147483000 → Lasts names (pair_round p) → Returns names 604 (pair_round p)
+    by_both due last lasts = subst (Returns names 604) (sym to_q) (returns_later names 0 603 604 q (omega arith)
         (opens_in names 599 q (subst (Lasts names) to_q lasts) refl refl (inr (omega arith)) (omega arith) (omega arith) (omega arith)))
       where
         q : Pair
@@ -343,8 +375,8 @@ module _ (names : Names) (p : Pair) (u : UpNow names p) where
       unfolding pair_round
       lately = let a = client_out.lately in let b = client_out.clock in omega (arith, a, b)
 
-      by_server : Lasts names (pair_round p) → Comes names 604 (pair_round p)
-      by_server lasts = subst (Comes names 604) (sym to_r) (comes_later names 1 603 604 r (omega arith)
+      by_server : Lasts names (pair_round p) → Returns names 604 (pair_round p)
+      by_server lasts = subst (Returns names 604) (sym to_r) (returns_later names 1 603 604 r (omega arith)
           (opens_in names 599 (pair_round r) after client_left (ap (λ (l : LinkState). is_open l.phase) waits) (inr (omega (arith, closed, clock)))
           (omega (arith, lately)) (omega (arith, (after.client_past 0).closed client_left)) (omega (arith, closed, clock))))
         where
@@ -381,7 +413,7 @@ module _ (names : Names) (p : Pair) (u : UpNow names p) where
 
 pub data Goes (names : Names) (p : Pair) : Type 0 where
   up_now : UpNow names p → Goes names p
-  up_later : Comes names 604 p → Goes names p
+  up_later : Returns names 604 p → Goes names p
 
 pub up_of : (names : Names) (p : Pair) → Healthy names 1 p → UpNow names p
 up_of names p h = record {
@@ -419,11 +451,11 @@ up_on names p lasts u = by_server_room (nat_le 2147483000 p.server.sent) refl
 
 pub goes_on : (names : Names) (p : Pair) → Lasts names p → Goes names p → Goes names (pair_round p)
 goes_on names p lasts (up_now u) = up_on names p lasts u
-goes_on names p lasts (up_later c) = after c.rounds c.soon c.healthy
+goes_on names p lasts (up_later c) = after c.rounds c.soon c.healthy c.fresh
   where
-    after : (k : ℕ) → k ≤ 604 → Healthy names 1 (pair_rounds k p) → Goes names (pair_round p)
-    after zero soon h = up_on names p lasts (up_of names p h)
-    after (suc k) soon h = up_later (record { rounds = k; soon = omega (arith, soon); healthy = subst (Healthy names 1) (sym (round_first k p)) h })
+    after : (k : ℕ) → k ≤ 604 → Healthy names 1 (pair_rounds k p) → AreFresh (pair_rounds k p) → Goes names (pair_round p)
+    after zero soon h fresh = up_on names p lasts (up_of names p h)
+    after (suc k) soon h fresh = up_later (record { rounds = k; soon = omega (arith, soon); healthy = subst (Healthy names 1) (sym (round_first k p)) h; fresh = subst AreFresh (sym (round_first k p)) fresh })
 
 pub lasts_later : (names : Names) (n : ℕ) (p : Pair) → Lasts names p → Lasts names (pair_rounds n p)
 lasts_later names zero p lasts = lasts
@@ -432,3 +464,45 @@ lasts_later names (suc n) p lasts = lasts_on names (pair_rounds n p) (lasts_late
 pub goes_for : (names : Names) (n : ℕ) (p : Pair) → Lasts names p → Goes names p → Goes names (pair_rounds n p)
 goes_for names zero p lasts h = h
 goes_for names (suc n) p lasts h = goes_on names (pair_rounds n p) (lasts_later names n p lasts) (goes_for names n p lasts h)
+
+-- ---- and stay up for long
+
+-- two ends that came up so many rounds ago, in a connection that was new
+record AreYoung (names : Names) (client server rounds : ℕ) (p : Pair) : Type 0 where
+  up : UpNow names p
+  of_client : IsSlow client rounds p.client
+  of_server : IsSlow server rounds p.server
+
+young_on : (names : Names) (client server rounds : ℕ) (p : Pair) → AreYoung names client server rounds p → rounds < 64000000000 → AreYoung names client server (suc rounds) (pair_round p)
+young_on names client server rounds p young soon = record {
+  up = stays_up names p u server_room further;
+  of_client = client_slow names u.of_client u.of_server p u.beside (client_young names p u) (server_young names p u) u.client_room server_room further client rounds young.of_client;
+  of_server = server_slow names u.of_client u.of_server p u.beside (client_young names p u) (server_young names p u) u.client_room server_room further server rounds young.of_server;
+}
+  where
+    u : UpNow names p
+    u = young.up
+
+    server_room : p.server.sent < 2147483000
+    server_room = omega (arith, young.of_server.clock, young.of_server.said, u.beside.hears_server.sent_before, soon)
+
+    further : nat_le 300 (p.client.clock + 10 - p.client.sent_at) ≡ true → p.client.sent + 1 < 2147483000
+    further due = omega (arith, young.of_client.clock, young.of_client.said, u.beside.hears_client.sent_before, soon)
+
+young_for : (names : Names) (client server k : ℕ) (p : Pair) → AreYoung names client server 0 p → k < 64000000000 → AreYoung names client server k (pair_rounds k p)
+young_for names client server zero p young soon = young
+young_for names client server (suc k) p young soon = young_on names client server k (pair_rounds k p) (young_for names client server k p young (omega (arith, soon))) (omega (arith, soon))
+
+pub calm_for : (names : Names) (most k : ℕ) (p : Pair) → Returns names most p → most ≤ k → k < 64000000000 → UpNow names (pair_rounds k p)
+calm_for names most k p c least soon = subst (UpNow names) (rounds_add (k - c.rounds) c.rounds p ∙ ap (λ (n : ℕ). pair_rounds n p) (omega (arith, least, c.soon)))
+    (young_for names q.client.clock q.server.clock (k - c.rounds) q first (omega (arith, soon))).up
+  where
+    q : Pair
+    q = pair_rounds c.rounds p
+
+    first : AreYoung names q.client.clock q.server.clock 0 q
+    first = record {
+      up = up_of names q c.healthy;
+      of_client = record { clock = omega arith; said = c.fresh.0 };
+      of_server = record { clock = omega arith; said = c.fresh.1 };
+    }

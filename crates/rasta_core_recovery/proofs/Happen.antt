@@ -1,13 +1,13 @@
 -- A round may happen.
-use Rattle.std.proofs.Common.{◌≡◌, ℕ, zero, suc, inl, inr, ◌∙◌, ◌+◌, ◌≤◌, Bool, true, false, ◌&&◌, not, nat_le, if◌then◌else◌, List, [], ◌∷◌, ◌++◌, drop, refl, arith, leb-true}
+use Rattle.std.proofs.Common.{◌≡◌, ℕ, zero, suc, inl, inr, ◌∙◌, ◌+◌, ◌≤◌, Bool, true, false, ◌&&◌, not, nat_le, if◌then◌else◌, List, [], ◌∷◌, ◌++◌, drop, refl, sym, ap, subst, arith, leb-true}
 use Rattle.rasta_core_run.specs.identity.Role.{Role}
 use Rattle.rasta_core_run.specs.identity.Role.TheVariants as role
 use Rattle.rasta_core_run.specs.Bag.{lifetime}
 use Rattle.rasta_core_run.specs.Ends.{Sent, Call, Receives}
 use Rattle.rasta_core_run.specs.Run.{Ends, called, later}
-use Rattle.rasta_core_run.specs.Events.{Calls, IsAmong, IsDelivered, MayRun}
+use Rattle.rasta_core_run.specs.Events.{Event, Calls, IsAmong, IsDelivered, MayRun, happened, run}
 use Rattle.rasta_core_run.specs.Names.{Names, partner_of}
-use Rattle.rasta_core_recovery.specs.Rounds.{Flow, can_come, comings, own_work, round_events}
+use Rattle.rasta_core_recovery.specs.Rounds.{Flow, can_come, comings, own_work, round_events, good_round, good_rounds, events_of}
 
 among_front : (d : Sent) (a b : List Sent) → IsAmong d a → IsAmong d (a ++ b)
 among_front d [] b i = absurd i
@@ -61,3 +61,26 @@ may_happen names f = (
   (record { least = omega arith; most = omega arith }, record { least = omega arith; most = omega arith }),
   comings_may names (f.ends.time + 10000) (drop f.passed f.ends.sent) (later 10000 10000 10000 f.ends) (λ d i. among_drop d f.passed f.ends.sent i) refl,
 )
+
+-- ---- and so may many
+
+run_joined : (one other : List Event) (ends : Ends) → run (one ++ other) ends ≡ run other (run one ends)
+run_joined [] other ends = refl
+run_joined (first ∷ one) other ends = run_joined one other (happened first ends)
+
+may_joined : (names : Names) (one other : List Event) (ends : Ends) → MayRun names one ends → MayRun names other (run one ends) → MayRun names (one ++ other) ends
+may_joined names [] other ends first second = second
+may_joined names (head ∷ one) other ends first second = (first.0, may_joined names one other (happened head ends) first.1 second)
+
+round_leads : (f : Flow) → (good_round f).ends ≡ run (round_events f) f.ends
+unfolding good_round
+round_leads f = refl
+
+pub rounds_lead : (n : ℕ) (f : Flow) → (good_rounds n f).ends ≡ run (events_of n f) f.ends
+rounds_lead zero f = refl
+rounds_lead (suc n) f = round_leads (good_rounds n f) ∙ ap (run (round_events (good_rounds n f))) (rounds_lead n f) ∙ sym (run_joined (events_of n f) (round_events (good_rounds n f)) f.ends)
+
+pub rounds_may_happen : (names : Names) (n : ℕ) (f : Flow) → MayRun names (events_of n f) f.ends
+rounds_may_happen names zero f = tt
+rounds_may_happen names (suc n) f = may_joined names (events_of n f) (round_events (good_rounds n f)) f.ends (rounds_may_happen names n f)
+    (subst (MayRun names (round_events (good_rounds n f))) (rounds_lead n f) (may_happen names (good_rounds n f)))

@@ -1,5 +1,5 @@
 -- Health is kept by a round.
-use Rattle.std.proofs.Common.{◌≡◌, ℕ, suc, ◌∙◌, ◌+◌, ◌-◌, ◌^◌, ◌≤◌, ◌<◌, Bool, true, false, ◌==◌, nat_le, nat_lt, if◌then◌else◌, List, [], ◌∷◌, ◌++◌, refl, sym, ap, subst, arith}
+use Rattle.std.proofs.Common.{◌≡◌, ℕ, suc, ◌∙◌, ◌+◌, ◌*◌, ◌-◌, ◌^◌, ◌≤◌, ◌<◌, Bool, true, false, ◌==◌, nat_le, nat_lt, if◌then◌else◌, List, [], ◌∷◌, ◌++◌, refl, sym, ap, subst, arith}
 use Rattle.std.proofs.lemmas.Bool.Decides.{nat_tests}
 use Rattle.rasta_core_run.specs.Sequence.{wire, stamp, distance, before}
 use Rattle.rasta_core_run.specs.State.{LinkState, is_open, is_up, is_asking}
@@ -416,6 +416,17 @@ counts_by false true now own m l = omega arith
 counts_by true false now own m l = refl
 counts_by true true now own m l = refl
 
+-- An end has said one PDU in 300 ms at most in its connection, which it was in at a reading so many rounds ago.
+pub record IsSlow (since rounds : ℕ) (l : LinkState) : Type 0 where
+  pub clock : l.clock ≡ since + 10 * rounds
+  pub said : 300 * l.sent + since ≤ l.sent_at + 610
+
+slow_by : (g f : Bool) (since rounds own : ℕ) (m l : LinkState) → nat_le 300 (l.clock + 10 - l.sent_at) ≡ g → IsSlow since rounds l → IsSlow since (suc rounds) (spoken g (heard_by f (l.clock + 10) own m l))
+slow_by false false since rounds own m l due slow = record { clock = omega (arith, slow.clock); said = slow.said }
+slow_by false true since rounds own m l due slow = record { clock = omega (arith, slow.clock); said = slow.said }
+slow_by true false since rounds own m l due slow = record { clock = omega (arith, slow.clock); said = omega (arith, slow.said, is_due l.clock l.sent_at due) }
+slow_by true true since rounds own m l due slow = record { clock = omega (arith, slow.clock); said = omega (arith, slow.said, is_due l.clock l.sent_at due) }
+
 -- a round of two ends that live through it, and of whom the client has room for what it says
 module _ (names : Names) (of_client of_server : Bool) (p : Pair) (h : Beside names of_client of_server p)
     (client_young : p.client.clock + 10 < p.client.own_stamp + 1800) (server_young : p.server.clock + 10 < p.server.own_stamp + 1800)
@@ -463,6 +474,12 @@ module _ (names : Names) (of_client of_server : Bool) (p : Pair) (h : Beside nam
 
   pub server_counts : (pair_round p).server.sent ≡ p.server.sent + count gs
   server_counts = ap (λ (q : Pair). q.server.sent) is ∙ counts_by gs of_client (p.server.clock + 10) h.hears_server.reading p.client p.server
+
+  pub client_slow : (since rounds : ℕ) → IsSlow since rounds p.client → IsSlow since (suc rounds) (pair_round p).client
+  client_slow since rounds slow = subst (λ (q : Pair). IsSlow since (suc rounds) q.client) (sym is) (slow_by gc of_server since rounds h.hears_client.reading p.server p.client refl slow)
+
+  pub server_slow : (since rounds : ℕ) → IsSlow since rounds p.server → IsSlow since (suc rounds) (pair_round p).server
+  server_slow since rounds slow = subst (λ (q : Pair). IsSlow since (suc rounds) q.server) (sym is) (slow_by gs of_client since rounds h.hears_server.reading p.client p.server refl slow)
 
   pub beside_client_steady : (of_server ≡ false → IsSteady of_server p.client p.server) → IsSteady gs (pair_round p).client (pair_round p).server
   beside_client_steady steady = subst (λ (q : Pair). IsSteady gs q.client q.server) (sym is) (steady_after of_server of_client gc gs p.client p.server h.hears_server h.hears_client steady refl)

@@ -28,3 +28,5 @@ pub mod Fates
 pub mod Limit
 pub mod Gaps
 pub mod Recovers
+-- Rounds that go wrong.
+pub mod Wrong

@@ -12,7 +12,7 @@ use Rattle.rasta_core.specs.Ordered.{Ordered}
 use Rattle.rasta_core_recovery.proofs.Links.{Pair, pair_rounds}
 use Rattle.rasta_core_recovery.proofs.Healthy.{Healthy}
 use Rattle.rasta_core_recovery.proofs.Mirror.{Mirrors}
-use Rattle.rasta_core_recovery.specs.Rounds.{Flow, round_events, good_round, good_rounds, AreUp, IsBelowLimit, StayBelowLimit, flow_after, gap_rounds, recovery_rounds}
+use Rattle.rasta_core_recovery.specs.Rounds.{Flow, round_events, good_round, good_rounds, AreUp, IsBelowLimit, StayBelowLimit, calm_rounds, flow_after, gap_rounds, recovery_rounds}
 use Rattle.rasta_core_recovery.proofs.Bridge.{KeepsTime, WrittenIsRead, HandsOut, mirror_of, mirrors_on}
 use Rattle.rasta_core_recovery.proofs.Ages.{rounds_clock}
 use Rattle.rasta_core_recovery.proofs.Facts.{facts}
@@ -20,7 +20,7 @@ use Rattle.rasta_core_recovery.proofs.Happen.{may_happen}
 use Rattle.rasta_core_recovery.proofs.Pasts.{Past, Pasts, OwnBefore, run_past, starts_past}
 use Rattle.rasta_core_recovery.proofs.Seen.{Rooms, Seen, rounds_add, seen_later, healthy_for}
 use Rattle.rasta_core_recovery.proofs.Fates.{Comes, all_comes}
-use Rattle.rasta_core_recovery.proofs.Gaps.{Lasts, lasts_later, Goes, up_now, up_later, up_of, goes_for}
+use Rattle.rasta_core_recovery.proofs.Gaps.{Lasts, lasts_later, UpNow, Goes, up_now, up_later, up_of, goes_for, calm_for}
 
 abbrev pub KeepsOrder : Type 0
 KeepsOrder = (names : Names) (event : Event) (ends : Ends) → AreNames names → Timely names ends → Ordered names ends → May names event ends → Ordered names (happened event ends)
@@ -124,14 +124,25 @@ module _ (laws : Laws) (names : Names) (are : AreNames names) (f : Flow) (start 
       server_past = λ k. subst Past (mirrors k).server (holds k).pasts.server;
     }
 
+    goes : (m n : ℕ) → recovery_rounds ≤ m → StayBelowLimit m f → m ≤ n → Goes names (pair_rounds n p)
+    goes m n long room later = subst (Goes names) (rounds_add (n - m) m p ∙ ap (λ (k : ℕ). pair_rounds k p) (omega (arith, later)))
+        (goes_for names (n - m) (pair_rounds m p) (lasts_later names m p lasts) (up_now (up_of names (pair_rounds m p) (healthy_then m long room))))
+
     again : (m n : ℕ) → recovery_rounds ≤ m → StayBelowLimit m f → m ≤ n → (k : ℕ) × (k ≤ gap_rounds) × AreUp (good_rounds (k + n) f).ends
-    again m n long room later = choose (subst (Goes names) (rounds_add (n - m) m p ∙ ap (λ (k : ℕ). pair_rounds k p) (omega (arith, later)))
-        (goes_for names (n - m) (pair_rounds m p) (lasts_later names m p lasts) (up_now (up_of names (pair_rounds m p) (healthy_then m long room)))))
+    again m n long room later = choose (goes m n long room later)
       where
         choose : Goes names (pair_rounds n p) → (k : ℕ) × (k ≤ gap_rounds) × AreUp (good_rounds (k + n) f).ends
         choose (up_now u) = (0, omega arith, subst (λ (k : ℕ). AreUp (good_rounds k f).ends) (omega arith) (up_at n u.steady_client.up u.steady_server.up))
         choose (up_later c) = let h : Healthy names 1 (pair_rounds (c.rounds + n) p) = subst (Healthy names 1) (rounds_add c.rounds n p) c.healthy in
             (c.rounds, c.soon, up_at (c.rounds + n) h.steady_client.up h.steady_server.up)
+
+    calm : (m n k : ℕ) → recovery_rounds ≤ m → StayBelowLimit m f → m ≤ n → (AreUp (good_rounds n f).ends → ⊥) → gap_rounds ≤ k → k < calm_rounds → AreUp (good_rounds (k + n) f).ends
+    calm m n k long room later gap least soon = choose (goes m n long room later)
+      where
+        choose : Goes names (pair_rounds n p) → AreUp (good_rounds (k + n) f).ends
+        choose (up_now u) = absurd (gap (up_at n u.steady_client.up u.steady_server.up))
+        choose (up_later c) = let u : UpNow names (pair_rounds (k + n) p) = subst (UpNow names) (rounds_add k n p) (calm_for names 604 k (pair_rounds n p) c least soon) in
+            up_at (k + n) u.steady_client.up u.steady_server.up
 
 -- two fresh ends to which these events happened
 holds_after : Laws → (names : Names) (start : Start) (events : List Event) → AreNames names → MayRun names events (started names start) → Holds names (run events (started names start))
@@ -156,3 +167,12 @@ recovers_again laws names start events passed m n are may long room later =
     let f : Flow = flow_after names start events passed in
     let mirror = mirror_of names f first.timely in
     again laws names are f first mirror.0 mirror.1 m n long room later
+
+pub stays_calm : Laws → (names : Names) (start : Start) (events : List Event) (passed m n k : ℕ) → AreNames names → MayRun names events (started names start) → recovery_rounds ≤ m
+    → StayBelowLimit m (flow_after names start events passed) → m ≤ n → (AreUp (good_rounds n (flow_after names start events passed)).ends → ⊥) → gap_rounds ≤ k → k < calm_rounds
+    → AreUp (good_rounds (k + n) (flow_after names start events passed)).ends
+stays_calm laws names start events passed m n k are may long room later gap least soon =
+    let first = holds_after laws names start events are may in
+    let f : Flow = flow_after names start events passed in
+    let mirror = mirror_of names f first.timely in
+    calm laws names are f first mirror.0 mirror.1 m n k long room later gap least soon

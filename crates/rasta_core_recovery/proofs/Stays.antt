@@ -85,7 +85,7 @@ pub settled_out : (now : ℕ) (l : LinkState) → is_open l.phase ≡ false → 
 unfolding settled
 settled_out now l out = rw out refl
 
-entered_out : (now : ℕ) (l : LinkState) → is_open l.phase ≡ false → entered now l ≡ silent (record l { clock = now })
+pub entered_out : (now : ℕ) (l : LinkState) → is_open l.phase ≡ false → entered now l ≡ silent (record l { clock = now })
 unfolding entered limited
 entered_out now l out = ap limited (settled_out now l out) ∙ rw out refl
 

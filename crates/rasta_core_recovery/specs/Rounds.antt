@@ -40,6 +40,11 @@ abbrev pub good_rounds : ℕ → Flow → Flow
 good_rounds zero f = f
 good_rounds (suc n) f = good_round (good_rounds n f)
 
+-- the events of so many rounds, in their order
+abbrev pub events_of : ℕ → Flow → List Event
+events_of zero f = []
+events_of (suc n) f = events_of n f ++ round_events (good_rounds n f)
+
 -- both ends are up
 abbrev pub AreUp : Ends → Type 0
 AreUp ends = (is_up ends.client.link.phase ≡ true) × (is_up ends.server.link.phase ≡ true)
@@ -63,3 +68,8 @@ recovery_rounds = 1567
 -- from then on, wherever an end comes to the limit of PDUs, both are up again so many rounds later at the latest: 6040 ms
 abbrev pub gap_rounds : ℕ
 gap_rounds = 604
+
+-- and both then stay up until at least so many rounds behind the one in which an end wasn't: more than 20 years. For an end to
+-- which nothing is given says a PDU in 300 ms, and a connection has room for 2147483000.
+abbrev pub calm_rounds : ℕ
+calm_rounds = 64000000000

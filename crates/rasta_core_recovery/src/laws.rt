@@ -1,14 +1,22 @@
 //! Recovery, for two ends that were just created and every list of events that may happen to them.
 
-ghost use Rattle.std.specs.Prelude.{ℕ, ◌+◌, ◌≤◌, List};
-ghost use Rattle.rasta_core_run.specs.Events.{Event, MayRun, Start, started};
+ghost use Rattle.std.specs.Prelude.{◌≡◌, ℕ, ◌+◌, ◌≤◌, ◌<◌, List};
+ghost use Rattle.rasta_core_run.specs.Events.{Event, MayRun, Start, run, started};
 ghost use Rattle.rasta_core_run.specs.Names.{AreNames, Names};
-ghost use Rattle.rasta_core_recovery.specs.Rounds.{AreUp, StayBelowLimit, flow_after, gap_rounds, good_rounds, recovery_rounds};
+ghost use Rattle.rasta_core_recovery.specs.Rounds.{AreUp, Flow, StayBelowLimit, calm_rounds, events_of, flow_after, gap_rounds, good_rounds, recovery_rounds};
+ghost use Rattle.rasta_core_recovery.specs.WrongRounds.{NeverUp, RestsFor, asks_in_vain, asks_once, ends_at_limit, rounds_where};
 
 use rasta_core::{
     calls_hand_out_pdus, every_event_keeps_order, every_event_keeps_time, starts_in_time,
 };
 use rasta_core_run::written_is_read;
+
+/// Good rounds are events that may happen to two ends, one after another. So whatever is true after every list of events is true
+/// behind good rounds.
+pub fn good_rounds_may_happen()
+    ensures may { (names : Names) (n : ℕ) (f : Flow) → MayRun names (events_of n f) f.ends }
+    ensures lead { (n : ℕ) (f : Flow) → (good_rounds n f).ends ≡ run (events_of n f) f.ends }
+{}
 
 /// Two ends come up whatever has happened to them before: after each good round from the 1567th on both are up, so for
 /// good 15.67 s after the good rounds began. That is where no end comes to the limit of PDUs in a connection till then.
@@ -39,3 +47,25 @@ pub fn gaps_are_short()
     written_is_read();
     calls_hand_out_pdus();
 }
+
+/// And gaps are rare. Where an end isn't up after a good round from the 1567th on, both are up after each round from 604 to
+/// 64,000,000,000 behind it: for more than 20 years.
+pub fn gaps_are_rare()
+    ensures { (names : Names) (start : Start) (events : List Event) (passed m n k : ℕ) → AreNames names → MayRun names events (started names start)
+        → recovery_rounds ≤ m → StayBelowLimit m (flow_after names start events passed) → m ≤ n
+        → (AreUp (good_rounds n (flow_after names start events passed)).ends → ⊥) → gap_rounds ≤ k → k < calm_rounds
+        → AreUp (good_rounds (k + n) (flow_after names start events passed)).ends }
+{
+    starts_in_time();
+    every_event_keeps_time();
+    every_event_keeps_order();
+    written_is_read();
+    calls_hand_out_pdus();
+}
+
+/// Clients that go wrong, and are safe. One that asks once and never again is never up where its request was lost (*once*). Two ends
+/// outside stay so for ever if the client never opens again after it closed at the limit of PDUs (*limit*).
+pub fn wrong_clients_never_come_up()
+    ensures once { (names : Names) → NeverUp names asks_once asks_in_vain }
+    ensures limit { (n : ℕ) (f : Flow) → RestsFor ends_at_limit f → RestsFor ends_at_limit (rounds_where ends_at_limit n f) }
+{}

@@ -4,4 +4,7 @@
 
 mod laws;
 
-pub use laws::{gaps_are_short, two_ends_come_up};
+pub use laws::{
+    gaps_are_rare, gaps_are_short, good_rounds_may_happen, two_ends_come_up,
+    wrong_clients_never_come_up,
+};
