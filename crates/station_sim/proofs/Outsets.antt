@@ -78,21 +78,21 @@ abbrev section_line : ℕ → Occupancy → SimLine
 section_line place occupancy = said.Begins (begun.Section (record { 0 = place }) occupancy)
 
 -- what a line names, and how it lies
-kind_of : SimLine → ℕ
+abbrev kind_of : SimLine → ℕ
 kind_of (said.Begins (begun.Point point position)) = 1
 kind_of (said.Begins (begun.Section section occupancy)) = 2
 kind_of line = 0
 
-place_of : SimLine → ℕ
+abbrev place_of : SimLine → ℕ
 place_of (said.Begins (begun.Point point position)) = point.0
 place_of (said.Begins (begun.Section section occupancy)) = section.0
 place_of line = 0
 
-position_of : SimLine → Position
+abbrev position_of : SimLine → Position
 position_of (said.Begins (begun.Point point position)) = position
 position_of line = positions.Left
 
-occupancy_of : SimLine → Occupancy
+abbrev occupancy_of : SimLine → Occupancy
 occupancy_of (said.Begins (begun.Section section occupancy)) = occupancy
 occupancy_of line = occupancies.Clear
 
