@@ -26,8 +26,8 @@ fn notes(
     shown: &Shown,
 ) -> Result<Vec<Mark>, AllocError> {
     let (left, right) = (Units(-1_000_000), Units(1_000_000));
-    let drawn = reach_above(things, left, right);
-    let all = reach_of_things(things, left, right);
+    let drawn = reach_above(things, left, right).or_origin();
+    let all = reach_of_things(things, left, right).or_origin();
     let mut marks = Marks::new(alloc);
     draw_heading(&mut marks, layout, drawn.left, drawn.bottom + Units(32))?;
     let down = all.bottom + LINES;

@@ -87,7 +87,7 @@ fn draw_number(marks: &mut Marks, at: Spot, number: usize) -> Result<(), AllocEr
     marks.number("number", moved(at, 0, 3), number)
 }
 
-/// Draws the port of a point that lies on its row.
+/// Draws the port of a point that lies on its row. No buffer stands behind an open one.
 fn draw_level(
     marks: &mut Marks,
     sketch: &Sketch,
@@ -96,10 +96,13 @@ fn draw_level(
 ) -> Result<(), AllocError> {
     let y = sketch.y(place.element);
     marks.line(class, spot(sketch.x(place.element), y), sketch.port(place))?;
+    if sketch.grid.yard.mate(place).is_none() {
+        return Ok(());
+    }
     draw_end(marks, sketch, place.element, sketch.is_right(place))
 }
 
-/// Draws the leg of a point that leads off its row.
+/// Draws the leg of a point that leads off its row. An open one, as of a trap point, just ends.
 fn draw_minor(marks: &mut Marks, sketch: &Sketch, place: Place) -> Result<(), AllocError> {
     let from = spot(sketch.x(place.element), sketch.y(place.element));
     marks.bend(
@@ -108,9 +111,6 @@ fn draw_minor(marks: &mut Marks, sketch: &Sketch, place: Place) -> Result<(), Al
         sketch.leg_corner(place),
         sketch.leg_end(place),
     )?;
-    if sketch.grid.yard.mate(place).is_none() {
-        return draw_slanted_stop(marks, sketch, place);
-    }
     match sketch.connector(place) {
         Some(number) => {
             let end = sketch.leg_end(place);
@@ -123,19 +123,6 @@ fn draw_minor(marks: &mut Marks, sketch: &Sketch, place: Place) -> Result<(), Al
         }
         None => Ok(()),
     }
-}
-
-/// Draws the dead end of a leg.
-fn draw_slanted_stop(marks: &mut Marks, sketch: &Sketch, place: Place) -> Result<(), AllocError> {
-    let at = sketch.leg_end(place);
-    let across = sign(sketch.is_right(place))
-        .saturating_mul(sketch.slope(place.element))
-        .saturating_mul(5);
-    marks.line(
-        "buffer",
-        moved(at, -5, across),
-        moved(at, 5, across.saturating_neg()),
-    )
 }
 
 /// Draws the tip or a leg of a point.

@@ -46,6 +46,19 @@ impl Extent {
         }
     }
 
+    /// The same, or the origin where it is empty.
+    pub(crate) fn or_origin(self) -> Extent {
+        if self.left <= self.right {
+            return self;
+        }
+        Extent {
+            left: Units(0),
+            top: Units(0),
+            right: Units(0),
+            bottom: Units(0),
+        }
+    }
+
     /// How wide it is.
     pub(crate) fn width(self) -> Units {
         (self.right - self.left).or_more(Units(0))

@@ -4,7 +4,7 @@ ghost use Rattle.std.specs.Prelude.{◌≡◌, IfOk, OnOk, ◌++◌, ◌∷◌, 
 ghost use Rattle.station_plan.specs.Subjects.{subject_id, subjects_of};
 ghost use Rattle.station_plan.specs.Plan.{ids_of, notes_id, subject_ids};
 
-use crate::subjects::{id_of, kind_word};
+use crate::subjects::{end_word, id_of, kind_word};
 use crate::thing::{Subject, Thing};
 use drawing::{Group, Mark};
 use std::alloc::{AllocError, Global};
@@ -35,7 +35,13 @@ fn class_of(alloc: Global, subject: &Subject, id: &str, state: &str) -> Result<S
 fn title_of(alloc: Global, subject: &Subject) -> Result<String, AllocError> {
     let kind = kind_word(subject);
     let name = name_of(subject);
-    format!(in alloc; "{kind} {name}")
+    match subject {
+        Subject::Joint(_, end) => {
+            let end = end_word(*end);
+            format!(in alloc; "{kind} {name}.{end}")
+        }
+        _ => format!(in alloc; "{kind} {name}"),
+    }
 }
 
 /// A thing as a group.

@@ -48,11 +48,21 @@ fn draw_words(marks: &mut Marks, at: Spot, words: &str) -> Result<(), AllocError
     marks.text("label", moved(at, 30, 0), Anchor::Start, words)
 }
 
+/// A line as a sample, and what it means.
+fn draw_sample(marks: &mut Marks, at: Spot, class: &str, words: &str) -> Result<(), AllocError> {
+    marks.line(class, moved(at, 0, -4), moved(at, 22, -4))?;
+    draw_words(marks, at, words)
+}
+
+/// The place so many lines below another.
+fn below(at: Spot, lines: i32) -> Spot {
+    moved(at, 0, LINES.times(lines).0)
+}
+
 /// What marks a route.
 fn draw_route_legend(marks: &mut Marks, at: Spot, words: &str) -> Result<(), AllocError> {
-    marks.line("sample path-sample", moved(at, 0, -4), moved(at, 22, -4))?;
-    draw_words(marks, at, words)?;
-    let next = moved(at, 0, LINES.0);
+    draw_sample(marks, at, "sample path-sample", words)?;
+    let next = below(at, 1);
     marks.line("flank-sample", moved(next, 4, -4), moved(next, 22, -4))?;
     marks.circle("guard", moved(next, 4, -4), 4)?;
     draw_words(
@@ -60,37 +70,36 @@ fn draw_route_legend(marks: &mut Marks, at: Spot, words: &str) -> Result<(), All
         next,
         "point that protects its flank, and the leg to which it has to lie",
     )?;
-    let last = moved(next, 0, LINES.0);
-    marks.line(
+    draw_sample(
+        marks,
+        below(at, 2),
         "sample approach-sample",
-        moved(last, 0, -4),
-        moved(last, 22, -4),
-    )?;
-    draw_words(marks, last, "section of its approach")
+        "section of its approach",
+    )
 }
 
 /// What marks what is seen.
 fn draw_seen_legend(marks: &mut Marks, at: Spot) -> Result<(), AllocError> {
-    marks.line(
-        "sample occupied-sample",
-        moved(at, 0, -4),
-        moved(at, 22, -4),
-    )?;
-    draw_words(marks, at, "occupied section")?;
-    let next = moved(at, 0, LINES.0);
-    marks.line("sample set-sample", moved(next, 0, -4), moved(next, 22, -4))?;
-    draw_words(marks, next, "route that is set")?;
-    let next = moved(next, 0, LINES.0);
-    draw_lamps(marks, next, "lamp red", "lamp", "stop")?;
-    let next = moved(next, 0, LINES.0);
-    draw_lamps(marks, next, "lamp", "lamp green", "proceed")?;
-    let next = moved(next, 0, LINES.0);
-    draw_lamps(marks, next, "lamp yellow", "lamp yellow", "slow")?;
-    let next = moved(next, 0, LINES.0);
-    marks.line("sample off-sample", moved(next, 0, -4), moved(next, 22, -4))?;
-    draw_words(
+    draw_sample(marks, at, "sample occupied-sample", "occupied section")?;
+    draw_sample(
         marks,
-        next,
+        below(at, 1),
+        "sample unknown-sample",
+        "section of which nothing is known",
+    )?;
+    draw_sample(
+        marks,
+        below(at, 2),
+        "sample set-sample",
+        "route that is set",
+    )?;
+    draw_lamps(marks, below(at, 3), "lamp red", "lamp", "stop")?;
+    draw_lamps(marks, below(at, 4), "lamp", "lamp green", "proceed")?;
+    draw_lamps(marks, below(at, 5), "lamp yellow", "lamp yellow", "slow")?;
+    draw_sample(
+        marks,
+        below(at, 6),
+        "sample off-sample",
         "leg to which a point doesn't lie; dashed while it has no end position",
     )
 }

@@ -189,7 +189,7 @@ fn occupancy_words(seen: &Seen, section: SectionId) -> &'static str {
     match seen.occupancies.get(section.0) {
         Some(Some(Occupancy::Occupied)) => " occupied",
         Some(Some(Occupancy::Clear)) => " clear",
-        _ => "",
+        _ => " unknown",
     }
 }
 

@@ -202,16 +202,23 @@ impl Sketch {
         }
     }
 
-    /// Whether a port lies on a line that leads up or down.
+    /// Whether a port lies on a line that leads up or down. Where two legs meet from above, or both from below, the line
+    /// has a corner there.
     pub(crate) fn is_slanted(&self, place: Place) -> bool {
         if self.grid.main.is_level(place) {
             return false;
         }
-        let corner = self.leg_corner(place);
         match self.grid.link(place) {
-            Some(link) if link.is_crossover => corner == self.leg_end(place),
+            Some(link) if link.is_crossover => {
+                self.goes_on(link) && self.leg_corner(place) == self.leg_end(place)
+            }
             _ => false,
         }
+    }
+
+    /// Whether a line that leads down from one end of a link leads on down to the other.
+    fn goes_on(&self, link: Link) -> bool {
+        self.slope(link.from.element) != self.slope(link.to.element)
     }
 
     /// The number by which the two ends of a joint know one another that isn't drawn as a line.

@@ -10,7 +10,7 @@ use control_table::sci_telegram::Name;
 use std::alloc::{AllocError, Global};
 
 /// The word of a port.
-fn end_word(end: End) -> &'static str
+pub(crate) fn end_word(end: End) -> &'static str
     ensures { result.now ≡ end_text end }
 {
     match end {

@@ -330,7 +330,11 @@ fn add_detectors(
 ) -> Result<(), AllocError>
     ensures { OnOk result (subjects_of things.new.items ≡ subjects_of things.old.items ++ map detector_subject detectors.now) }
 {
-    let extent = reach_of_things(things.as_slice(), Units(-1_000_000), Units(1_000_000));
+    let extent = reach_of_things(
+        things.as_slice(),
+        Units(-1_000_000),
+        Units(1_000_000),
+    ).or_origin();
     let letters = letters(extent);
     let mut down = extent.bottom + Units(32) + LINES;
     for (number, detector) in detectors.iter().enumerate() {
