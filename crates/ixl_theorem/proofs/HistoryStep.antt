@@ -34,6 +34,7 @@ use Rattle.ixl_theorem.specs.Nodes.{of_node}
 use Rattle.ixl_theorem.proofs.CalledSteps.{commanding_acts}
 use Rattle.ixl_theorem.proofs.Clients.{becomes_there, detection_at, detector_client, detector_kept}
 use Rattle.ixl_theorem.proofs.RoutesGoOn.{request_free}
+use Rattle.ixl_theorem.proofs.OnPath.{found_at}
 use Rattle.ixl_theorem.proofs.HistoryLists.{approached_more, before_told, begins_approached, look_all, looks_at, looks_joined, now_told, occupied_is, seen_after, seen_is, seen_more, told_last}
 use Rattle.ixl_theorem.proofs.HistoryParts.{Has, HasBegun, IsKept, IsUnauthorised, Keeps, Of, along_looks, along_unauthorised, authorised_set, changes_has, changing_all, ruled_begins, ruled_kept, seen_unauthorised, seen_watched, ticked_of, watched}
 use Rattle.ixl_theorem.proofs.Nodes.{node_self, of_itself}
@@ -321,9 +322,9 @@ module _ (now : ℕ) (acts : (bytes : List ℕ) (part : client.ClientSoFar) → 
           is_clear = approach_is table (heard input).ixl row;
           tells = record {
             seen = λ section place at. subst (λ b. b ≡ true ↔ Contains (history.reports section ++ told_in now input old new section) true)
-                (sym (ap (λ (p : PassageState). contains p.seen place) kept_is.0 ∙ seen_is row section place at told.looks before.passage ∙ ap (seen_after (contains before.passage.seen place)) (told.are section)))
+                (sym (ap (λ (p : PassageState). contains p.seen place) kept_is.0 ∙ seen_is row section place (found_at row.sections section place at) told.looks before.passage ∙ ap (seen_after (contains before.passage.seen place)) (told.are section)))
                 (seen_more (contains before.passage.seen place) (history.reports section) (told_in now input old new section) (was.seen section place at));
-            occupied = λ section place at. ap (λ (p : PassageState). contains p.occupied place) kept_is.0 ∙ occupied_is row section place at told.looks before.passage
+            occupied = λ section place at. ap (λ (p : PassageState). contains p.occupied place) kept_is.0 ∙ occupied_is row section place (found_at row.sections section place at) told.looks before.passage
                 ∙ ap (last_told (contains before.passage.occupied place)) (told.are section)
                 ∙ told_last (contains before.passage.occupied place) (history.reports section) (told_in now input old new section) (was.occupied section place at);
             approached = subst (λ b. b ≡ true ↔ Contains (if has_authority before.phase then history.approaches ++ clear ∷ [] else history.approaches) false) (sym kept_is.1)

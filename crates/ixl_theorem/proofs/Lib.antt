@@ -26,6 +26,7 @@ pub mod NothingLearnt
 pub mod RefusedByLink
 pub mod Nodes
 pub mod Once
+pub mod OnPath
 pub mod Onward
 pub mod Ordered
 pub mod OrderedNext

@@ -1,7 +1,7 @@
 -- What was told of a route's sections, and how its approach stood, since the route was given authority. The looks of a step
 -- aren't named here: the reports are those of the items that were acted on. So the law would be false of looks that left a
 -- report out or turned it, and of watching that forgot a step.
-use Rattle.std.specs.Prelude.{◌≡◌, ◌==◌, ◌↔◌, ℕ, suc, Bool, true, false, List, [], ◌∷◌, ◌++◌, Option, Some, None, slice_get, if◌then◌else◌}
+use Rattle.std.specs.Prelude.{◌≡◌, ◌==◌, ◌↔◌, ◌≤◌, ℕ, suc, Bool, true, false, List, [], ◌∷◌, ◌++◌, Option, Some, None, slice_get, if◌then◌else◌}
 use Rattle.std.specs.FinSet.{contains}
 use Rattle.std.specs.List.{Contains}
 use Rattle.ixl_state.specs.bit_row.Places.{Places}
@@ -14,7 +14,7 @@ use Rattle.ixl_state.specs.ixl_rules.State.{IxlState, KnownDetectorState, RouteS
 use Rattle.ixl_state.specs.ixl_rules.StepSoFar.{Detector, Node, Point, Signal, begun_with, empty_outbox}
 use Rattle.ixl_state.specs.ixl_rules.Step.{Commands, Datagram, Input, Tick, addressed, all_clocked, client_at, given, is_told_occupied}
 use Rattle.ixl_state.specs.ixl_rules.Table.{Row, Table, at}
-use Rattle.ixl_state.specs.ixl_rules.View.{has_authority, place_in}
+use Rattle.ixl_state.specs.ixl_rules.View.{has_authority}
 use Rattle.ixl_state.specs.First.{key_of}
 use Rattle.ixl.specs.Interlocking.{InterlockingState}
 use Rattle.ixl_theorem.specs.Called.{acted_at}
@@ -87,10 +87,16 @@ abbrev pub last_told : Bool → List Bool → Bool
 last_told before [] = before
 last_told before (first ∷ others) = last_told first others
 
+-- A section comes at this place of a path: it stands there, and at no place before. On a path of a station a section stands at
+-- one place alone.
+pub record ComesAt (sections : List ℕ) (section place : ℕ) : Type 0 where
+  pub stands : slice_get sections place ≡ Some section
+  pub first : (other : ℕ) → slice_get sections other ≡ Some section → place ≤ other
+
 -- What is kept of a route is what this history tells.
 pub record TellsOf (history : History) (row : Row) (route : RouteState) : Type 0 where
-  pub seen : (section place : ℕ) → place_in section row.sections ≡ Some place → contains route.passage.seen place ≡ true ↔ Contains (history.reports section) true
-  pub occupied : (section place : ℕ) → place_in section row.sections ≡ Some place → contains route.passage.occupied place ≡ last_told false (history.reports section)
+  pub seen : (section place : ℕ) → ComesAt row.sections section place → contains route.passage.seen place ≡ true ↔ Contains (history.reports section) true
+  pub occupied : (section place : ℕ) → ComesAt row.sections section place → contains route.passage.occupied place ≡ last_told false (history.reports section)
   pub approached : route.approached ≡ true ↔ Contains history.approaches false
 
 -- In the step that gives authority the history begins with how the approach stands.

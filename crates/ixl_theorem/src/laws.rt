@@ -10,6 +10,7 @@ ghost use Rattle.ixl_state.specs.layout.declared.ids.RouteId.{RouteId};
 ghost use Rattle.ixl_state.specs.ixl_client.declared.indication.Indication.{Indication};
 ghost use Rattle.ixl_state.specs.ixl_client.declared.indication.ObjectState.{ObjectState};
 ghost use Rattle.ixl_state.specs.sci_telegram.declared.message.Side.{Side};
+ghost use Rattle.ixl_state.specs.ixl_table.Table.{IsTableOf};
 ghost use Rattle.ixl_state.specs.ixl_rules.Due.{HoldsPoint, HoldsSection, Known, MoveDue};
 ghost use Rattle.ixl_state.specs.ixl_rules.StepSoFar.{Node, StepSoFar, giving_move};
 ghost use Rattle.ixl_state.specs.ixl_rules.State.{IxlState, KnownDetectorState, RouteState, KnownPointState};
@@ -26,7 +27,7 @@ ghost use Rattle.ixl_theorem.specs.Answered.{GoesOnAnswered, IsAnswered, last_to
 ghost use Rattle.ixl_theorem.specs.Apart.{AllApart, DoNotConflict, IsWhole, StandApart};
 ghost use Rattle.ixl_theorem.specs.Called.{ActsOnTaken, HandsOut, IsNobody, ReceivesFirst, Stays, acted_at, calls_at, items_taken, receipt_at};
 ghost use Rattle.ixl_theorem.specs.Cancels.{IsCancelRefused, IsResumeRefused, MayCancel};
-ghost use Rattle.ixl_theorem.specs.History.{BeginsTold, GoesOnTold, History, TellsOf};
+ghost use Rattle.ixl_theorem.specs.History.{BeginsTold, ComesAt, GoesOnTold, History, TellsOf};
 ghost use Rattle.ixl_theorem.specs.Links.{NoneDown};
 ghost use Rattle.ixl_theorem.specs.Onward.{GoesOn};
 ghost use Rattle.ixl_theorem.specs.Order.{CallsInOrder, handed_out, links_at};
@@ -147,7 +148,8 @@ pub fn datagrams_stand_in_their_order()
 /// What is kept of a route's sections and of its approach is what was told since the route was given authority. A section is
 /// seen where it was told as occupied since, and is occupied where it was told so last. The approach counts where in some step
 /// with authority it wasn't clear. So it begins with the step that gives authority, and goes on through every step of the
-/// setting.
+/// setting. A section is told of by the place at which it comes on the path; by the table of a station that is the place at
+/// which it stands (*alone*).
 pub fn routes_keep_what_was_told_since_authority()
     ensures first { (now : ℕ) (input : Input) (old new : InterlockingState) (answer : Reply) (number : ℕ) (row : Row) (before after : RouteState) → HasStepped now input old new answer
         → slice_get old.state.sited.table.rows number ≡ Some row → slice_get old.state.ixl.routes number ≡ Some before → slice_get new.state.ixl.routes number ≡ Some after
@@ -155,6 +157,8 @@ pub fn routes_keep_what_was_told_since_authority()
     ensures kept { (now : ℕ) (input : Input) (old new : InterlockingState) (answer : Reply) (number : ℕ) (row : Row) (before after : RouteState) (history : History) → HasStepped now input old new answer
         → slice_get old.state.sited.table.rows number ≡ Some row → slice_get old.state.ixl.routes number ≡ Some before → slice_get new.state.ixl.routes number ≡ Some after
         → was_authorised before.phase ≡ true → was_authorised after.phase ≡ true → TellsOf history row before → GoesOnTold now input old new row before after history }
+    ensures alone { (site : Site) (table : Table) (number : ℕ) (row : Row) (section place : ℕ) → IsTableOf site table → slice_get table.rows number ≡ Some row
+        → slice_get row.sections place ≡ Some section → ComesAt row.sections section place }
 {
     step_hears_what_was_taken();
 }
