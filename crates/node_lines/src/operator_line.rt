@@ -129,11 +129,7 @@ impl<'a> fmt::Display for KnownText<'a> {
         let layout = self.layout;
         match self.known {
             Known::Link { node, state } => {
-                let link = LinkText {
-                    layout,
-                    node,
-                    state,
-                };
+                let link = LinkText(layout, node, state);
                 write!(f, "{link}")
             }
             Known::Section { section, occupancy } => {
@@ -147,11 +143,7 @@ impl<'a> fmt::Display for KnownText<'a> {
                 write!(f, "point {point} {word}")
             }
             Known::Signal { signal, authority } => {
-                let signal = SignalText {
-                    layout,
-                    signal,
-                    authority,
-                };
+                let signal = SignalText(layout, signal, authority);
                 write!(f, "{signal}")
             }
             Known::Indicates { signal, aspect } => {
@@ -170,23 +162,19 @@ impl<'a> fmt::Display for KnownText<'a> {
     }
 }
 
-/// The state of a link, as its line tells it.
+/// The state of the link of a node, as its line tells it.
 #[derive(Clone, Copy)]
-struct LinkText<'a> {
-    layout: &'a Layout,
-    node: NodeId,
-    state: LinkState,
-}
+struct LinkText<'a>(&'a Layout, NodeId, LinkState);
 
 impl<'a> fmt::Display for LinkText<'a> {
     ghost use Rattle.std.specs.Prelude.{Some};
     ghost use Rattle.node_lines.specs.Known.{link_text};
 
-    ghost output = { λ text. Some (link_text text.layout.now text.node text.state) };
+    ghost output = { λ text. Some (link_text text.0.now text.1 text.2) };
 
     fn fmt<W: fmt::Write>(&self, f: &mut fmt::Formatter<W>) -> fmt::Result {
-        let word = link_word(self.state);
-        match node_name(self.layout, self.node) {
+        let word = link_word(self.2);
+        match node_name(self.0, self.1) {
             Some(name) => {
                 let name = name.as_str();
                 write!(f, "link {name} {word}")
@@ -198,24 +186,20 @@ impl<'a> fmt::Display for LinkText<'a> {
 
 /// The authority given at a signal, as its line tells it.
 #[derive(Clone, Copy)]
-struct SignalText<'a> {
-    layout: &'a Layout,
-    signal: SignalId,
-    authority: Option<Authority>,
-}
+struct SignalText<'a>(&'a Layout, SignalId, Option<Authority>);
 
 impl<'a> fmt::Display for SignalText<'a> {
     ghost use Rattle.std.specs.Prelude.{Some};
     ghost use Rattle.node_lines.specs.Known.{signal_text};
 
-    ghost output = { λ text. Some (signal_text text.layout.now text.signal text.authority) };
+    ghost output = { λ text. Some (signal_text text.0.now text.1 text.2) };
 
     fn fmt<W: fmt::Write>(&self, f: &mut fmt::Formatter<W>) -> fmt::Result {
-        let signal = signal_word(self.layout, self.signal);
-        match self.authority {
+        let signal = signal_word(self.0, self.1);
+        match self.2 {
             Some(authority) => {
                 let word = aspect_word(authority.aspect);
-                let route = route_word(self.layout, authority.route);
+                let route = route_word(self.0, authority.route);
                 write!(f, "signal {signal} {word} {route}")
             }
             None => write!(f, "signal {signal} stop -"),
