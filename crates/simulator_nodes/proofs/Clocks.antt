@@ -5,13 +5,13 @@ use Rattle.std.proofs.lemmas.Bool.Decides.{nat_tests}
 use Rattle.simulator_run.specs.rasta_core.Ends.{reading_of}
 use Rattle.simulator_run.specs.Refusals.{keeps_time}
 
-both_hold : (one other : Bool) → (one && other) ≡ true → (one ≡ true) × (other ≡ true)
+pub both_hold : (one other : Bool) → (one && other) ≡ true → (one ≡ true) × (other ≡ true)
 both_hold true other is = (refl, is)
 both_hold false other is = absurd (none is) where
   none : false ≡ true → ⊥
   none e = cc (e)
 
-no_more : (one other : ℕ) → nat_le one other ≡ true → one ≤ other
+pub no_more : (one other : ℕ) → nat_le one other ≡ true → one ≤ other
 no_more one other is = grind (arith, nat_tests)
 
 keeps_within : (elapsed of_clock : ℕ) → keeps_time elapsed of_clock ≡ true → (999 * elapsed ≤ 1000 * of_clock) × (1000 * of_clock ≤ 1001 * elapsed)

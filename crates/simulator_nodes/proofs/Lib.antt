@@ -15,6 +15,8 @@ pub mod Said
 pub mod Readings
 pub mod Lines
 pub mod Clocks
+pub mod Delivered
+pub mod NoneLost
 pub mod Kept
 pub mod Noise
 pub mod PointsAgain

@@ -1,5 +1,5 @@
 -- What is sent is what the nodes hand out by their lives.
-use Rattle.std.proofs.Common.{◌≡◌, ℕ, List, [], ◌∷◌, ◌++◌, length, Option, Some, None, slice_get, refl, sym, ap, ◌∙◌}
+use Rattle.std.proofs.Common.{◌≡◌, ℕ, List, [], ◌∷◌, ◌++◌, length, map, Option, Some, None, slice_get, refl, sym, ap, ◌∙◌}
 use Rattle.simulator_run.specs.layout.declared.entries.Point.{Point as PointEntry}
 use Rattle.simulator_run.specs.layout.declared.entries.Signal.{Signal as SignalEntry}
 use Rattle.simulator_run.specs.layout.Entries.{DetectorEntry, Site}
@@ -26,14 +26,14 @@ use Rattle.simulator_run.specs.State.{ClockedControllerState, WorldState}
 use Rattle.simulator_run.specs.Run.{after_all}
 use Rattle.ixl_table.specs.Table.{IsTableOf}
 use Rattle.simulator_nodes.specs.Lives.{Life, LivesAsInterlocking, LivesAt, detector_sensing, host_after}
-use Rattle.simulator_nodes.specs.Said.{detector_life, lamp_line, last_line, lines_after, said_in, said_to, says}
+use Rattle.simulator_nodes.specs.Said.{Departure, departures_in, detector_life, lamp_line, last_line, leaves, lines_after, reading_at, said_in, said_to, says, time_in}
 use Rattle.simulator_nodes.specs.Shown.{host_now, interlocking_life, interlocking_now, point_life, signal_life}
-use Rattle.simulator_nodes.specs.Split.{bytes_of, handed_by, handed_out_by}
+use Rattle.simulator_nodes.specs.Split.{bytes_of, handed_by, handed_out_by, sent_at}
 use Rattle.simulator_nodes.specs.Told.{Told, Nobody, ToInterlocking, ToSignal, ToPoint, ToDetector, told}
 use Rattle.simulator_nodes.proofs.Counts.{counts_all, first_counts}
 use Rattle.simulator_nodes.proofs.Lists.{joined_thrice, none_behind, none_there}
 use Rattle.simulator_nodes.proofs.Runs.{detectors_are, points_are, signals_are, station_is}
-use Rattle.simulator_nodes.proofs.Sent.{network_grows}
+use Rattle.simulator_nodes.proofs.Sent.{each_grows, network_grows, time_goes_on}
 
 says_by_life : {Object Contacts Entry : Type 0} (does : Behaviour Object) (new : Entry → Beginning → Contacts → HostState Object) (input : Input) (entries : List Entry) (servers : List (ClockedControllerState Object)) (place : ℕ) (life : Life Contacts Input)
     → length servers ≡ length entries → ((entry : Entry) → slice_get entries place ≡ Some entry → LivesAt does (new entry) servers place life)
@@ -47,6 +47,38 @@ says_by_life {Object} {Contacts} {Entry} does new input entries servers place li
   cases : (found : Option Entry) → slice_get entries place ≡ found → handed_by does input (slice_get servers place) ≡ says does new input life found
   cases None is = ap (handed_by does input) (none_there servers entries place long is)
   cases (Some entry) is = of_server entry (lives entry is)
+
+-- ---- when it left
+
+bytes_joined : (a b : List Departure) → map (λ (one : Departure). one.bytes) (a ++ b) ≡ map (λ (one : Departure). one.bytes) a ++ map (λ (one : Departure). one.bytes) b
+bytes_joined [] b = refl
+bytes_joined (first ∷ others) b = ap (λ l. first.bytes ∷ l) (bytes_joined others b)
+
+bytes_left : (time reading : ℕ) (datagrams : List (List ℕ)) → map (λ (one : Departure). one.bytes) (map (λ bytes. record { bytes = bytes; time = time; reading = reading }) datagrams) ≡ datagrams
+bytes_left time reading [] = refl
+bytes_left time reading (first ∷ others) = ap (λ l. first ∷ l) (bytes_left time reading others)
+
+pub all_that_left : (site : Site) (table : Table) (outset : Outset) (before events : List Event)
+    → map (λ (one : Departure). one.bytes) (departures_in site table outset before events) ≡ said_in site table outset before events
+all_that_left site table outset before [] = refl
+all_that_left site table outset before (first ∷ others) =
+    bytes_joined (leaves site table outset before (told site table first)) (departures_in site table outset (before ++ first ∷ []) others)
+    ∙ ap (λ l. l ++ map (λ (one : Departure). one.bytes) (departures_in site table outset (before ++ first ∷ []) others))
+    (bytes_left (time_in before 0) (reading_at site table outset before (told site table first)) (said_to site table outset before (told site table first)))
+    ∙ ap (λ l. said_to site table outset before (told site table first) ++ l) (all_that_left site table outset (before ++ first ∷ []) others)
+
+abbrev pub timed : Departure → List ℕ × ℕ
+timed one = (one.bytes, one.time)
+
+timed_joined : (a b : List Departure) → map timed (a ++ b) ≡ map timed a ++ map timed b
+timed_joined [] b = refl
+timed_joined (first ∷ others) b = ap (λ l. timed first ∷ l) (timed_joined others b)
+
+timed_left : (time reading : ℕ) (datagrams : List (List ℕ)) → map timed (map (λ bytes. record { bytes = bytes; time = time; reading = reading }) datagrams) ≡ map (λ bytes. (bytes, time)) datagrams
+timed_left time reading [] = refl
+timed_left time reading (first ∷ others) = ap (λ l. (first, time) ∷ l) (timed_left time reading others)
+
+-- ---- of a whole list of events
 
 module _ (site : Site) (table : Table) (outset : Outset) (lies : IsOutsetOf site outset) (station : IsStation site) (is_table : IsTableOf site table) where
   abbrev world_after : List Event → WorldState
@@ -88,6 +120,41 @@ module _ (site : Site) (table : Table) (outset : Outset) (lies : IsOutsetOf site
 
   pub all_is_said : (events : List Event) → bytes_of (world_after events).sent ≡ said_in site table outset [] events
   all_is_said events = all_said [] events ∙ ap (λ l. l ++ said_in site table outset [] events) none_first
+
+  -- when it left
+
+  starts_at_zero : (world_at site table outset).time ≡ 0
+  unfolding world_at
+  starts_at_zero = refl
+
+  pub time_behind : (events : List Event) → (world_after events).time ≡ time_in events 0
+  time_behind events = time_goes_on site table events (world_at site table outset) ∙ ap (time_in events) starts_at_zero
+
+  -- what the step of an event sends is what leaves its node
+  one_left : (before : List Event) (first : Event)
+      → map (λ bytes. (bytes, (world_after before).time)) (handed_out_by site table (told site table first) (world_after before)) ≡ map timed (leaves site table outset before (told site table first))
+  one_left before first =
+      ap (λ time. map (λ bytes. (bytes, time)) (handed_out_by site table (told site table first) (world_after before))) (time_behind before)
+      ∙ ap (map (λ bytes. (bytes, time_in before 0))) (is_said before (told site table first))
+      ∙ sym (timed_left (time_in before 0) (reading_at site table outset before (told site table first)) (said_to site table outset before (told site table first)))
+
+  all_left : (before events : List Event) → sent_at (after_all site table events (world_after before)).sent ≡ sent_at (world_after before).sent ++ map timed (departures_in site table outset before events)
+  all_left before [] = sym (none_behind (sent_at (world_after before).sent))
+  all_left before (first ∷ others) =
+      ap (λ (w : WorldState). sent_at (after_all site table others w).sent) (sym (goes_on before first (world_at site table outset)))
+      ∙ all_left (before ++ first ∷ []) others
+      ∙ ap (λ (w : WorldState). sent_at w.sent ++ map timed (departures_in site table outset (before ++ first ∷ []) others)) (goes_on before first (world_at site table outset))
+      ∙ ap (λ l. l ++ map timed (departures_in site table outset (before ++ first ∷ []) others)) (each_grows (λ bytes time. (bytes, time)) site table first (world_after before))
+      ∙ ap (λ l. (sent_at (world_after before).sent ++ l) ++ map timed (departures_in site table outset (before ++ first ∷ []) others)) (one_left before first)
+      ∙ joined_thrice (sent_at (world_after before).sent) (map timed (leaves site table outset before (told site table first))) (map timed (departures_in site table outset (before ++ first ∷ []) others))
+      ∙ ap (λ l. sent_at (world_after before).sent ++ l) (sym (timed_joined (leaves site table outset before (told site table first)) (departures_in site table outset (before ++ first ∷ []) others)))
+
+  none_sent_first : sent_at (world_at site table outset).sent ≡ []
+  unfolding world_at
+  none_sent_first = refl
+
+  pub all_times : (events : List Event) → sent_at (world_after events).sent ≡ map timed (departures_in site table outset [] events)
+  all_times events = all_left [] events ∙ ap (λ l. l ++ map timed (departures_in site table outset [] events)) none_sent_first
 
 -- ---- lines to the field
 

@@ -18,8 +18,9 @@ use Rattle.simulator_run.specs.Seen.{IsSnapshotOf}
 use Rattle.simulator_run.specs.State.{ClockedControllerState, WorldState}
 use Rattle.simulator_run.specs.simulator_snapshot.declared.snapshot.Snapshot.{Snapshot}
 use Rattle.simulator_run.specs.Run.{after_all}
+use Rattle.simulator_run.specs.Interlocking.{held_of}
 use Rattle.simulator_nodes.specs.Lives.{Life, LivesAt, first_life}
-use Rattle.simulator_nodes.specs.Shown.{AreAll, IsOfNodes, host_now, interlocking_life, point_life, signal_life}
+use Rattle.simulator_nodes.specs.Shown.{AreAll, IsOfNodes, frozen_in, host_now, interlocking_life, interlocking_now, point_life, signal_life, signal_shows}
 use Rattle.simulator_nodes.proofs.Counts.{IsCounted, counts_all, first_counts}
 use Rattle.simulator_nodes.proofs.Held.{first_frozen, freezes_in, held_by_life}
 use Rattle.simulator_nodes.proofs.Runs.{points_are, signals_are, station_first, station_is}
@@ -93,3 +94,43 @@ module _ (site : Site) (table : Table) (outset : Outset) (lies : IsOutsetOf site
         (λ place entry is. by_life point_behaviour (λ begins position. new_point site begins position entry) (λ host clock. drives (reading_of clock) host.object) world.points place (point_life site table outset events place)
         (points_are site table outset lies events place entry is).lives);
   }
+
+-- ---- there is a snapshot
+
+-- what is told of each entry by its place
+abbrev numbered : {Entry Seen : Type 0} → (ℕ → Entry → Seen) → List Entry → List Seen
+numbered says [] = []
+numbered says (first ∷ others) = says 0 first ∷ numbered (λ place. says (suc place)) others
+
+as_many : {Entry Seen : Type 0} (says : ℕ → Entry → Seen) (entries : List Entry) → length (numbered says entries) ≡ length entries
+as_many says [] = refl
+as_many says (first ∷ others) = ap suc (as_many (λ place. says (suc place)) others)
+
+told_there : {Entry Seen : Type 0} (says : ℕ → Entry → Seen) (entries : List Entry) (place : ℕ) (entry : Entry) → slice_get entries place ≡ Some entry → slice_get (numbered says entries) place ≡ Some (says place entry)
+told_there says [] place entry is = absurd (none_is is) where
+  none_is : None ≡ Some entry → ⊥
+  none_is e = cc (e)
+told_there says (first ∷ others) zero entry is = ap (λ one. Some (says 0 one)) (same_Some first entry is)
+told_there says (first ∷ others) (suc place) entry is = told_there (λ place. says (suc place)) others place entry is
+
+all_told : {Entry Seen : Type 0} (says : ℕ → Entry → Seen) (entries : List Entry) → AreAll entries (numbered says entries) says
+all_told says entries = (as_many says entries, told_there says entries)
+
+pub some_seen : (site : Site) (table : Table) (outset : Outset) (events : List Event) → (seen : Snapshot) × IsOfNodes site table outset events seen
+some_seen site table outset events = (
+  record {
+    shows = record { items = numbered (λ place entry. signal_shows site entry (signal_life site table events place)) site.signals };
+    held = record { items = held_of table (interlocking_now site table (interlocking_life site table events)) (frozen_in site table events (first_life tt) []) };
+    position = record { items = numbered (λ place entry. record { 0 = (point_life site table outset events place).contacts }) site.points };
+    driven = record {
+      items = numbered (λ place entry. drives (reading_of (point_life site table outset events place).clock)
+          (host_now point_behaviour (λ begins position. new_point site begins position entry) (point_life site table outset events place)).object) site.points;
+    };
+  },
+  record {
+    shows = all_told _ site.signals;
+    held = refl;
+    position = all_told _ site.points;
+    driven = all_told _ site.points;
+  },
+)

@@ -58,3 +58,7 @@ handed_out_by site table (ToDetector place input) world = handed_by detection_be
 -- the bytes of all datagrams that were sent, lost or not
 abbrev pub bytes_of : List OnLink → List (List ℕ)
 bytes_of sent = map (λ one. one.datagram.bytes) sent
+
+-- each with the true time at which it was sent, in microseconds
+abbrev pub sent_at : List OnLink → List (List ℕ × ℕ)
+sent_at sent = map (λ one. (one.datagram.bytes, one.datagram.at)) sent

@@ -1,42 +1,41 @@
 -- Wrong definitions, each with a small run in which what it tells isn't so.
-use Rattle.std.specs.Prelude.{◌≡◌, ℕ, List, [], ◌∷◌, ◌++◌, codes, map, Some, None}
+use Rattle.std.specs.Prelude.{◌≡◌, ℕ, zero, suc, List, [], ◌∷◌, ◌++◌, codes, map, None, is_none, if◌then◌else◌}
+use Rattle.simulator_run.specs.sci_telegram.declared.message.Aspect.{Aspect}
 use Rattle.simulator_run.specs.sci_telegram.declared.message.Aspect.TheVariants as aspects
 use Rattle.simulator_run.specs.sci_telegram.declared.message.Occupancy.{Occupancy}
 use Rattle.simulator_run.specs.sci_telegram.declared.message.Occupancy.TheVariants.{Clear, Occupied}
 use Rattle.simulator_run.specs.sci_telegram.declared.message.Position.TheVariants as positions
-use Rattle.simulator_run.specs.sci_telegram.declared.message.Side.TheVariants as sides
 use Rattle.simulator_run.specs.layout.declared.entries.Point.{Point as PointEntry}
+use Rattle.simulator_run.specs.layout.declared.entries.Signal.{Signal as SignalEntry}
 use Rattle.simulator_run.specs.layout.declared.port.Port.{Port}
 use Rattle.simulator_run.specs.layout.Entries.{DetectorEntry, Site}
 use Rattle.simulator_run.specs.rasta_core.Ends.{reading_of}
+use Rattle.simulator_run.specs.rasta_core.Links.{OnLink}
 use Rattle.simulator_run.specs.object_host.Behaviour.{Behaviour}
 use Rattle.simulator_run.specs.object_host.Host.{HostState}
 use Rattle.simulator_run.specs.object_host.Step.{host_step}
 use Rattle.simulator_run.specs.object_host.declared.input.Input.{Input}
 use Rattle.simulator_run.specs.object_host.declared.input.Input.TheVariants as inputs
-use Rattle.simulator_run.specs.object_host.declared.sense.Sense.TheVariants as sense
-use Rattle.simulator_run.specs.signal_ctl.Signal.{SignalState}
-use Rattle.simulator_run.specs.point_ctl.Controlled.{point_behaviour}
-use Rattle.simulator_run.specs.point_ctl.Drive.{PointState, drive_of, driven_by, drives}
-use Rattle.simulator_run.specs.point_ctl.declared.progress.Progress.TheVariants.{Driving}
+use Rattle.simulator_run.specs.signal_ctl.Lamp.{Lamp, aspect_shown}
+use Rattle.simulator_run.specs.signal_ctl.Signal.{SignalState, signal_behaviour}
 use Rattle.simulator_run.specs.tds_ctl.History.{occupancies}
 use Rattle.simulator_run.specs.tds_ctl.declared.section.Section.{Section}
-use Rattle.simulator_run.specs.ixl_rules.State.{RouteState}
 use Rattle.simulator_run.specs.ixl_rules.Table.{Table}
-use Rattle.simulator_run.specs.ixl_rules.declared.phase.Phase.TheVariants as phase
+use Rattle.simulator_run.specs.ixl_rules.declared.command.Command.TheVariants as commands
 use Rattle.simulator_run.specs.simulator_event.declared.event.Event.{Event}
 use Rattle.simulator_run.specs.simulator_event.declared.event.Event.TheVariants as event
 use Rattle.simulator_run.specs.simulator_snapshot.declared.snapshot.Held.{Held}
-use Rattle.simulator_run.specs.First.{Outset, at_zero, new_ixl, new_point, world_at}
+use Rattle.simulator_run.specs.First.{Outset, at_zero, new_signal, world_at}
 use Rattle.simulator_run.specs.Happens.{happens}
 use Rattle.simulator_run.specs.Refusals.{refusal}
 use Rattle.simulator_run.specs.Run.{CanHappen, after_all}
+use Rattle.simulator_run.specs.Seen.{shown_by}
 use Rattle.simulator_run.specs.State.{ClockedControllerState, WorldState}
 use Rattle.simulator_run.specs.Interlocking.{held_of}
 use Rattle.simulator_nodes.specs.Contacts.{detector_now}
-use Rattle.simulator_nodes.specs.Lives.{Life, Who, detector_at, first_life, host_after, life_in, signal_at}
+use Rattle.simulator_nodes.specs.Lives.{Life, Who, detector_at, first_life, life_in, signal_at}
 use Rattle.simulator_nodes.specs.Readings.{last_reading}
-use Rattle.simulator_nodes.specs.Said.{last_line, lines_after}
+use Rattle.simulator_nodes.specs.Said.{lamp_line, last_line, lines_after}
 use Rattle.simulator_nodes.specs.Split.{around, stepped}
 use Rattle.simulator_nodes.specs.Told.{Told, Nobody, told}
 
@@ -48,6 +47,9 @@ the_point = record { name = codes "P"; id = 12; section = record { 0 = 0 } }
 abbrev pub the_detector : DetectorEntry
 the_detector = record { name = codes "D"; id = 13; sections = (record { 0 = 0 }) ∷ [] }
 
+abbrev pub the_signal : Port → SignalEntry
+the_signal at = record { name = codes "S"; id = 11; at = at }
+
 -- a signal at some port, a point, and a detector that reports one section
 abbrev pub small : Port → Site
 small at = record {
@@ -57,7 +59,7 @@ small at = record {
   points = the_point ∷ [];
   borders = [];
   joints = [];
-  signals = (record { name = codes "S"; id = 11; at = at }) ∷ [];
+  signals = the_signal at ∷ [];
   detectors = the_detector ∷ [];
   routes = [];
 }
@@ -97,28 +99,69 @@ pub record AnotherClock (at : Port) : Type 0 where
   pub right : (life_in (small at) small_table (signal_at 0) runs_ahead (first_life tt)).clock ≡ 1001
   pub wrong : (life_in (small at) small_table by_another_clock runs_ahead (first_life tt)).clock ≡ 1000
 
+-- ---- a run in which the signal comes up, and its route has authority
+
+-- one route from the signal, which leads over no section and requires no point: so its runs are short
+abbrev pub short_table : Table
+short_table = record small_table { rows = (record { entry = 0; aspect = aspects.Proceed; sections = []; needs = []; approach = []; extra = [] }) ∷ [] }
+
+abbrev pub short_begun : Port → WorldState
+short_begun at = world_at (small at) short_table small_outset
+
+abbrev pub short_after : Port → List Event → WorldState
+short_after at events = after_all (small at) short_table events (short_begun at)
+
+-- what comes next: an event, or the datagram of a place among those that were sent, to the node of a number
+pub data Move : Type 0 where
+  Happens : Event → Move
+  Comes : ℕ → ℕ → Move
+
+abbrev pub bytes_at : ℕ → List OnLink → List ℕ
+bytes_at place [] = []
+bytes_at zero (first ∷ later) = first.datagram.bytes
+bytes_at (suc place) (first ∷ later) = bytes_at place later
+
+abbrev pub event_of : Move → WorldState → Event
+event_of (Happens happening) world = happening
+event_of (Comes node place) world = event.Deliver (record { 0 = node }) (bytes_at place world.sent)
+
+-- the events of these moves, one after another; what can't happen is left out
+abbrev pub events_of : Port → List Move → WorldState → List Event
+events_of at [] world = []
+events_of at (first ∷ others) world =
+    if is_none (refusal (small at) (event_of first world) world)
+    then event_of first world ∷ events_of at others (happens (small at) short_table (event_of first world) world)
+    else events_of at others world
+
+-- After 6000 ms the interlocking asks for its connections. That of the signal comes up, the version is answered, the
+-- initialisation asked for and told. Then the interlocking is told to resume, and the route is requested: it has authority.
+abbrev pub to_authority : List Move
+to_authority =
+    Happens (event.Time 6000000 (6000000 ∷ 6000000 ∷ 6000000 ∷ 6000000 ∷ [])) ∷ Happens (event.Tick (record { 0 = 0 }))
+    ∷ Comes 1 0 ∷ Comes 0 3 ∷ Comes 1 4 ∷ Comes 1 5 ∷ Comes 0 6 ∷ Comes 1 7 ∷ Comes 0 8 ∷ Comes 0 9 ∷ Comes 0 10
+    ∷ Happens (event.Request commands.Resume) ∷ Happens (event.Request (commands.Request (record { 0 = 0 }))) ∷ []
+
 -- ---- no frozen rows
 
-abbrev pub proceeding : RouteState → RouteState
-proceeding route = record route { phase = phase.Proceeding }
+-- then the interlocking is made anew
+abbrev pub to_another : List Move
+to_another = to_authority ++ Happens (event.Restart (record { 0 = 0 }) 6000 0) ∷ []
 
--- the hold is over, and the route has authority
-abbrev pub with_authority : Port → WorldState
-with_authority at =
-    let ixl = new_ixl (small at) small_table at_zero
-    in record (begun at) { station = record { ixl = record ixl { routes = map proceeding ixl.routes }; clock = 6000000; connections = None ∷ None ∷ None ∷ [] } }
+unfoldable pub with_authority : Port → List Event
+with_authority at = events_of at to_authority (short_begun at)
 
--- the interlocking is made anew
-abbrev pub with_another : Port → WorldState
-with_another at = happens (small at) small_table (event.Restart (record { 0 = 0 }) 6000 0) (with_authority at)
+unfoldable pub with_another : Port → List Event
+with_another at = events_of at to_another (short_begun at)
 
 abbrev pub the_pair : Held
 the_pair = record { signal = record { 0 = 0 }; route = record { 0 = 0 } }
 
+-- The wrong world has a new interlocking, and the frozen rows of the world before.
 pub record NoFrozenRows (at : Port) : Type 0 where
-  pub before : held_of small_table (with_authority at).station (with_authority at).frozen ≡ the_pair ∷ []
-  pub right : held_of small_table (with_another at).station (with_another at).frozen ≡ the_pair ∷ []
-  pub wrong : held_of small_table (with_another at).station (with_authority at).frozen ≡ []
+  pub allowed : CanHappen (small at) short_table (with_another at) (short_begun at)
+  pub before : held_of short_table (short_after at (with_authority at)).station (short_after at (with_authority at)).frozen ≡ the_pair ∷ []
+  pub right : held_of short_table (short_after at (with_another at)).station (short_after at (with_another at)).frozen ≡ the_pair ∷ []
+  pub wrong : held_of short_table (short_after at (with_another at)).station (short_after at (with_authority at)).frozen ≡ []
 
 -- ---- a contact that tells nobody
 
@@ -187,26 +230,37 @@ pub record KeepsWhatCame (at : Port) : Type 0 where
 
 -- ---- a line that isn't told
 
--- a line, unless the step was for a contact
+-- Behind the authority proceed comes to the signal. The route is cancelled, the signal is ticked, and stop comes to it.
+abbrev pub to_stop : List Move
+to_stop = to_authority ++ Comes 1 11 ∷ Happens (event.Request (commands.Cancel (record { 0 = 0 }))) ∷ Happens (event.Tick (record { 0 = 1 })) ∷ Comes 1 13 ∷ []
+
+unfoldable pub with_stop : Port → List Event
+with_stop at = events_of at to_stop (short_begun at)
+
+-- a line behind a tick alone
 abbrev pub line_then : {Line : Type 0} → Input → Line → List Line → List Line
-line_then (inputs.Sense contact) line others = others
-line_then _ line others = line ∷ others
+line_then inputs.Tick line others = line ∷ others
+line_then _ line others = others
 
-abbrev pub lines_without_contacts : {Object Line : Type 0} → Behaviour Object → (Object → Line) → List (ℕ × Input) → HostState Object → List Line
-lines_without_contacts does line [] host = []
-lines_without_contacts does line (one ∷ others) host =
+abbrev pub lines_of_ticks : {Object Line : Type 0} → Behaviour Object → (Object → Line) → List (ℕ × Input) → HostState Object → List Line
+lines_of_ticks does line [] host = []
+lines_of_ticks does line (one ∷ others) host =
     let next = (host_step does one.0 one.1 host).host
-    in line_then one.1 (line next.object) (lines_without_contacts does line others next)
+    in line_then one.1 (line next.object) (lines_of_ticks does line others next)
 
--- a point that lies at right and is driven left
-abbrev pub driven_left : Port → HostState PointState
-driven_left at = record (new_point (small at) at_zero positions.Right the_point) { object = record { sensed = positions.Right; progress = Driving sides.Left 0; until = 1000 } }
+-- the signal at its beginning, and all that came to it
+abbrev pub signal_begun : Port → HostState SignalState
+signal_begun at = new_signal (small at) at_zero (the_signal at)
 
--- it comes to lie at left
-abbrev pub lies_at_left : List (ℕ × Input)
-lies_at_left = (10, inputs.Sense (sense.Position positions.Left)) ∷ []
+abbrev pub came_to_it : Port → List (ℕ × Input)
+came_to_it at = (life_in (small at) short_table (signal_at 0) (with_stop at) (first_life tt)).came
+
+-- what the signal shows at 6000 ms that goes by its last line
+abbrev pub shown_by_line : Port → List Lamp → Aspect
+shown_by_line at lines = aspect_shown (last_line (lamp_line (signal_begun at).object) lines) 6000
 
 pub record LineNotTold (at : Port) : Type 0 where
-  pub is_so : drives 20 (host_after point_behaviour lies_at_left (driven_left at)).object ≡ None
-  pub right : driven_by (last_line (drive_of (driven_left at).object) (lines_after point_behaviour drive_of lies_at_left (driven_left at))) 20 ≡ None
-  pub wrong : driven_by (last_line (drive_of (driven_left at).object) (lines_without_contacts point_behaviour drive_of lies_at_left (driven_left at))) 20 ≡ Some sides.Left
+  pub allowed : CanHappen (small at) short_table (with_stop at) (short_begun at)
+  pub is_so : map shown_by (short_after at (with_stop at)).signals ≡ aspects.Stop ∷ []
+  pub right : shown_by_line at (lines_after signal_behaviour lamp_line (came_to_it at) (signal_begun at)) ≡ aspects.Stop
+  pub wrong : shown_by_line at (lines_of_ticks signal_behaviour lamp_line (came_to_it at) (signal_begun at)) ≡ aspects.Proceed

@@ -54,7 +54,8 @@ pub fn a_point_may_be_told_while_it_is_driven()
 
 /// A point senses what its contacts told last (*senses*). Where they tell it again, its controller does what it does as noise
 /// comes (*again*), and it is driven as before (*drives*). So it is at every reading of its clock, while it has sent fewer PDUs
-/// in its connection than close it.
+/// in its connection than close it. At that limit each call of a link closes it: noise is such a call, and a contact that
+/// changes nothing makes none.
 pub fn a_point_may_be_told_again()
     ensures senses { (site : Site) (table : Table) (outset : Outset) (events : List Event) (place : ℕ) (entry : PointEntry)
         → (point_now site entry (point_life site table outset events place)).object.sensed ≡ (point_life site table outset events place).contacts }
@@ -69,7 +70,7 @@ pub fn a_point_may_be_told_again()
 }
 
 /// A detector senses of each of its sections what its contact told last (*senses*). Where one tells it again, the controller
-/// does what it does as noise comes (*again*).
+/// does what it does as noise comes (*again*), while it has sent fewer PDUs in its connection than close it, as above.
 pub fn a_detector_may_be_told_again()
     ensures senses { (site : Site) (table : Table) (outset : Outset) (events : List Event) (place : ℕ) (entry : DetectorEntry) → slice_get site.detectors place ≡ Some entry
         → occupancies (detector_now site entry (detector_life site table outset events place)).object ≡ (detector_life site table outset events place).contacts }

@@ -1,6 +1,6 @@
 //! A station is its nodes.
 
-ghost use Rattle.std.specs.Prelude.{◌≡◌, ◌<◌, ◌+◌, ◌++◌, [], ℕ, List, Some, slice_get, true};
+ghost use Rattle.std.specs.Prelude.{◌≡◌, ◌<◌, ◌+◌, ◌++◌, [], ℕ, List, map, None, Some, slice_get, true};
 ghost use Rattle.simulator_run.specs.sci_telegram.declared.message.Occupancy.{Occupancy};
 ghost use Rattle.simulator_run.specs.sci_telegram.declared.message.Position.{Position};
 ghost use Rattle.simulator_run.specs.layout.Entries.{DetectorEntry, Site};
@@ -14,10 +14,14 @@ ghost use Rattle.simulator_run.specs.point_ctl.Controlled.{point_behaviour};
 ghost use Rattle.simulator_run.specs.point_ctl.Drive.{PointState, drive_of, driven_by, drives};
 ghost use Rattle.simulator_run.specs.signal_ctl.Signal.{SignalState, signal_behaviour};
 ghost use Rattle.simulator_run.specs.ixl_rules.Table.{Table};
+ghost use Rattle.simulator_run.specs.rasta_pdu.SafetyCode.{intact};
 ghost use Rattle.simulator_run.specs.simulator_event.declared.event.Event.{Event};
+ghost use Rattle.simulator_run.specs.simulator_event.declared.event.Event.TheVariants as event;
+ghost use Rattle.simulator_run.specs.simulator_event.declared.event.NodeId.{NodeId};
 ghost use Rattle.simulator_run.specs.First.{IsOutsetOf, Outset, world_at};
 ghost use Rattle.simulator_run.specs.Happens.{happens};
-ghost use Rattle.simulator_run.specs.Refusals.{keeps_time};
+ghost use Rattle.simulator_run.specs.Nodes.{key_of, nodes};
+ghost use Rattle.simulator_run.specs.Refusals.{keeps_time, refusal};
 ghost use Rattle.simulator_run.specs.Seen.{IsSnapshotOf};
 ghost use Rattle.simulator_run.specs.State.{WorldState};
 ghost use Rattle.simulator_run.specs.simulator_snapshot.declared.snapshot.Snapshot.{Snapshot};
@@ -28,9 +32,9 @@ ghost use Rattle.simulator_run.specs.simulator_snapshot.Safe.{Safe};
 ghost use Rattle.simulator_run.specs.Run.{CanHappen, after_all};
 ghost use Rattle.simulator_nodes.specs.Lives.{LivesAsDetector, LivesAsInterlocking, LivesAsPoint, LivesAsSignal, detector_at, first_life, host_after, life_in, point_at, position_in, sections_in, signal_at, the_interlocking};
 ghost use Rattle.simulator_nodes.specs.Readings.{Rises};
-ghost use Rattle.simulator_nodes.specs.Said.{lamp_line, last_line, lines_after, said_in, said_to};
+ghost use Rattle.simulator_nodes.specs.Said.{Departure, LeftInTime, NoneLost, departures_in, lamp_line, last_line, lines_after, said_in, said_to};
 ghost use Rattle.simulator_nodes.specs.Shown.{IsOfNodes};
-ghost use Rattle.simulator_nodes.specs.Split.{around, bytes_of, connection_in, handed_out_by, stepped};
+ghost use Rattle.simulator_nodes.specs.Split.{around, bytes_of, connection_in, handed_out_by, sent_at, stepped};
 ghost use Rattle.simulator_nodes.specs.Told.{Told, told};
 
 use simulator_headline::every_world_is_safe;
@@ -58,10 +62,12 @@ pub fn a_station_is_its_nodes()
         → LivesAsDetector site entry (after_all site table events (world_at site table outset)) place (life_in site table (detector_at site place) events (first_life (sections_in site outset place))) }
 {}
 
-/// What the nodes show, drive and hold by their lives alone, with where the points stand, is a snapshot of the station.
+/// What the nodes show, drive and hold by their lives alone, with where the points stand, is a snapshot of the station (*seen*).
+/// Behind every list of events there is one (*some*).
 pub fn what_the_nodes_show_is_seen()
-    ensures { (site : Site) (table : Table) (outset : Outset) → IsOutsetOf site outset → (events : List Event) (seen : Snapshot) → IsOfNodes site table outset events seen
+    ensures seen { (site : Site) (table : Table) (outset : Outset) → IsOutsetOf site outset → (events : List Event) (seen : Snapshot) → IsOfNodes site table outset events seen
         → IsSnapshotOf table (after_all site table events (world_at site table outset)) seen }
+    ensures some { (site : Site) (table : Table) (outset : Outset) (events : List Event) → (seen : Snapshot) × IsOfNodes site table outset events seen }
 {}
 
 /// So what the nodes show, drive and hold by their lives alone is safe, after every list of events that can happen.
@@ -74,12 +80,28 @@ pub fn what_the_nodes_show_is_safe()
 }
 
 /// All bytes that were sent are those that the nodes handed out by their lives, in the order of the events: those of the step of
-/// one node (*steps*), one event after another (*all*).
+/// one node (*steps*), one event after another (*all*). Each was sent at the true time at which it left its node by the events
+/// alone (*times*), and what left are these bytes (*bytes*).
 pub fn what_is_sent_is_what_nodes_say()
     ensures steps { (site : Site) (table : Table) (outset : Outset) → IsOutsetOf site outset → IsStation site → IsTableOf site table → (events : List Event) (what : Told)
         → handed_out_by site table what (after_all site table events (world_at site table outset)) ≡ said_to site table outset events what }
     ensures all { (site : Site) (table : Table) (outset : Outset) → IsOutsetOf site outset → IsStation site → IsTableOf site table → (events : List Event)
         → bytes_of (after_all site table events (world_at site table outset)).sent ≡ said_in site table outset [] events }
+    ensures times { (site : Site) (table : Table) (outset : Outset) → IsOutsetOf site outset → IsStation site → IsTableOf site table → (events : List Event)
+        → sent_at (after_all site table events (world_at site table outset)).sent ≡ map (λ (one : Departure). (one.bytes, one.time)) (departures_in site table outset [] events) }
+    ensures bytes { (site : Site) (table : Table) (outset : Outset) (events : List Event)
+        → map (λ (one : Departure). one.bytes) (departures_in site table outset [] events) ≡ said_in site table outset [] events }
+{}
+
+/// No datagram older than 2000 ms is taken: intact bytes can be delivered only where they left a node by its life at most 2000 ms
+/// of true time ago (*left*). Where they did, and nothing is lost, they can be delivered to every node (*comes*).
+pub fn what_is_delivered_left_a_node()
+    ensures left { (site : Site) (table : Table) (outset : Outset) → IsOutsetOf site outset → IsStation site → IsTableOf site table → (events : List Event) (node : NodeId) (bytes : List ℕ)
+        → refusal site (event.Deliver node bytes) (after_all site table events (world_at site table outset)) ≡ None → intact (key_of site) bytes ≡ true
+        → LeftInTime site table outset events bytes }
+    ensures comes { (site : Site) (table : Table) (outset : Outset) → IsOutsetOf site outset → IsStation site → IsTableOf site table → (events : List Event) (node : NodeId) (bytes : List ℕ)
+        → node.0 < nodes site → NoneLost events → LeftInTime site table outset events bytes
+        → refusal site (event.Deliver node bytes) (after_all site table events (world_at site table outset)) ≡ None }
 {}
 
 /// The readings at which something came to a node begin at the first reading of its life, and don't fall; its clock has
