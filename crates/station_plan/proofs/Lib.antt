@@ -1,4 +1,0 @@
-pub mod ThingsDrawn
-pub mod GroupsMade
-pub mod Identities
-pub mod SubjectsOnce

@@ -1,4 +1,2 @@
 pub mod Subjects
-pub mod Strokes
-pub mod Faces
 pub mod Plan

@@ -1,11 +1,8 @@
 //! Marks of one thing, as they are added.
 
-ghost use Rattle.std.specs.Prelude.{◌≡◌, ◌++◌, ◌∷◌, [], IfSome, OnOk};
-ghost use Rattle.station_plan.specs.Strokes.{circle, line, polygon, rectangle, stroke_of, strokes, text_of, written};
-
 use crate::labels::{LINE, WRAP, lines_of};
 use crate::sketch::spot;
-use crate::units::Units;
+use crate::units::{Units, count};
 use control_table::sci_telegram::Name;
 use drawing::{Anchor, Mark, Shape, Spot};
 use std::alloc::{AllocError, Global};
@@ -20,29 +17,21 @@ pub(crate) struct Marks {
 
 impl Marks {
     /// No marks.
-    pub(crate) fn new(alloc: Global) -> Marks
-        ensures { result.marks.items ≡ [] }
-    {
+    pub(crate) fn new(alloc: Global) -> Marks {
         Marks {
             alloc,
             marks: Vec::new(alloc),
         }
     }
 
-    fn add(&mut self, class: &str, shape: Shape) -> Result<(), AllocError>
-        ensures drawn { OnOk result (strokes self.new.marks.items ≡ strokes self.old.marks.items ++ stroke_of class.now shape) }
-        ensures named { OnOk result (written self.new.marks.items ≡ written self.old.marks.items ++ text_of shape) }
-    {
+    fn add(&mut self, class: &str, shape: Shape) -> Result<(), AllocError> {
         let class = String::from_str(self.alloc, class)?;
         self.marks.push(Mark { class, shape })?;
         Ok(())
     }
 
     /// Adds a line.
-    pub(crate) fn line(&mut self, class: &str, from: Spot, to: Spot) -> Result<(), AllocError>
-        ensures drawn { OnOk result (strokes self.new.marks.items ≡ strokes self.old.marks.items ++ line class.now ∷ []) }
-        ensures named { OnOk result (written self.new.marks.items ≡ written self.old.marks.items) }
-    {
+    pub(crate) fn line(&mut self, class: &str, from: Spot, to: Spot) -> Result<(), AllocError> {
         self.add(class, Shape::Line { from, to })
     }
 
@@ -53,10 +42,7 @@ impl Marks {
         from: Spot,
         corner: Spot,
         to: Spot,
-    ) -> Result<(), AllocError>
-        ensures drawn { OnOk result (strokes self.new.marks.items ≡ strokes self.old.marks.items ++ line class.now ∷ []) }
-        ensures named { OnOk result (written self.new.marks.items ≡ written self.old.marks.items) }
-    {
+    ) -> Result<(), AllocError> {
         if from == corner || corner == to {
             return self.line(class, from, to);
         }
@@ -74,10 +60,7 @@ impl Marks {
         one: Spot,
         two: Spot,
         three: Spot,
-    ) -> Result<(), AllocError>
-        ensures drawn { OnOk result (strokes self.new.marks.items ≡ strokes self.old.marks.items ++ polygon class.now ∷ []) }
-        ensures named { OnOk result (written self.new.marks.items ≡ written self.old.marks.items) }
-    {
+    ) -> Result<(), AllocError> {
         let mut spots = Vec::new(self.alloc);
         spots.push(one)?;
         spots.push(two)?;
@@ -91,10 +74,7 @@ impl Marks {
         class: &str,
         centre: Spot,
         radius: u32,
-    ) -> Result<(), AllocError>
-        ensures drawn { OnOk result (strokes self.new.marks.items ≡ strokes self.old.marks.items ++ circle class.now ∷ []) }
-        ensures named { OnOk result (written self.new.marks.items ≡ written self.old.marks.items) }
-    {
+    ) -> Result<(), AllocError> {
         self.add(class, Shape::Circle { centre, radius })
     }
 
@@ -105,10 +85,7 @@ impl Marks {
         corner: Spot,
         width: u32,
         height: u32,
-    ) -> Result<(), AllocError>
-        ensures drawn { OnOk result (strokes self.new.marks.items ≡ strokes self.old.marks.items ++ rectangle class.now ∷ []) }
-        ensures named { OnOk result (written self.new.marks.items ≡ written self.old.marks.items) }
-    {
+    ) -> Result<(), AllocError> {
         self.add(
             class,
             Shape::Rectangle {
@@ -126,10 +103,7 @@ impl Marks {
         at: Spot,
         anchor: Anchor,
         words: &str,
-    ) -> Result<(), AllocError>
-        ensures drawn { OnOk result (strokes self.new.marks.items ≡ strokes self.old.marks.items) }
-        ensures named { OnOk result (written self.new.marks.items ≡ written self.old.marks.items ++ words.now) }
-    {
+    ) -> Result<(), AllocError> {
         let words = String::from_str(self.alloc, words)?;
         self.add(class, Shape::Text { at, anchor, words })
     }
@@ -145,7 +119,7 @@ impl Marks {
         self.text(class, at, Anchor::Middle, words.as_str())
     }
 
-    /// Adds a name, on two lines if it is long: the first of them at `y`, or the last of them where they are to grow
+    /// Adds a name, on several lines if it is long: the first of them at `y`, or the last of them where they are to grow
     /// upward.
     pub(crate) fn name(
         &mut self,
@@ -153,49 +127,38 @@ impl Marks {
         x: Units,
         y: Units,
         anchor: Anchor,
-        name: Name,
-        upward: bool,
-    ) -> Result<(), AllocError>
-        ensures drawn { OnOk result (strokes self.new.marks.items ≡ strokes self.old.marks.items) }
-        ensures named { OnOk result (written self.new.marks.items ≡ written self.old.marks.items ++ name) }
-    {
-        let Some((first, second)) = halves(&name) else {
-            return self.text(class, spot(x, y), anchor, name.as_str());
-        };
-        let upper = if upward { y - LINE } else { y };
-        self.text(class, spot(x, upper), anchor, first)?;
-        self.text(class, spot(x, upper + LINE), anchor, second)
-    }
-
-    /// Adds a name, where one is written.
-    pub(crate) fn label(
-        &mut self,
-        x: Units,
-        y: Units,
         name: Option<Name>,
         upward: bool,
     ) -> Result<(), AllocError> {
-        match name {
-            Some(name) => self.name("label", x, y, Anchor::Middle, name, upward),
-            None => Ok(()),
+        let Some(name) = name else {
+            return Ok(());
+        };
+        let all = lines_of(&name);
+        for line in 0..all {
+            let height = y + LINE.times(down(line, all, upward));
+            let words = part(self.alloc, &name, line)?;
+            self.text(class, spot(x, height), anchor, words.as_str())?;
         }
+        Ok(())
     }
 }
 
-/// The two lines of a long name.
-fn halves(name: &Name) -> Option<(&str, &str)>
-    ensures { IfSome result (λ halves. halves.0.now ++ halves.1.now ≡ name.now) }
-{
-    let bytes = name.as_str().as_bytes();
-    if lines_of(name) < 2 || bytes.len() < WRAP {
-        return None;
+/// How many lines down a line of a name stands.
+fn down(line: usize, all: usize, upward: bool) -> i32 {
+    if upward {
+        count(line).saturating_sub(count(all)).saturating_add(1)
+    } else {
+        count(line)
     }
-    let (first, second) = bytes.split_at(WRAP);
-    let Ok(first) = str::from_utf8(first) else {
-        return None;
-    };
-    let Ok(second) = str::from_utf8(second) else {
-        return None;
-    };
-    Some((first, second))
+}
+
+/// The letters of a name that stand on one of its lines.
+fn part(alloc: Global, name: &Name, line: usize) -> Result<String, AllocError> {
+    let mut words = String::new(alloc);
+    for (place, letter) in name.as_str().chars().enumerate() {
+        if place / WRAP == line {
+            words.push(letter)?;
+        }
+    }
+    Ok(words)
 }
