@@ -1,0 +1,4 @@
+-- What contracts inside the crate say. No promise names any of it.
+pub mod Late
+pub mod Places
+pub mod CapturesSoFar
