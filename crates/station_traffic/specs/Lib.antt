@@ -1,6 +1,0 @@
-pub mod Traffic
-pub mod Lines
-pub mod DecodedSession
-pub mod CapturedSession
-pub mod CaptureFiles
-pub mod inside

@@ -1,4 +1,0 @@
--- What contracts inside the crate say. No promise names any of it.
-pub mod Late
-pub mod Places
-pub mod CapturesSoFar
