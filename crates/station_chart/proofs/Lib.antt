@@ -1,0 +1,4 @@
+pub mod Ready
+pub mod LanesMore
+pub mod Looks
+pub mod Events
