@@ -1,4 +1,0 @@
-pub mod Ready
-pub mod LanesMore
-pub mod Looks
-pub mod Events

@@ -1,6 +1,0 @@
-pub mod Seen
-pub mod Lanes
-pub mod Changes
-pub mod Marks
-pub mod Story
-pub mod Charted
