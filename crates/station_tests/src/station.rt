@@ -11,16 +11,13 @@ const HELP: &str = "The interlocking of a railway station
 Usage: station <COMMAND>
 
 Commands:
-  check    Checks the layout of a station and its table of routes
-  plan     Draws the track plan of a layout
-  table    Prints the control table of a layout
-  sim      Applies lines of events to a station of a layout
-  run      Runs a station of a layout over loopback sockets
-  replay   Applies a recorded session to a station of a layout again
-  chart    Draws a session as a chart over true time
-  decode   Puts a datagram, or those of a session, into words
-  capture  Writes the datagrams of a session as a capture
-  help     Print this message or the help of the given subcommand(s)
+  check   Checks the layout of a station and its table of routes
+  table   Prints the control table of a layout
+  sim     Applies lines of events to a station of a layout
+  run     Runs a station of a layout over loopback sockets
+  replay  Applies a recorded session to a station of a layout again
+  decode  Puts a datagram into words
+  help    Print this message or the help of the given subcommand(s)
 
 Options:
   -h, --help     Print help
@@ -35,61 +32,30 @@ that it needs on its path and at its flanks, and has its signals at the right pl
 
 For a sound layout it prints how many signals, points, sections and routes the station has, and each
 pair of routes that can't be set at the same time. Otherwise it prints the first fault, and ends with
-status 1. With --explain a second line says what is wrong, in words. docs/INTERLOCKING.md has the keys
-of the file and all faults, examples/ has stations.
+status 1. docs/INTERLOCKING.md has the keys of the file and all faults, examples/ has stations.
 
 Example: station check examples/junction.toml
 
-Usage: station check [OPTIONS] <FILE>
+Usage: station check <FILE>
 
 Arguments:
   <FILE>
           The layout, a TOML file
 
 Options:
-      --explain
-          Tells a fault in a second line, in words
-
   -h, --help
           Print help (see a summary with '-h')
 ";
 
 const SHORT_CHECK_HELP: &str = "Checks the layout of a station and its table of routes
 
-Usage: station check [OPTIONS] <FILE>
+Usage: station check <FILE>
 
 Arguments:
   <FILE>  The layout, a TOML file
 
 Options:
-      --explain  Tells a fault in a second line, in words
-  -h, --help     Print help (see more with '--help')
-";
-
-const PLAN_HELP: &str = "Draws the track plan of a layout, as an SVG picture on standard output.
-
-It shows the tracks, the points with their two legs, the borders, the signals on the side of the
-direction that they rule, the joints where sections differ, and each section with its detector. With
-a route its path is drawn thick. With a picture, as `picture` in the lines of sim prints it, aspects,
-positions, occupancies and set routes are shown. The layout has to be sound, as for check.
-
-Example: station plan examples/junction.toml > junction.svg
-
-Usage: station plan [OPTIONS] <FILE>
-
-Arguments:
-  <FILE>
-          The layout, a TOML file
-
-Options:
-      --route <R>
-          The route that is drawn thick, with its flank points and approach
-
-      --picture <PICTURE>
-          What is seen of the station, as sim prints it
-
-  -h, --help
-          Print help (see a summary with '-h')
+  -h, --help  Print help (see more with '--help')
 ";
 
 const SIM_HELP: &str = "Applies lines of events to a station of a layout.
@@ -210,77 +176,14 @@ Options:
           Print help (see a summary with '-h')
 ";
 
-const CHART_HELP: &str =
-    "Draws a session as a chart over true time, as an SVG picture on standard output.
+const SHORT_DECODE_HELP: &str = "Puts a datagram into words
 
-The session is applied again, as by replay. The chart has a lane for each signal (its aspect, its
-authority), point (its position, its drive), section, route, link and node, and a mark for each
-command with its answer. --from and --to cut it.
-
-Example: station chart examples/small.toml examples/commands.session > commands.svg
-
-Usage: station chart [OPTIONS] <FILE> <RECORD>
-
-Arguments:
-  <FILE>
-          The layout, a TOML file
-
-  <RECORD>
-          The recorded session
-
-Options:
-      --from <MS>
-          The moment at which the chart begins, in milliseconds of true time
-
-      --to <MS>
-          The moment at which the chart ends, in milliseconds of true time
-
-  -h, --help
-          Print help (see a summary with '-h')
-";
-
-const SHORT_DECODE_HELP: &str = "Puts a datagram, or those of a session, into words
-
-Usage: station decode [OPTIONS] [FILE] [RECORD]
-
-Arguments:
-  [FILE]    The layout, a TOML file
-  [RECORD]  The recorded session
+Usage: station decode [OPTIONS] --hex <HEX>
 
 Options:
       --hex <HEX>      The bytes of the datagram in hexadecimal digits, a hyphen for none
       --layout <FILE>  The layout whose key and names are used, a TOML file
   -h, --help           Print help (see more with '--help')
-";
-
-const CAPTURE_HELP: &str =
-    "Writes the datagrams of a session as a capture, a file that Wireshark reads.
-
-The session is applied again, as by replay. Each datagram that is sent stands in the capture at its
-true time, from and to the identities of its nodes. The file is written when the session has been
-applied to its end. A file that is there already stays as it is, unless --force stands.
-docs/WIRE.md tells how a capture is looked at.
-
-Example: station capture examples/small.toml examples/commands.session commands.pcap
-
-Usage: station capture [OPTIONS] <FILE> <RECORD> <OUT>
-
-Arguments:
-  <FILE>
-          The layout, a TOML file
-
-  <RECORD>
-          The recorded session
-
-  <OUT>
-          The capture, a file that Wireshark reads
-
-Options:
-      --force
-          Writes over the capture, if it is there already
-
-  -h, --help
-          Print help (see a summary with '-h')
 ";
 
 const NO_FILE: &str = "error: the following required arguments were not provided:
@@ -309,14 +212,6 @@ const NO_EVENTS: &str = "error: the following required arguments were not provid
   <EVENTS>
 
 Usage: station sim <FILE> <EVENTS>
-
-For more information, try '--help'.
-";
-
-const NO_OUT: &str = "error: the following required arguments were not provided:
-  <OUT>
-
-Usage: station capture <FILE> <RECORD> <OUT>
 
 For more information, try '--help'.
 ";
@@ -353,11 +248,6 @@ const NO_TIME: &str = "error: invalid value '1s' for '--for <MS>': invalid digit
 For more information, try '--help'.
 ";
 
-const NO_MOMENT: &str = "error: invalid value '-1' for '--to <MS>': invalid digit found in string
-
-For more information, try '--help'.
-";
-
 const A_SECOND_SCRIPT: &str = "error: the argument '--script <S>' cannot be used multiple times
 
 Usage: station run --script <S> --record <R> --for <MS> <FILE>
@@ -380,30 +270,25 @@ Usage: station table [OPTIONS] <FILE>
 For more information, try '--help'.
 ";
 
-const NOTHING_TO_DECODE: &str =
-    "error: decode takes either --hex HEX, with or without --layout FILE, or FILE and RECORD
+const NO_HEX: &str = "error: the following required arguments were not provided:
+  --hex <HEX>
 
-Usage: station <COMMAND>
+Usage: station decode --hex <HEX> --layout <FILE>
 
 For more information, try '--help'.
 ";
 
 /// Command lines that ask for nothing, each with its status and what is printed.
-const PRINTED: [(&[&str], i32, &str); 32] = [
+const PRINTED: [(&[&str], i32, &str); 25] = [
     (&["station", "--help"], 0, HELP),
     (&["station", "help"], 0, HELP),
     (&["station", "check", "--help"], 0, CHECK_HELP),
     (&["station", "check", "-h"], 0, SHORT_CHECK_HELP),
-    (&["station", "plan", "--help"], 0, PLAN_HELP),
     (&["station", "table", "--help"], 0, TABLE_HELP),
     (&["station", "sim", "--help"], 0, SIM_HELP),
     (&["station", "help", "replay"], 0, REPLAY_HELP),
     (&["station", "run", "--help"], 0, RUN_HELP),
-    (&["station", "chart", "--help"], 0, CHART_HELP),
-    (&["station", "chart", "a", "b", "--to=-1"], 2, NO_MOMENT),
     (&["station", "decode", "-h"], 0, SHORT_DECODE_HELP),
-    (&["station", "capture", "--help"], 0, CAPTURE_HELP),
-    (&["station", "capture", "a", "b"], 2, NO_OUT),
     (&["station", "--version"], 0, "station 1.0.0\n"),
     (&["station", "-V"], 0, "station 1.0.0\n"),
     (&["station"], 2, HELP),
@@ -439,40 +324,8 @@ const PRINTED: [(&[&str], i32, &str); 32] = [
         A_VALUE_OF_A_SWITCH,
     ),
     (&["station", "table", "--csv", "--csv"], 2, A_SECOND_SWITCH),
-    (
-        &["station", "decode", "--layout", "f"],
-        2,
-        NOTHING_TO_DECODE,
-    ),
-    (&["station", "decode", "f"], 2, NOTHING_TO_DECODE),
-    (
-        &["station", "decode", "--hex", "-", "f", "r"],
-        2,
-        NOTHING_TO_DECODE,
-    ),
+    (&["station", "decode", "--layout", "f"], 2, NO_HEX),
 ];
-
-const CHECK: Asked<'static> = Asked::Check {
-    layout: "a b/c",
-    explained: false,
-};
-
-const EXPLAINED: Asked<'static> = Asked::Check {
-    layout: "--help",
-    explained: true,
-};
-
-const PLAN: Asked<'static> = Asked::Plan {
-    layout: "a b",
-    route: None,
-    picture: None,
-};
-
-const PLAN_OF_ROUTE: Asked<'static> = Asked::Plan {
-    layout: "a b",
-    route: Some("--"),
-    picture: Some("p"),
-};
 
 const TABLE: Asked<'static> = Asked::Table {
     layout: "a b",
@@ -508,20 +361,6 @@ const LONG_RUN: Asked<'static> = Asked::Run {
     for_ms: 600_000,
 };
 
-const CHART: Asked<'static> = Asked::Chart {
-    layout: "a b",
-    recording: "-",
-    from: None,
-    to: None,
-};
-
-const CUT_CHART: Asked<'static> = Asked::Chart {
-    layout: "a b",
-    recording: "-",
-    from: Some(0),
-    to: Some(18_446_744_073_709_551),
-};
-
 const DECODE: Asked<'static> = Asked::Decode {
     word: "-",
     layout: None,
@@ -532,37 +371,16 @@ const NAMED_DECODE: Asked<'static> = Asked::Decode {
     layout: Some("a b"),
 };
 
-const DECODED_SESSION: Asked<'static> = Asked::DecodeSession {
-    layout: "a b",
-    recording: "-",
-};
-
-const CAPTURE: Asked<'static> = Asked::Capture {
-    layout: "a b",
-    recording: "-",
-    out: "o",
-    force: false,
-};
-
-const FORCED_CAPTURE: Asked<'static> = Asked::Capture {
-    layout: "a b",
-    recording: "-",
-    out: "--force",
-    force: true,
-};
-
 /// Command lines with what they ask for.
-const ASKED: [(&[&str], Asked<'static>); 22] = [
-    (&["station", "check", "a b/c"], CHECK),
-    (&["/usr/bin/other", "check", "--", "a b/c"], CHECK),
+const ASKED: [(&[&str], Asked<'static>); 15] = [
     (
-        &["station", "check", "--explain", "--", "--help"],
-        EXPLAINED,
+        &["station", "check", "small.toml"],
+        Asked::Check("small.toml"),
     ),
-    (&["station", "plan", "a b"], PLAN),
+    (&["/usr/bin/other", "check", "a b/c"], Asked::Check("a b/c")),
     (
-        &["station", "plan", "--picture", "p", "a b", "--route=--"],
-        PLAN_OF_ROUTE,
+        &["station", "check", "--", "--help"],
+        Asked::Check("--help"),
     ),
     (&["station", "table", "a b"], TABLE),
     (&["station", "table", "--csv", "--", "--csv"], CSV),
@@ -591,29 +409,10 @@ const ASKED: [(&[&str], Asked<'static>); 22] = [
         ],
         LONG_RUN,
     ),
-    (&["station", "chart", "a b", "-"], CHART),
-    (
-        &[
-            "station",
-            "chart",
-            "--from=+0",
-            "a b",
-            "--to",
-            "18446744073709551",
-            "-",
-        ],
-        CUT_CHART,
-    ),
     (&["station", "decode", "--hex", "-"], DECODE),
     (
         &["station", "decode", "--layout=a b", "--hex=00"],
         NAMED_DECODE,
-    ),
-    (&["station", "decode", "a b", "-"], DECODED_SESSION),
-    (&["station", "capture", "a b", "-", "o"], CAPTURE),
-    (
-        &["station", "capture", "a b", "--force", "-", "--", "--force"],
-        FORCED_CAPTURE,
     ),
 ];
 
