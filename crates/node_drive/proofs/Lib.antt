@@ -1,0 +1,16 @@
+pub mod Lists
+pub mod Ends
+pub mod Nodes
+pub mod Calls
+pub mod Comings
+pub mod Sending
+pub mod Performed
+pub mod Steps
+pub mod Lined
+pub mod Stepped
+pub mod LinesHeard
+pub mod DatagramsHeard
+pub mod Turns
+pub mod Lives
+pub mod Leaving
+pub mod WorkedRounds

@@ -1,0 +1,2 @@
+pub mod Controllers
+pub mod Interlockings
