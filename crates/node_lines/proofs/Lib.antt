@@ -1,3 +1,2 @@
 pub mod ReadAgain
 pub mod WorkedLines
-pub mod AuthorityTold

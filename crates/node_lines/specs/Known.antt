@@ -6,7 +6,7 @@
 --     section S clear|occupied|unknown
 --     point P left|right|unknown
 --     signal S ASPECT R                 the authority given, and the route into which it leads
---     signal S stop -                   no authority; a route has another aspect than stop, also one that is called `-`
+--     signal S stop -                   no authority
 --     indicates S ASPECT                what its controller reports that it shows
 --     route R set|free
 --     holding

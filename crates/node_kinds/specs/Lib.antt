@@ -1,2 +1,0 @@
-pub mod Controllers
-pub mod Interlockings
