@@ -1,5 +1,7 @@
 pub mod Joined
+pub mod LetGo
 pub mod ListingLaws
+pub mod OneTable
 pub mod ReasonLaws
 pub mod Rows
 pub mod Tables
