@@ -1,7 +1,5 @@
 pub mod Joined
-pub mod LetGo
 pub mod ListingLaws
-pub mod OneTable
 pub mod ReasonLaws
 pub mod Rows
 pub mod Tables

@@ -1,7 +1,6 @@
 -- The row of a route: what each of its cells says.
-use Rattle.std.specs.Prelude.{◌≡◌, ℕ, ◌+◌, ◌<◌, Bool, ◌==◌, ◌&&◌, true, false, List, [], length, map, filter, drop, Option, Some, None, slice_get}
-use Rattle.std.specs.List.{Contains, filter_map, list_any}
-use Rattle.std.specs.Option.{option_map, unwrap_or}
+use Rattle.std.specs.Prelude.{◌≡◌, ℕ, Bool, ◌==◌, ◌&&◌, true, false, List, length, map, filter, Option, Some, None}
+use Rattle.std.specs.List.{filter_map, list_any}
 use Rattle.control_table.specs.sci_telegram.declared.message.Side.{Side}
 use Rattle.control_table.specs.sci_telegram.declared.message.Side.TheVariants as side
 use Rattle.control_table.specs.layout.declared.ids.PointId.{PointId}
@@ -65,16 +64,19 @@ flank_texts l flank = map (flank_text l) flank
 abbrev pub section_names : Site → List SectionId → List (List ℕ)
 section_names l sections = map (section_name l) sections
 
--- the name of the section at a place of a path
-abbrev pub name_there : Site → List SectionId → ℕ → List ℕ
-name_there l sections place = unwrap_or (option_map (section_name l) (slice_get sections place)) []
+-- a section, point or route by its place
+abbrev pub section_at : ℕ → SectionId
+section_at k = record { 0 = k }
 
--- a point or route by its place
 abbrev pub point_at : ℕ → PointId
 point_at k = record { 0 = k }
 
 abbrev pub route_at : ℕ → RouteId
 route_at k = record { 0 = k }
+
+-- A list names the sections that a point awaits which a route requires, in the order of the layout.
+abbrev pub NamesAwaited : Site → RouteId → PointId → List (List ℕ) → Type 0
+NamesAwaited l a p names = ListsBelow (λ k. Awaits l a p (section_at k)) (λ k text. text ≡ section_name l (section_at k)) (length l.sections) names
 
 -- ---- until when points are held, and conflicts
 
@@ -82,29 +84,12 @@ route_at k = record { 0 = k }
 abbrev pub IsRequired : Site → RouteId → PointId → Type 0
 IsRequired l a p = (s : Side) × RouteRequires l a p s
 
--- A point is let go at a place of the sections of a route: the route requires it, and it awaits the section there, and none
--- behind it.
-pub record IsLetGoAt (l : Site) (a : RouteId) (sections : List SectionId) (place : ℕ) (p : PointId) : Type 0 where
-  pub required : IsRequired l a p
-  pub section : SectionId
-  pub there : slice_get sections place ≡ Some section
-  pub awaits : Awaits l a p section
-  pub behind : (later : SectionId) → Contains (drop (place + 1) sections) later → Awaits l a p later → ⊥
+-- What is told of a point that a route requires: the sections that it awaits.
+abbrev pub IsLetGoText : Site → RouteId → PointId → List ℕ → Type 0
+IsLetGoText l a p text = (names : List (List ℕ)) × NamesAwaited l a p names × (text ≡ with_word (point_name l p) (spaced names))
 
--- Some point of the layout is let go at a place.
-abbrev pub LetsOneGo : Site → RouteId → List SectionId → ℕ → Type 0
-LetsOneGo l a sections place = (k : ℕ) × (k < length l.points) × IsLetGoAt l a sections place (point_at k)
-
--- A list names the points that are let go at a place, in the order of the layout.
-abbrev pub NamesLetGo : Site → RouteId → List SectionId → ℕ → List (List ℕ) → Type 0
-NamesLetGo l a sections place names = ListsBelow (λ k. IsLetGoAt l a sections place (point_at k)) (λ k text. text ≡ point_name l (point_at k)) (length l.points) names
-
--- What is told of a section at which points are let go: these points.
-abbrev pub IsLetGoText : Site → RouteId → List SectionId → ℕ → List ℕ → Type 0
-IsLetGoText l a sections place text = (names : List (List ℕ)) × NamesLetGo l a sections place names × (text ≡ with_word (name_there l sections place) (spaced names))
-
-abbrev pub TellsLetGo : Site → RouteId → List SectionId → List (List ℕ) → Type 0
-TellsLetGo l a sections texts = ListsBelow (LetsOneGo l a sections) (IsLetGoText l a sections) (length sections) texts
+abbrev pub TellsLetGo : Site → RouteId → List (List ℕ) → Type 0
+TellsLetGo l a texts = ListsBelow (λ k. IsRequired l a (point_at k)) (λ k. IsLetGoText l a (point_at k)) (length l.points) texts
 
 -- What is told of a route that conflicts with another: the reasons.
 abbrev pub IsConflictText : Site → RouteId → RouteId → List ℕ → Type 0
@@ -119,9 +104,9 @@ TellsConflicts l a texts = ListsBelow (λ k. Conflict l a (route_at k)) (λ k. I
 abbrev pub IsSectionsCell : Site → RouteId → List ℕ → Type 0
 IsSectionsCell l a cell = (sections : List SectionId) × AreSections l a sections × (cell ≡ spaced (section_names l sections))
 
--- A cell has each section at which a route lets points go, in the order of its path, with these points.
+-- A cell has each point that a route requires, in the order of the layout, with the sections at which it is let go.
 abbrev pub IsLetGoCell : Site → RouteId → List ℕ → Type 0
-IsLetGoCell l a cell = (sections : List SectionId) × AreSections l a sections × ((texts : List (List ℕ)) × TellsLetGo l a sections texts × (cell ≡ parted texts))
+IsLetGoCell l a cell = (texts : List (List ℕ)) × TellsLetGo l a texts × (cell ≡ parted texts)
 
 -- A cell has each route that conflicts with a route, in the order of the table, with the reasons.
 abbrev pub IsConflictsCell : Site → RouteId → List ℕ → Type 0

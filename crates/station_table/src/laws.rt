@@ -1,4 +1,4 @@
-//! What a table tells of conflicts, and that a layout has one.
+//! What a table tells of conflicts.
 
 ghost use Rattle.std.specs.Prelude.{◌≡◌, ◌≢◌, ◌<◌, ◌↔◌, ℕ, List, [], length};
 ghost use Rattle.std.specs.List.{Contains};
@@ -6,8 +6,6 @@ ghost use Rattle.control_table.specs.layout.declared.ids.RouteId.{RouteId};
 ghost use Rattle.control_table.specs.layout.Entries.{Site};
 ghost use Rattle.control_table.specs.Table.{Conflict};
 ghost use Rattle.station_table.specs.declared.conflict_reasons.ConflictReasons.{ConflictReasons};
-ghost use Rattle.station_table.specs.declared.form.Form.{Form};
-ghost use Rattle.station_table.specs.Lines.{IsTable};
 ghost use Rattle.station_table.specs.Reasons.{AreReasons, reason_words};
 ghost use Rattle.station_table.specs.Row.{IsConflictText, TellsConflicts};
 
@@ -24,9 +22,4 @@ pub fn each_conflict_is_told()
         → (b : RouteId) → b.0 < length l.routes → Conflict l a b → (text : List ℕ) × IsConflictText l a b text × Contains texts text }
     ensures only { (l : Site) (a : RouteId) (texts : List (List ℕ)) → TellsConflicts l a texts
         → (text : List ℕ) → Contains texts text → (b : RouteId) × Conflict l a b × IsConflictText l a b text }
-{}
-
-/// A layout has one table in each form.
-pub fn a_layout_has_one_table()
-    ensures { (form : Form) (l : Site) (one other : List ℕ) → IsTable form l one → IsTable form l other → one ≡ other }
 {}
