@@ -8,7 +8,7 @@ ghost use Rattle.ixl_rules.specs.State.{KnownDetectorState as DetectorAt, KnownS
 ghost use Rattle.ixl_rules.specs.Step.{node_of, partner_at};
 ghost use Rattle.ixl_rules.specs.sci_telegram.declared.message.Side.TheVariants as side;
 ghost use Rattle.ixl_rules.specs.ixl_client.Client.{is_ready};
-ghost use Rattle.ixl_rules.specs.View.{indicated, is_at_known_stop, is_clear, is_known, is_occupied, is_point_available, is_signal_ready};
+ghost use Rattle.ixl_rules.specs.View.{indicated, is_at_known_stop, is_clear, is_detector_up, is_known, is_occupied, is_point_available, is_point_ready, is_point_up, is_signal_ready, is_signal_up};
 ghost use Rattle.ixl_rules.specs.Rules.{is_unmoved};
 ghost use Rattle.ixl_rules.specs.Table.{Table};
 ghost use Rattle.ixl_field.specs.Field.{IsThere, Rest, kept, node_at};
@@ -56,6 +56,20 @@ impl Field {
         self.points.available.contains(point)
     }
 
+    /// Whether the initialisation of a point was completed in its present connection.
+    pub fn is_point_ready(&self, point: usize) -> bool
+        ensures { (rest : Rest) → result ≡ is_point_ready (kept self.now rest) point }
+    {
+        point < self.known_points.len() && self.known_points[point].client().is_ready()
+    }
+
+    /// Whether a point's link is up, as of the last step.
+    pub fn is_point_up(&self, point: usize) -> bool
+        ensures { (rest : Rest) → result ≡ is_point_up (kept self.now rest) point }
+    {
+        point < self.known_points.len() && self.known_points[point].client().link().is_up_now()
+    }
+
     /// Whether a point is available, and its last report in the present connection told this side.
     pub fn is_known(&self, point: usize, side: Side) -> bool
         ensures { (rest : Rest) → result ≡ is_known (kept self.now rest) point side }
@@ -92,6 +106,13 @@ impl Field {
         ensures { (rest : Rest) → result ≡ is_signal_ready (kept self.now rest) signal }
     {
         signal < self.known_signals.len() && self.known_signals[signal].is_ready()
+    }
+
+    /// Whether a signal's link is up, as of the last step.
+    pub fn is_signal_up(&self, signal: usize) -> bool
+        ensures { (rest : Rest) → result ≡ is_signal_up (kept self.now rest) signal }
+    {
+        signal < self.known_signals.len() && self.known_signals[signal].client().link().is_up_now()
     }
 
     /// Whether a signal is at known stop.
@@ -139,6 +160,13 @@ impl Field {
         ensures { IfSome (slice_get self.now.detectors place) (λ detector. result ≡ is_ready detector.client.stage) }
     {
         self.detectors[place].is_ready()
+    }
+
+    /// Whether a detector's link is up, as of the last step.
+    pub fn is_detector_up(&self, place: usize) -> bool
+        ensures { (rest : Rest) → result ≡ is_detector_up (kept self.now rest) place }
+    {
+        place < self.detectors.len() && self.detectors[place].client().link().is_up_now()
     }
 
     /// The sections that a detector last told as occupied, by their places in its order.

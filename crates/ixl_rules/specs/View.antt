@@ -44,6 +44,10 @@ is_unknown table ixl section = not (is_clear table ixl section) && not (is_occup
 abbrev pub all_clear : Table → IxlState → List ℕ → Bool
 all_clear table ixl sections = list_all (is_clear table ixl) sections
 
+-- the link to the detector is up
+abbrev pub is_detector_up : IxlState → ℕ → Bool
+is_detector_up ixl place = at ixl.detectors place (λ detector. is_up detector.client.link.phase)
+
 -- the approach to a signal is known to be clear; of a route that names no approach section it isn't
 abbrev pub is_approach_clear : Table → IxlState → Row → Bool
 is_approach_clear table ixl row = not (length row.approach == 0) && all_clear table ixl row.approach
@@ -58,6 +62,13 @@ abbrev pub is_side : Side → Option Side → Bool
 is_side side None = false
 is_side side (Some told) = is_same_side side told
 
+-- the link to the point is ready, and it is up
+abbrev pub is_point_ready : IxlState → ℕ → Bool
+is_point_ready ixl point = at ixl.known_points point (λ known_point. is_ready known_point.client.stage)
+
+abbrev pub is_point_up : IxlState → ℕ → Bool
+is_point_up ixl point = at ixl.known_points point (λ known_point. is_up known_point.client.link.phase)
+
 -- it is available, and its last report in the present connection told this side
 unfoldable pub is_known : IxlState → ℕ → Side → Bool
 is_known ixl point side = at ixl.known_points point (λ known_point. is_available known_point.client.stage && is_side side known_point.side)
@@ -69,6 +80,10 @@ all_known ixl needs = list_all (λ need. is_known ixl need.point need.side) need
 
 abbrev pub is_signal_ready : IxlState → ℕ → Bool
 is_signal_ready ixl signal = at ixl.known_signals signal (λ known_signal. is_ready known_signal.client.stage)
+
+-- the link to the signal is up
+abbrev pub is_signal_up : IxlState → ℕ → Bool
+is_signal_up ixl signal = at ixl.known_signals signal (λ known_signal. is_up known_signal.client.link.phase)
 
 -- whether the controller is known to have taken stop as the last aspect given, by the number of that item and of those
 -- confirmed; or none was given

@@ -1,7 +1,8 @@
 //! Bytes to telegrams.
 
-ghost use Rattle.std.specs.Prelude.{◌≡◌, ◌+◌, ◌≤◌, Ok, Err, IfOk, IfErr, length, take, drop};
+ghost use Rattle.std.specs.Prelude.{◌≡◌, ◌+◌, ◌≤◌, Some, Ok, Err, IfOk, IfErr, length, take, drop};
 ghost use Rattle.sci_telegram.specs.Faults.{IsFault};
+ghost use Rattle.sci_telegram.specs.declared.message.Message.TheVariants as messages;
 ghost use Rattle.sci_telegram.specs.TelegramRead.{aspect_in, message_in, name_spelled, payload_length, reading};
 ghost use Rattle.sci_telegram.specs.Telegrams.{IsTelegram, writing};
 
@@ -48,6 +49,13 @@ fn aspect_in(payload: &[u8]) -> Option<Aspect>
     aspect_at(front[0])
 }
 
+/// A message that belongs to the initialisation of a protocol.
+fn initialising(protocol: Protocol, message: Initialisation) -> Option<Message>
+    ensures { result ≡ Some (messages.Initialisation protocol message) }
+{
+    Some(Message::Initialisation(protocol, message))
+}
+
 /// What the telegram of a row carries.
 #[tactic(auto, unfolding(crate::specs::TelegramRead::message_in))]
 fn message_in(protocol: Protocol, kind: Kind, payload: &[u8]) -> Option<Message>
@@ -55,33 +63,23 @@ fn message_in(protocol: Protocol, kind: Kind, payload: &[u8]) -> Option<Message>
     ensures { result ≡ message_in protocol kind payload.now }
 {
     match kind {
-        Kind::InitialisationRequest => Some(Message::Initialisation(
-            protocol,
-            Initialisation::InitialisationRequest,
-        )),
-        Kind::StartInitialisation => Some(Message::Initialisation(
-            protocol,
-            Initialisation::StartInitialisation,
-        )),
-        Kind::InitialisationCompleted => Some(Message::Initialisation(
-            protocol,
-            Initialisation::InitialisationCompleted,
-        )),
-        Kind::VersionCheck => Some(Message::Initialisation(
-            protocol,
-            Initialisation::VersionCheck {
-                version: payload[0],
-            },
-        )),
+        Kind::InitialisationRequest => {
+            initialising(protocol, Initialisation::InitialisationRequest)
+        }
+        Kind::StartInitialisation => initialising(protocol, Initialisation::StartInitialisation),
+        Kind::InitialisationCompleted => {
+            initialising(protocol, Initialisation::InitialisationCompleted)
+        }
+        Kind::VersionCheck => {
+            let version = payload[0];
+            initialising(protocol, Initialisation::VersionCheck { version })
+        }
         Kind::VersionAnswer => {
-            let agreement = agreement_at(payload[0])?;
-            Some(Message::Initialisation(
+            let (agreement, version) = (agreement_at(payload[0])?, payload[1]);
+            initialising(
                 protocol,
-                Initialisation::VersionAnswer {
-                    agreement,
-                    version: payload[1],
-                },
-            ))
+                Initialisation::VersionAnswer { agreement, version },
+            )
         }
         Kind::MovePoint => Some(Message::Point(PointMessage::MovePoint(side_at(payload[0])?))),
         Kind::PointPosition => Some(Message::Point(PointMessage::PointPosition(position_at(
