@@ -9,7 +9,7 @@ ghost use Rattle.ixl.specs.inside.Parts.{Passes};
 
 use crate::is_approach_clear;
 use ixl_state::State;
-use ixl_state::rasta_core::Millis;
+use ixl_state::ixl_rules::rasta_core::Millis;
 
 /// A route that has authority watches its approach.
 fn watch_by(state: &mut State, now: Millis, number: usize)

@@ -10,7 +10,7 @@ ghost use Rattle.ixl.specs.inside.Changes.{Changes};
 use crate::field_known::is_at_known_stop;
 use ixl_state::State;
 use ixl_state::ixl_rules::Phase;
-use ixl_state::rasta_core::Millis;
+use ixl_state::ixl_rules::rasta_core::Millis;
 
 /// Whether a route was withdrawn, and its signal is at known stop.
 fn is_end_due(state: &State, now: Millis, number: usize) -> bool

@@ -9,7 +9,7 @@ ghost use Rattle.ixl.specs.inside.Changes.{Changes};
 use crate::field_known::{are_sections_clear, is_at_known_stop};
 use ixl_state::State;
 use ixl_state::ixl_rules::Phase;
-use ixl_state::rasta_core::Millis;
+use ixl_state::ixl_rules::rasta_core::Millis;
 
 /// Whether no section of a route was reported occupied since authority was given.
 fn was_none_seen(state: &State, number: usize) -> bool

@@ -10,8 +10,8 @@ ghost use Rattle.ixl.specs.inside.Parts.{Passes};
 
 use crate::refusals::refusal;
 use ixl_state::State;
+use ixl_state::ixl_rules::rasta_core::Millis;
 use ixl_state::ixl_rules::{Command, Refusal};
-use ixl_state::rasta_core::Millis;
 
 /// A command that isn't refused is obeyed.
 fn obey(state: &mut State, now: Millis, command: Command)

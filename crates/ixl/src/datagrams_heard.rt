@@ -7,8 +7,8 @@ ghost use Rattle.ixl_state.specs.ixl_rules.Step.{Datagram, given, verdict_of};
 ghost use Rattle.ixl_state.specs.State.{AllAt, Goes};
 
 use ixl_state::State;
-use ixl_state::rasta_core::{Millis, Outbox, Verdict};
-use ixl_state::rasta_pdu::{Key, read};
+use ixl_state::ixl_rules::rasta_core::{Millis, Outbox, Verdict};
+use ixl_state::ixl_rules::rasta_pdu::{Key, read};
 
 /// A datagram has come: it goes to the link whose partner it names as its sender.
 pub(crate) fn hear(

@@ -7,9 +7,9 @@ ghost use Rattle.ixl_state.specs.ixl_rules.View.{all_clear, all_known, is_approa
 ghost use Rattle.ixl_state.specs.State.{AtRoute};
 
 use ixl_state::State;
+use ixl_state::ixl_rules::control_table::sci_telegram::{Aspect, Side};
+use ixl_state::ixl_rules::rasta_core::Millis;
 use ixl_state::ixl_table::Row;
-use ixl_state::rasta_core::Millis;
-use ixl_state::sci_telegram::{Aspect, Side};
 
 /// The row of a route.
 pub(crate) fn row_of(state: &State, number: usize) -> &Row

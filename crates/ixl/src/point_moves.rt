@@ -12,8 +12,8 @@ use crate::field_known::{
 };
 use ixl_state::State;
 use ixl_state::ixl_rules::Phase;
+use ixl_state::ixl_rules::rasta_core::{Millis, Outbox};
 use ixl_state::ixl_table::Need;
-use ixl_state::rasta_core::{Millis, Outbox};
 
 /// Whether a route is set, isn't cancelled and had no authority.
 fn waits(state: &State, number: usize) -> bool

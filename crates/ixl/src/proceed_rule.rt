@@ -12,7 +12,7 @@ use crate::field_known::{
 };
 use ixl_state::State;
 use ixl_state::ixl_rules::Phase;
-use ixl_state::rasta_core::{Millis, Outbox};
+use ixl_state::ixl_rules::rasta_core::{Millis, Outbox};
 
 /// Whether a route is to be given authority.
 fn is_proceed_due(state: &State, now: Millis, number: usize) -> bool

@@ -9,10 +9,10 @@ ghost use Rattle.ixl_state.specs.State.{AtRoute};
 ghost use Rattle.ixl.specs.inside.Parts.{first_where};
 
 use ixl_state::State;
+use ixl_state::ixl_rules::control_table::layout::{PointId, RouteId, SectionId};
+use ixl_state::ixl_rules::rasta_core::Millis;
 use ixl_state::ixl_rules::{Command, Refusal};
 use ixl_state::ixl_table::Need;
-use ixl_state::layout::{PointId, RouteId, SectionId};
-use ixl_state::rasta_core::Millis;
 
 /// How long an interlocking holds after its creation, in ms of its clock.
 const HOLD_TIME: Millis = 6000;

@@ -13,7 +13,7 @@ use crate::point_moves::move_points_of_routes;
 use crate::proceed_rule::give_authority;
 use crate::withdrawal::withdraw_routes;
 use ixl_state::State;
-use ixl_state::rasta_core::{Millis, Outbox};
+use ixl_state::ixl_rules::rasta_core::{Millis, Outbox};
 
 /// The six rules, each for all routes in table order, and then the next. Two datagrams are handed out at most for each of
 /// 64 stops, for each of 32 moves of 64 routes, and for each of 64 aspects.

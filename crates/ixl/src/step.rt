@@ -13,8 +13,8 @@ use crate::commands::command;
 use crate::datagrams_heard::hear;
 use crate::input::{Input, Reply};
 use ixl_state::State;
-use ixl_state::rasta_core::{Millis, Outbox};
-use ixl_state::rasta_pdu::Key;
+use ixl_state::ixl_rules::rasta_core::{Millis, Outbox};
+use ixl_state::ixl_rules::rasta_pdu::Key;
 
 /// What the step is made for.
 fn give(state: &mut State, now: Millis, key: &Key, input: &Input, outbox: &mut Outbox) -> Reply

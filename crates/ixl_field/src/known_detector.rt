@@ -11,12 +11,12 @@ ghost use Rattle.ixl_rules.specs.StepSoFar.{detector_after};
 ghost use Rattle.ixl_rules.specs.Step.{clocked_detector, is_told_occupied, occupied_heard};
 ghost use Rattle.ixl_field.specs.Nodes.{DetectorGoes, AreHeardBy, detector_heard, detector_ticked};
 
-use ixl_rules::bit_row::BitRow;
+use ixl_rules::control_table::bit_row::BitRow;
+use ixl_rules::control_table::sci_telegram::Occupancy;
 use ixl_rules::ixl_client::{
     Client, Indication, Indications, ObjectState, step_hears_what_was_taken, step_keeps_the_peer,
 };
 use ixl_rules::rasta_core::{Millis, Outbox, Verdict};
-use ixl_rules::sci_telegram::Occupancy;
 use std::marker::Model;
 
 /// A detector: its client, and the sections last told as occupied in the present connection, by their places in its own

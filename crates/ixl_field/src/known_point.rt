@@ -12,10 +12,10 @@ ghost use Rattle.ixl_rules.specs.Step.{clocked_known_point, side_heard, side_of}
 ghost use Rattle.ixl_rules.specs.View.{is_side};
 ghost use Rattle.ixl_field.specs.Nodes.{KnownPointGoes, known_point_given, known_point_heard, known_point_ticked};
 
-use ixl_rules::bit_row::BitRow;
+use ixl_rules::control_table::bit_row::BitRow;
+use ixl_rules::control_table::sci_telegram::{Position, Side};
 use ixl_rules::ixl_client::{Client, Command, Indication, Indications, ObjectState};
 use ixl_rules::rasta_core::{Millis, Outbox, Verdict};
-use ixl_rules::sci_telegram::{Position, Side};
 use std::marker::Model;
 
 /// A point: its client, the side that the last report of the present connection told, and the routes since whose

@@ -10,9 +10,9 @@ ghost use Rattle.ixl_rules.specs.rasta_core.State.{confirmed_items};
 ghost use Rattle.ixl_rules.specs.View.{has_taken_stop, is_known_signal_at_stop};
 ghost use Rattle.ixl_field.specs.Nodes.{KnownSignalGoes, known_signal_given, known_signal_heard, known_signal_ticked};
 
+use ixl_rules::control_table::sci_telegram::Aspect;
 use ixl_rules::ixl_client::{Client, Command, Indication, Indications, ObjectState};
 use ixl_rules::rasta_core::{Millis, Outbox, Verdict};
-use ixl_rules::sci_telegram::Aspect;
 use std::marker::Model;
 
 /// A signal: its client, the last aspect given in the present connection, how many items were given there with it, and the

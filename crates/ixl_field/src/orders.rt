@@ -9,8 +9,8 @@ ghost use Rattle.ixl_field.specs.Field.{AllAt, FieldGoes, Rest};
 use crate::KnownPoint;
 use crate::field::Field;
 use crate::rows::PointRows;
+use ixl_rules::control_table::sci_telegram::{Aspect, Side};
 use ixl_rules::rasta_core::{Millis, Outbox};
-use ixl_rules::sci_telegram::{Aspect, Side};
 
 /// From here on all points count as unmoved for a route.
 fn unmove_all(known_points: &mut [KnownPoint], route: usize)

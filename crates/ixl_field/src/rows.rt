@@ -6,8 +6,8 @@ ghost use Rattle.ixl_rules.specs.State.{KnownDetectorState};
 ghost use Rattle.ixl_field.specs.inside.Rows.{ArePointRows, AreRowsSoFar, AreSectionRows, told_as};
 
 use crate::{KnownDetector, KnownPoint};
-use ixl_rules::bit_row::BitRow;
-use ixl_rules::sci_telegram::Side;
+use ixl_rules::control_table::bit_row::BitRow;
+use ixl_rules::control_table::sci_telegram::Side;
 
 /// The sections that are clear, and those that are occupied. The others are unknown.
 #[derive(Clone, Copy, Debug)]

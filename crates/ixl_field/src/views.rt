@@ -15,10 +15,10 @@ ghost use Rattle.ixl_field.specs.Field.{IsThere, Rest, kept, node_at};
 
 use crate::field::Field;
 use crate::node::Node;
-use ixl_rules::bit_row::BitRow;
+use ixl_rules::control_table::bit_row::BitRow;
+use ixl_rules::control_table::sci_telegram::{Aspect, Side};
 use ixl_rules::ixl_client::Client;
 use ixl_rules::rasta_core::Millis;
-use ixl_rules::sci_telegram::{Aspect, Side};
 
 /// Whether a client's controller has this identity.
 fn is_partner(client: &Client, id: u32) -> bool

@@ -21,7 +21,6 @@ pub use phase::Phase;
 
 // What crates above need of the crates below.
 pub use control_table;
-pub use control_table::{bit_row, layout, sci_telegram};
 pub use ixl_client;
 pub use rasta_core;
 pub use rasta_pdu;

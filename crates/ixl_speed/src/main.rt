@@ -14,8 +14,8 @@ mod station;
 
 use crate::station::{Station, Work};
 use anyhow::{Context, bail};
-use ixl_state::control_table::{Checked, check};
-use ixl_state::layout::Layout;
+use ixl_state::ixl_rules::control_table::layout::Layout;
+use ixl_state::ixl_rules::control_table::{Checked, check};
 use std::alloc::Global;
 use std::{env, fs};
 

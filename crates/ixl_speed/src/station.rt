@@ -4,11 +4,11 @@
 use crate::controllers::Controllers;
 use crate::passes::{read, report, tick, write};
 use ixl::{Command, Input as StationInput, Interlocking};
-use ixl_state::control_table::Checked;
+use ixl_state::ixl_rules::control_table::Checked;
+use ixl_state::ixl_rules::control_table::layout::{RouteId, SignalId};
 use ixl_state::ixl_rules::key_of;
-use ixl_state::layout::{RouteId, SignalId};
-use ixl_state::rasta_core::Millis;
-use ixl_state::rasta_pdu::{Datagram, Key, Pdu};
+use ixl_state::ixl_rules::rasta_core::Millis;
+use ixl_state::ixl_rules::rasta_pdu::{Datagram, Key, Pdu};
 use object_host::Input;
 use std::alloc::{AllocError, Global};
 

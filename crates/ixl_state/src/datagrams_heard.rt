@@ -11,7 +11,7 @@ ghost use Rattle.ixl_state.specs.inside.DetectorHeard.{Passes, told_since};
 
 use crate::state::State;
 use ixl_field::{Node, is_told_occupied};
-use ixl_rules::bit_row::BitRow;
+use ixl_rules::control_table::bit_row::BitRow;
 use ixl_rules::ixl_client::{Indication, Indications};
 use ixl_rules::rasta_core::{Millis, Outbox, Verdict};
 

@@ -10,9 +10,9 @@ ghost use Rattle.ixl_field.specs.Field.{detector_hearing_alone};
 ghost use Rattle.ixl_state.specs.State.{AllAt, Goes, MayStepAll};
 
 use crate::state::State;
+use ixl_rules::control_table::sci_telegram::{Aspect, Side};
 use ixl_rules::ixl_client::Indications;
 use ixl_rules::rasta_core::{Millis, Outbox, Verdict};
-use ixl_rules::sci_telegram::{Aspect, Side};
 
 impl State {
     /// Whether a step at this clock reading may be made: the clock of no link has fallen.

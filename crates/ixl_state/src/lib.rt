@@ -16,8 +16,5 @@ pub use state::State;
 // What crates above need of the crates below.
 pub use ixl_field;
 pub use ixl_rules;
-pub use ixl_rules::{
-    bit_row, control_table, ixl_client, layout, rasta_core, rasta_pdu, sci_telegram,
-};
 pub use ixl_table;
 pub use release;

@@ -15,7 +15,7 @@ use crate::route::Route;
 use crate::state::State;
 use ixl_rules::Phase;
 use ixl_rules::control_table::a_route_leads_over_its_sections_alone;
-use ixl_rules::layout::RouteId;
+use ixl_rules::control_table::layout::RouteId;
 use ixl_rules::rasta_core::Millis;
 use ixl_table::{Row, set_routes_lock_sections, the_first_blocking_route_is_told_by_phase};
 use route_lock::Locks;

@@ -9,9 +9,9 @@ ghost use Rattle.ixl_state.specs.inside.Kept.{HoldsWithAuthority, SomeHoldsWithA
 
 use crate::route::Route;
 use crate::state::State;
-use ixl_rules::bit_row::BitRow;
-use ixl_rules::layout::{PointId, RouteId};
-use ixl_rules::sci_telegram::Side;
+use ixl_rules::control_table::bit_row::BitRow;
+use ixl_rules::control_table::layout::{PointId, RouteId};
+use ixl_rules::control_table::sci_telegram::Side;
 use ixl_table::{
     points_are_held_by_phase_at_a_side, points_are_held_by_some_phase, set_routes_lock_sections,
     the_first_blocking_route_is_told_by_phase,

@@ -6,10 +6,10 @@ ghost use Rattle.ixl_rules.specs.control_table.Table.{AreRequired};
 ghost use Rattle.ixl_table.specs.inside.Made.{AreNeedsOf, IsPastAwaited, IsPastLast};
 ghost use Rattle.ixl_table.specs.Table.{required};
 
-use ixl_rules::bit_row::BitRow;
 use ixl_rules::control_table::Checked;
-use ixl_rules::layout::{PointId, RouteId};
-use ixl_rules::sci_telegram::Side;
+use ixl_rules::control_table::bit_row::BitRow;
+use ixl_rules::control_table::layout::{PointId, RouteId};
+use ixl_rules::control_table::sci_telegram::Side;
 use std::alloc::{AllocError, Global};
 use std::marker::Model;
 

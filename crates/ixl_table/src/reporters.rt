@@ -8,7 +8,7 @@ ghost use Rattle.ixl_table.specs.inside.Made.{NoneReports};
 
 use crate::row::section_numbers;
 use ixl_rules::control_table::Checked;
-use ixl_rules::layout::{Detector, Point, SectionId};
+use ixl_rules::control_table::layout::{Detector, Point, SectionId};
 use std::alloc::{AllocError, Global};
 
 /// The place of a section in a list.

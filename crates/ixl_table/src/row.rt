@@ -6,12 +6,12 @@ ghost use Rattle.ixl_rules.specs.sci_telegram.declared.message.Side.TheVariants 
 ghost use Rattle.ixl_table.specs.Table.{AreNeededAt, IsRowOf, IsSetOf, as_route, as_section};
 
 use crate::need::{Need, needs_of};
-use ixl_rules::bit_row::BitRow;
+use ixl_rules::control_table::bit_row::BitRow;
+use ixl_rules::control_table::layout::{RouteId, SectionId};
+use ixl_rules::control_table::sci_telegram::Aspect;
 use ixl_rules::control_table::{
     Checked, a_route_leads_over_its_sections_alone, required_points_await_a_section_of_the_route,
 };
-use ixl_rules::layout::{RouteId, SectionId};
-use ixl_rules::sci_telegram::Aspect;
 use std::alloc::{AllocError, Global};
 use std::marker::Model;
 

@@ -8,10 +8,10 @@ ghost use Rattle.ixl_table.specs.Table.{AreRows, IsTableOf, IsTableThere};
 
 use crate::reporters::{reported_by, reporters_of, sections_of};
 use crate::row::{Row, row_of};
+use ixl_rules::control_table::layout::RouteId;
 use ixl_rules::control_table::{
     Checked, a_route_leads_over_sections_that_are_there, required_points_are_there,
 };
-use ixl_rules::layout::RouteId;
 use std::alloc::{AllocError, Global};
 use std::marker::Model;
 

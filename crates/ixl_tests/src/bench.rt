@@ -1,9 +1,11 @@
 //! A client and a controller at the two ends of a link, at one clock, and scripts of what both say.
 
-use ixl_state::ixl_client::{Client, Command, Indication, Indications, ObjectState, Peer};
-use ixl_state::rasta_core::{Millis, Outbox};
-use ixl_state::rasta_pdu::{Body, Datagram, Key, Pdu, read};
-use ixl_state::sci_telegram::{Name, Protocol};
+use ixl_state::ixl_rules::control_table::sci_telegram::{Name, Protocol};
+use ixl_state::ixl_rules::ixl_client::{
+    Client, Command, Indication, Indications, ObjectState, Peer,
+};
+use ixl_state::ixl_rules::rasta_core::{Millis, Outbox};
+use ixl_state::ixl_rules::rasta_pdu::{Body, Datagram, Key, Pdu, read};
 use object_host::{Controller, Hosted, Input, Sense};
 use std::alloc::Global;
 use std::process::Abort;

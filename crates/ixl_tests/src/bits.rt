@@ -1,6 +1,6 @@
 //! Rows against the definition of a set, at the ends of the word.
 
-use ixl_state::bit_row::BitRow;
+use ixl_state::ixl_rules::control_table::bit_row::BitRow;
 
 #[test]
 fn a_row_has_what_was_put_in_and_not_taken_out(rt: HostRuntime) {

@@ -4,8 +4,8 @@ use crate::bench::Step::{
     Closes, Commands, Exchanges, HasGiven, Hears, IsAvailable, IsReady, KnowsTaken, Senses,
 };
 use crate::bench::{Bench, CONNECTED, OPENED_AT, Row, SIGNAL, Setting};
-use ixl_state::ixl_client::{Command, ObjectState};
-use ixl_state::sci_telegram::{Aspect, Position, Protocol, Side};
+use ixl_state::ixl_rules::control_table::sci_telegram::{Aspect, Position, Protocol, Side};
+use ixl_state::ixl_rules::ixl_client::{Command, ObjectState};
 use object_host::Sense;
 use point_ctl::Point;
 use signal_ctl::Signal;

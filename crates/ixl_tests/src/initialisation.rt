@@ -5,8 +5,8 @@ use crate::bench::Step::{
     ToController,
 };
 use crate::bench::{Bench, MADE_AT, OPENED_AT, Row, SIGNAL, Setting, name};
-use ixl_state::ixl_client::ObjectState;
-use ixl_state::sci_telegram::{Aspect, Occupancy, Position, Protocol};
+use ixl_state::ixl_rules::control_table::sci_telegram::{Aspect, Occupancy, Position, Protocol};
+use ixl_state::ixl_rules::ixl_client::ObjectState;
 use point_ctl::Point;
 use signal_ctl::Signal;
 use tds_ctl::Detection;

@@ -4,10 +4,10 @@
 use crate::layouts::SMALL;
 use ixl::{Input, Interlocking};
 use ixl_state::State;
-use ixl_state::control_table::{Checked, TableFault, check};
+use ixl_state::ixl_rules::control_table::layout::{Layout, LayoutFault};
+use ixl_state::ixl_rules::control_table::{Checked, TableFault, check};
+use ixl_state::ixl_rules::rasta_core::Millis;
 use ixl_state::ixl_table::Table;
-use ixl_state::layout::{Layout, LayoutFault};
-use ixl_state::rasta_core::Millis;
 use std::alloc::Global;
 use std::process::Abort;
 

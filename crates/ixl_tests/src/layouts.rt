@@ -1,7 +1,7 @@
 //! The layouts of these tests.
 
-use ixl_state::control_table::{Checked, check};
-use ixl_state::layout::Layout;
+use ixl_state::ixl_rules::control_table::layout::Layout;
+use ixl_state::ixl_rules::control_table::{Checked, check};
 use std::alloc::Global;
 use std::process::Abort;
 

@@ -2,8 +2,8 @@
 
 use crate::layouts::{BETWEEN, checked};
 use crate::locks::Step::{Frees, IsHeld, Refuses, Sets};
-use ixl_state::layout::{PointId, RouteId};
-use ixl_state::sci_telegram::Side;
+use ixl_state::ixl_rules::control_table::layout::{PointId, RouteId};
+use ixl_state::ixl_rules::control_table::sci_telegram::Side;
 use route_lock::{LockFault, Locks};
 use std::alloc::Global;
 use std::process::Abort;

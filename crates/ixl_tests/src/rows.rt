@@ -1,8 +1,8 @@
 //! The table of three routes, of which two need one flank point at different sides.
 
 use crate::layouts::{BETWEEN, checked};
+use ixl_state::ixl_rules::control_table::sci_telegram::Side;
 use ixl_state::ixl_table::{Row, Table};
-use ixl_state::sci_telegram::Side;
 use std::alloc::Global;
 use std::process::Abort;
 

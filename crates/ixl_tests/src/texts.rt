@@ -2,8 +2,8 @@
 
 use crate::changes::Changes;
 use crate::layouts::SMALL;
-use ixl_state::control_table::{TableFault, check};
-use ixl_state::layout::{Layout, LayoutFault};
+use ixl_state::ixl_rules::control_table::layout::{Layout, LayoutFault};
+use ixl_state::ixl_rules::control_table::{TableFault, check};
 use std::alloc::Global;
 use std::process::Abort;
 

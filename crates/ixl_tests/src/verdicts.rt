@@ -2,9 +2,9 @@
 
 use crate::interlockings_made::{MADE_AT, OPENED_AT, interlocking, tick};
 use ixl::{Input, Interlocking, Reply};
-use ixl_state::layout::{RouteId, SignalId};
-use ixl_state::rasta_core::{Millis, Verdict};
-use ixl_state::rasta_pdu::{Body, Datagram, Key, Pdu, PduFault, read, write};
+use ixl_state::ixl_rules::control_table::layout::{RouteId, SignalId};
+use ixl_state::ixl_rules::rasta_core::{Millis, Verdict};
+use ixl_state::ixl_rules::rasta_pdu::{Body, Datagram, Key, Pdu, PduFault, read, write};
 use md4::STANDARD;
 use std::process::Abort;
 

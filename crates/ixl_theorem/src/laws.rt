@@ -41,7 +41,7 @@ ghost use Rattle.ixl_state.specs.rasta_core.verdict.Verdict.TheVariants as verdi
 ghost use Rattle.ixl_state.specs.rasta_core.verdict.Verdict.{Verdict};
 
 use ixl::requests_are_accepted_where_admissible;
-use ixl_state::ixl_client::{
+use ixl_state::ixl_rules::ixl_client::{
     initialisations_go_out_in_order, step_hears_what_was_taken, step_is_calls, step_keeps_the_peer,
     ticks_open_links_that_are_down,
 };

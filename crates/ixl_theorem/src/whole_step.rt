@@ -16,7 +16,7 @@ ghost use Rattle.ixl_theorem.specs.GivenOnce.{GivesMove, GivesProceed, GivesStop
 ghost use Rattle.ixl_theorem.specs.UnsoundAspect.{IsUnsound};
 ghost use Rattle.ixl_theorem.specs.WholeStep.{EndAuthority, Fits, FreeCancelled, FreeSection, MovePoint, Passed, Proceed, Watch, WholeStep, Withdraw, heard, turns_of_rules};
 
-use ixl_state::ixl_client::initialisations_go_out_in_order;
+use ixl_state::ixl_rules::ixl_client::initialisations_go_out_in_order;
 use ixl_state::ixl_rules::{
     authority_ends_at_known_stop, move_is_given_where_due, passage_frees_all_that_it_may,
     proceed_is_given_where_due, route_is_freed_where_cancel_lets_it_go,

@@ -3,7 +3,7 @@
 ghost use Rattle.std.specs.Prelude.{◌≡◌, Some};
 ghost use Rattle.node_addresses.specs.declared.fault.AddressesFault.TheVariants.{OutOfMemory};
 
-use ixl_rules::sci_telegram::Name;
+use ixl_rules::control_table::sci_telegram::Name;
 use std::alloc::{AllocError, AllocFailed};
 use std::error::Error;
 use std::fmt;

@@ -10,7 +10,7 @@ ghost use Rattle.node_addresses.specs.declared.fault.AddressesFault.TheVariants.
 use crate::address_read::next_address;
 use crate::fault::AddressesFault;
 use crate::keys::check_keys;
-use ixl_rules::layout::Layout;
+use ixl_rules::control_table::layout::Layout;
 use replay_lines::{node_count, node_name};
 use simulator_event::NodeId;
 use std::alloc::Global;

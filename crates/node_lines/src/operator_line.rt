@@ -7,8 +7,8 @@ use crate::word_table::{
     aspect_word, known_occupancy_word, known_side_word, link_word, route_state_word,
 };
 use ixl_rules::Refusal;
-use ixl_rules::layout::{Layout, PointId, RouteId, SectionId, SignalId};
-use ixl_rules::sci_telegram::{Aspect, Occupancy, Side};
+use ixl_rules::control_table::layout::{Layout, PointId, RouteId, SectionId, SignalId};
+use ixl_rules::control_table::sci_telegram::{Aspect, Occupancy, Side};
 use replay_lines::{AnswerText, node_name, point_word, route_word, section_word};
 use simulator_event::{Answer, NodeId};
 use std::fmt;

@@ -1,7 +1,7 @@
 //! What a controller tells its field equipment to do.
 
 use crate::word_table::side_word;
-use ixl_rules::sci_telegram::Side;
+use ixl_rules::control_table::sci_telegram::Side;
 use std::fmt;
 
 /// What field equipment is told to do. All moments are readings of the node's clock, in milliseconds. From the moment behind

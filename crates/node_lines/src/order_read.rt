@@ -6,7 +6,7 @@ ghost use Rattle.node_lines.specs.Orders.{alone, driven, driven_to, line_of, num
 ghost use Rattle.node_lines.specs.declared.order.Order.TheVariants.{Drive, ShowProceed, ShowSlow};
 
 use crate::order::{Order, OrderLine};
-use ixl_rules::sci_telegram::Side;
+use ixl_rules::control_table::sci_telegram::Side;
 use replay_words::{Fault, Words, both, decimal};
 
 /// The order that a line says, or the lowest fault of its words.

@@ -6,8 +6,8 @@ ghost use Rattle.replay_words.specs.Cut.{words};
 ghost use Rattle.node_lines.specs.Reports.{clear, done, occupy, reach, report_said};
 
 use crate::word_table::{occupancy_word, position_word};
-use ixl_rules::layout::{Layout, SectionId};
-use ixl_rules::sci_telegram::{Occupancy, Position};
+use ixl_rules::control_table::layout::{Layout, SectionId};
+use ixl_rules::control_table::sci_telegram::{Occupancy, Position};
 use replay_lines::{section_named, section_word};
 use replay_words::{Fault, Words, decimal};
 use std::fmt;

@@ -6,7 +6,7 @@ ghost use Rattle.node_lines.specs.Orders.{side_word};
 ghost use Rattle.replay_lines.specs.Written.{occupancy_word, position_word};
 
 use crate::operator_line::LinkState;
-use ixl_rules::sci_telegram::{Aspect, Occupancy, Position, Side};
+use ixl_rules::control_table::sci_telegram::{Aspect, Occupancy, Position, Side};
 
 pub(crate) fn side_word(side: Side) -> &'static str
     ensures { result.now ≡ side_word side }

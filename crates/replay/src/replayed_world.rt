@@ -7,7 +7,7 @@ ghost use Rattle.simulator.specs.simulator_run.Tried.{Played, after};
 ghost use Rattle.replay.specs.World.{AnswersOtherwiseAt, AnswersSame, IsFirst, answer, played};
 
 use replay_lines::{Apply, Entry, Replayed};
-use simulator::simulator_run::control_table::Checked;
+use simulator::simulator_run::ixl_rules::control_table::Checked;
 use simulator::{Event, Refused, Reply, World};
 use std::alloc::{AllocError, Global};
 

@@ -5,7 +5,7 @@ ghost use Rattle.replay_lines.specs.AnswerRead.{accepted, answer, can_answer, na
 
 use crate::{point_named, route_named, section_named};
 use ixl_rules::Refusal;
-use ixl_rules::layout::{Layout, RouteId};
+use ixl_rules::control_table::layout::{Layout, RouteId};
 use replay_words::{Fault, Words, decimal};
 use simulator_event::{Answer, Event, Refused};
 

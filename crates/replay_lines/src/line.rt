@@ -6,7 +6,7 @@ ghost use Rattle.replay_lines.specs.Line.{beginning, flow, happening, line, mill
 
 use crate::outset::{Begun, read_begun};
 use crate::words::read_event;
-use ixl_rules::layout::Layout;
+use ixl_rules::control_table::layout::Layout;
 use replay_words::{Fault, Words, decimal};
 use simulator_event::Event;
 use std::alloc::Global;

@@ -6,8 +6,8 @@ ghost use Rattle.std.specs.List.{position};
 ghost use Rattle.std.specs.Str.{bytes_eq};
 ghost use Rattle.replay_lines.specs.Names.{point_named, point_word, route_named, route_word, section_named, section_word};
 
-use ixl_rules::layout::{Layout, Point, PointId, Route, RouteId, SectionId};
-use ixl_rules::sci_telegram::Name;
+use ixl_rules::control_table::layout::{Layout, Point, PointId, Route, RouteId, SectionId};
+use ixl_rules::control_table::sci_telegram::Name;
 use replay_words::Fault;
 
 /// The section that a word names; fault 2 where there is none.

@@ -7,8 +7,8 @@ ghost use Rattle.std.specs.Str.{bytes_eq};
 ghost use Rattle.replay_lines.specs.Names.{node_names, node_named};
 
 use crate::names::{is_called, point_place};
-use ixl_rules::layout::{Detector, Layout, Point, Signal};
-use ixl_rules::sci_telegram::Name;
+use ixl_rules::control_table::layout::{Detector, Layout, Point, Signal};
+use ixl_rules::control_table::sci_telegram::Name;
 use replay_words::Fault;
 use simulator_event::NodeId;
 

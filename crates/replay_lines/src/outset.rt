@@ -7,8 +7,8 @@ ghost use Rattle.replay_lines.specs.Outset.{begins, begins_same, is_begun, may_s
 use crate::line::SimLine;
 use crate::names::{point_named, section_named};
 use crate::words::position_named;
-use ixl_rules::layout::{Layout, PointId, SectionId};
-use ixl_rules::sci_telegram::{Occupancy, Position};
+use ixl_rules::control_table::layout::{Layout, PointId, SectionId};
+use ixl_rules::control_table::sci_telegram::{Occupancy, Position};
 use replay_words::{Fault, Words};
 
 /// A point or a section, and how it lies when the station is started.

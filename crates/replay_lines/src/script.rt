@@ -8,7 +8,7 @@ ghost use Rattle.replay_lines.specs.Script.{script, timed, timed_line};
 
 use crate::{SessionFault, read_script_event};
 use ixl_rules::control_table::Checked;
-use ixl_rules::layout::Layout;
+use ixl_rules::control_table::layout::Layout;
 use replay_words::{Fault, Lines, Words, both, decimal};
 use simulator_event::Event;
 use std::alloc::Global;

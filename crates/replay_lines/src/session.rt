@@ -7,7 +7,7 @@ ghost use Rattle.replay_lines.specs.Session.{entry, session};
 
 use crate::{SessionFault, read_answer, read_event};
 use ixl_rules::control_table::Checked;
-use ixl_rules::layout::Layout;
+use ixl_rules::control_table::layout::Layout;
 use replay_words::{Fault, Lines, event_and_answer};
 use simulator_event::{Answer, Event, Refused};
 use std::alloc::Global;

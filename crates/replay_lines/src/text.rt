@@ -7,7 +7,7 @@ ghost use Rattle.replay_lines.specs.Text.{Tells, line_behind, lines_said};
 use crate::line::{SimLine, read_line};
 use crate::outset::may_stand;
 use ixl_rules::control_table::Checked;
-use ixl_rules::layout::Layout;
+use ixl_rules::control_table::layout::Layout;
 use replay_words::{Fault, Lines, is_passed_over};
 use std::alloc::Global;
 use std::error::Error;

@@ -9,8 +9,8 @@ ghost use Rattle.replay_lines.specs.Scripted.{script_event};
 
 use crate::{node_count, node_named, point_named, route_named, section_named};
 use ixl_rules::Command;
-use ixl_rules::layout::Layout;
-use ixl_rules::sci_telegram::{Occupancy, Position};
+use ixl_rules::control_table::layout::Layout;
+use ixl_rules::control_table::sci_telegram::{Occupancy, Position};
 use replay_words::{
     Bytes, Fault, Words, both, decimal, hexadecimal, hexadecimal_or_none, name_and_number,
 };

@@ -14,9 +14,9 @@ ghost use Rattle.simulator.specs.inside.Parts.{Goes, IsWhole, site_of, room_of, 
 use crate::nodes::{Node, node_at};
 use crate::parts::Parts;
 use simulator_ixl::ixl::{Command, Input as StationInput, Reply as StationReply};
-use simulator_ixl::simulator_run::layout::{PointId, SectionId};
+use simulator_ixl::simulator_run::ixl_rules::control_table::layout::{PointId, SectionId};
+use simulator_ixl::simulator_run::ixl_rules::control_table::sci_telegram::{Occupancy, Position};
 use simulator_ixl::simulator_run::object_host::{Input, Sense};
-use simulator_ixl::simulator_run::sci_telegram::{Occupancy, Position};
 use simulator_ixl::simulator_run::simulator_event::{Answer, NodeId};
 
 /// What the interlocking answers.

@@ -5,7 +5,7 @@ ghost use Rattle.std.specs.Option.{option_map};
 ghost use Rattle.simulator_ixl.specs.simulator_run.Nodes.{controller_at, node_at};
 ghost use Rattle.simulator.specs.inside.Nodes.{meant_node};
 
-use simulator_ixl::simulator_run::layout::Layout;
+use simulator_ixl::simulator_run::ixl_rules::control_table::layout::Layout;
 use simulator_ixl::simulator_run::links;
 use simulator_ixl::simulator_run::simulator_event::NodeId;
 

@@ -14,9 +14,11 @@ ghost use Rattle.simulator.specs.inside.Parts.{IsWhole, site_of, seen, table_of}
 use arrayvec::ArrayVec;
 use simulator_ixl::ClockedInterlocking;
 use simulator_ixl::simulator_field::Controllers;
-use simulator_ixl::simulator_run::control_table::Checked;
-use simulator_ixl::simulator_run::layout::{Layout, PointId, SignalId};
-use simulator_ixl::simulator_run::sci_telegram::{Aspect, Occupancy, Position, Side};
+use simulator_ixl::simulator_run::ixl_rules::control_table::Checked;
+use simulator_ixl::simulator_run::ixl_rules::control_table::layout::{Layout, PointId, SignalId};
+use simulator_ixl::simulator_run::ixl_rules::control_table::sci_telegram::{
+    Aspect, Occupancy, Position, Side,
+};
 use simulator_ixl::simulator_run::simulator_snapshot::Held;
 use std::alloc::{AllocError, Global};
 

@@ -10,8 +10,12 @@ use crate::words::{
     aspect_word, authority, driven_words, occupancy_word, position_word, safe_word, set_word,
 };
 use crate::world::World;
-use simulator_ixl::simulator_run::layout::{PointId, RouteId, SectionId, SignalId};
-use simulator_ixl::simulator_run::sci_telegram::{Aspect, Name, Occupancy, Position, Side};
+use simulator_ixl::simulator_run::ixl_rules::control_table::layout::{
+    PointId, RouteId, SectionId, SignalId,
+};
+use simulator_ixl::simulator_run::ixl_rules::control_table::sci_telegram::{
+    Aspect, Name, Occupancy, Position, Side,
+};
 use std::alloc::{AllocError, Global};
 
 /// How many microseconds a millisecond has.

@@ -10,11 +10,11 @@ ghost use Rattle.simulator.specs.inside.Parts.{IsWhole, site_of, seen};
 use crate::found::Found;
 use crate::parts::Parts;
 use crate::time_limits::CLOCK_LIMIT;
+use simulator_ixl::simulator_run::ixl_rules::control_table::layout::{PointId, SectionId};
+use simulator_ixl::simulator_run::ixl_rules::control_table::sci_telegram::{Position, Side};
 use simulator_ixl::simulator_run::ixl_rules::key_of;
-use simulator_ixl::simulator_run::layout::{PointId, SectionId};
+use simulator_ixl::simulator_run::ixl_rules::rasta_core::Millis;
 use simulator_ixl::simulator_run::links;
-use simulator_ixl::simulator_run::rasta_core::Millis;
-use simulator_ixl::simulator_run::sci_telegram::{Position, Side};
 use simulator_ixl::simulator_run::simulator_event::{Event, NodeId, Refused};
 
 /// How many microseconds a millisecond has.

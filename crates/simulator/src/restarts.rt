@@ -8,7 +8,7 @@ ghost use Rattle.simulator.specs.inside.Parts.{IsWhole, Restarts, site_of, table
 
 use crate::nodes::{Node, node_at};
 use crate::parts::Parts;
-use simulator_ixl::simulator_run::rasta_core::Millis;
+use simulator_ixl::simulator_run::ixl_rules::rasta_core::Millis;
 use simulator_ixl::simulator_run::simulator_event::NodeId;
 use std::alloc::AllocError;
 

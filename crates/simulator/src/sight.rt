@@ -7,8 +7,8 @@ ghost use Rattle.simulator.specs.inside.Parts.{IsWhole, seen, table_of};
 
 use crate::parts::Parts;
 use arrayvec::ArrayVec;
-use simulator_ixl::simulator_run::layout::{PointId, SignalId};
-use simulator_ixl::simulator_run::sci_telegram::Side;
+use simulator_ixl::simulator_run::ixl_rules::control_table::layout::{PointId, SignalId};
+use simulator_ixl::simulator_run::ixl_rules::control_table::sci_telegram::Side;
 use simulator_ixl::simulator_run::simulator_snapshot::{Shown, Snapshot, Stands};
 
 impl Parts {

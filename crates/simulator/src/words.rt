@@ -3,8 +3,10 @@
 ghost use Rattle.std.specs.Prelude.{◌≡◌};
 ghost use Rattle.simulator_ixl.specs.simulator_run.Picture.{aspect_text, authority_text, driven_text, occupancy_text, position_text, route_name, safe_text, set_text};
 
-use simulator_ixl::simulator_run::layout::{Layout, RouteId};
-use simulator_ixl::simulator_run::sci_telegram::{Aspect, Occupancy, Position, Side};
+use simulator_ixl::simulator_run::ixl_rules::control_table::layout::{Layout, RouteId};
+use simulator_ixl::simulator_run::ixl_rules::control_table::sci_telegram::{
+    Aspect, Occupancy, Position, Side,
+};
 use simulator_ixl::simulator_run::simulator_snapshot::Held;
 
 /// The word of an aspect.

@@ -23,10 +23,14 @@ use arrayvec::ArrayVec;
 use simulator_headline::reached_worlds_are_safe;
 use simulator_ixl::InterlockingState;
 use simulator_ixl::simulator_field::{Bag, Network};
-use simulator_ixl::simulator_run::control_table::Checked;
-use simulator_ixl::simulator_run::layout::{PointId, RouteId, SectionId, SignalId};
-use simulator_ixl::simulator_run::rasta_core::Millis;
-use simulator_ixl::simulator_run::sci_telegram::{Aspect, Occupancy, Position, Side};
+use simulator_ixl::simulator_run::ixl_rules::control_table::Checked;
+use simulator_ixl::simulator_run::ixl_rules::control_table::layout::{
+    PointId, RouteId, SectionId, SignalId,
+};
+use simulator_ixl::simulator_run::ixl_rules::control_table::sci_telegram::{
+    Aspect, Occupancy, Position, Side,
+};
+use simulator_ixl::simulator_run::ixl_rules::rasta_core::Millis;
 use simulator_ixl::simulator_run::simulator_event::{Event, Refused, Reply};
 use simulator_ixl::simulator_run::simulator_snapshot::{Held, Snapshot};
 use std::alloc::{AllocError, Global};

@@ -2,9 +2,9 @@
 
 use crate::readings::{ClockSteps, RawDatagram};
 use ixl_rules::Command;
-use ixl_rules::layout::{PointId, SectionId};
+use ixl_rules::control_table::layout::{PointId, SectionId};
+use ixl_rules::control_table::sci_telegram::{Occupancy, Position};
 use ixl_rules::rasta_core::Millis;
-use ixl_rules::sci_telegram::{Occupancy, Position};
 
 /// A node, by its place among all: the interlocking is 0, then come the signals, the points and the
 /// detectors, each in layout order.

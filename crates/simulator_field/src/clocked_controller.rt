@@ -8,8 +8,8 @@ ghost use Rattle.simulator_run.specs.Controllers.{controller_after, controller_a
 use crate::Network;
 use crate::datagrams_sent::send_all;
 use crate::stay::Stay;
+use simulator_run::ixl_rules::rasta_core::Millis;
 use simulator_run::object_host::{Controller, Hosted, Input};
-use simulator_run::rasta_core::Millis;
 use std::marker::Model;
 
 /// How many microseconds a millisecond has.

@@ -8,8 +8,8 @@ ghost use Rattle.simulator_run.specs.State.{ClockedInterlockingState};
 ghost use Rattle.simulator_field.specs.Controllers.{AreOf, world_of};
 
 use crate::controllers::Controllers;
+use simulator_run::ixl_rules::control_table::sci_telegram::{Occupancy, Position};
 use simulator_run::object_host::Input;
-use simulator_run::sci_telegram::{Occupancy, Position};
 
 impl Controllers {
     /// The signal at this place makes a step. A datagram that comes was sent in this connection.

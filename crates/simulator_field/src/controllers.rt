@@ -1,8 +1,8 @@
 //! What there is beside the interlocking.
 
 use crate::{ClockedController, Network};
+use simulator_run::ixl_rules::control_table::sci_telegram::{Occupancy, Position};
 use simulator_run::point_ctl::Point;
-use simulator_run::sci_telegram::{Occupancy, Position};
 use simulator_run::signal_ctl::Signal;
 use simulator_run::tds_ctl::Detection;
 

@@ -9,8 +9,8 @@ ghost use Rattle.simulator_field.specs.Controllers.{AreOf, world_of};
 
 use crate::controllers::Controllers;
 use crate::{new_detector, new_point, new_signal};
-use simulator_run::control_table::Checked;
-use simulator_run::rasta_core::Millis;
+use simulator_run::ixl_rules::control_table::Checked;
+use simulator_run::ixl_rules::rasta_core::Millis;
 use std::alloc::{AllocError, Global};
 
 impl Controllers {

@@ -6,8 +6,8 @@ ghost use Rattle.simulator_run.specs.rasta_core.Links.{sent_on};
 ghost use Rattle.simulator_run.specs.rasta_core.identity.Role.TheVariants as role;
 
 use crate::Network;
+use simulator_run::ixl_rules::rasta_core::Role;
 use simulator_run::object_host::{Controller, Hosted};
-use simulator_run::rasta_core::Role;
 
 /// The datagrams of the last step are sent on the controller's link, in its connection.
 pub(crate) fn send_all<C: Controller>(

@@ -6,7 +6,7 @@ ghost use Rattle.simulator_field.specs.inside.Entries.{IsWithin, bytes_of, on_li
 ghost use Rattle.simulator_field.specs.Network.{lent};
 
 use crate::sent_on::SentOn;
-use simulator_run::rasta_core::Role;
+use simulator_run::ixl_rules::rasta_core::Role;
 
 /// A datagram that was sent. Its bytes stand in one row with those of all others.
 #[derive(Clone, Copy, Debug)]

@@ -7,9 +7,9 @@ ghost use Rattle.simulator_field.specs.Controllers.{AreAt, AreOf};
 
 use crate::controllers::Controllers;
 use crate::{ClockedController, Network, new_detector, new_point, new_signal};
-use simulator_run::control_table::Checked;
+use simulator_run::ixl_rules::control_table::Checked;
+use simulator_run::ixl_rules::control_table::sci_telegram::{Occupancy, Position};
 use simulator_run::point_ctl::Point;
-use simulator_run::sci_telegram::{Occupancy, Position};
 use simulator_run::signal_ctl::Signal;
 use simulator_run::tds_ctl::Detection;
 use std::alloc::{AllocError, Global};

@@ -13,8 +13,8 @@ use crate::copies_found;
 use crate::entry::Entry;
 use crate::sent_on::SentOn;
 use place_index::{PlaceIndex, key_of};
-use simulator_run::rasta_core::Role;
-use simulator_run::rasta_pdu::{Datagram, Key, is_intact};
+use simulator_run::ixl_rules::rasta_core::Role;
+use simulator_run::ixl_rules::rasta_pdu::{Datagram, Key, is_intact};
 use std::alloc::{AllocError, Global};
 use std::marker::Model;
 

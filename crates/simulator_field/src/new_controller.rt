@@ -6,15 +6,15 @@ ghost use Rattle.simulator_run.specs.layout.Station.{HasSection};
 ghost use Rattle.simulator_run.specs.First as first;
 ghost use Rattle.simulator_run.specs.tds_ctl.Sections as tds;
 
-use simulator_run::control_table::Checked;
-use simulator_run::ixl_rules::key_of;
-use simulator_run::layout::{
+use simulator_run::ixl_rules::control_table::Checked;
+use simulator_run::ixl_rules::control_table::layout::{
     Detector, Layout, Point as PointEntry, SectionId, Signal as SignalEntry,
 };
+use simulator_run::ixl_rules::control_table::sci_telegram::{Name, Occupancy, Position};
+use simulator_run::ixl_rules::key_of;
+use simulator_run::ixl_rules::rasta_core::Millis;
 use simulator_run::object_host::Hosted;
 use simulator_run::point_ctl::Point;
-use simulator_run::rasta_core::Millis;
-use simulator_run::sci_telegram::{Name, Occupancy, Position};
 use simulator_run::signal_ctl::Signal;
 use simulator_run::tds_ctl::Detection;
 use std::alloc::{AllocError, Global};

@@ -31,7 +31,7 @@ use simulator_machine_links::{
     lawful_worlds_stay_lawful, representations_tell_the_connection,
     restarts_are_moves as link_restarts,
 };
-use simulator_run::rasta_core::a_node_restarts;
+use simulator_run::ixl_rules::rasta_core::a_node_restarts;
 use simulator_run_links::ends_are_those_of_the_nodes;
 
 /// Time that passes is a list of moves of the machine: controllers leave their connections, then clients do, quiet times end,

@@ -14,7 +14,7 @@ ghost use Rattle.simulator_machine_interlocking.specs.Totals.{IsReadable};
 ghost use Rattle.simulator_headline.specs.At.{HasNames};
 ghost use Rattle.simulator_headline.specs.Calls.{as_calls};
 
-use simulator_run::sci_telegram::written_is_read;
+use simulator_run::ixl_rules::control_table::sci_telegram::written_is_read;
 
 /// The machine sees a client at its end of the link where the interlocking has it.
 pub fn clients_are_seen_at_their_ends()

@@ -27,7 +27,7 @@ ghost use Rattle.simulator_headline.specs.At.{AreFarEnds};
 use simulator_machine_links::{
     clients_know_throughout, flows_are_in_order, items_join, representations_tell_the_connection,
 };
-use simulator_run::sci_telegram::written_is_read;
+use simulator_run::ixl_rules::control_table::sci_telegram::written_is_read;
 
 /// Where the links are lawful, and the machine sees the interlocking and each controller, all that a step of the interlocking
 /// takes of the far ends is so.

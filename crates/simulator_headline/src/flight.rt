@@ -33,8 +33,8 @@ use simulator_machine_links::{
     flows_are_in_order, items_join, lawful_links_stay_lawful, lawful_worlds_stay_lawful,
     representations_tell_the_connection, servers_enter_once,
 };
-use simulator_run::control_table::required_points_are_there;
-use simulator_run::rasta_core::{items_are_counted, outside_until_it_enters};
+use simulator_run::ixl_rules::control_table::required_points_are_there;
+use simulator_run::ixl_rules::rasta_core::{items_are_counted, outside_until_it_enters};
 use simulator_run_links::{
     deliveries_may_come, ends_are_those_of_the_nodes, layouts_name_their_links,
 };

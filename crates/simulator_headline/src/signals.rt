@@ -23,8 +23,8 @@ use simulator_machine_controllers::{
 use simulator_machine_links::{
     a_node_of_one_link_makes_a_step, lawful_worlds_stay_lawful, restarts_are_moves,
 };
+use simulator_run::ixl_rules::rasta_core::a_node_restarts;
 use simulator_run::object_host::{step_is_calls, steps_keep_a_host};
-use simulator_run::rasta_core::a_node_restarts;
 use simulator_run::signal_ctl::Signal;
 use simulator_run_links::{
     deliveries_may_come, ends_are_those_of_the_nodes, hosts_say_items, layouts_name_their_links,

@@ -26,7 +26,7 @@ use simulator_machine_interlocking::{steps_are_seen, tables_are_sound};
 use simulator_machine_links::{
     a_client_of_many_makes_a_step, lawful_worlds_stay_lawful, representations_tell_the_connection,
 };
-use simulator_run::rasta_core::a_node_makes_a_step;
+use simulator_run::ixl_rules::rasta_core::a_node_makes_a_step;
 use simulator_run_links::{
     deliveries_may_come, ends_are_those_of_the_nodes, events_are_those_of_the_links,
     interlockings_call_their_nodes, layouts_name_their_links,

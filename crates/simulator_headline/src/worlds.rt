@@ -24,7 +24,7 @@ ghost use Rattle.simulator_run.specs.simulator_snapshot.declared.snapshot.Snapsh
 ghost use Rattle.simulator_headline.specs.Seen.{AreHeldPairs, IsSeen};
 
 use simulator_machine::equal_numbers_are_same;
-use simulator_run::control_table::{
+use simulator_run::ixl_rules::control_table::{
     a_route_leads_over_its_sections_alone, required_points_are_there,
 };
 

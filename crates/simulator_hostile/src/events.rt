@@ -7,11 +7,15 @@ use crate::trains::Train;
 use chance::Chance;
 use simulator::World;
 use simulator::simulator_field::SentOn;
-use simulator::simulator_run::control_table::Checked;
 use simulator::simulator_run::ixl_rules::Command;
-use simulator::simulator_run::layout::{Layout, PointId, RouteId, SectionId};
-use simulator::simulator_run::rasta_core::Role;
-use simulator::simulator_run::sci_telegram::{Aspect, Occupancy, Position, Side};
+use simulator::simulator_run::ixl_rules::control_table::Checked;
+use simulator::simulator_run::ixl_rules::control_table::layout::{
+    Layout, PointId, RouteId, SectionId,
+};
+use simulator::simulator_run::ixl_rules::control_table::sci_telegram::{
+    Aspect, Occupancy, Position, Side,
+};
+use simulator::simulator_run::ixl_rules::rasta_core::Role;
 use simulator::simulator_run::simulator_event::{ClockSteps, Event, NodeId, RawDatagram};
 use simulator::simulator_run::simulator_snapshot::Snapshot;
 use std::alloc::{AllocError, Global};

@@ -5,8 +5,8 @@ use crate::layouts::{JUNCTION, LOOP, SMALL};
 use crate::tally::{Count, Tally};
 use crate::watch::Watch;
 use simulator::World;
-use simulator::simulator_run::control_table::check;
-use simulator::simulator_run::layout::Layout;
+use simulator::simulator_run::ixl_rules::control_table::check;
+use simulator::simulator_run::ixl_rules::control_table::layout::Layout;
 use std::alloc::Global;
 use std::process::Abort;
 

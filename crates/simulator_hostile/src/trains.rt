@@ -1,8 +1,8 @@
 //! Trains that run on routes.
 
-use simulator::simulator_run::control_table::Checked;
-use simulator::simulator_run::layout::{RouteId, SectionId};
-use simulator::simulator_run::sci_telegram::Occupancy;
+use simulator::simulator_run::ixl_rules::control_table::Checked;
+use simulator::simulator_run::ixl_rules::control_table::layout::{RouteId, SectionId};
+use simulator::simulator_run::ixl_rules::control_table::sci_telegram::Occupancy;
 
 /// A train on a route: how many of its moves it has made.
 #[derive(Clone, Copy)]

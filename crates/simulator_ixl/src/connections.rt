@@ -8,9 +8,9 @@ ghost use Rattle.simulator_run.specs.Nodes.{partners};
 ghost use Rattle.simulator_run.specs.Interlocking.{begun_by, sending_one};
 ghost use Rattle.simulator_ixl.specs.inside.Connections.{AreOf, sending_by};
 
-use ixl_state::layout::{Detector, Layout, Point, Signal};
-use ixl_state::rasta_core::Role;
-use ixl_state::rasta_pdu::{Datagram, is_request, receiver_of};
+use ixl_state::ixl_rules::control_table::layout::{Detector, Layout, Point, Signal};
+use ixl_state::ixl_rules::rasta_core::Role;
+use ixl_state::ixl_rules::rasta_pdu::{Datagram, is_request, receiver_of};
 use simulator_field::Network;
 use std::alloc::{AllocError, Global};
 

@@ -5,7 +5,7 @@ ghost use Rattle.simulator_run.specs.Interlocking.{authorities, held_of};
 
 use crate::clocked_interlocking::ClockedInterlocking;
 use arrayvec::ArrayVec;
-use ixl_state::layout::SignalId;
+use ixl_state::ixl_rules::control_table::layout::SignalId;
 use simulator_run::simulator_snapshot::Held;
 
 /// The frozen pairs, as they are lent.

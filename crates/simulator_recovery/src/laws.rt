@@ -13,7 +13,7 @@ ghost use Rattle.simulator_headline.specs.Reached.{IsReached};
 ghost use Rattle.simulator_recovery.specs.Rounds.{AllCome, HasTime, IsWork, LeavesFresh, all_tried, clocks_of, good_rounds, hold_rounds, rounds_later};
 
 use simulator_headline::reached_worlds_are_safe;
-use simulator_run::rasta_core::links_keep_time;
+use simulator_run::ixl_rules::rasta_core::links_keep_time;
 use simulator_run_links::{layouts_name_their_links, stations_have_links};
 
 /// Good rounds, and what comes between them, are events that can happen: they lead from a world that is reached to one that is.

@@ -15,9 +15,6 @@ pub use round::{FoundDriven, RoundEvent};
 
 // What crates above need of the crates below.
 pub use ixl_rules;
-pub use ixl_rules::{
-    bit_row, control_table, ixl_client, layout, rasta_core, rasta_pdu, sci_telegram,
-};
 pub use object_host;
 pub use point_ctl;
 pub use signal_ctl;

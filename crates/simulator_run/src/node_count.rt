@@ -3,7 +3,7 @@
 ghost use Rattle.std.specs.Prelude.{◌≡◌, ◌≤◌};
 ghost use Rattle.simulator_run.specs.Nodes.{links, nodes};
 
-use ixl_rules::layout::Layout;
+use ixl_rules::control_table::layout::Layout;
 
 /// How many object controllers there are, and so how many links: at most 80.
 pub fn links(layout: &Layout) -> usize

@@ -1,6 +1,6 @@
 //! What a round of a flow of time consists of.
 
-use ixl_rules::sci_telegram::Side;
+use ixl_rules::control_table::sci_telegram::Side;
 use simulator_event::Event;
 
 /// The side to which a point was found driven, and at the ends of how many rounds one after the other; 50 stands for

@@ -20,15 +20,15 @@ use simulator_machine_links::{
     a_node_of_one_link_makes_a_step, calls_may_follow_calls, calls_of_a_server_are_sent,
     clients_ask_where_they_begin,
 };
-use simulator_run::object_host::step_is_calls;
-use simulator_run::point_ctl::Point;
-use simulator_run::rasta_core::{
+use simulator_run::ixl_rules::control_table::sci_telegram::written_is_read;
+use simulator_run::ixl_rules::rasta_core::{
     a_node_makes_a_step, a_node_restarts, calls_at_one_clock, copies_are_delivered,
     each_link_sees_its_events, links_are_settled, links_keep_time, opening_is_new,
     outside_until_it_enters, what_is_taken,
 };
-use simulator_run::rasta_pdu::intact_is_tested;
-use simulator_run::sci_telegram::written_is_read;
+use simulator_run::ixl_rules::rasta_pdu::intact_is_tested;
+use simulator_run::object_host::step_is_calls;
+use simulator_run::point_ctl::Point;
 use simulator_run::signal_ctl::Signal;
 use simulator_run::tds_ctl::Detection;
 
@@ -55,7 +55,7 @@ pub fn events_are_those_of_the_links()
     copies_are_delivered();
     each_link_sees_its_events();
     intact_is_tested();
-    simulator_run::ixl_client::step_is_calls();
+    simulator_run::ixl_rules::ixl_client::step_is_calls();
     links_are_settled();
     links_keep_time();
     opening_is_new();

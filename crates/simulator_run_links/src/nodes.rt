@@ -31,12 +31,12 @@ ghost use Rattle.simulator_run_links.specs.Nodes.{IsEndOfClient, IsEndOfServer, 
 ghost use Rattle.simulator_run_links.specs.Whole.{IsWhole};
 
 use simulator_machine_links::clients_ask_where_they_begin;
-use simulator_run::rasta_core::{
+use simulator_run::ixl_rules::control_table::sci_telegram::written_is_read;
+use simulator_run::ixl_rules::rasta_core::{
     a_node_makes_a_step, copies_are_delivered, each_link_sees_its_events, links_are_settled,
     links_keep_time, opening_is_new, what_is_taken,
 };
-use simulator_run::rasta_pdu::intact_is_tested;
-use simulator_run::sci_telegram::written_is_read;
+use simulator_run::ixl_rules::rasta_pdu::intact_is_tested;
 
 /// The ends of the link of a signal and of a point are those that its controller and the interlocking keep. The client's last
 /// connection on each link is the one that the interlocking began there last (*begun*).
@@ -95,7 +95,7 @@ pub fn interlockings_call_their_nodes()
     a_node_makes_a_step();
     clients_ask_where_they_begin();
     each_link_sees_its_events();
-    simulator_run::ixl_client::step_is_calls();
+    simulator_run::ixl_rules::ixl_client::step_is_calls();
     links_are_settled();
     links_keep_time();
     opening_is_new();

@@ -14,7 +14,7 @@ ghost use Rattle.simulator_run.specs.State.{WorldState};
 ghost use Rattle.simulator_run_links.specs.Follows.{Follows};
 ghost use Rattle.simulator_run_links.specs.Whole.{IsWhole};
 
-use simulator_run::rasta_core::{
+use simulator_run::ixl_rules::rasta_core::{
     a_node_restarts, each_link_sees_its_events, links_are_settled, links_keep_time,
 };
 

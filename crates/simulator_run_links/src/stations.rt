@@ -18,7 +18,7 @@ ghost use Rattle.simulator_run_links.specs.HasLinks.{HasLinks, IsSafeLink, IsSta
 
 use crate::events::events_are_those_of_the_links;
 use simulator_run::a_station_begins_its_links;
-use simulator_run::rasta_core::{
+use simulator_run::ixl_rules::rasta_core::{
     each_link_is_a_run, items_are_fresh, links_keep_time, opening_is_new, own_connection,
 };
 

@@ -21,13 +21,13 @@ ghost use Rattle.simulator_silence.specs.Silence.{IsSpent, TakesNone, silence_li
 use object_host_theorem::{point_reports_its_moves, signal_shows_what_was_told};
 use simulator_headline::every_world_is_safe;
 use simulator_run::a_station_begins_its_links;
-use simulator_run::object_host::step_is_calls;
-use simulator_run::point_ctl::Point;
-use simulator_run::rasta_core::{
+use simulator_run::ixl_rules::rasta_core::{
     copies_are_delivered, each_delivery_is_seen, each_link_sees_its_events, every_event_keeps_time,
     items_are_counted, links_keep_time, one_connection, own_connection, what_is_taken,
 };
-use simulator_run::rasta_pdu::intact_is_tested;
+use simulator_run::ixl_rules::rasta_pdu::intact_is_tested;
+use simulator_run::object_host::step_is_calls;
+use simulator_run::point_ctl::Point;
 use simulator_run::signal_ctl::Signal;
 use simulator_run::tds_ctl::Detection;
 use simulator_run_links::{

@@ -4,9 +4,9 @@ use crate::seen::Seen;
 use crate::station::{listed, station};
 use simulator::World;
 use simulator::simulator_run::ixl_rules::Command;
-use simulator::simulator_run::layout::{PointId, RouteId};
-use simulator::simulator_run::rasta_core::Role;
-use simulator::simulator_run::sci_telegram::Position;
+use simulator::simulator_run::ixl_rules::control_table::layout::{PointId, RouteId};
+use simulator::simulator_run::ixl_rules::control_table::sci_telegram::Position;
+use simulator::simulator_run::ixl_rules::rasta_core::Role;
 use simulator::simulator_run::simulator_event::{
     Answer, ClockSteps, Event, NodeId, RawDatagram, Refused,
 };

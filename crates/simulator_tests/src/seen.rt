@@ -3,9 +3,13 @@
 use crate::events::{at_proceed, in_bag};
 use crate::station::station;
 use simulator::World;
-use simulator::simulator_run::control_table::Checked;
-use simulator::simulator_run::layout::{PointId, RouteId, SectionId, SignalId};
-use simulator::simulator_run::sci_telegram::{Aspect, Occupancy, Position, Side};
+use simulator::simulator_run::ixl_rules::control_table::Checked;
+use simulator::simulator_run::ixl_rules::control_table::layout::{
+    PointId, RouteId, SectionId, SignalId,
+};
+use simulator::simulator_run::ixl_rules::control_table::sci_telegram::{
+    Aspect, Occupancy, Position, Side,
+};
 use simulator::simulator_run::simulator_snapshot::{Held, Shown, Snapshot, Stands};
 use std::alloc::Global;
 use std::process::Abort;

@@ -4,8 +4,8 @@
 //! No function here has clauses: so a test is proved from none of what the calls of a world promise.
 
 use simulator::World;
-use simulator::simulator_run::control_table::{TableFault, check};
-use simulator::simulator_run::layout::{Layout, LayoutFault};
+use simulator::simulator_run::ixl_rules::control_table::layout::{Layout, LayoutFault};
+use simulator::simulator_run::ixl_rules::control_table::{TableFault, check};
 use std::alloc::Global;
 use std::process::Abort;
 

@@ -5,7 +5,7 @@ ghost use Rattle.station_decode.specs.DecodedLine.{CanDecode, Explained, Explain
 
 use crate::datagram::datagram_words;
 use crate::failure::{Failure, tell_failure};
-use ixl_rules::layout::{Layout, LayoutFault};
+use ixl_rules::control_table::layout::{Layout, LayoutFault};
 use replay_words::hexadecimal_or_none;
 use std::alloc::Global;
 use std::io::Write;

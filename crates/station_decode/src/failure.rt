@@ -3,7 +3,7 @@
 ghost use Rattle.std.specs.Prelude.{◌≡◌};
 ghost use Rattle.station_decode.specs.DecodedLine.{Tells};
 
-use ixl_rules::layout::LayoutFault;
+use ixl_rules::control_table::layout::LayoutFault;
 use replay_words::{Fault, write_as_taken};
 use station_check::tell;
 use std::alloc::AllocError;

@@ -8,8 +8,8 @@ ghost use Rattle.station_decode.specs.inside.Spaced.{spaced};
 
 use crate::message::push_message;
 use crate::word_table::telegram_fault_words;
+use ixl_rules::control_table::sci_telegram::{Name, SciFault, Telegram, read};
 use ixl_rules::rasta_pdu::{Item, Items};
-use ixl_rules::sci_telegram::{Name, SciFault, Telegram, read};
 use std::alloc::{AllocError, Global};
 
 /// By which words a PDU calls its sender and its receiver.

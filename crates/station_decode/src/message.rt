@@ -8,7 +8,7 @@ ghost use Rattle.station_decode.specs.Telegrams.{message_words};
 use crate::word_table::{
     agreement_word, aspect_word, occupancy_word, position_word, protocol_word, side_word,
 };
-use ixl_rules::sci_telegram::{
+use ixl_rules::control_table::sci_telegram::{
     DetectionMessage, Initialisation, Message, PointMessage, Protocol, SignalMessage,
 };
 use std::alloc::AllocError;

@@ -3,10 +3,10 @@
 ghost use Rattle.std.specs.Prelude.{◌≡◌, IfOk, map, option_copied, string_bytes};
 ghost use Rattle.station_decode.specs.Datagrams.{identified, key_in, name_among, node_word, nodes_known};
 
+use ixl_rules::control_table::layout::{Detector, Layout, Point, Signal};
+use ixl_rules::control_table::sci_telegram::Name;
 use ixl_rules::key_of;
-use ixl_rules::layout::{Detector, Layout, Point, Signal};
 use ixl_rules::rasta_pdu::Key;
-use ixl_rules::sci_telegram::Name;
 use std::alloc::{AllocError, Global};
 
 /// The key under which datagrams are read: the layout's, and otherwise the standard start of MD4.

@@ -14,8 +14,10 @@ ghost use Rattle.station_decode.specs.Words.{
   type_words,
 };
 
+use ixl_rules::control_table::sci_telegram::{
+    Agreement, Aspect, Occupancy, Position, Protocol, SciFault, Side,
+};
 use ixl_rules::rasta_pdu::{Body, PduFault};
-use ixl_rules::sci_telegram::{Agreement, Aspect, Occupancy, Position, Protocol, SciFault, Side};
 
 /// The type of a PDU.
 pub(crate) fn type_words(body: &Body) -> &'static str

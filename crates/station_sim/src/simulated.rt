@@ -9,7 +9,7 @@ use crate::Playable;
 use control_table::Checked;
 use control_table::layout::{Layout, PointId};
 use control_table::sci_telegram::{Occupancy, Position, Side};
-use replay::simulator::simulator_run::rasta_core::Role;
+use replay::simulator::simulator_run::ixl_rules::rasta_core::Role;
 use replay::simulator::{Event, NodeId, Refused, Reply, World};
 use replay::try_event;
 use std::alloc::{AllocError, Global};
