@@ -7,6 +7,7 @@ tells the processor time and the time on the clock.
     python3 bench/first_run.py CRATE [WORD ..]      the words are the program's arguments
     python3 bench/first_run.py CRATE --libraries    builds the libraries alone
 """
+import contextlib
 import copy
 import os
 import pathlib
@@ -122,7 +123,7 @@ class SideBySide:
             ready.remove(first)
             self.begin(first, 0)
         kept = 0 if first in self.running else self.needs(first)
-        priority = min(self.running.get(first, 0) + 5, 19)
+        priority = min(self.running.get(first, 0) + 10, 19)
         for crate in ready:
             is_full = len(self.running) >= self.processors
             needs = sum(map(self.needs, self.running)) + self.needs(crate) + kept
@@ -142,12 +143,31 @@ class SideBySide:
         return True
 
 
+@contextlib.contextmanager
+def files_in_memory(rt):
+    """The prover writes and reads a small file for each function below. They go to memory where there is room for them, and where
+    nobody has said another place."""
+    if "TMPDIR" in os.environ or not os.path.isdir("/dev/shm") or rt.free() < 12_000_000_000:
+        yield
+        return
+    with tempfile.TemporaryDirectory(dir="/dev/shm") as room:
+        os.environ["TMPDIR"] = room
+        yield
+
+
+def run(rt, name, words):
+    """Builds and runs the program itself, over libraries that are built."""
+    jobs = ["--jobs", str(rt.processors())]
+    return subprocess.run(["rt", "run", *jobs, "--", *words], cwd=f"{ROOT}/crates/{name}").returncode
+
+
 def main(name, *words):
     rt = load_rt()
     begun = time.monotonic()
-    status = 0 if build_libraries(rt, name) else 1
-    if not status and words != ("--libraries",):
-        status = subprocess.run(["rt", "run", "--", *words], cwd=f"{ROOT}/crates/{name}").returncode
+    with files_in_memory(rt):
+        status = 0 if build_libraries(rt, name) else 1
+        if not status and words != ("--libraries",):
+            status = run(rt, name, words)
     print(f"\nall in: {used() / 60:.0f} minutes of processor time", file=sys.stderr)
     print(f"on the clock: {(time.monotonic() - begun) / 60:.0f} minutes", file=sys.stderr)
     return status
