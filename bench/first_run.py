@@ -97,8 +97,7 @@ class SideBySide:
         self.rt, self.longest = rt, chains(crates)
         self.processors, self.memory = rt.processors(), 0.85 * rt.free()
         self.left = sorted(crates, key=lambda it: -self.longest[it.name])
-        # the crates that are built, each with its priority (0 is the first)
-        self.running, self.built, self.ended = {}, set(), queue.SimpleQueue()
+        self.running, self.built, self.ended = [], set(), queue.SimpleQueue()
 
     def needs(self, crate):
         """The most memory that a build takes, in bytes: its processes share most of what they read."""
@@ -113,7 +112,7 @@ class SideBySide:
                 self.ended.put((crate, done))
 
         self.left.remove(crate)
-        self.running[crate] = priority
+        self.running.append(crate)
         threading.Thread(target=work).start()
 
     def begin_those_that_may(self):
@@ -123,20 +122,21 @@ class SideBySide:
             ready.remove(first)
             self.begin(first, 0)
         kept = 0 if first in self.running else self.needs(first)
-        priority = min(self.running.get(first, 0) + 10, 19)
         for crate in ready:
             is_full = len(self.running) >= self.processors
             needs = sum(map(self.needs, self.running)) + self.needs(crate) + kept
             if self.running and (is_full or needs > self.memory):
                 break
-            self.begin(crate, priority)
+            # what will soon be waited for goes before what won't be for long
+            is_near = 2 * self.longest[crate.name] > self.longest[first.name]
+            self.begin(crate, 10 if is_near else 19)
 
     def are_built(self):
         """Builds them all, and ends where one can't be."""
         while self.left or self.running:
             self.begin_those_that_may()
             crate, done = self.ended.get()
-            self.running.pop(crate)
+            self.running.remove(crate)
             if not done:
                 return False
             self.built.add(crate.name)
