@@ -64,3 +64,10 @@ unmoved rest inside old point route known_point same within is = sym (there insi
 
 pub none_unmoved : (rest : Rest) (inside old : FieldState) (point route : ℕ) → inside ≡ old → length inside.known_points ≤ point → false ≡ is_unmoved (kept old rest) point route
 none_unmoved rest inside old point route same beyond = sym (nowhere inside.known_points (λ (w : KnownPointState). not (contains w.moved route)) point beyond) ∙ ap (λ (f : FieldState). is_unmoved (kept f rest) point route) same
+
+-- a test of an object that is looked at, by its place in one of the field's lists; and past the end of the list
+pub looked_at : {A : Type 0} (of : FieldState → List A) (test : A → Bool) (inside old : FieldState) (place : ℕ) (one : A) → inside ≡ old → place < length (of inside) → one ≡ get_or (of inside) place one → test one ≡ at (of old) place test
+looked_at of test inside old place one same within is = sym (there (of inside) test place one within is) ∙ ap (λ (f : FieldState). at (of f) place test) same
+
+pub looked_past : {A : Type 0} (of : FieldState → List A) (test : A → Bool) (inside old : FieldState) (place : ℕ) → inside ≡ old → length (of inside) ≤ place → false ≡ at (of old) place test
+looked_past of test inside old place same beyond = sym (nowhere (of inside) test place beyond) ∙ ap (λ (f : FieldState). at (of f) place test) same

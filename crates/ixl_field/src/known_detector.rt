@@ -5,6 +5,7 @@ ghost use Rattle.std.specs.FinSet.{contains, empty};
 ghost use Rattle.std.specs.List.{All};
 ghost use Rattle.ixl_rules.specs.rasta_core.Calls.{MayStep, IsAt, receiving};
 ghost use Rattle.ixl_rules.specs.rasta_core.Outbox.{HasRoomFor};
+ghost use Rattle.ixl_rules.specs.rasta_core.State.{is_up};
 ghost use Rattle.ixl_rules.specs.ixl_client.Client.{is_ready};
 ghost use Rattle.ixl_rules.specs.ixl_client.declared.indication.Indication.{Indication as Told};
 ghost use Rattle.ixl_rules.specs.StepSoFar.{detector_after};
@@ -89,6 +90,13 @@ impl KnownDetector {
         ensures { result ≡ is_ready self.now.client.stage }
     {
         self.client.is_ready()
+    }
+
+    /// Whether its link is up, as of the last step.
+    pub fn is_up(&self) -> bool
+        ensures { result ≡ is_up self.now.client.link.phase }
+    {
+        self.client.link().is_up_now()
     }
 
     /// The sections last told as occupied.

@@ -4,6 +4,7 @@ ghost use Rattle.std.specs.Prelude.{◌≡◌, ◌<◌, ◌≤◌, ◌&&◌, Non
 ghost use Rattle.std.specs.FinSet.{contains, empty};
 ghost use Rattle.ixl_rules.specs.rasta_core.Calls.{MayStep, IsAt, receiving};
 ghost use Rattle.ixl_rules.specs.rasta_core.Outbox.{HasRoomFor};
+ghost use Rattle.ixl_rules.specs.rasta_core.State.{is_up};
 ghost use Rattle.ixl_rules.specs.ixl_client.Client.{is_available, is_ready};
 ghost use Rattle.ixl_rules.specs.ixl_client.declared.indication.Indication.{Indication as Told};
 ghost use Rattle.ixl_rules.specs.StepSoFar.{all_below, known_point_after};
@@ -90,6 +91,20 @@ impl KnownPoint {
         ensures { result.now ≡ self.now.client }
     {
         &self.client
+    }
+
+    /// Whether the initialisation was completed in the present connection.
+    pub fn is_ready(&self) -> bool
+        ensures { result ≡ is_ready self.now.client.stage }
+    {
+        self.client.is_ready()
+    }
+
+    /// Whether its link is up, as of the last step.
+    pub fn is_up(&self) -> bool
+        ensures { result ≡ is_up self.now.client.link.phase }
+    {
+        self.client.link().is_up_now()
     }
 
     /// Whether its link is ready, and every move given in the present connection is answered.

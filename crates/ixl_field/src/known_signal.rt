@@ -6,7 +6,7 @@ ghost use Rattle.ixl_rules.specs.rasta_core.Outbox.{HasRoomFor};
 ghost use Rattle.ixl_rules.specs.ixl_client.Client.{is_ready};
 ghost use Rattle.ixl_rules.specs.StepSoFar.{known_signal_after};
 ghost use Rattle.ixl_rules.specs.Step.{aspect_of, clocked_known_signal, indicated_heard};
-ghost use Rattle.ixl_rules.specs.rasta_core.State.{confirmed_items};
+ghost use Rattle.ixl_rules.specs.rasta_core.State.{confirmed_items, is_up};
 ghost use Rattle.ixl_rules.specs.View.{has_taken_stop, is_known_signal_at_stop};
 ghost use Rattle.ixl_field.specs.Nodes.{KnownSignalGoes, known_signal_given, known_signal_heard, known_signal_ticked};
 
@@ -79,6 +79,13 @@ impl KnownSignal {
         ensures { result ≡ is_ready self.now.client.stage }
     {
         self.client.is_ready()
+    }
+
+    /// Whether its link is up, as of the last step.
+    pub fn is_up(&self) -> bool
+        ensures { result ≡ is_up self.now.client.link.phase }
+    {
+        self.client.link().is_up_now()
     }
 
     /// The aspect that its controller last indicated in the present connection.

@@ -60,14 +60,14 @@ impl Field {
     pub fn is_point_ready(&self, point: usize) -> bool
         ensures { (rest : Rest) → result ≡ is_point_ready (kept self.now rest) point }
     {
-        point < self.known_points.len() && self.known_points[point].client().is_ready()
+        point < self.known_points.len() && self.known_points[point].is_ready()
     }
 
     /// Whether a point's link is up, as of the last step.
     pub fn is_point_up(&self, point: usize) -> bool
         ensures { (rest : Rest) → result ≡ is_point_up (kept self.now rest) point }
     {
-        point < self.known_points.len() && self.known_points[point].client().link().is_up_now()
+        point < self.known_points.len() && self.known_points[point].is_up()
     }
 
     /// Whether a point is available, and its last report in the present connection told this side.
@@ -112,7 +112,7 @@ impl Field {
     pub fn is_signal_up(&self, signal: usize) -> bool
         ensures { (rest : Rest) → result ≡ is_signal_up (kept self.now rest) signal }
     {
-        signal < self.known_signals.len() && self.known_signals[signal].client().link().is_up_now()
+        signal < self.known_signals.len() && self.known_signals[signal].is_up()
     }
 
     /// Whether a signal is at known stop.
@@ -166,7 +166,7 @@ impl Field {
     pub fn is_detector_up(&self, place: usize) -> bool
         ensures { (rest : Rest) → result ≡ is_detector_up (kept self.now rest) place }
     {
-        place < self.detectors.len() && self.detectors[place].client().link().is_up_now()
+        place < self.detectors.len() && self.detectors[place].is_up()
     }
 
     /// The sections that a detector last told as occupied, by their places in its order.
