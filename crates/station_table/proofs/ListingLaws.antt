@@ -1,5 +1,5 @@
 -- Lists grow place by place, and have the texts of what belongs to them, and no others.
-use Rattle.std.proofs.Common.{◌≡◌, ℕ, zero, suc, ◌+◌, ◌<◌, Bool, true, false, List, [], ◌∷◌, ◌++◌, length, map, refl, inl, inr, sym, ap, subst, ◌∙◌, IsTrue, ◌↔◌, arith}
+use Rattle.std.proofs.Common.{◌≡◌, ◌⊎◌, ℕ, zero, suc, ◌+◌, ◌<◌, ◌≤◌, Bool, true, false, List, [], ◌∷◌, ◌++◌, length, map, refl, inl, inr, sym, ap, subst, ◌∙◌, IsTrue, ◌↔◌, arith}
 use Rattle.std.proofs.lemmas.Bool.{cases_lt, false≢true}
 use Rattle.std.proofs.lemmas.List.{append-nil, map-append}
 use Rattle.std.proofs.lemmas.List.Elements.{Contains-append_cases, Contains-append_left, Contains-append_right, Contains-push, Contains-push_cases}
@@ -7,7 +7,7 @@ use Rattle.std.specs.List.{Contains}
 use Rattle.control_table.specs.layout.declared.ids.RouteId.{RouteId}
 use Rattle.control_table.specs.layout.Entries.{Site}
 use Rattle.control_table.specs.Table.{Conflict}
-use Rattle.station_table.specs.ListedPlaces.{ListsBelow, TellsIf}
+use Rattle.station_table.specs.ListedPlaces.{ListsBelow, ListsOne, TellsIf}
 use Rattle.station_table.specs.Row.{IsConflictText, TellsConflicts, route_at}
 
 -- ---- one place
@@ -23,6 +23,37 @@ pub adds_one : {Y : Type 0} (view : Y → List ℕ) (Belongs : Type 0) (IsText :
     → new ≡ old ++ y ∷ [] → Adds Belongs IsText (map view old) (map view new)
 adds_one view Belongs IsText r old new y decides into is push =
     (view y ∷ [], inl (decides.0 into, (view y, is, refl)), ap (map view) push ∙ map-append view old (y ∷ []))
+
+-- ---- whether some place belongs to a list
+
+module _ (Belongs : ℕ → Type 0) where
+  -- of no place so far, and not of the next
+  pub none_more : (n : ℕ) (result : Bool) → ((k : ℕ) → k < n → Belongs k → ⊥) → IsTrue result ↔ Belongs n → result ≡ false → (k : ℕ) → k < n + 1 → Belongs k → ⊥
+  none_more n result none decides out k less belongs = by_order (cases_lt k n) where
+    by_order : (k < n) ⊎ (n ≤ k) → ⊥
+    by_order (inl before) = none k before belongs
+    by_order (inr behind) =
+        let same : k ≡ n = omega (arith, less, behind)
+        in false≢true (sym out ∙ decides.1 (subst Belongs same belongs))
+
+  pub one_found : (n count : ℕ) (result : Bool) → n < count → IsTrue result ↔ Belongs n → result ≡ true → IsTrue true ↔ ListsOne Belongs count
+  one_found n count result within decides is = ((λ yes. (n, within, decides.0 is)), (λ some. refl))
+
+  -- of some of the first places, or of none
+  pub one_or_none : (n : ℕ) → ((k : ℕ) → k < n → Belongs k ⊎ (Belongs k → ⊥)) → ListsOne Belongs n ⊎ ((k : ℕ) → k < n → Belongs k → ⊥)
+  one_or_none zero decides = inr (λ k less belongs. omega (arith, less))
+  one_or_none (suc n) decides = elim (one_or_none n (λ k less. decides k (omega (arith, less)))) [
+    | inl one ↦ let less = one.1 in inl (one.0, omega (arith, less), one.2)
+    | inr none ↦ elim (decides n (omega arith)) [
+      | inl belongs ↦ inl (n, omega arith, belongs)
+      | inr never ↦
+          let step : n + 1 ≡ suc n = omega arith
+          in inr (λ k less. none_more n false none ((λ yes. absurd (false≢true yes)), (λ belongs. absurd (never belongs))) refl k (omega (arith, less, step)))
+    ]
+  ]
+
+  pub none_found : (n count : ℕ) → count ≤ n → ((k : ℕ) → k < n → Belongs k → ⊥) → IsTrue false ↔ ListsOne Belongs count
+  none_found n count all none = ((λ yes. absurd (false≢true yes)), (λ some. let within = some.1 in absurd (none some.0 (omega (arith, within, all)) some.2)))
 
 -- ---- all places
 
@@ -63,6 +94,23 @@ module _ (Belongs : ℕ → Type 0) (IsText : ℕ → List ℕ → Type 0) where
           let T : ℕ → Type 0 = λ j. IsText j belongs_too.1.0 in
           (belongs_too.1.0, subst T (sym same) belongs_too.1.1, subst (λ xs. Contains xs belongs_too.1.0) (sym is) (Contains-append_right front last belongs_too.1.0 here))
       last_told n k texts front last same belongs (inr none) is = absurd (none.0 (subst Belongs same belongs))
+
+  -- the list tells whether a place belongs to it
+  pub tells_whether : (n k : ℕ) (texts : List (List ℕ)) → ListsBelow Belongs IsText n texts → k < n → ((text : List ℕ) × IsText k text × Belongs k) ⊎ (Belongs k → ⊥)
+  unfolding ListsBelow
+  tells_whether zero k texts below lt = absurd (omega (arith, lt))
+  tells_whether (suc n) k texts below lt = elim (cases_lt k n) [
+    | inl less ↦ tells_whether n k below.0 below.2 less
+    | inr le ↦
+        let same : k ≡ n = omega (arith, lt, le) in
+        last_tells n k below.1 same below.3
+  ]
+    where
+      last_tells : (n k : ℕ) (last : List (List ℕ)) → k ≡ n → TellsIf (Belongs n) (IsText n) last → ((text : List ℕ) × IsText k text × Belongs k) ⊎ (Belongs k → ⊥)
+      last_tells n k last same (inl belongs_too) =
+          let T : ℕ → Type 0 = λ j. IsText j belongs_too.1.0 in
+          inl (belongs_too.1.0, subst T (sym same) belongs_too.1.1, subst Belongs (sym same) belongs_too.0)
+      last_tells n k last same (inr none) = inr (λ belongs. none.0 (subst Belongs same belongs))
 
   -- what is told there belongs to the list
   pub told_belongs : (n : ℕ) (texts : List (List ℕ)) → ListsBelow Belongs IsText n texts → (text : List ℕ) → Contains texts text → (k : ℕ) × (k < n) × Belongs k × IsText k text

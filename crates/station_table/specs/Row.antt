@@ -1,6 +1,7 @@
 -- The row of a route: what each of its cells says.
-use Rattle.std.specs.Prelude.{◌≡◌, ℕ, Bool, ◌==◌, ◌&&◌, true, false, List, length, map, filter, Option, Some, None}
-use Rattle.std.specs.List.{filter_map, list_any}
+use Rattle.std.specs.Prelude.{◌≡◌, ℕ, ◌+◌, Bool, ◌==◌, ◌&&◌, true, false, List, [], length, map, filter, drop, Option, Some, None, slice_get}
+use Rattle.std.specs.List.{Contains, filter_map, list_any}
+use Rattle.std.specs.Option.{option_map, unwrap_or}
 use Rattle.control_table.specs.sci_telegram.declared.message.Side.{Side}
 use Rattle.control_table.specs.sci_telegram.declared.message.Side.TheVariants as side
 use Rattle.control_table.specs.layout.declared.ids.PointId.{PointId}
@@ -12,7 +13,7 @@ use Rattle.control_table.specs.layout.Entries.{RouteEntry, Site}
 use Rattle.control_table.specs.AwaitedSections.{Awaits}
 use Rattle.control_table.specs.Table.{AreSections, Conflict, RouteRequires}
 use Rattle.station_table.specs.declared.conflict_reasons.ConflictReasons.{ConflictReasons}
-use Rattle.station_table.specs.ListedPlaces.{ListsBelow}
+use Rattle.station_table.specs.ListedPlaces.{ListsBelow, ListsOne}
 use Rattle.station_table.specs.Names.{aspect_word, exit_name, parted, point_name, route_name, section_name, side_word, signal_name, spaced, with_word}
 use Rattle.station_table.specs.Reasons.{AreReasons, reason_words}
 
@@ -64,19 +65,16 @@ flank_texts l flank = map (flank_text l) flank
 abbrev pub section_names : Site → List SectionId → List (List ℕ)
 section_names l sections = map (section_name l) sections
 
--- a section, point or route by its place
-abbrev pub section_at : ℕ → SectionId
-section_at k = record { 0 = k }
+-- the name of the section at a place of a path
+abbrev pub name_there : Site → List SectionId → ℕ → List ℕ
+name_there l sections place = unwrap_or (option_map (section_name l) (slice_get sections place)) []
 
+-- a point or route by its place
 abbrev pub point_at : ℕ → PointId
 point_at k = record { 0 = k }
 
 abbrev pub route_at : ℕ → RouteId
 route_at k = record { 0 = k }
-
--- A list names the sections that a point awaits which a route requires, in the order of the layout.
-abbrev pub NamesAwaited : Site → RouteId → PointId → List (List ℕ) → Type 0
-NamesAwaited l a p names = ListsBelow (λ k. Awaits l a p (section_at k)) (λ k text. text ≡ section_name l (section_at k)) (length l.sections) names
 
 -- ---- until when points are held, and conflicts
 
@@ -84,12 +82,33 @@ NamesAwaited l a p names = ListsBelow (λ k. Awaits l a p (section_at k)) (λ k 
 abbrev pub IsRequired : Site → RouteId → PointId → Type 0
 IsRequired l a p = (s : Side) × RouteRequires l a p s
 
--- What is told of a point that a route requires: the sections that it awaits.
-abbrev pub IsLetGoText : Site → RouteId → PointId → List ℕ → Type 0
-IsLetGoText l a p text = (names : List (List ℕ)) × NamesAwaited l a p names × (text ≡ with_word (point_name l p) (spaced names))
+-- A point is let go at a place of the sections of a route: the route requires it, and it awaits the section there, and none
+-- behind it.
+pub record IsLetGoAt (l : Site) (a : RouteId) (sections : List SectionId) (place : ℕ) (p : PointId) : Type 0 where
+  pub required : IsRequired l a p
+  pub section : SectionId
+  pub there : slice_get sections place ≡ Some section
+  pub awaits : Awaits l a p section
+  pub behind : (later : SectionId) → Contains (drop (place + 1) sections) later → Awaits l a p later → ⊥
 
-abbrev pub TellsLetGo : Site → RouteId → List (List ℕ) → Type 0
-TellsLetGo l a texts = ListsBelow (λ k. IsRequired l a (point_at k)) (λ k. IsLetGoText l a (point_at k)) (length l.points) texts
+-- Some point of the layout is let go at a place.
+abbrev pub LetsOneGo : Site → RouteId → List SectionId → ℕ → Type 0
+LetsOneGo l a sections place = ListsOne (λ k. IsLetGoAt l a sections place (point_at k)) (length l.points)
+
+-- A list names the points that are let go at a place, in the order of the layout.
+abbrev pub NamesLetGo : Site → RouteId → List SectionId → ℕ → List (List ℕ) → Type 0
+NamesLetGo l a sections place names = ListsBelow (λ k. IsLetGoAt l a sections place (point_at k)) (λ k text. text ≡ point_name l (point_at k)) (length l.points) names
+
+-- What is told of a section at which points are let go: these points.
+abbrev pub IsLetGoText : Site → RouteId → List SectionId → ℕ → List ℕ → Type 0
+IsLetGoText l a sections place text = (names : List (List ℕ)) × NamesLetGo l a sections place names × (text ≡ with_word (name_there l sections place) (spaced names))
+
+abbrev pub TellsLetGo : Site → RouteId → List SectionId → List (List ℕ) → Type 0
+TellsLetGo l a sections texts = ListsBelow (LetsOneGo l a sections) (IsLetGoText l a sections) (length sections) texts
+
+-- One of these texts tells of the section at a place, and names a point.
+abbrev pub TellsPoint : Site → List SectionId → ℕ → PointId → List (List ℕ) → Type 0
+TellsPoint l sections place p texts = (text : List ℕ) × (names : List (List ℕ)) × Contains texts text × Contains names (point_name l p) × (text ≡ with_word (name_there l sections place) (spaced names))
 
 -- What is told of a route that conflicts with another: the reasons.
 abbrev pub IsConflictText : Site → RouteId → RouteId → List ℕ → Type 0
@@ -104,9 +123,9 @@ TellsConflicts l a texts = ListsBelow (λ k. Conflict l a (route_at k)) (λ k. I
 abbrev pub IsSectionsCell : Site → RouteId → List ℕ → Type 0
 IsSectionsCell l a cell = (sections : List SectionId) × AreSections l a sections × (cell ≡ spaced (section_names l sections))
 
--- A cell has each point that a route requires, in the order of the layout, with the sections at which it is let go.
+-- A cell has each section at which a route lets points go, in the order of its path, with these points.
 abbrev pub IsLetGoCell : Site → RouteId → List ℕ → Type 0
-IsLetGoCell l a cell = (texts : List (List ℕ)) × TellsLetGo l a texts × (cell ≡ parted texts)
+IsLetGoCell l a cell = (sections : List SectionId) × AreSections l a sections × ((texts : List (List ℕ)) × TellsLetGo l a sections texts × (cell ≡ parted texts))
 
 -- A cell has each route that conflicts with a route, in the order of the table, with the reasons.
 abbrev pub IsConflictsCell : Site → RouteId → List ℕ → Type 0

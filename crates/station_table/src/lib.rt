@@ -15,5 +15,8 @@ mod table;
 
 pub use conflict_reasons::ConflictReasons;
 pub use form::Form;
-pub use laws::{each_conflict_is_told, routes_conflict_for_a_reason};
+pub use laws::{
+    a_layout_has_one_table, each_conflict_is_told, each_required_point_is_let_go,
+    routes_conflict_for_a_reason,
+};
 pub use table::table_text;

@@ -1,7 +1,7 @@
 //! Lists that tell of the places of a table, one after the other.
 
-ghost use Rattle.std.specs.Prelude.{◌≡◌, ◌++◌, ◌<◌, List, ℕ, map, IfOk, OnOk, string_bytes};
-ghost use Rattle.station_table.specs.ListedPlaces.{ListsBelow, TellsIf};
+ghost use Rattle.std.specs.Prelude.{◌≡◌, ◌++◌, ◌<◌, ◌↔◌, List, ℕ, map, IfOk, IsTrue, OnOk, string_bytes};
+ghost use Rattle.station_table.specs.ListedPlaces.{ListsBelow, ListsOne, TellsIf};
 
 use std::alloc::{AllocError, Global};
 
@@ -31,6 +31,18 @@ pub(crate) trait Listing {
     fn text(&self, alloc: Global, place: usize) -> Result<String, AllocError>
         requires { place < count self.now }
         ensures { IfOk result (λ text. is_text self.now place (string_bytes text)) };
+}
+
+/// Whether some place belongs to the list.
+pub(crate) fn lists_one<L: Listing>(listing: &L) -> bool
+    ensures { IsTrue result ↔ ListsOne (L.belongs listing.now) (L.count listing.now) }
+{
+    for place in 0..listing.count() {
+        if listing.belongs(place) {
+            return true;
+        }
+    }
+    false
 }
 
 /// Adds the text of a place, if it belongs to the list.

@@ -1,70 +1,52 @@
-//! Until when a route holds the points that it requires.
+//! At which section a route lets the points go that it requires.
 
-ghost use Rattle.std.specs.Prelude.{◌<◌, ◌↔◌, length, IfOk, IsTrue, string_bytes};
-ghost use Rattle.station_table.specs.Row.{IsLetGoCell, IsLetGoText, IsRequired, point_at};
+ghost use Rattle.std.specs.Prelude.{◌≡◌, ◌<◌, ◌&&◌, ◌↔◌, not, false, length, IfOk, IsTrue, slice_get, string_bytes};
+ghost use Rattle.std.specs.FinSet.{contains};
+ghost use Rattle.std.specs.List.{list_any};
+ghost use Rattle.std.specs.Option.{option_map_or};
+ghost use Rattle.station_table.specs.Row.{IsLetGoAt, IsLetGoCell, IsLetGoText, IsRequired, name_there, point_at};
 
 use crate::cells::{parted, spaced, with_word};
 use crate::conflict_reasons::either;
 use crate::entry_names::{point_name, section_name};
-use crate::listed_places::{Listing, listed};
+use crate::listed_places::{Listing, listed, lists_one};
 use control_table::Checked;
-use control_table::layout::{PointId, RouteId, SectionId};
+use control_table::bit_row::BitRow;
+use control_table::layout::{Layout, PointId, RouteId, SectionId};
 use std::alloc::{AllocError, Global};
 
-/// The sections that a point awaits which a route requires.
-#[derive(Clone, Copy)]
-struct Awaited<'a> {
-    table: &'a Checked,
-    route: RouteId,
-    point: PointId,
-    ghost there: { route.0 < length table.now.routes },
-}
-
-impl<'a> Listing for Awaited<'a> {
-    ghost use Rattle.std.specs.Prelude.{◌≡◌, length};
-    ghost use Rattle.control_table.specs.AwaitedSections.{Awaits};
-    ghost use Rattle.station_table.specs.Names.{section_name};
-    ghost use Rattle.station_table.specs.Row.{section_at};
-
-    ghost count = { λ awaited. length awaited.table.now.sections };
-
-    ghost belongs = { λ awaited place. Awaits awaited.table.now awaited.route awaited.point (section_at place) };
-
-    ghost is_text = { λ awaited place text. text ≡ section_name awaited.table.now (section_at place) };
-
-    fn count(&self) -> usize {
-        self.table.layout().sections().len()
-    }
-
-    fn belongs(&self, place: usize) -> bool {
-        self.table.awaited(self.route, self.point).contains(place)
-    }
-
-    fn text(&self, alloc: Global, place: usize) -> Result<String, AllocError> {
-        String::from_str(alloc, section_name(self.table.layout(), SectionId(place)))
-    }
-}
-
-/// What is told of a point that a route requires: its name, and the sections that it awaits.
-fn let_go_text(
-    alloc: Global,
-    table: &Checked,
-    route: RouteId,
-    point: PointId,
-) -> Result<String, AllocError>
-    requires { route.0 < length table.now.routes }
-    ensures { IfOk result (λ text. IsLetGoText table.now route point (string_bytes text)) }
+/// The name of the section at a place of a path.
+fn name_there<'a>(layout: &'a Layout, sections: &[SectionId], place: usize) -> &'a str
+    ensures { result.now ≡ name_there layout.now sections.now place }
 {
-    let awaited = Awaited {
-        table,
-        route,
-        point,
-    };
-    let names = listed(alloc, &awaited)?;
-    let names = spaced(alloc, &names)?;
-    let name = point_name(table.layout(), point);
-    let text = with_word(alloc, name, names.as_str())?;
-    Ok(text)
+    match sections.get(place) {
+        Some(section) => section_name(layout, *section),
+        None => "",
+    }
+}
+
+/// Whether a row has the section at a place.
+fn has_there(awaited: BitRow, sections: &[SectionId], place: usize) -> bool
+    ensures { result ≡ option_map_or (λ section. contains awaited section.0) (slice_get sections.now place) false }
+{
+    match sections.get(place) {
+        Some(section) => awaited.contains(section.0),
+        None => false,
+    }
+}
+
+/// Whether a row has one of some sections.
+fn has_one(awaited: BitRow, sections: &[SectionId]) -> bool
+    ensures { result ≡ list_any (λ section. contains awaited section.0) sections.now }
+{
+    sections.iter().any(|section| awaited.contains(section.0))
+}
+
+/// Whether the first two tests hold, and the third doesn't.
+fn both_without(one: bool, other: bool, third: bool) -> bool
+    ensures { result ≡ (one && (other && not third)) }
+{
+    one && other && !third
 }
 
 /// Whether a route requires a point at some side.
@@ -78,38 +60,108 @@ fn is_required(table: &Checked, route: RouteId, place: usize) -> bool
     either(right, left)
 }
 
-/// The points that a route requires, each with the sections that it awaits.
+/// The points that are let go at a place of the sections of a route.
 #[derive(Clone, Copy)]
-struct PointsLetGo<'a> {
+struct LetGoAt<'a> {
     table: &'a Checked,
     route: RouteId,
-    ghost there: { route.0 < length table.now.routes },
+    sections: &'a [SectionId],
+    place: usize,
+    ghost route_there: { route.0 < length table.now.routes },
+    ghost place_there: { place < length sections.now },
 }
 
-impl<'a> Listing for PointsLetGo<'a> {
-    ghost use Rattle.std.specs.Prelude.{length};
-    ghost use Rattle.station_table.specs.Row.{IsLetGoText, IsRequired, point_at};
+/// Whether a point is let go there.
+fn is_let_go(at: &LetGoAt<'_>, point: usize) -> bool
+    ensures { IsTrue result ↔ IsLetGoAt at.now.table.now at.now.route at.now.sections.now at.now.place (point_at point) }
+{
+    let is_required = is_required(at.table, at.route, point);
+    let awaited = at.table.awaited(at.route, PointId(point));
+    let awaits_there = has_there(awaited, at.sections, at.place);
+    let (_, behind) = at.sections.split_at(at.place + 1);
+    let awaits_behind = has_one(awaited, behind);
+    both_without(is_required, awaits_there, awaits_behind)
+}
 
-    ghost count = { λ points. length points.table.now.points };
+impl<'a> Listing for LetGoAt<'a> {
+    ghost use Rattle.std.specs.Prelude.{◌≡◌, length};
+    ghost use Rattle.station_table.specs.Names.{point_name};
+    ghost use Rattle.station_table.specs.Row.{IsLetGoAt, point_at};
 
-    ghost belongs = { λ points place. IsRequired points.table.now points.route (point_at place) };
+    ghost count = { λ at. length at.table.now.points };
 
-    ghost is_text = { λ points place text. IsLetGoText points.table.now points.route (point_at place) text };
+    ghost belongs = { λ at point. IsLetGoAt at.table.now at.route at.sections.now at.place (point_at point) };
+
+    ghost is_text = { λ at point text. text ≡ point_name at.table.now (point_at point) };
 
     fn count(&self) -> usize {
         self.table.layout().points().len()
     }
 
     fn belongs(&self, place: usize) -> bool {
-        is_required(self.table, self.route, place)
+        is_let_go(self, place)
     }
 
     fn text(&self, alloc: Global, place: usize) -> Result<String, AllocError> {
-        let_go_text(alloc, self.table, self.route, PointId(place))
+        String::from_str(alloc, point_name(self.table.layout(), PointId(place)))
     }
 }
 
-/// The cell of the points that a route requires, each with the sections at which it is let go.
+/// What is told of a section: its name, and the points that are let go there.
+fn let_go_text(alloc: Global, at: &LetGoAt<'_>) -> Result<String, AllocError>
+    ensures { IfOk result (λ text. IsLetGoText at.now.table.now at.now.route at.now.sections.now at.now.place (string_bytes text)) }
+{
+    let names = listed(alloc, at)?;
+    let names = spaced(alloc, &names)?;
+    let name = name_there(at.table.layout(), at.sections, at.place);
+    let text = with_word(alloc, name, names.as_str())?;
+    Ok(text)
+}
+
+/// The sections of a route at which it lets points go.
+#[derive(Clone, Copy)]
+struct PointsLetGo<'a> {
+    table: &'a Checked,
+    route: RouteId,
+    sections: &'a [SectionId],
+    ghost there: { route.0 < length table.now.routes },
+}
+
+impl<'a> Listing for PointsLetGo<'a> {
+    ghost use Rattle.std.specs.Prelude.{length};
+    ghost use Rattle.station_table.specs.Row.{IsLetGoText, LetsOneGo};
+
+    ghost count = { λ points. length points.sections.now };
+
+    ghost belongs = { λ points place. LetsOneGo points.table.now points.route points.sections.now place };
+
+    ghost is_text = { λ points place text. IsLetGoText points.table.now points.route points.sections.now place text };
+
+    fn count(&self) -> usize {
+        self.sections.len()
+    }
+
+    fn belongs(&self, place: usize) -> bool {
+        lists_one(&LetGoAt {
+            table: self.table,
+            route: self.route,
+            sections: self.sections,
+            place,
+        })
+    }
+
+    fn text(&self, alloc: Global, place: usize) -> Result<String, AllocError> {
+        let at = LetGoAt {
+            table: self.table,
+            route: self.route,
+            sections: self.sections,
+            place,
+        };
+        let_go_text(alloc, &at)
+    }
+}
+
+/// The cell of the sections at which a route lets points go, each with these points.
 pub(crate) fn let_go_cell(
     alloc: Global,
     table: &Checked,
@@ -118,7 +170,12 @@ pub(crate) fn let_go_cell(
     requires { route.0 < length table.now.routes }
     ensures { IfOk result (λ cell. IsLetGoCell table.now route (string_bytes cell)) }
 {
-    let points = PointsLetGo { table, route };
+    let sections = table.sections(route);
+    let points = PointsLetGo {
+        table,
+        route,
+        sections,
+    };
     let texts = listed(alloc, &points)?;
     let cell = parted(alloc, &texts)?;
     Ok(cell)

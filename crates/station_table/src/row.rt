@@ -34,7 +34,7 @@ pub(crate) struct Row {
     pub(crate) flank: String,
     /// The sections over which it leads.
     pub(crate) sections: String,
-    /// The points that it requires, each with the sections at which it is let go.
+    /// The sections at which it lets points go that it requires, each with these points.
     pub(crate) let_go: String,
     /// The sections on which a train approaches it.
     pub(crate) approach: String,

@@ -4,7 +4,11 @@ use Rattle.station_table.proofs.points_let_go.let_go_cell.Goals as goal
 
 pub returns : goal.returns
 returns c = (
-  map string_bytes c.in_ok-texts.texts.items,
-  c.in_ok-texts.ensures,
-  parted_own string_bytes c.deref.result.now c.in_ok-texts.texts.items (string_bytes c.in_ok-cell.cell) c.in_ok-cell.ensures c.deref.ensures.value,
+  c.sections-sections.result.now,
+  c.sections-sections.ensures,
+  (
+    map string_bytes c.in_ok-texts.texts.items,
+    c.in_ok-texts.ensures,
+    parted_own string_bytes c.deref.result.now c.in_ok-texts.texts.items (string_bytes c.in_ok-cell.cell) c.in_ok-cell.ensures c.deref.ensures.value,
+  ),
 )
