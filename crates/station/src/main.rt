@@ -1,12 +1,14 @@
-//! The program `station`. `station check FILE` tells whether the layout in FILE is sound, and `station table FILE` prints its
-//! control table; `station sim FILE EVENTS` applies lines of events to a station of it, `station run FILE --script S
-//! --record R --for MS` runs one over sockets, and `station replay FILE RECORD` applies a recorded session; `station decode
-//! --hex HEX` puts a datagram into words. The status is 0 where this was done, 1 at a fault, 2 where the command line is
-//! wrong, and 3 where a session answers otherwise than it was recorded.
+//! The program `station`. `station check FILE` tells whether the layout in FILE is sound, `station plan FILE` draws its
+//! track plan, and `station table FILE` prints its control table; `station sim FILE EVENTS` applies lines of events to a
+//! station of it, `station run FILE --script S --record R --for MS` runs one over sockets, and `station replay FILE RECORD`
+//! applies a recorded session; `station decode --hex HEX` puts a datagram into words. The status is 0 where this was done, 1 at
+//! a fault, 2 where the command line is wrong, and 3 where a session answers otherwise than it was recorded.
 #![tactic(auto)]
 
 use station_command::{Asked, Error, Failure, is_memory, read_words, text_of, texts_of, words};
 use station_decode::decode_text;
+use station_explain::explain_text;
+use station_plan_text::plan_text;
 use station_run::Asked as Run;
 use station_run::station_sim::station_check::check_text;
 use station_run::station_sim::{replay_text, sim_text};
@@ -17,7 +19,14 @@ use std::process::ExitCode;
 fn main(rt: HostRuntime) -> ExitCode {
     let status = match words(&rt, rt.alloc()) {
         Ok(words) => match read_words(rt.alloc(), words.as_slice()) {
-            Ok(Asked::Check(file)) => check_file(&rt, file),
+            Ok(Asked::Check { layout, explained }) => check_file(&rt, layout, explained),
+            Ok(
+                Asked::Plan {
+                    layout,
+                    route,
+                    picture,
+                },
+            ) => plan_files(&rt, layout, route, picture),
             Ok(Asked::Table { layout, csv }) => table_file(&rt, layout, csv),
             Ok(Asked::Sim { layout, events }) => sim_files(&rt, layout, events),
             Ok(
@@ -55,11 +64,25 @@ fn fail(rt: &HostRuntime, failure: &Failure) -> u8 {
     failure.status()
 }
 
-/// `check FILE`.
-fn check_file(rt: &HostRuntime, file: &str) -> u8 {
+/// `check FILE [--explain]`.
+fn check_file(rt: &HostRuntime, file: &str, explained: bool) -> u8 {
     match text_of(rt, file) {
-        Ok(text) => check(rt, text.as_str()),
+        Ok(text) => report(rt, text.as_str(), explained),
         Err(failure) => fail(rt, &failure),
+    }
+}
+
+/// `plan FILE [--route R] [--picture PICTURE]`.
+fn plan_files(rt: &HostRuntime, file: &str, route: Option<&str>, picture: Option<&str>) -> u8 {
+    match picture {
+        Some(picture) => match texts_of(rt, file, picture) {
+            Ok((layout, picture)) => plan(rt, layout.as_str(), route, Some(picture.as_str())),
+            Err(failure) => fail(rt, &failure),
+        },
+        None => match text_of(rt, file) {
+            Ok(layout) => plan(rt, layout.as_str(), route, None),
+            Err(failure) => fail(rt, &failure),
+        },
     }
 }
 
@@ -116,10 +139,42 @@ fn decode_word(rt: &HostRuntime, layout: Option<&str>, word: &str) -> u8 {
     }
 }
 
+/// Checks a text, with a fault explained or alone.
+fn report(rt: &HostRuntime, text: &str, explained: bool) -> u8 {
+    if explained {
+        explain(rt, text)
+    } else {
+        check(rt, text)
+    }
+}
+
 /// Checks a text, and writes the report at once to standard output.
 fn check(rt: &HostRuntime, text: &str) -> u8 {
     match BufWriter::new(rt.alloc(), rt.stdout()) {
         Ok(mut out) => check_text(rt.alloc(), text, &mut out, &mut rt.stderr()),
+        Err(_) => fail(rt, &Failure::OutOfMemory),
+    }
+}
+
+/// Checks a text, and writes the report at once to standard output. A fault is explained.
+fn explain(rt: &HostRuntime, text: &str) -> u8 {
+    match BufWriter::new(rt.alloc(), rt.stdout()) {
+        Ok(mut out) => explain_text(rt.alloc(), text, &mut out, &mut rt.stderr()),
+        Err(_) => fail(rt, &Failure::OutOfMemory),
+    }
+}
+
+/// Writes the track plan of a text at once to standard output.
+fn plan(rt: &HostRuntime, layout: &str, route: Option<&str>, picture: Option<&str>) -> u8 {
+    match BufWriter::new(rt.alloc(), rt.stdout()) {
+        Ok(mut out) => plan_text(
+            rt.alloc(),
+            layout,
+            route,
+            picture,
+            &mut out,
+            &mut rt.stderr(),
+        ),
         Err(_) => fail(rt, &Failure::OutOfMemory),
     }
 }
