@@ -14,9 +14,9 @@ use Rattle.station_command.proofs.LineRead.{AreFound, LineReads, line_fault, lin
 use Rattle.station_command.proofs.Numbers.{number_in}
 use Rattle.station_command.proofs.Rules.{Files, IsFile, IsHelp, IsLine, IsNamed, IsOption, IsSwitch, TakesOne, first_due, names_help, names_nothing, none_due, second_due, short_help, short_nothing}
 use Rattle.station_command.proofs.WordsRead.{Fails, nth_or, top}
-use Rattle.station_command.specs.CommandWords.{Check, Decode, Given, Replay, Request, Run, Sim, Table, Usage, check_by, check_of, check_usage, decode_by, decode_of, decode_usage, given_in, is_on, replay_by, replay_of, run_by, run_of, run_usage, sim_by, sim_of, table_by, table_of, table_usage, time_of, two_files_usage, value_of}
+use Rattle.station_command.specs.CommandWords.{Check, Decode, Given, Plan, Replay, Request, Run, Sim, Table, Usage, check_by, check_of, check_usage, decode_by, decode_of, decode_usage, given_in, is_on, plan_by, plan_of, plan_usage, replay_by, replay_of, run_by, run_of, run_usage, sim_by, sim_of, table_by, table_of, table_usage, time_of, two_files_usage, value_of}
 use Rattle.station_command.specs.Line.{station_line}
-use Rattle.station_command.specs.inside.Rows.{check_of_rows, decode_of_rows, number_of, replay_of_rows, run_of_rows, sim_of_rows, table_of_rows}
+use Rattle.station_command.specs.inside.Rows.{check_of_rows, decode_of_rows, number_of, plan_of_rows, replay_of_rows, run_of_rows, sim_of_rows, table_of_rows}
 
 -- ---- the arguments
 
@@ -31,27 +31,33 @@ rules_of n = (nth_or top n (built station_line).subs).rules
 abbrev pub check_rules : List Rule
 check_rules = rules_of 0
 
+abbrev pub plan_rules : List Rule
+plan_rules = rules_of 1
+
 abbrev pub table_rules : List Rule
-table_rules = rules_of 1
+table_rules = rules_of 2
 
 abbrev pub sim_rules : List Rule
-sim_rules = rules_of 2
+sim_rules = rules_of 3
 
 abbrev pub run_rules : List Rule
-run_rules = rules_of 3
+run_rules = rules_of 4
 
 abbrev pub replay_rules : List Rule
-replay_rules = rules_of 4
+replay_rules = rules_of 5
 
 abbrev pub decode_rules : List Rule
-decode_rules = rules_of 5
+decode_rules = rules_of 6
 
 -- ---- `check`
 
 check_one : TakesOne check_rules (rule_at 0 check_rules)
 check_one = record { found = refl; same = refl; fault = λ text rs. refl; empty = λ rs. tt; leaves = λ text rs. refl; most = refl; alone = refl; once = refl; further = refl }
 
-check_help : IsHelp (rule_at 1 check_rules)
+check_explain : IsSwitch check_rules (rule_at 1 check_rules)
+check_explain = record { long = refl; valueless = refl; fault = λ rs. refl; leaves = λ rs. refl }
+
+check_help : IsHelp (rule_at 2 check_rules)
 check_help = record { valueless = refl; fails = λ rs. tt }
 
 check_file : (n : Files) → IsFile check_usage.files check_rules n
@@ -59,20 +65,65 @@ check_file first_due = inl (rule_at 0 check_rules, record { one = check_one; fou
 check_file second_due = inr (refl, refl)
 check_file none_due = inr (refl, refl)
 
-check_named : (name : Text) (is_help : Bool) → bytes_eq (codes "help") name ≡ is_help → IsNamed check_usage check_rules name
-check_named name true e = inr (inr (refl, refl, names_help check_rules name (rule_at 1 check_rules) (rw e refl) check_help))
-check_named name false e = inr (inr (refl, refl, names_nothing check_rules name (rw e refl)))
+check_named : (name : Text) (is_explain is_help : Bool) → bytes_eq (codes "explain") name ≡ is_explain → bytes_eq (codes "help") name ≡ is_help → IsNamed check_usage check_rules name
+check_named name true is_help a e = inr (inl (rule_at 1 check_rules, check_explain, (bytes_eq-Decides (codes "explain") name).0 a, refl, refl))
+check_named name false true a e = inr (inr (refl, rw a refl, names_help check_rules name (rule_at 2 check_rules) (rw (a, e) refl) check_help))
+check_named name false false a e = inr (inr (refl, rw a refl, names_nothing check_rules name (rw (a, e) refl)))
 
 check_short : (x : ℕ) (is_help : Bool) → nat_eq 104 x ≡ is_help → (rest : Text) (h : Held) (after : Held → Kinds) → Fails (short_fault check_rules false (arg_by_short check_rules x) rest h after)
-check_short x true e = short_help check_rules x (rule_at 1 check_rules) (rw e refl) check_help
+check_short x true e = short_help check_rules x (rule_at 2 check_rules) (rw e refl) check_help
 check_short x false e = short_nothing check_rules x (rw e refl)
 
 check_is : IsLine check_usage check_rules
 check_is = record {
   file = check_file;
-  named = λ name. check_named name (bytes_eq (codes "help") name) refl;
+  named = λ name. check_named name (bytes_eq (codes "explain") name) (bytes_eq (codes "help") name) refl refl;
   short = λ x. check_short x (nat_eq 104 x) refl;
-  defaults = (refl, (refl, tt));
+  defaults = (refl, (refl, (refl, tt)));
+}
+
+-- ---- `plan`
+
+plan_one : TakesOne plan_rules (rule_at 0 plan_rules)
+plan_one = record { found = refl; same = refl; fault = λ text rs. refl; empty = λ rs. tt; leaves = λ text rs. refl; most = refl; alone = refl; once = refl; further = refl }
+
+plan_route : IsOption plan_rules (rule_at 1 plan_rules)
+plan_route = record {
+  one = record { found = refl; same = refl; fault = λ text rs. refl; empty = λ rs. tt; leaves = λ text rs. refl; most = refl; alone = refl; once = refl; further = refl };
+  long = refl;
+}
+
+plan_picture : IsOption plan_rules (rule_at 2 plan_rules)
+plan_picture = record {
+  one = record { found = refl; same = refl; fault = λ text rs. refl; empty = λ rs. tt; leaves = λ text rs. refl; most = refl; alone = refl; once = refl; further = refl };
+  long = refl;
+}
+
+plan_help : IsHelp (rule_at 3 plan_rules)
+plan_help = record { valueless = refl; fails = λ rs. tt }
+
+plan_file : (n : Files) → IsFile plan_usage.files plan_rules n
+plan_file first_due = inl (rule_at 0 plan_rules, record { one = plan_one; found = refl; left = refl; steps = refl })
+plan_file second_due = inr (refl, refl)
+plan_file none_due = inr (refl, refl)
+
+plan_named : (name : Text) (is_route is_picture is_help : Bool) → bytes_eq (codes "route") name ≡ is_route → bytes_eq (codes "picture") name ≡ is_picture → bytes_eq (codes "help") name ≡ is_help
+    → IsNamed plan_usage plan_rules name
+plan_named name true is_picture is_help a b d = inl (rule_at 1 plan_rules, plan_route, (bytes_eq-Decides (codes "route") name).0 a, refl)
+plan_named name false true is_help a b d = inl (rule_at 2 plan_rules, plan_picture, (bytes_eq-Decides (codes "picture") name).0 b, refl)
+plan_named name false false true a b d = inr (inr (rw (a, b) refl, refl, names_help plan_rules name (rule_at 3 plan_rules) (rw (a, b, d) refl) plan_help))
+plan_named name false false false a b d = inr (inr (rw (a, b) refl, refl, names_nothing plan_rules name (rw (a, b, d) refl)))
+
+plan_short : (x : ℕ) (is_help : Bool) → nat_eq 104 x ≡ is_help → (rest : Text) (h : Held) (after : Held → Kinds) → Fails (short_fault plan_rules false (arg_by_short plan_rules x) rest h after)
+plan_short x true e = short_help plan_rules x (rule_at 3 plan_rules) (rw e refl) plan_help
+plan_short x false e = short_nothing plan_rules x (rw e refl)
+
+plan_is : IsLine plan_usage plan_rules
+plan_is = record {
+  file = plan_file;
+  named = λ name. plan_named name (bytes_eq (codes "route") name) (bytes_eq (codes "picture") name) (bytes_eq (codes "help") name) refl refl refl;
+  short = λ x. plan_short x (nat_eq 104 x) refl;
+  defaults = (refl, (refl, (refl, (refl, tt))));
 }
 
 -- ---- `table`
@@ -266,9 +317,14 @@ command_reads name usage rules line by by_rows settles words = go (line_reads na
 no_default : (given : List Given) (found : List Row) (id : Text) → first_of id found ≡ or_value (value_of id given) None → first_of id found ≡ value_of id given
 no_default given found id e = e ∙ or_none (value_of id given)
 
-check_ends : (file : Option Text) → Ends (check_of file) (check_of file) (check_kinds false false (not (is_some file) || false))
-check_ends (Some file) = inl (Check file, (refl, (refl, refl)))
-check_ends None = inr (refl, tt)
+-- a switch is off by default
+off : (o : Option Text) → is_on (or_value o (Some (codes "false"))) ≡ is_on o
+off (Some text) = refl
+off None = refl
+
+check_ends : (file : Option Text) (explained : Bool) → Ends (check_of file explained) (check_of file explained) (check_kinds false false (not (is_some file) || false))
+check_ends (Some file) explained = inl (Check file explained, (refl, (refl, refl)))
+check_ends None explained = inr (refl, tt)
 
 pub check_reads : (words : List Text) → CommandReads (codes "check") check_usage check_rules check_by check_of_rows words
 check_reads = command_reads (codes "check") check_usage check_rules check_is check_by check_of_rows settles
@@ -276,16 +332,27 @@ check_reads = command_reads (codes "check") check_usage check_rules check_is che
     settles : (given : List Given) (found : List Row) → AreFound check_rules given found → Settles check_rules (check_by given) (check_of_rows found) given
     settles given found are =
         let file_is = no_default given found (codes "FILE") (are.values (codes "FILE")) in
-        subst (λ r. Settles check_rules (check_by given) r given) (λ i. check_of (sym file_is i)) (check_ends (value_of (codes "FILE") given))
+        let on_is : is_on (first_of (codes "explain") found) ≡ is_on (value_of (codes "explain") given) = ap is_on (are.values (codes "explain")) ∙ off (value_of (codes "explain") given) in
+        subst (λ r. Settles check_rules (check_by given) r given) (λ i. check_of (sym file_is i) (sym on_is i)) (check_ends (value_of (codes "FILE") given) (is_on (value_of (codes "explain") given)))
+
+plan_ends : (file route picture : Option Text) → Ends (plan_of file route picture) (plan_of file route picture) (check_kinds false false (not (is_some file) || false))
+plan_ends (Some file) route picture = inl (Plan file route picture, (refl, (refl, refl)))
+plan_ends None route picture = inr (refl, tt)
+
+pub plan_reads : (words : List Text) → CommandReads (codes "plan") plan_usage plan_rules plan_by plan_of_rows words
+plan_reads = command_reads (codes "plan") plan_usage plan_rules plan_is plan_by plan_of_rows settles
+  where
+    settles : (given : List Given) (found : List Row) → AreFound plan_rules given found → Settles plan_rules (plan_by given) (plan_of_rows found) given
+    settles given found are =
+        let file_is = no_default given found (codes "FILE") (are.values (codes "FILE")) in
+        let route_is = no_default given found (codes "route") (are.values (codes "route")) in
+        let picture_is = no_default given found (codes "picture") (are.values (codes "picture")) in
+        subst (λ r. Settles plan_rules (plan_by given) r given) (λ i. plan_of (sym file_is i) (sym route_is i) (sym picture_is i))
+        (plan_ends (value_of (codes "FILE") given) (value_of (codes "route") given) (value_of (codes "picture") given))
 
 table_ends : (file : Option Text) (csv : Bool) → Ends (table_of file csv) (table_of file csv) (check_kinds false false (not (is_some file) || false))
 table_ends (Some file) csv = inl (Table file csv, (refl, (refl, refl)))
 table_ends None csv = inr (refl, tt)
-
--- a switch is off by default
-off : (o : Option Text) → is_on (or_value o (Some (codes "false"))) ≡ is_on o
-off (Some text) = refl
-off None = refl
 
 pub table_reads : (words : List Text) → CommandReads (codes "table") table_usage table_rules table_by table_of_rows words
 table_reads = command_reads (codes "table") table_usage table_rules table_is table_by table_of_rows settles

@@ -6,8 +6,8 @@ use Rattle.clap.specs.Words.{first_value, found_of}
 use Rattle.clap.specs.declared.parser.matches.ArgMatches.{ArgMatches}
 use Rattle.clap.proofs.WalkLemmas.{first_value-rows}
 use Rattle.clap.specs.Walk.{Text, first_of, rows_of}
-use Rattle.station_command.specs.CommandWords.{Decode, Run, Table, both_of, decode_of, is_on, run_of, table_of}
-use Rattle.station_command.specs.inside.Rows.{decode_of_rows, files_of, number_of, run_of_rows, table_of_rows}
+use Rattle.station_command.specs.CommandWords.{Check, Decode, Plan, Run, Table, both_of, check_of, decode_of, is_on, plan_of, run_of, table_of}
+use Rattle.station_command.specs.inside.Rows.{check_of_rows, decode_of_rows, files_of, number_of, plan_of_rows, run_of_rows, table_of_rows}
 
 module _ (m : ArgMatches) where
   abbrev FirstOf : Text → Option Text
@@ -40,6 +40,28 @@ module _ (m : ArgMatches) where
       let first = value_found (codes "FILE") (Some a) e in
       let second = value_found (codes "SECOND") None f in
       λ i. both_of (first i) (second i)
+
+  -- ---- `check`
+
+  pub check_found : (a : Text) (explained : Bool) → Some a ≡ first_of (codes "FILE") (rows_of (found_of m)) → explained ≡ is_on (first_of (codes "explain") (rows_of (found_of m)))
+      → Some (Check a explained) ≡ check_of_rows (rows_of (found_of m))
+  check_found a explained e f = λ i. check_of (e i) (f i)
+
+  pub no_check : None ≡ first_of (codes "FILE") (rows_of (found_of m)) → None ≡ check_of_rows (rows_of (found_of m))
+  no_check e = ap (λ o. check_of o (is_on (FirstOf (codes "explain")))) e
+
+  -- ---- `plan`
+
+  pub plan_found : (a : Text) (route picture : Option Text) → Some a ≡ first_value (found_of m) (codes "FILE") → route ≡ first_value (found_of m) (codes "route")
+      → picture ≡ first_value (found_of m) (codes "picture") → Some (Plan a route picture) ≡ plan_of_rows (rows_of (found_of m))
+  plan_found a route picture e f g =
+      let file_is = value_found (codes "FILE") (Some a) e in
+      let route_is = value_found (codes "route") route f in
+      let picture_is = value_found (codes "picture") picture g in
+      λ i. plan_of (file_is i) (route_is i) (picture_is i)
+
+  pub no_plan : None ≡ first_value (found_of m) (codes "FILE") → None ≡ plan_of_rows (rows_of (found_of m))
+  no_plan e = ap (λ o. plan_of o (FirstOf (codes "route")) (FirstOf (codes "picture"))) (value_found (codes "FILE") None e)
 
   -- ---- `table`
 

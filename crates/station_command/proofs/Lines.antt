@@ -6,13 +6,14 @@ use Rattle.clap.specs.declared.builder.value_parser.ValueParser.{ValueParser}
 use Rattle.clap.specs.declared.builder.value_parser.ValueParser.TheVariants as parsers
 use Rattle.clap.specs.Simple.{App}
 use Rattle.clap.specs.Walk.{Rule, rule_of}
-use Rattle.station_command.specs.Line.{alone_line, check_line, decode_line, doing_line, file_rule, layout_line, needed_rule, option_rule, reading_line, replay_line, run_line, sim_line, station_line, switch_rule, table_line, time_rule}
+use Rattle.station_command.specs.Line.{alone_line, check_line, decode_line, doing_line, file_rule, layout_line, needed_rule, option_rule, plan_line, reading_line, replay_line, run_line, sim_line, station_line, switch_rule, table_line, time_rule}
 
 -- ---- the commands
 
-pub layout_is : (a b c check table : App) → a ≡ alone_line → check ≡ check_line → table ≡ table_line
-    → b ≡ with_subcommand a check.top → c ≡ with_subcommand b table.top → c ≡ layout_line
-layout_is a b c check table alone e f first last = last ∙ (λ i. with_subcommand ((first ∙ (λ j. with_subcommand (alone j) (e j).top)) i) (f i).top)
+pub layout_is : (a b c d check plan table : App) → a ≡ alone_line → check ≡ check_line → plan ≡ plan_line → table ≡ table_line
+    → b ≡ with_subcommand a check.top → c ≡ with_subcommand b plan.top → d ≡ with_subcommand c table.top → d ≡ layout_line
+layout_is a b c d check plan table alone e f g first second last =
+    last ∙ (λ i. with_subcommand ((second ∙ (λ j. with_subcommand ((first ∙ (λ k. with_subcommand (alone k) (e k).top)) j) (f j).top)) i) (g i).top)
 
 pub doing_is : (a b c d sim run replay : App) → a ≡ layout_line → sim ≡ sim_line → run ≡ run_line → replay ≡ replay_line
     → b ≡ with_subcommand a sim.top → c ≡ with_subcommand b run.top → d ≡ with_subcommand c replay.top → d ≡ doing_line
@@ -23,6 +24,17 @@ pub station_is : (doing whole decode : App) → doing ≡ doing_line → decode 
 station_is doing whole decode e f is = is ∙ (λ i. with_subcommand (e i) (f i).top)
 
 -- ---- the arguments
+
+-- `check`
+pub check_is : (a b c : App) (file explain : Rule) → a ≡ new_app (codes "check") → file ≡ file_rule → explain ≡ switch_rule (codes "explain")
+    → b ≡ with_rule a file → c ≡ with_rule b explain → c ≡ check_line
+check_is a b c file explain new f s first last = last ∙ (λ i. with_rule ((first ∙ (λ j. with_rule (new j) (f j))) i) (s i))
+
+-- `plan`
+pub plan_is : (a b c d : App) (file route picture : Rule) → a ≡ new_app (codes "plan") → file ≡ file_rule → route ≡ option_rule (codes "route") → picture ≡ option_rule (codes "picture")
+    → b ≡ with_rule a file → c ≡ with_rule b route → d ≡ with_rule c picture → d ≡ plan_line
+plan_is a b c d file route picture new f r p first second last =
+    last ∙ (λ i. with_rule ((second ∙ (λ j. with_rule ((first ∙ (λ k. with_rule (new k) (f k))) j) (r j))) i) (p i))
 
 -- `table`
 pub table_is : (a b c : App) (file csv : Rule) → a ≡ new_app (codes "table") → file ≡ file_rule → csv ≡ switch_rule (codes "csv")

@@ -95,7 +95,8 @@ given_in usage words = option_and_then given_at (words_read usage (Between [] us
 
 -- What is asked for, with the words for files and values, and for how many milliseconds.
 pub data Request : Type 0 where
-  Check : List ℕ → Request
+  Check : List ℕ → Bool → Request
+  Plan : List ℕ → Option (List ℕ) → Option (List ℕ) → Request
   Table : List ℕ → Bool → Request
   Sim : List ℕ → List ℕ → Request
   Run : List ℕ → List ℕ → List ℕ → ℕ → Request
@@ -107,12 +108,19 @@ abbrev pub is_on : Option (List ℕ) → Bool
 is_on None = false
 is_on (Some value) = bytes_eq value (codes "true")
 
--- `check FILE`
+-- `check FILE [--explain]`
 abbrev pub check_usage : Usage
-check_usage = record { files = codes "FILE" ∷ []; options = []; switches = [] }
+check_usage = record { files = codes "FILE" ∷ []; options = []; switches = codes "explain" ∷ [] }
 
-abbrev pub check_of : Option (List ℕ) → Option Request
-check_of file = option_map Check file
+abbrev pub check_of : Option (List ℕ) → Bool → Option Request
+check_of file explained = option_map (λ file. Check file explained) file
+
+-- `plan FILE [--route R] [--picture PICTURE]`
+abbrev pub plan_usage : Usage
+plan_usage = record { files = codes "FILE" ∷ []; options = codes "route" ∷ codes "picture" ∷ []; switches = [] }
+
+abbrev pub plan_of : Option (List ℕ) → Option (List ℕ) → Option (List ℕ) → Option Request
+plan_of file route picture = option_map (λ file. Plan file route picture) file
 
 -- `table FILE [--csv]`
 abbrev pub table_usage : Usage
@@ -156,7 +164,10 @@ decode_of hex layout = option_map (λ hex. Decode hex layout) hex
 
 -- what each command asks for by what it was given
 abbrev pub check_by : List Given → Option Request
-check_by given = check_of (value_of (codes "FILE") given)
+check_by given = check_of (value_of (codes "FILE") given) (is_on (value_of (codes "explain") given))
+
+abbrev pub plan_by : List Given → Option Request
+plan_by given = plan_of (value_of (codes "FILE") given) (value_of (codes "route") given) (value_of (codes "picture") given)
 
 abbrev pub table_by : List Given → Option Request
 table_by given = table_of (value_of (codes "FILE") given) (is_on (value_of (codes "csv") given))
@@ -177,16 +188,18 @@ decode_by given = decode_of (value_of (codes "hex") given) (value_of (codes "lay
 abbrev pub request_in : List (List ℕ) → Option Request
 request_in (program ∷ command ∷ words) =
     if bytes_eq (codes "check") command then option_and_then check_by (given_in check_usage words) else
+    (if bytes_eq (codes "plan") command then option_and_then plan_by (given_in plan_usage words) else
     (if bytes_eq (codes "table") command then option_and_then table_by (given_in table_usage words) else
     (if bytes_eq (codes "sim") command then option_and_then sim_by (given_in two_files_usage words) else
     (if bytes_eq (codes "run") command then option_and_then run_by (given_in run_usage words) else
     (if bytes_eq (codes "replay") command then option_and_then replay_by (given_in two_files_usage words) else
-    (if bytes_eq (codes "decode") command then option_and_then decode_by (given_in decode_usage words) else None)))))
+    (if bytes_eq (codes "decode") command then option_and_then decode_by (given_in decode_usage words) else None))))))
 request_in _ = None
 
 -- an answer as a request
 abbrev pub request_of : Asked → Request
-request_of (asked.Check file) = Check file.now
+request_of (asked.Check layout explained) = Check layout.now explained
+request_of (asked.Plan layout route picture) = Plan layout.now (option_copied route) (option_copied picture)
 request_of (asked.Table layout csv) = Table layout.now csv
 request_of (asked.Sim layout events) = Sim layout.now events.now
 request_of (asked.Run layout script recording for_ms) = Run layout.now script.now recording.now for_ms

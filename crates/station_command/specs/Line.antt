@@ -24,9 +24,13 @@ needed_rule name = record (option_rule name) { required = true }
 abbrev pub switch_rule : List ℕ → Rule
 switch_rule name = record (new_rule name) { long = Some name; action = Some action.SetTrue }
 
--- `check FILE`
+-- `check FILE [--explain]`
 abbrev pub check_line : App
-check_line = with_rule (new_app (codes "check")) file_rule
+check_line = with_rule (with_rule (new_app (codes "check")) file_rule) (switch_rule (codes "explain"))
+
+-- `plan FILE [--route R] [--picture PICTURE]`
+abbrev pub plan_line : App
+plan_line = with_rule (with_rule (with_rule (new_app (codes "plan")) file_rule) (option_rule (codes "route"))) (option_rule (codes "picture"))
 
 -- `table FILE [--csv]`
 abbrev pub table_line : App
@@ -64,7 +68,7 @@ alone_line =
 
 -- `station COMMAND`, where the command tells of a layout
 abbrev pub layout_line : App
-layout_line = with_subcommand (with_subcommand alone_line check_line.top) table_line.top
+layout_line = with_subcommand (with_subcommand (with_subcommand alone_line check_line.top) plan_line.top) table_line.top
 
 -- `station COMMAND`, where the command tells of a layout, or has a station of it do something
 abbrev pub doing_line : App

@@ -5,12 +5,12 @@ ghost use Rattle.std.specs.Option.{option_map};
 ghost use Rattle.clap.specs.Words.{FailsBy, fault_of, first_of, found_of, kind_of, rows_of, subcommand_rows_of};
 ghost use Rattle.station_command.specs.CommandWords.{Asks, is_on, request_in, request_of};
 ghost use Rattle.station_command.specs.Line.{station_line};
-ghost use Rattle.station_command.specs.inside.Rows.{decode_of_rows, files_of, number_of, request_of_rows, run_of_rows, table_of_rows};
+ghost use Rattle.station_command.specs.inside.Rows.{check_of_rows, decode_of_rows, files_of, number_of, plan_of_rows, request_of_rows, run_of_rows, table_of_rows};
 ghost use Rattle.clap.specs.declared.error.kind.ErrorKind.TheVariants as kind;
 
 use crate::line::{
-    CHECK, CSV, DECODE, FILE, FOR, HEX, LAYOUT, RECORD, REPLAY, RUN, SCRIPT, SECOND, SIM, TABLE,
-    station,
+    CHECK, CSV, DECODE, EXPLAIN, FILE, FOR, HEX, LAYOUT, PICTURE, PLAN, RECORD, REPLAY, ROUTE, RUN,
+    SCRIPT, SECOND, SIM, TABLE, station,
 };
 use clap::error::ErrorKind;
 use clap::{ArgMatches, Error};
@@ -20,8 +20,18 @@ use std::convert::AsStr;
 /// What a command line asks for.
 #[derive(Clone, Copy, Debug, PartialEq, Eq)]
 pub enum Asked<'a> {
-    /// `check FILE`: whether the layout in a file is sound.
-    Check(&'a str),
+    /// `check FILE [--explain]`: whether the layout in a file is sound, with what is wrong in words.
+    Check {
+        layout: &'a str,
+        explained: bool,
+    },
+    /// `plan FILE [--route R] [--picture PICTURE]`: the track plan of the layout in a file, with a route, and with what is
+    /// seen in a picture.
+    Plan {
+        layout: &'a str,
+        route: Option<&'a str>,
+        picture: Option<&'a str>,
+    },
     /// `table FILE [--csv]`: the control table of the layout in a file, as Markdown or as CSV.
     Table {
         layout: &'a str,
@@ -95,6 +105,31 @@ fn number(text: &str) -> Option<u64>
     text.parse::<u64>().ok()
 }
 
+/// The check that is asked for.
+#[tactic(auto, using(crate::proofs::Found::check_found, crate::proofs::Found::no_check))]
+fn asked_check<'a>(matches: &ArgMatches<'a>) -> Option<Asked<'a>>
+    ensures { option_map request_of result ≡ check_of_rows (rows_of (found_of matches.now)) }
+{
+    let layout = file(matches)?;
+    let explained = is_on(matches, EXPLAIN);
+    Some(Asked::Check { layout, explained })
+}
+
+/// The plan that is asked for.
+#[tactic(auto, using(crate::proofs::Found::plan_found, crate::proofs::Found::no_plan))]
+fn asked_plan<'a>(matches: &ArgMatches<'a>) -> Option<Asked<'a>>
+    ensures { option_map request_of result ≡ plan_of_rows (rows_of (found_of matches.now)) }
+{
+    let layout = matches.get_str(FILE)?;
+    let route = matches.get_str(ROUTE);
+    let picture = matches.get_str(PICTURE);
+    Some(Asked::Plan {
+        layout,
+        route,
+        picture,
+    })
+}
+
 /// The table that is asked for.
 #[tactic(auto, using(crate::proofs::Found::table_found, crate::proofs::Found::no_table))]
 fn asked_table<'a>(matches: &ArgMatches<'a>) -> Option<Asked<'a>>
@@ -138,7 +173,8 @@ fn asked_by<'a>(matches: &ArgMatches<'a>) -> Option<Asked<'a>>
 {
     let (name, matches) = matches.subcommand()?;
     match name {
-        CHECK => Some(Asked::Check(file(matches)?)),
+        CHECK => asked_check(matches),
+        PLAN => asked_plan(matches),
         TABLE => asked_table(matches),
         SIM => {
             let (layout, events) = files(matches)?;

@@ -3,7 +3,7 @@
 ghost use Rattle.std.specs.Prelude.{◌≡◌, IfOk, false};
 ghost use Rattle.clap.specs.Words.{app_of, rule_of};
 ghost use Rattle.clap.specs.declared.builder.command.Command.TheViews.{out-Command};
-ghost use Rattle.station_command.specs.Line.{alone_line, check_line, decode_line, doing_line, layout_line, needed_rule, option_rule, reading_line, replay_line, run_line, sim_line, station_line, switch_rule, table_line, time_rule};
+ghost use Rattle.station_command.specs.Line.{alone_line, check_line, decode_line, doing_line, layout_line, needed_rule, option_rule, plan_line, reading_line, replay_line, run_line, sim_line, station_line, switch_rule, table_line, time_rule};
 
 use crate::texts;
 use clap::builder::ValueParser;
@@ -12,6 +12,8 @@ use std::alloc::{AllocError, Global};
 
 /// The commands by their words.
 pub(crate) const CHECK: &str = "check";
+
+pub(crate) const PLAN: &str = "plan";
 
 pub(crate) const TABLE: &str = "table";
 
@@ -27,6 +29,14 @@ pub(crate) const DECODE: &str = "decode";
 pub(crate) const FILE: &str = "FILE";
 
 pub(crate) const SECOND: &str = "SECOND";
+
+/// The options of a plan.
+pub(crate) const ROUTE: &str = "route";
+
+pub(crate) const PICTURE: &str = "picture";
+
+/// The switch of a check.
+pub(crate) const EXPLAIN: &str = "explain";
 
 /// The switch of a table.
 pub(crate) const CSV: &str = "csv";
@@ -67,6 +77,7 @@ fn about_layouts<'a>(alloc: Global) -> Result<Command<'a>, AllocError>
     ensures { IfOk result (λ line. app_of line ≡ layout_line) }
 {
     let line = alone(alloc)?.subcommand(check(alloc)?)?;
+    let line = line.subcommand(plan(alloc)?)?;
     line.subcommand(table(alloc)?)
 }
 
@@ -122,7 +133,8 @@ fn switch<'a>(alloc: Global, name: &'a str, help: &'a str) -> Arg<'a>
         .help(help)
 }
 
-/// `check FILE`.
+/// `check FILE [--explain]`.
+#[tactic(auto, using(crate::proofs::Lines::check_is))]
 fn check<'a>(alloc: Global) -> Result<Command<'a>, AllocError>
     ensures { IfOk result (λ line. (app_of line ≡ check_line) × ((out-Command line).has_globals ≡ false)) }
 {
@@ -130,7 +142,22 @@ fn check<'a>(alloc: Global) -> Result<Command<'a>, AllocError>
     Command::new(alloc, CHECK)
         .about(texts::CHECK)
         .long_about(texts::CHECK_DETAILS)
-        .arg(file)
+        .arg(file)?
+        .arg(switch(alloc, EXPLAIN, texts::EXPLAIN))
+}
+
+/// `plan FILE [--route R] [--picture PICTURE]`.
+#[tactic(auto, using(crate::proofs::Lines::plan_is))]
+fn plan<'a>(alloc: Global) -> Result<Command<'a>, AllocError>
+    ensures { IfOk result (λ line. (app_of line ≡ plan_line) × ((out-Command line).has_globals ≡ false)) }
+{
+    let file = Arg::new(alloc, FILE).required(true).help(texts::FILE);
+    Command::new(alloc, PLAN)
+        .about(texts::PLAN)
+        .long_about(texts::PLAN_DETAILS)
+        .arg(file)?
+        .arg(option(alloc, ROUTE, "R", texts::ROUTE))?
+        .arg(option(alloc, PICTURE, "PICTURE", texts::PICTURE))
 }
 
 /// `table FILE [--csv]`.

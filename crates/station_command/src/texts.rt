@@ -4,6 +4,12 @@ pub(crate) const ABOUT: &str = "The interlocking of a railway station";
 
 pub(crate) const FILE: &str = "The layout, a TOML file";
 
+pub(crate) const EXPLAIN: &str = "Tells a fault in a second line, in words";
+
+pub(crate) const ROUTE: &str = "The route that is drawn thick, with its flank points and approach";
+
+pub(crate) const PICTURE: &str = "What is seen of the station, as sim prints it";
+
 pub(crate) const CSV: &str = "Prints it as CSV, with the heads in the first line";
 
 pub(crate) const EVENTS: &str = "The lines of events";
@@ -30,9 +36,22 @@ that it needs on its path and at its flanks, and has its signals at the right pl
 
 For a sound layout it prints how many signals, points, sections and routes the station has, and each
 pair of routes that can't be set at the same time. Otherwise it prints the first fault, and ends with
-status 1. docs/INTERLOCKING.md has the keys of the file and all faults, examples/ has stations.
+status 1. With --explain a second line says what is wrong, in words. docs/INTERLOCKING.md has the keys
+of the file and all faults, examples/ has stations.
 
 Example: station check examples/junction.toml";
+
+pub(crate) const PLAN: &str = "Draws the track plan of a layout";
+
+pub(crate) const PLAN_DETAILS: &str =
+    "Draws the track plan of a layout, as an SVG picture on standard output.
+
+It shows the tracks, the points with their two legs, the borders, the signals on the side of the
+direction that they rule, the joints where sections differ, and each section with its detector. With
+a route its path is drawn thick. With a picture, as `picture` in the lines of sim prints it, aspects,
+positions, occupancies and set routes are shown. The layout has to be sound, as for check.
+
+Example: station plan examples/junction.toml > junction.svg";
 
 pub(crate) const TABLE: &str = "Prints the control table of a layout";
 

@@ -12,6 +12,7 @@ Usage: station <COMMAND>
 
 Commands:
   check   Checks the layout of a station and its table of routes
+  plan    Draws the track plan of a layout
   table   Prints the control table of a layout
   sim     Applies lines of events to a station of a layout
   run     Runs a station of a layout over loopback sockets
@@ -32,30 +33,61 @@ that it needs on its path and at its flanks, and has its signals at the right pl
 
 For a sound layout it prints how many signals, points, sections and routes the station has, and each
 pair of routes that can't be set at the same time. Otherwise it prints the first fault, and ends with
-status 1. docs/INTERLOCKING.md has the keys of the file and all faults, examples/ has stations.
+status 1. With --explain a second line says what is wrong, in words. docs/INTERLOCKING.md has the keys
+of the file and all faults, examples/ has stations.
 
 Example: station check examples/junction.toml
 
-Usage: station check <FILE>
+Usage: station check [OPTIONS] <FILE>
 
 Arguments:
   <FILE>
           The layout, a TOML file
 
 Options:
+      --explain
+          Tells a fault in a second line, in words
+
   -h, --help
           Print help (see a summary with '-h')
 ";
 
 const SHORT_CHECK_HELP: &str = "Checks the layout of a station and its table of routes
 
-Usage: station check <FILE>
+Usage: station check [OPTIONS] <FILE>
 
 Arguments:
   <FILE>  The layout, a TOML file
 
 Options:
-  -h, --help  Print help (see more with '--help')
+      --explain  Tells a fault in a second line, in words
+  -h, --help     Print help (see more with '--help')
+";
+
+const PLAN_HELP: &str = "Draws the track plan of a layout, as an SVG picture on standard output.
+
+It shows the tracks, the points with their two legs, the borders, the signals on the side of the
+direction that they rule, the joints where sections differ, and each section with its detector. With
+a route its path is drawn thick. With a picture, as `picture` in the lines of sim prints it, aspects,
+positions, occupancies and set routes are shown. The layout has to be sound, as for check.
+
+Example: station plan examples/junction.toml > junction.svg
+
+Usage: station plan [OPTIONS] <FILE>
+
+Arguments:
+  <FILE>
+          The layout, a TOML file
+
+Options:
+      --route <R>
+          The route that is drawn thick, with its flank points and approach
+
+      --picture <PICTURE>
+          What is seen of the station, as sim prints it
+
+  -h, --help
+          Print help (see a summary with '-h')
 ";
 
 const SIM_HELP: &str = "Applies lines of events to a station of a layout.
@@ -279,11 +311,12 @@ For more information, try '--help'.
 ";
 
 /// Command lines that ask for nothing, each with its status and what is printed.
-const PRINTED: [(&[&str], i32, &str); 25] = [
+const PRINTED: [(&[&str], i32, &str); 26] = [
     (&["station", "--help"], 0, HELP),
     (&["station", "help"], 0, HELP),
     (&["station", "check", "--help"], 0, CHECK_HELP),
     (&["station", "check", "-h"], 0, SHORT_CHECK_HELP),
+    (&["station", "plan", "--help"], 0, PLAN_HELP),
     (&["station", "table", "--help"], 0, TABLE_HELP),
     (&["station", "sim", "--help"], 0, SIM_HELP),
     (&["station", "help", "replay"], 0, REPLAY_HELP),
@@ -326,6 +359,28 @@ const PRINTED: [(&[&str], i32, &str); 25] = [
     (&["station", "table", "--csv", "--csv"], 2, A_SECOND_SWITCH),
     (&["station", "decode", "--layout", "f"], 2, NO_HEX),
 ];
+
+const CHECK: Asked<'static> = Asked::Check {
+    layout: "a b/c",
+    explained: false,
+};
+
+const EXPLAINED: Asked<'static> = Asked::Check {
+    layout: "--help",
+    explained: true,
+};
+
+const PLAN: Asked<'static> = Asked::Plan {
+    layout: "a b",
+    route: None,
+    picture: None,
+};
+
+const PLAN_OF_ROUTE: Asked<'static> = Asked::Plan {
+    layout: "a b",
+    route: Some("--"),
+    picture: Some("p"),
+};
 
 const TABLE: Asked<'static> = Asked::Table {
     layout: "a b",
@@ -372,15 +427,17 @@ const NAMED_DECODE: Asked<'static> = Asked::Decode {
 };
 
 /// Command lines with what they ask for.
-const ASKED: [(&[&str], Asked<'static>); 15] = [
+const ASKED: [(&[&str], Asked<'static>); 17] = [
+    (&["station", "check", "a b/c"], CHECK),
+    (&["/usr/bin/other", "check", "--", "a b/c"], CHECK),
     (
-        &["station", "check", "small.toml"],
-        Asked::Check("small.toml"),
+        &["station", "check", "--explain", "--", "--help"],
+        EXPLAINED,
     ),
-    (&["/usr/bin/other", "check", "a b/c"], Asked::Check("a b/c")),
+    (&["station", "plan", "a b"], PLAN),
     (
-        &["station", "check", "--", "--help"],
-        Asked::Check("--help"),
+        &["station", "plan", "--picture", "p", "a b", "--route=--"],
+        PLAN_OF_ROUTE,
     ),
     (&["station", "table", "a b"], TABLE),
     (&["station", "table", "--csv", "--", "--csv"], CSV),

@@ -4,7 +4,7 @@ use Rattle.std.specs.Str.{bytes_eq}
 use Rattle.std.specs.Str.Parse.{digits_value, without_leading_plus}
 use Rattle.clap.specs.ValueTests.{is_numeral}
 use Rattle.clap.specs.Words.{Row, Text, first_of}
-use Rattle.station_command.specs.CommandWords.{Request, both_of, check_of, decode_of, is_on, replay_of, run_of, sim_of, table_of}
+use Rattle.station_command.specs.CommandWords.{Request, both_of, check_of, decode_of, is_on, plan_of, replay_of, run_of, sim_of, table_of}
 
 -- the two files of a subcommand
 abbrev pub files_of : List Row → Option (Text × Text)
@@ -18,7 +18,10 @@ number_of text =
 
 -- what each command asks for
 abbrev pub check_of_rows : List Row → Option Request
-check_of_rows rows = check_of (first_of (codes "FILE") rows)
+check_of_rows rows = check_of (first_of (codes "FILE") rows) (is_on (first_of (codes "explain") rows))
+
+abbrev pub plan_of_rows : List Row → Option Request
+plan_of_rows rows = plan_of (first_of (codes "FILE") rows) (first_of (codes "route") rows) (first_of (codes "picture") rows)
 
 abbrev pub table_of_rows : List Row → Option Request
 table_of_rows rows = table_of (first_of (codes "FILE") rows) (is_on (first_of (codes "csv") rows))
@@ -40,11 +43,12 @@ decode_of_rows rows = decode_of (first_of (codes "hex") rows) (first_of (codes "
 abbrev pub request_by : Text → List Row → Option Request
 request_by name rows =
     if bytes_eq name (codes "check") then check_of_rows rows else
+    (if bytes_eq name (codes "plan") then plan_of_rows rows else
     (if bytes_eq name (codes "table") then table_of_rows rows else
     (if bytes_eq name (codes "sim") then sim_of_rows rows else
     (if bytes_eq name (codes "run") then run_of_rows rows else
     (if bytes_eq name (codes "replay") then replay_of_rows rows else
-    (if bytes_eq name (codes "decode") then decode_of_rows rows else None)))))
+    (if bytes_eq name (codes "decode") then decode_of_rows rows else None))))))
 
 abbrev pub request_of_rows : Option (Text × List Row) → Option Request
 request_of_rows None = None
