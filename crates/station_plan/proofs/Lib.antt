@@ -1,0 +1,4 @@
+pub mod ThingsDrawn
+pub mod GroupsMade
+pub mod Identities
+pub mod SubjectsOnce

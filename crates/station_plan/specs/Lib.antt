@@ -1,2 +1,4 @@
 pub mod Subjects
+pub mod Strokes
+pub mod Faces
 pub mod Plan

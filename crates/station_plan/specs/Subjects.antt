@@ -116,6 +116,19 @@ name_text (subject.Joint name e) = name ++ (codes "." ++ end_text e)
 name_text (subject.Signal name) = name
 name_text (subject.Detector name) = name
 
+-- the name that a subject goes by
+abbrev pub own_name : Subject → List ℕ
+own_name (subject.Section name) = name
+own_name (subject.Track name) = name
+own_name (subject.Point name) = name
+own_name (subject.Tip name) = name
+own_name (subject.Left name) = name
+own_name (subject.Right name) = name
+own_name (subject.Border name) = name
+own_name (subject.Joint name e) = name
+own_name (subject.Signal name) = name
+own_name (subject.Detector name) = name
+
 -- The identity of what is drawn: its kind and its name, joined by a dot, which no name has.
 abbrev pub subject_id : Subject → List ℕ
 subject_id s = kind_text s ++ (codes "." ++ name_text s)

@@ -1,10 +1,10 @@
 //! The picture of a plan.
 
-ghost use Rattle.std.specs.Prelude.{◌≡◌, IfOk};
+ghost use Rattle.std.specs.Prelude.{IfOk};
 ghost use Rattle.station_plan.specs.Plan.{IsPlanOf};
 
 use crate::extent::reach_of_things;
-use crate::groups::groups;
+use crate::groups::{groups_of_things, notes_group, with_notes};
 use crate::marks::Marks;
 use crate::notes::{LINES, draw_heading, draw_legend};
 use crate::paper::{paper_for, reach_above};
@@ -38,7 +38,7 @@ fn notes(
 /// The plan of a layout, as a picture at most 1600 units wide: each of its elements is a group of its own, once, whose
 /// identity is its kind and its name. The error comes only where memory was refused.
 pub fn plan(alloc: Global, table: &Checked, shown: &Shown) -> Result<Picture, AllocError>
-    ensures { IfOk result (IsPlanOf table.now) }
+    ensures { IfOk result (IsPlanOf table.now shown.now.seen) }
 {
     let layout = table.layout();
     let things = things(alloc, table, shown)?;
@@ -46,12 +46,14 @@ pub fn plan(alloc: Global, table: &Checked, shown: &Shown) -> Result<Picture, Al
     let paper = paper_for(alloc, &things, &notes)?;
     let title = String::from_str(alloc, layout.station().name.as_str())?;
     let style = String::from_str(alloc, STYLE)?;
-    let groups = groups(alloc, things, notes)?;
+    let groups = groups_of_things(alloc, things)?;
+    let below = notes_group(alloc, notes)?;
+    let all = with_notes(groups, below)?;
     Ok(Picture {
         title,
         style,
         paper: paper.frame,
         strips: paper.strips,
-        groups,
+        groups: all,
     })
 }

@@ -1,5 +1,9 @@
 //! How tracks, points, borders and joints are drawn.
 
+ghost use Rattle.std.specs.Prelude.{◌≡◌, ◌++◌, ◌∷◌, [], OnOk};
+ghost use Rattle.station_plan.specs.Faces.{band, border_strokes, rail, tick};
+ghost use Rattle.station_plan.specs.Strokes.{strokes, written};
+
 use crate::chains::level_port;
 use crate::marks::Marks;
 use crate::sketch::{Sketch, sign, spot};
@@ -7,7 +11,7 @@ use crate::units::Units;
 use crate::widths::clearance;
 use crate::yard::Place;
 use control_table::layout::End;
-use control_table::sci_telegram::Side;
+use control_table::sci_telegram::{Name, Side};
 use drawing::{Anchor, Spot};
 use std::alloc::AllocError;
 
@@ -27,17 +31,21 @@ pub(crate) fn moved(from: Spot, x: i32, y: i32) -> Spot {
 /// Draws a track: its line, its ends and its name.
 pub(crate) fn draw_track(
     marks: &mut Marks,
+    more: &mut Marks,
     sketch: &Sketch,
     element: usize,
-) -> Result<(), AllocError> {
+    name: Name,
+) -> Result<(), AllocError>
+    ensures drawn { OnOk result (strokes marks.new.marks.items ≡ strokes marks.old.marks.items ++ rail) }
+    ensures named { OnOk result (written marks.new.marks.items ≡ written marks.old.marks.items ++ name) }
+{
     let y = sketch.y(element);
     let left = sketch.edge(element, false);
     let right = sketch.edge(element, true);
     marks.line("rail", spot(left, y), spot(right, y))?;
-    draw_end(marks, sketch, element, false)?;
-    draw_end(marks, sketch, element, true)?;
+    draw_end(more, sketch, element, false)?;
+    draw_end(more, sketch, element, true)?;
     let room = signal_room(sketch, element, false);
-    let name = sketch.labels.name(element);
     let middle = (left + room + right).half();
     marks.name("name", middle, y - Units(8), Anchor::Middle, name, true)
 }
@@ -90,20 +98,31 @@ fn draw_number(marks: &mut Marks, at: Spot, number: usize) -> Result<(), AllocEr
 /// Draws the port of a point that lies on its row. No buffer stands behind an open one.
 fn draw_level(
     marks: &mut Marks,
+    more: &mut Marks,
     sketch: &Sketch,
     place: Place,
-    class: &str,
-) -> Result<(), AllocError> {
+) -> Result<(), AllocError>
+    ensures drawn { OnOk result (strokes marks.new.marks.items ≡ strokes marks.old.marks.items ++ rail) }
+    ensures named { OnOk result (written marks.new.marks.items ≡ written marks.old.marks.items) }
+{
     let y = sketch.y(place.element);
-    marks.line(class, spot(sketch.x(place.element), y), sketch.port(place))?;
+    marks.line("rail", spot(sketch.x(place.element), y), sketch.port(place))?;
     if sketch.grid.yard.mate(place).is_none() {
         return Ok(());
     }
-    draw_end(marks, sketch, place.element, sketch.is_right(place))
+    draw_end(more, sketch, place.element, sketch.is_right(place))
 }
 
 /// Draws the leg of a point that leads off its row. An open one, as of a trap point, just ends.
-fn draw_minor(marks: &mut Marks, sketch: &Sketch, place: Place) -> Result<(), AllocError> {
+fn draw_minor(
+    marks: &mut Marks,
+    more: &mut Marks,
+    sketch: &Sketch,
+    place: Place,
+) -> Result<(), AllocError>
+    ensures drawn { OnOk result (strokes marks.new.marks.items ≡ strokes marks.old.marks.items ++ rail) }
+    ensures named { OnOk result (written marks.new.marks.items ≡ written marks.old.marks.items) }
+{
     let from = spot(sketch.x(place.element), sketch.y(place.element));
     marks.bend(
         "rail",
@@ -112,29 +131,41 @@ fn draw_minor(marks: &mut Marks, sketch: &Sketch, place: Place) -> Result<(), Al
         sketch.leg_end(place),
     )?;
     match sketch.connector(place) {
-        Some(number) => {
-            let end = sketch.leg_end(place);
-            let side = sign(sketch.is_right(place));
-            let slope = sketch.slope(place.element);
-            let next = moved(end, side.saturating_mul(8), slope.saturating_mul(8));
-            marks.line("elsewhere", end, next)?;
-            let centre = moved(next, side.saturating_mul(6), slope.saturating_mul(6));
-            draw_number(marks, centre, number)
-        }
+        Some(number) => draw_slanted_connector(more, sketch, place, number),
         None => Ok(()),
     }
+}
+
+/// Draws the number of the joint by which a leg goes on elsewhere.
+fn draw_slanted_connector(
+    more: &mut Marks,
+    sketch: &Sketch,
+    place: Place,
+    number: usize,
+) -> Result<(), AllocError> {
+    let end = sketch.leg_end(place);
+    let side = sign(sketch.is_right(place));
+    let slope = sketch.slope(place.element);
+    let next = moved(end, side.saturating_mul(8), slope.saturating_mul(8));
+    more.line("elsewhere", end, next)?;
+    let centre = moved(next, side.saturating_mul(6), slope.saturating_mul(6));
+    draw_number(more, centre, number)
 }
 
 /// Draws the tip or a leg of a point.
 pub(crate) fn draw_branch(
     marks: &mut Marks,
+    more: &mut Marks,
     sketch: &Sketch,
     place: Place,
-) -> Result<(), AllocError> {
+) -> Result<(), AllocError>
+    ensures drawn { OnOk result (strokes marks.new.marks.items ≡ strokes marks.old.marks.items ++ rail) }
+    ensures named { OnOk result (written marks.new.marks.items ≡ written marks.old.marks.items) }
+{
     if sketch.grid.main.is_level(place) {
-        draw_level(marks, sketch, place, "rail")
+        draw_level(marks, more, sketch, place)
     } else {
-        draw_minor(marks, sketch, place)
+        draw_minor(marks, more, sketch, place)
     }
 }
 
@@ -142,19 +173,23 @@ pub(crate) fn draw_branch(
 /// otherwise than it leads.
 pub(crate) fn draw_point(
     marks: &mut Marks,
+    more: &mut Marks,
     sketch: &Sketch,
     element: usize,
-) -> Result<(), AllocError> {
+    name: Name,
+) -> Result<(), AllocError>
+    ensures drawn { OnOk result (strokes marks.new.marks.items ≡ strokes marks.old.marks.items) }
+    ensures named { OnOk result (written marks.new.marks.items ≡ written marks.old.marks.items ++ name) }
+{
     let x = sketch.x(element);
     let y = sketch.y(element);
     let up = sketch.grid.is_drawn_up(element);
     let down = if up { Units(16) } else { Units(-8) };
-    let name = sketch.labels.name(element);
     marks.name("name", x, y + down, Anchor::Middle, name, !up)?;
     if up == sketch.grid.leads_up(element) {
         return Ok(());
     }
-    draw_hand(marks, sketch, element)
+    draw_hand(more, sketch, element)
 }
 
 /// Draws a ring round a point.
@@ -185,9 +220,14 @@ fn draw_hand(marks: &mut Marks, sketch: &Sketch, element: usize) -> Result<(), A
 /// Draws a border: an arrow into the plan, and its name.
 pub(crate) fn draw_border(
     marks: &mut Marks,
+    more: &mut Marks,
     sketch: &Sketch,
     element: usize,
-) -> Result<(), AllocError> {
+    name: Name,
+) -> Result<(), AllocError>
+    ensures drawn { OnOk result (strokes marks.new.marks.items ≡ strokes marks.old.marks.items ++ border_strokes) }
+    ensures named { OnOk result (written marks.new.marks.items ≡ written marks.old.marks.items ++ name) }
+{
     let place = Place {
         element,
         end: End::End,
@@ -199,19 +239,17 @@ pub(crate) fn draw_border(
     let tip = moved(outer, side.saturating_mul(10), 0);
     marks.triangle("arrow", moved(outer, 0, -5), tip, moved(outer, 0, 5))?;
     marks.line("rail", tip, sketch.port(place))?;
-    draw_end(marks, sketch, element, right)?;
-    let name = sketch.labels.name(element);
+    draw_end(more, sketch, element, right)?;
     let anchor = if right { Anchor::Start } else { Anchor::End };
     let x = Units(outer.x);
     marks.name("name", x, y - Units(8), anchor, name, true)
 }
 
 /// Draws a joint across the line.
-pub(crate) fn draw_joint(
-    marks: &mut Marks,
-    sketch: &Sketch,
-    place: Place,
-) -> Result<(), AllocError> {
+pub(crate) fn draw_joint(marks: &mut Marks, sketch: &Sketch, place: Place) -> Result<(), AllocError>
+    ensures drawn { OnOk result (strokes marks.new.marks.items ≡ strokes marks.old.marks.items ++ tick) }
+    ensures named { OnOk result (written marks.new.marks.items ≡ written marks.old.marks.items) }
+{
     let at = sketch.port(place);
     if !sketch.is_slanted(place) {
         return marks.line("joint", moved(at, 0, -TICK.0), moved(at, 0, TICK.0));
@@ -231,12 +269,14 @@ pub(crate) fn draw_band(
     marks: &mut Marks,
     sketch: &Sketch,
     element: usize,
-    class: &str,
-) -> Result<(), AllocError> {
+) -> Result<(), AllocError>
+    ensures drawn { OnOk result (strokes marks.new.marks.items ≡ strokes marks.old.marks.items ++ band ∷ []) }
+    ensures named { OnOk result (written marks.new.marks.items ≡ written marks.old.marks.items) }
+{
     let y = sketch.y(element);
     let left = sketch.edge(element, false);
     let right = sketch.edge(element, true);
-    marks.line(class, spot(left, y), spot(right, y))
+    marks.line("band", spot(left, y), spot(right, y))
 }
 
 /// Draws the band of a point's section: its row and its other leg.
@@ -244,10 +284,17 @@ pub(crate) fn draw_point_band(
     marks: &mut Marks,
     sketch: &Sketch,
     element: usize,
-    class: &str,
-) -> Result<(), AllocError> {
-    draw_band(marks, sketch, element, class)?;
+) -> Result<(), AllocError>
+    ensures drawn { OnOk result (strokes marks.new.marks.items ≡ strokes marks.old.marks.items ++ band ∷ band ∷ []) }
+    ensures named { OnOk result (written marks.new.marks.items ≡ written marks.old.marks.items) }
+{
+    draw_band(marks, sketch, element)?;
     let place = sketch.grid.minor(element);
     let from = spot(sketch.x(element), sketch.y(element));
-    marks.bend(class, from, sketch.leg_corner(place), sketch.leg_end(place))
+    marks.bend(
+        "band",
+        from,
+        sketch.leg_corner(place),
+        sketch.leg_end(place),
+    )
 }

@@ -159,7 +159,9 @@ pub(crate) fn reach_of_marks(marks: &[Mark], left: Units, right: Units) -> Exten
 pub(crate) fn reach_of_things(things: &[Thing], left: Units, right: Units) -> Extent {
     let mut extent = NOWHERE;
     for thing in things {
-        extent = extent.with(reach_of_marks(&thing.marks, left, right));
+        extent = extent
+            .with(reach_of_marks(&thing.marks, left, right))
+            .with(reach_of_marks(&thing.more, left, right));
     }
     extent
 }

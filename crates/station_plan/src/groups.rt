@@ -1,8 +1,9 @@
 //! Things as groups of a picture.
 
-ghost use Rattle.std.specs.Prelude.{◌≡◌, IfOk, OnOk, ◌++◌, ◌∷◌, [], string_bytes};
-ghost use Rattle.station_plan.specs.Subjects.{subject_id, subjects_of};
-ghost use Rattle.station_plan.specs.Plan.{ids_of, notes_id, subject_ids};
+ghost use Rattle.std.specs.Prelude.{◌≡◌, IfOk, ◌++◌, ◌∷◌, [], codes, string_bytes};
+ghost use Rattle.std.specs.List.{AllZip};
+ghost use Rattle.station_plan.specs.Subjects.{kind_text};
+ghost use Rattle.station_plan.specs.Plan.{Shows, notes_id};
 
 use crate::subjects::{end_word, id_of, kind_word};
 use crate::thing::{Subject, Thing};
@@ -25,10 +26,18 @@ fn name_of(subject: &Subject) -> &str {
     }
 }
 
-/// The words of a thing's class: its kind, its identity, and its state.
-fn class_of(alloc: Global, subject: &Subject, id: &str, state: &str) -> Result<String, AllocError> {
+/// The words of a thing's class: its kind, its identity, how it is marked, and what is seen of it.
+fn class_of(
+    alloc: Global,
+    subject: &Subject,
+    id: &str,
+    marked: &str,
+    state: &str,
+) -> Result<String, AllocError>
+    ensures { IfOk result (λ text. string_bytes text ≡ kind_text subject.now ++ (codes " " ++ (id.now ++ (marked.now ++ state.now)))) }
+{
     let kind = kind_word(subject);
-    format!(in alloc; "{kind} {id}{state}")
+    format!(in alloc; "{kind} {id}{marked}{state}")
 }
 
 /// What a viewer says of a thing.
@@ -44,18 +53,38 @@ fn title_of(alloc: Global, subject: &Subject) -> Result<String, AllocError> {
     }
 }
 
+/// Marks, and more behind them.
+fn joined(marks: Vec<Mark>, more: Vec<Mark>) -> Result<Vec<Mark>, AllocError>
+    ensures { IfOk result (λ all. all.items ≡ marks.items ++ more.items) }
+{
+    let mut all = marks;
+    for mark in more {
+        all.push(mark)?;
+    }
+    Ok(all)
+}
+
 /// A thing as a group.
 fn group(alloc: Global, thing: Thing) -> Result<Group, AllocError>
-    ensures { IfOk result (λ group. string_bytes group.id ≡ subject_id thing.subject) }
+    ensures { IfOk result (λ group. Shows thing group) }
 {
     let Thing {
         subject,
+        marked,
         state,
         marks,
+        more,
     } = thing;
     let id = id_of(alloc, &subject)?;
-    let class = class_of(alloc, &subject, id.as_str(), state.as_str())?;
+    let class = class_of(
+        alloc,
+        &subject,
+        id.as_str(),
+        marked.as_str(),
+        state.as_str(),
+    )?;
     let title = title_of(alloc, &subject)?;
+    let marks = joined(marks, more)?;
     Ok(Group {
         id,
         class,
@@ -64,27 +93,21 @@ fn group(alloc: Global, thing: Thing) -> Result<Group, AllocError>
     })
 }
 
-/// Adds a group.
-fn add_group(groups: &mut Vec<Group>, group: Group) -> Result<(), AllocError>
-    ensures { OnOk result (ids_of groups.new.items ≡ ids_of groups.old.items ++ string_bytes group.id ∷ []) }
-{
-    groups.push(group)?;
-    Ok(())
-}
-
 /// Things as groups, in order.
-fn groups_of_things(alloc: Global, things: Vec<Thing>) -> Result<Vec<Group>, AllocError>
-    ensures { IfOk result (λ groups. ids_of groups.items ≡ subject_ids (subjects_of things.items)) }
+#[tactic(auto, using(crate::proofs::GroupsMade::one_more))]
+pub(crate) fn groups_of_things(alloc: Global, things: Vec<Thing>) -> Result<Vec<Group>, AllocError>
+    ensures { IfOk result (λ groups. AllZip Shows things.items groups.items) }
 {
     let mut groups = Vec::new(alloc);
     for thing in things {
-        add_group(&mut groups, group(alloc, thing)?)?;
+        let group = group(alloc, thing)?;
+        groups.push(group)?;
     }
     Ok(groups)
 }
 
 /// What is written below a plan, as a group.
-fn notes_group(alloc: Global, marks: Vec<Mark>) -> Result<Group, AllocError>
+pub(crate) fn notes_group(alloc: Global, marks: Vec<Mark>) -> Result<Group, AllocError>
     ensures { IfOk result (λ group. string_bytes group.id ≡ notes_id) }
 {
     let id = String::from_str(alloc, "notes")?;
@@ -98,15 +121,11 @@ fn notes_group(alloc: Global, marks: Vec<Mark>) -> Result<Group, AllocError>
     })
 }
 
-/// Things as groups, in order, and behind them what is written below the plan.
-pub(crate) fn groups(
-    alloc: Global,
-    things: Vec<Thing>,
-    notes: Vec<Mark>,
-) -> Result<Vec<Group>, AllocError>
-    ensures { IfOk result (λ groups. ids_of groups.items ≡ subject_ids (subjects_of things.items) ++ notes_id ∷ []) }
+/// Groups, and behind them that of what is written below the plan.
+pub(crate) fn with_notes(groups: Vec<Group>, notes: Group) -> Result<Vec<Group>, AllocError>
+    ensures { IfOk result (λ all. all.items ≡ groups.items ++ notes ∷ []) }
 {
-    let mut groups = groups_of_things(alloc, things)?;
-    add_group(&mut groups, notes_group(alloc, notes)?)?;
-    Ok(groups)
+    let mut all = groups;
+    all.push(notes)?;
+    Ok(all)
 }

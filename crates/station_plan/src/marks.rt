@@ -1,8 +1,11 @@
 //! Marks of one thing, as they are added.
 
+ghost use Rattle.std.specs.Prelude.{◌≡◌, ◌++◌, ◌∷◌, [], IfSome, OnOk};
+ghost use Rattle.station_plan.specs.Strokes.{circle, line, polygon, rectangle, stroke_of, strokes, text_of, written};
+
 use crate::labels::{LINE, WRAP, lines_of};
 use crate::sketch::spot;
-use crate::units::{Units, count};
+use crate::units::Units;
 use control_table::sci_telegram::Name;
 use drawing::{Anchor, Mark, Shape, Spot};
 use std::alloc::{AllocError, Global};
@@ -17,21 +20,29 @@ pub(crate) struct Marks {
 
 impl Marks {
     /// No marks.
-    pub(crate) fn new(alloc: Global) -> Marks {
+    pub(crate) fn new(alloc: Global) -> Marks
+        ensures { result.marks.items ≡ [] }
+    {
         Marks {
             alloc,
             marks: Vec::new(alloc),
         }
     }
 
-    fn add(&mut self, class: &str, shape: Shape) -> Result<(), AllocError> {
+    fn add(&mut self, class: &str, shape: Shape) -> Result<(), AllocError>
+        ensures drawn { OnOk result (strokes self.new.marks.items ≡ strokes self.old.marks.items ++ stroke_of class.now shape) }
+        ensures named { OnOk result (written self.new.marks.items ≡ written self.old.marks.items ++ text_of shape) }
+    {
         let class = String::from_str(self.alloc, class)?;
         self.marks.push(Mark { class, shape })?;
         Ok(())
     }
 
     /// Adds a line.
-    pub(crate) fn line(&mut self, class: &str, from: Spot, to: Spot) -> Result<(), AllocError> {
+    pub(crate) fn line(&mut self, class: &str, from: Spot, to: Spot) -> Result<(), AllocError>
+        ensures drawn { OnOk result (strokes self.new.marks.items ≡ strokes self.old.marks.items ++ line class.now ∷ []) }
+        ensures named { OnOk result (written self.new.marks.items ≡ written self.old.marks.items) }
+    {
         self.add(class, Shape::Line { from, to })
     }
 
@@ -42,7 +53,10 @@ impl Marks {
         from: Spot,
         corner: Spot,
         to: Spot,
-    ) -> Result<(), AllocError> {
+    ) -> Result<(), AllocError>
+        ensures drawn { OnOk result (strokes self.new.marks.items ≡ strokes self.old.marks.items ++ line class.now ∷ []) }
+        ensures named { OnOk result (written self.new.marks.items ≡ written self.old.marks.items) }
+    {
         if from == corner || corner == to {
             return self.line(class, from, to);
         }
@@ -60,7 +74,10 @@ impl Marks {
         one: Spot,
         two: Spot,
         three: Spot,
-    ) -> Result<(), AllocError> {
+    ) -> Result<(), AllocError>
+        ensures drawn { OnOk result (strokes self.new.marks.items ≡ strokes self.old.marks.items ++ polygon class.now ∷ []) }
+        ensures named { OnOk result (written self.new.marks.items ≡ written self.old.marks.items) }
+    {
         let mut spots = Vec::new(self.alloc);
         spots.push(one)?;
         spots.push(two)?;
@@ -74,7 +91,10 @@ impl Marks {
         class: &str,
         centre: Spot,
         radius: u32,
-    ) -> Result<(), AllocError> {
+    ) -> Result<(), AllocError>
+        ensures drawn { OnOk result (strokes self.new.marks.items ≡ strokes self.old.marks.items ++ circle class.now ∷ []) }
+        ensures named { OnOk result (written self.new.marks.items ≡ written self.old.marks.items) }
+    {
         self.add(class, Shape::Circle { centre, radius })
     }
 
@@ -85,7 +105,10 @@ impl Marks {
         corner: Spot,
         width: u32,
         height: u32,
-    ) -> Result<(), AllocError> {
+    ) -> Result<(), AllocError>
+        ensures drawn { OnOk result (strokes self.new.marks.items ≡ strokes self.old.marks.items ++ rectangle class.now ∷ []) }
+        ensures named { OnOk result (written self.new.marks.items ≡ written self.old.marks.items) }
+    {
         self.add(
             class,
             Shape::Rectangle {
@@ -103,7 +126,10 @@ impl Marks {
         at: Spot,
         anchor: Anchor,
         words: &str,
-    ) -> Result<(), AllocError> {
+    ) -> Result<(), AllocError>
+        ensures drawn { OnOk result (strokes self.new.marks.items ≡ strokes self.old.marks.items) }
+        ensures named { OnOk result (written self.new.marks.items ≡ written self.old.marks.items ++ words.now) }
+    {
         let words = String::from_str(self.alloc, words)?;
         self.add(class, Shape::Text { at, anchor, words })
     }
@@ -119,7 +145,7 @@ impl Marks {
         self.text(class, at, Anchor::Middle, words.as_str())
     }
 
-    /// Adds a name, on several lines if it is long: the first of them at `y`, or the last of them where they are to grow
+    /// Adds a name, on two lines if it is long: the first of them at `y`, or the last of them where they are to grow
     /// upward.
     pub(crate) fn name(
         &mut self,
@@ -127,38 +153,49 @@ impl Marks {
         x: Units,
         y: Units,
         anchor: Anchor,
+        name: Name,
+        upward: bool,
+    ) -> Result<(), AllocError>
+        ensures drawn { OnOk result (strokes self.new.marks.items ≡ strokes self.old.marks.items) }
+        ensures named { OnOk result (written self.new.marks.items ≡ written self.old.marks.items ++ name) }
+    {
+        let Some((first, second)) = halves(&name) else {
+            return self.text(class, spot(x, y), anchor, name.as_str());
+        };
+        let upper = if upward { y - LINE } else { y };
+        self.text(class, spot(x, upper), anchor, first)?;
+        self.text(class, spot(x, upper + LINE), anchor, second)
+    }
+
+    /// Adds a name, where one is written.
+    pub(crate) fn label(
+        &mut self,
+        x: Units,
+        y: Units,
         name: Option<Name>,
         upward: bool,
     ) -> Result<(), AllocError> {
-        let Some(name) = name else {
-            return Ok(());
-        };
-        let all = lines_of(&name);
-        for line in 0..all {
-            let height = y + LINE.times(down(line, all, upward));
-            let words = part(self.alloc, &name, line)?;
-            self.text(class, spot(x, height), anchor, words.as_str())?;
+        match name {
+            Some(name) => self.name("label", x, y, Anchor::Middle, name, upward),
+            None => Ok(()),
         }
-        Ok(())
     }
 }
 
-/// How many lines down a line of a name stands.
-fn down(line: usize, all: usize, upward: bool) -> i32 {
-    if upward {
-        count(line).saturating_sub(count(all)).saturating_add(1)
-    } else {
-        count(line)
+/// The two lines of a long name.
+fn halves(name: &Name) -> Option<(&str, &str)>
+    ensures { IfSome result (λ halves. halves.0.now ++ halves.1.now ≡ name.now) }
+{
+    let bytes = name.as_str().as_bytes();
+    if lines_of(name) < 2 || bytes.len() < WRAP {
+        return None;
     }
-}
-
-/// The letters of a name that stand on one of its lines.
-fn part(alloc: Global, name: &Name, line: usize) -> Result<String, AllocError> {
-    let mut words = String::new(alloc);
-    for (place, letter) in name.as_str().chars().enumerate() {
-        if place / WRAP == line {
-            words.push(letter)?;
-        }
-    }
-    Ok(words)
+    let (first, second) = bytes.split_at(WRAP);
+    let Ok(first) = str::from_utf8(first) else {
+        return None;
+    };
+    let Ok(second) = str::from_utf8(second) else {
+        return None;
+    };
+    Some((first, second))
 }

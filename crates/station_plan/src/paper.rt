@@ -32,7 +32,9 @@ fn reach(things: &[Thing], below: bool, left: Units, right: Units) -> Extent {
     let mut extent = NOWHERE;
     for thing in things {
         if is_below(thing) == below {
-            extent = extent.with(reach_of_marks(thing.marks.as_slice(), left, right));
+            extent = extent
+                .with(reach_of_marks(thing.marks.as_slice(), left, right))
+                .with(reach_of_marks(thing.more.as_slice(), left, right));
         }
     }
     extent

@@ -1,20 +1,25 @@
 //! How sections and their detection controllers are drawn.
 
-use crate::element_marks::{draw_band, draw_point_band, signal_room};
-use crate::labels::{LINE, lines};
+ghost use Rattle.std.specs.Prelude.{◌≡◌, ◌++◌, ◌∷◌, [], OnOk};
+ghost use Rattle.std.specs.List.{flat_map};
+ghost use Rattle.station_plan.specs.Faces.{band, is_named, point_bands, section_strokes, track_bands};
+ghost use Rattle.station_plan.specs.Strokes.{strokes, written};
+
+use crate::element_marks::{draw_band, draw_point_band, moved, signal_room};
+use crate::labels::{LETTER, LINE, lines};
 use crate::marks::Marks;
 use crate::sketch::{Sketch, spot};
 use crate::units::{Units, count};
-use crate::yard::Kind;
-use control_table::layout::{Layout, SectionId};
-use drawing::Anchor;
+use control_table::layout::{Detector, Layout, Point, SectionId, Track};
+use control_table::sci_telegram::Name;
+use drawing::{Anchor, Spot};
 use std::alloc::{AllocError, Global};
 
 /// How many tints there are.
 const TINTS: usize = 8;
 
 /// The detection controller that reports a section.
-fn detector_of(layout: &Layout, section: SectionId) -> usize {
+pub(crate) fn detector_of(layout: &Layout, section: SectionId) -> usize {
     for (number, detector) in layout.detectors().iter().enumerate() {
         if detector.sections().contains(&section) {
             return number;
@@ -23,60 +28,125 @@ fn detector_of(layout: &Layout, section: SectionId) -> usize {
     0
 }
 
-/// The class of the band of a section that a detection controller reports.
+/// The word of a class for a detection controller, by which its bands have a tint.
 pub(crate) fn tint(alloc: Global, detector: usize) -> Result<String, AllocError> {
     let number = detector % TINTS;
-    format!(in alloc; "band tint-{number}")
+    format!(in alloc; " tint-{number}")
 }
 
-/// Draws a section: its band, and its name.
+/// Whether a section has a name.
+fn is_named(layout: &Layout, name: &Name, section: SectionId) -> bool
+    ensures { result ≡ is_named layout.now name.now section }
+{
+    match layout.sections().get(section.0) {
+        Some(other) => other.as_str() == name.as_str(),
+        None => false,
+    }
+}
+
+/// Draws a section: its bands, and more: its name, where it is written.
 pub(crate) fn draw_section(
     marks: &mut Marks,
-    alloc: Global,
+    more: &mut Marks,
     layout: &Layout,
     sketch: &Sketch,
-    section: SectionId,
-) -> Result<(), AllocError> {
-    let class = tint(alloc, detector_of(layout, section))?;
-    for element in 0..sketch.grid.yard.size() {
-        if crate::labels::section_of(layout, &sketch.grid.yard, element) == Some(section) {
-            draw_part(marks, sketch, element, class.as_str())?;
-        }
+    name: &Name,
+) -> Result<(), AllocError>
+    ensures drawn { OnOk result (strokes marks.new.marks.items ≡ strokes marks.old.marks.items ++ section_strokes layout.now name.now) }
+    ensures named { OnOk result (written marks.new.marks.items ≡ written marks.old.marks.items) }
+{
+    draw_tracks(marks, more, layout, sketch, name, layout.tracks())?;
+    draw_points(marks, more, layout, sketch, name, layout.points())
+}
+
+/// Draws the bands of the tracks of a section.
+fn draw_tracks(
+    marks: &mut Marks,
+    more: &mut Marks,
+    layout: &Layout,
+    sketch: &Sketch,
+    name: &Name,
+    tracks: &[Track],
+) -> Result<(), AllocError>
+    ensures drawn { OnOk result (strokes marks.new.marks.items ≡ strokes marks.old.marks.items ++ flat_map (track_bands layout.now name.now) tracks.now) }
+    ensures named { OnOk result (written marks.new.marks.items ≡ written marks.old.marks.items) }
+{
+    for (number, track) in tracks.iter().enumerate() {
+        draw_track_part(marks, more, layout, sketch, name, number, track)?;
     }
     Ok(())
 }
 
-/// Draws the band of one element of a section, with the section's name where it is named there.
-fn draw_part(
+/// Draws the band of a track, if it lies in the section.
+fn draw_track_part(
     marks: &mut Marks,
+    more: &mut Marks,
+    layout: &Layout,
     sketch: &Sketch,
-    element: usize,
-    class: &str,
-) -> Result<(), AllocError> {
-    match sketch.grid.yard.kind(element) {
-        Kind::Track => {
-            draw_band(marks, sketch, element, class)?;
-            draw_track_label(marks, sketch, element)
-        }
-        Kind::Point => {
-            draw_point_band(marks, sketch, element, class)?;
-            draw_point_label(marks, sketch, element)
-        }
-        Kind::Border => Ok(()),
+    name: &Name,
+    number: usize,
+    track: &Track,
+) -> Result<(), AllocError>
+    ensures drawn { OnOk result (strokes marks.new.marks.items ≡ strokes marks.old.marks.items ++ track_bands layout.now name.now track.now) }
+    ensures named { OnOk result (written marks.new.marks.items ≡ written marks.old.marks.items) }
+{
+    if !is_named(layout, name, track.section) {
+        return Ok(());
     }
+    draw_band(marks, sketch, number)?;
+    draw_track_label(more, sketch, number)
 }
 
-fn draw_track_label(marks: &mut Marks, sketch: &Sketch, element: usize) -> Result<(), AllocError> {
+/// Draws the bands of the points of a section.
+fn draw_points(
+    marks: &mut Marks,
+    more: &mut Marks,
+    layout: &Layout,
+    sketch: &Sketch,
+    name: &Name,
+    points: &[Point],
+) -> Result<(), AllocError>
+    ensures drawn { OnOk result (strokes marks.new.marks.items ≡ strokes marks.old.marks.items ++ flat_map (point_bands layout.now name.now) points.now) }
+    ensures named { OnOk result (written marks.new.marks.items ≡ written marks.old.marks.items) }
+{
+    for (number, point) in points.iter().enumerate() {
+        draw_point_part(marks, more, layout, sketch, name, number, point)?;
+    }
+    Ok(())
+}
+
+/// Draws the bands of a point, if it lies in the section.
+fn draw_point_part(
+    marks: &mut Marks,
+    more: &mut Marks,
+    layout: &Layout,
+    sketch: &Sketch,
+    name: &Name,
+    number: usize,
+    point: &Point,
+) -> Result<(), AllocError>
+    ensures drawn { OnOk result (strokes marks.new.marks.items ≡ strokes marks.old.marks.items ++ point_bands layout.now name.now point.now) }
+    ensures named { OnOk result (written marks.new.marks.items ≡ written marks.old.marks.items) }
+{
+    if !is_named(layout, name, point.section) {
+        return Ok(());
+    }
+    let element = sketch.grid.yard.point(number);
+    draw_point_band(marks, sketch, element)?;
+    draw_point_label(more, sketch, element)
+}
+
+fn draw_track_label(more: &mut Marks, sketch: &Sketch, element: usize) -> Result<(), AllocError> {
     let left = sketch.edge(element, false);
     let right = sketch.edge(element, true);
     let x = (left + right - signal_room(sketch, element, true)).half();
     let y = sketch.y(element) + Units(15);
     let name = sketch.labels.section(element);
-    marks.name("label", x, y, Anchor::Middle, name, false)
+    more.label(x, y, name, false)
 }
 
 /// The section of a point is named beyond the point's own name.
-fn draw_point_label(marks: &mut Marks, sketch: &Sketch, element: usize) -> Result<(), AllocError> {
+fn draw_point_label(more: &mut Marks, sketch: &Sketch, element: usize) -> Result<(), AllocError> {
     let up = sketch.grid.is_drawn_up(element);
     let beyond = LINE.times(count(lines(sketch.labels.name(element))));
     let y = if up {
@@ -86,54 +156,58 @@ fn draw_point_label(marks: &mut Marks, sketch: &Sketch, element: usize) -> Resul
     };
     let x = sketch.x(element);
     let name = sketch.labels.section(element);
-    marks.name("label", x, y, Anchor::Middle, name, !up)
+    more.label(x, y, name, !up)
 }
 
-/// Draws a detection controller below the plan: its tint, its name, and the names of its sections. It tells how far down
-/// it comes.
-pub(crate) fn draw_detector(
-    marks: &mut Marks,
+/// Draws a detection controller below the plan: its tint and its name.
+pub(crate) fn draw_detector(marks: &mut Marks, name: &Name, at: Spot) -> Result<(), AllocError>
+    ensures drawn { OnOk result (strokes marks.new.marks.items ≡ strokes marks.old.marks.items ++ band ∷ []) }
+    ensures named { OnOk result (written marks.new.marks.items ≡ written marks.old.marks.items ++ name.now) }
+{
+    marks.line("band", moved(at, 0, -4), moved(at, 22, -4))?;
+    marks.text("label", moved(at, 30, 0), Anchor::Start, name.as_str())
+}
+
+/// Writes the names of the sections of a detection controller behind its own, with so many letters on a line. It tells how
+/// far down they come.
+pub(crate) fn draw_list(
+    more: &mut Marks,
     alloc: Global,
     layout: &Layout,
-    number: usize,
-    x: Units,
-    y: Units,
+    detector: &Detector,
+    at: Spot,
     letters: usize,
 ) -> Result<Units, AllocError> {
-    let class = tint(alloc, number)?;
-    marks.line(
-        class.as_str(),
-        spot(x, y - Units(4)),
-        spot(x + Units(22), y - Units(4)),
-    )?;
-    let Some(detector) = layout.detectors().get(number) else {
-        return Ok(y);
-    };
-    let name = detector.name().as_str();
-    let mut words = format!(in alloc; "{name}:")?;
-    let mut down = y;
+    let begin = Units(at.x) + Units(30);
+    let mut before = detector.name().as_str().len();
+    let mut words = String::from_str(alloc, ":")?;
+    let mut down = Units(at.y);
     for section in detector.sections() {
         let word = section_word(layout, *section);
-        if words.len().saturating_add(word.len()) >= letters {
-            marks.text(
-                "label",
-                spot(x + Units(30), down),
-                Anchor::Start,
-                words.as_str(),
-            )?;
+        let taken = before.saturating_add(words.len());
+        if taken.saturating_add(word.len()) >= letters {
+            draw_words(more, begin, down, before, words.as_str())?;
             words = String::new(alloc);
+            before = 0;
             down = down + LINE;
         }
         words.push_str(" ")?;
         words.push_str(word)?;
     }
-    marks.text(
-        "label",
-        spot(x + Units(30), down),
-        Anchor::Start,
-        words.as_str(),
-    )?;
+    draw_words(more, begin, down, before, words.as_str())?;
     Ok(down + LINE + Units(5))
+}
+
+/// Writes words behind so many letters.
+fn draw_words(
+    more: &mut Marks,
+    begin: Units,
+    down: Units,
+    before: usize,
+    words: &str,
+) -> Result<(), AllocError> {
+    let at = spot(begin + LETTER.times(count(before)), down);
+    more.text("label", at, Anchor::Start, words)
 }
 
 /// The name of a section.

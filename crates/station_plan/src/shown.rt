@@ -1,5 +1,6 @@
 //! What a plan shows beside the layout: a route, and what is seen of a station.
 
+use crate::section_marks::{detector_of, tint};
 use control_table::layout::{
     BorderId, Element, Exit, Layout, PointId, Route, RouteId, SectionId, SignalId,
 };
@@ -65,9 +66,9 @@ fn takes(route: &Route, point: PointId, side: Side) -> bool {
     has_side(route.points(), point, side)
 }
 
-/// Adds words to a state.
-fn add(state: &mut String, is_so: bool, words: &str) -> Result<(), AllocError> {
-    if is_so { state.push_str(words) } else { Ok(()) }
+/// Adds words to a class.
+fn add(class: &mut String, is_so: bool, words: &str) -> Result<(), AllocError> {
+    if is_so { class.push_str(words) } else { Ok(()) }
 }
 
 impl Seen {
@@ -97,35 +98,35 @@ fn is_set_by(layout: &Layout, seen: &Seen, point: PointId, side: Side) -> bool {
     false
 }
 
-/// The state of a track, or of the tip of a point.
-pub(crate) fn element_state(
+/// How a track, or the tip of a point, is marked.
+pub(crate) fn element_marked(
     alloc: Global,
     layout: &Layout,
     shown: &Shown,
     element: Element,
 ) -> Result<String, AllocError> {
-    let mut state = String::new(alloc);
+    let mut marked = String::new(alloc);
     if let Some(route) = shown.route(layout) {
-        add(&mut state, passes(route, element), " path")?;
+        add(&mut marked, passes(route, element), " path")?;
     }
     if let Some(seen) = &shown.seen {
-        add(&mut state, is_set_over(layout, seen, element), " set")?;
+        add(&mut marked, is_set_over(layout, seen, element), " set")?;
     }
-    Ok(state)
+    Ok(marked)
 }
 
-/// The state of a point as a whole.
-pub(crate) fn point_state(
+/// How a point as a whole is marked.
+pub(crate) fn point_marked(
     alloc: Global,
     layout: &Layout,
     shown: &Shown,
     point: PointId,
 ) -> Result<String, AllocError> {
-    let mut state = String::new(alloc);
+    let mut marked = String::new(alloc);
     if let Some(route) = shown.route(layout) {
-        add(&mut state, guards(route, point), " flank")?;
+        add(&mut marked, guards(route, point), " flank")?;
     }
-    Ok(state)
+    Ok(marked)
 }
 
 /// Whether a point protects the flank of the route that is shown.
@@ -136,102 +137,70 @@ pub(crate) fn is_flank(layout: &Layout, shown: &Shown, point: PointId) -> bool {
     }
 }
 
-/// The state of a leg.
-pub(crate) fn leg_state(
+/// How a leg is marked.
+pub(crate) fn leg_marked(
     alloc: Global,
     layout: &Layout,
     shown: &Shown,
     point: PointId,
     side: Side,
 ) -> Result<String, AllocError> {
-    let mut state = String::new(alloc);
+    let mut marked = String::new(alloc);
     if let Some(route) = shown.route(layout) {
-        add(&mut state, takes(route, point, side), " path")?;
-        add(&mut state, has_side(route.flank(), point, side), " flank")?;
+        add(&mut marked, takes(route, point, side), " path")?;
+        add(&mut marked, has_side(route.flank(), point, side), " flank")?;
     }
     if let Some(seen) = &shown.seen {
-        add(&mut state, is_set_by(layout, seen, point, side), " set")?;
-        state.push_str(position_words(seen, point, side))?;
+        add(&mut marked, is_set_by(layout, seen, point, side), " set")?;
     }
-    Ok(state)
+    Ok(marked)
 }
 
-/// How a point lies to one of its legs.
-fn position_words(seen: &Seen, point: PointId, side: Side) -> &'static str {
-    match (seen.positions.get(point.0), side) {
-        (Some(Some(Position::Left)), Side::Left) => " lies",
-        (Some(Some(Position::Right)), Side::Right) => " lies",
-        (Some(Some(Position::Left)), Side::Right) => " off",
-        (Some(Some(Position::Right)), Side::Left) => " off",
-        (Some(Some(Position::NoEndPosition)), _) => " moving",
-        _ => "",
-    }
-}
-
-/// The state of a section.
-pub(crate) fn section_state(
+/// How a section is marked: by the tint of its detection controller, and as an approach.
+pub(crate) fn section_marked(
     alloc: Global,
     layout: &Layout,
     shown: &Shown,
     section: SectionId,
 ) -> Result<String, AllocError> {
-    let mut state = String::new(alloc);
+    let mut marked = tint(alloc, detector_of(layout, section))?;
     if let Some(route) = shown.route(layout) {
-        add(&mut state, route.approach().contains(&section), " approach")?;
+        add(
+            &mut marked,
+            route.approach().contains(&section),
+            " approach",
+        )?;
     }
-    if let Some(seen) = &shown.seen {
-        state.push_str(occupancy_words(seen, section))?;
-    }
-    Ok(state)
+    Ok(marked)
 }
 
-fn occupancy_words(seen: &Seen, section: SectionId) -> &'static str {
-    match seen.occupancies.get(section.0) {
-        Some(Some(Occupancy::Occupied)) => " occupied",
-        Some(Some(Occupancy::Clear)) => " clear",
-        _ => " unknown",
-    }
-}
-
-/// The state of a signal.
-pub(crate) fn signal_state(
+/// How a signal is marked.
+pub(crate) fn signal_marked(
     alloc: Global,
     layout: &Layout,
     shown: &Shown,
     signal: SignalId,
 ) -> Result<String, AllocError> {
-    let mut state = String::new(alloc);
+    let mut marked = String::new(alloc);
     if let Some(route) = shown.route(layout) {
-        add(&mut state, route.entry() == signal, " entry")?;
-        add(&mut state, route.exit() == Exit::Signal(signal), " exit")?;
+        add(&mut marked, route.entry() == signal, " entry")?;
+        add(&mut marked, route.exit() == Exit::Signal(signal), " exit")?;
     }
-    if let Some(seen) = &shown.seen {
-        state.push_str(aspect_words(seen, signal))?;
-    }
-    Ok(state)
+    Ok(marked)
 }
 
-fn aspect_words(seen: &Seen, signal: SignalId) -> &'static str {
-    match seen.aspects.get(signal.0) {
-        Some(Some(Aspect::Stop)) => " stop",
-        Some(Some(Aspect::Proceed)) => " proceed",
-        Some(Some(Aspect::Slow)) => " slow",
-        _ => "",
-    }
-}
-
-/// The state of a border.
-pub(crate) fn border_state(
+/// How a border is marked.
+pub(crate) fn border_marked(
     alloc: Global,
     layout: &Layout,
     shown: &Shown,
     border: BorderId,
 ) -> Result<String, AllocError> {
-    let mut state = String::new(alloc);
+    let mut marked = String::new(alloc);
     if let Some(route) = shown.route(layout) {
-        add(&mut state, route.exit() == Exit::Border(border), " exit")?;
+        add(&mut marked, route.exit() == Exit::Border(border), " exit")?;
     }
-    Ok(state)
+    Ok(marked)
 }
 
 /// What is said of the route that is shown.

@@ -1,5 +1,9 @@
 //! How signals are drawn: at the right hand of the trains that they rule, with a foot, a mast and two lamps.
 
+ghost use Rattle.std.specs.Prelude.{◌≡◌, ◌++◌, ◌∷◌, [], OnOk, codes};
+ghost use Rattle.station_plan.specs.Faces.{signal_strokes};
+ghost use Rattle.station_plan.specs.Strokes.{line, strokes, written};
+
 use crate::element_marks::moved;
 use crate::marks::Marks;
 use crate::sketch::{Sketch, sign};
@@ -25,7 +29,10 @@ pub(crate) fn draw_signal(
     sketch: &Sketch,
     place: Place,
     name: Name,
-) -> Result<(), AllocError> {
+) -> Result<(), AllocError>
+    ensures drawn { OnOk result (strokes marks.new.marks.items ≡ strokes marks.old.marks.items ++ signal_strokes) }
+    ensures named { OnOk result (written marks.new.marks.items ≡ written marks.old.marks.items ++ name) }
+{
     if sketch.grid.main.is_level(place) {
         draw_level(marks, sketch, place, name)
     } else {
@@ -39,7 +46,10 @@ fn draw_level(
     sketch: &Sketch,
     place: Place,
     name: Name,
-) -> Result<(), AllocError> {
+) -> Result<(), AllocError>
+    ensures drawn { OnOk result (strokes marks.new.marks.items ≡ strokes marks.old.marks.items ++ signal_strokes) }
+    ensures named { OnOk result (written marks.new.marks.items ≡ written marks.old.marks.items ++ name) }
+{
     let right = sketch.is_right(place);
     let side = sign(right);
     let back = clearance(&sketch.grid, place.element, right) + Units(31);
@@ -56,7 +66,7 @@ fn draw_level(
     let at = moved(along(foot, side, 0, 28), 0, down);
     let anchor = if right { Anchor::End } else { Anchor::Start };
     let x = Units(at.x);
-    marks.name("name", x, Units(at.y), anchor, Some(name), !right)
+    marks.name("name", x, Units(at.y), anchor, name, !right)
 }
 
 /// Draws a signal beside a leg that leads up or down by 45 degrees.
@@ -65,7 +75,10 @@ fn draw_slanted(
     sketch: &Sketch,
     place: Place,
     name: Name,
-) -> Result<(), AllocError> {
+) -> Result<(), AllocError>
+    ensures drawn { OnOk result (strokes marks.new.marks.items ≡ strokes marks.old.marks.items ++ signal_strokes) }
+    ensures named { OnOk result (written marks.new.marks.items ≡ written marks.old.marks.items ++ name) }
+{
     let side = sign(sketch.is_right(place));
     let slope = sketch.slope(place.element);
     let start = sketch.stub(place, Units(20));
@@ -85,10 +98,13 @@ fn draw_slanted(
     } else {
         Anchor::End
     };
-    marks.name("name", Units(at.x), Units(at.y), anchor, Some(name), false)
+    marks.name("name", Units(at.x), Units(at.y), anchor, name, false)
 }
 
-fn draw_foot(marks: &mut Marks, foot: Spot, side: i32, slope: i32) -> Result<(), AllocError> {
+fn draw_foot(marks: &mut Marks, foot: Spot, side: i32, slope: i32) -> Result<(), AllocError>
+    ensures drawn { OnOk result (strokes marks.new.marks.items ≡ strokes marks.old.marks.items ++ line (codes "mast") ∷ []) }
+    ensures named { OnOk result (written marks.new.marks.items ≡ written marks.old.marks.items) }
+{
     let across = slope.saturating_mul(3);
     let down = side.saturating_mul(3);
     marks.line(

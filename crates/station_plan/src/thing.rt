@@ -34,8 +34,12 @@ pub enum Subject {
 pub struct Thing {
     /// What it stands for.
     pub subject: Subject,
-    /// The words that stand behind its kind in its class: its state.
+    /// The words of its class for its detection controller and for routes.
+    pub marked: String,
+    /// The words of its class for what is seen of it.
     pub state: String,
-    /// How it is drawn.
+    /// Its symbol and its name.
     pub marks: Vec<Mark>,
+    /// What its place adds: where a line ends or goes on elsewhere, the names of sections.
+    pub more: Vec<Mark>,
 }

@@ -3,21 +3,23 @@
 ghost use Rattle.std.specs.Prelude.{◌≡◌, ◌++◌, ◌∷◌, [], map, OnOk, IfOk};
 ghost use Rattle.std.specs.List.{flat_map};
 ghost use Rattle.station_plan.specs.Subjects.{subjects_of, subjects, section_subject, track_subject, point_subject, point_subjects, tip_subject, border_subject, joint_subject, joint_subjects, signal_subject, detector_subject};
+ghost use Rattle.station_plan.specs.Faces.{AreDrawn, IsDrawn};
+ghost use Rattle.station_plan.specs.declared.thing.Subject.TheVariants as subject;
 
 use crate::element_marks::{
     draw_border, draw_branch, draw_guard, draw_joint, draw_point, draw_track,
 };
 use crate::extent::{Extent, reach_of_things};
-use crate::main_legs::leg;
 use crate::marks::Marks;
 use crate::notes::LINES;
-use crate::section_marks::{draw_detector, draw_section};
+use crate::section_marks::{draw_detector, draw_list, draw_section, tint};
+use crate::seen_words::{branch_state, section_state, signal_state};
 use crate::shown::{
-    Shown, border_state, element_state, is_flank, leg_state, point_state, section_state,
-    signal_state,
+    Shown, border_marked, element_marked, is_flank, leg_marked, point_marked, section_marked,
+    signal_marked,
 };
 use crate::signal_marks::draw_signal;
-use crate::sketch::Sketch;
+use crate::sketch::{Sketch, spot};
 use crate::subjects::{element_name, same_section, section_of};
 use crate::thing::{Subject, Thing};
 use crate::units::Units;
@@ -28,6 +30,7 @@ use control_table::layout::{
     Track, TrackId,
 };
 use control_table::sci_telegram::{Name, Side};
+use drawing::Spot;
 use std::alloc::{AllocError, Global};
 
 /// What things are drawn from.
@@ -38,20 +41,13 @@ struct Scene<'a> {
     shown: &'a Shown,
 }
 
-/// A thing of marks.
-fn thing(subject: Subject, state: String, marks: Marks) -> Thing
-    ensures { result.subject ≡ subject }
-{
-    Thing {
-        subject,
-        state,
-        marks: marks.marks,
-    }
-}
-
 /// Adds a thing.
-fn add(things: &mut Vec<Thing>, thing: Thing) -> Result<(), AllocError>
-    ensures { OnOk result (subjects_of things.new.items ≡ subjects_of things.old.items ++ thing.subject ∷ []) }
+#[tactic(auto, using(crate::proofs::ThingsDrawn::one_more))]
+fn add(things: &mut Vec<Thing>, scene: Scene<'_>, thing: Thing) -> Result<(), AllocError>
+    requires all { AreDrawn scene.layout.now scene.shown.now.seen things.old.items }
+    requires this { IsDrawn scene.layout.now scene.shown.now.seen thing }
+    ensures listed { OnOk result (subjects_of things.new.items ≡ subjects_of things.old.items ++ thing.subject ∷ []) }
+    ensures drawn { OnOk result (AreDrawn scene.layout.now scene.shown.now.seen things.new.items) }
 {
     things.push(thing)?;
     Ok(())
@@ -63,13 +59,23 @@ fn section_thing(
     number: usize,
     name: Name,
 ) -> Result<Thing, AllocError>
-    ensures { IfOk result (λ thing. thing.subject ≡ section_subject name) }
+    ensures stands { IfOk result (λ thing. thing.subject ≡ section_subject name) }
+    ensures drawn { IfOk result (IsDrawn scene.layout.now scene.shown.now.seen) }
 {
     let mut marks = Marks::new(alloc);
+    let mut more = Marks::new(alloc);
     let section = SectionId(number);
-    draw_section(&mut marks, alloc, scene.layout, scene.sketch, section)?;
-    let state = section_state(alloc, scene.layout, scene.shown, section)?;
-    Ok(thing(Subject::Section(name), state, marks))
+    draw_section(&mut marks, &mut more, scene.layout, scene.sketch, &name)?;
+    let marked = section_marked(alloc, scene.layout, scene.shown, section)?;
+    let seen = section_state(scene.layout, scene.shown, &name);
+    let state = String::from_str(alloc, seen)?;
+    Ok(Thing {
+        subject: Subject::Section(name),
+        marked,
+        state,
+        marks: marks.marks,
+        more: more.marks,
+    })
 }
 
 fn track_thing(
@@ -78,13 +84,21 @@ fn track_thing(
     number: usize,
     track: &Track,
 ) -> Result<Thing, AllocError>
-    ensures { IfOk result (λ thing. thing.subject ≡ track_subject track.now) }
+    ensures stands { IfOk result (λ thing. thing.subject ≡ track_subject track.now) }
+    ensures drawn { IfOk result (IsDrawn scene.layout.now scene.shown.now.seen) }
 {
     let mut marks = Marks::new(alloc);
-    draw_track(&mut marks, scene.sketch, number)?;
+    let mut more = Marks::new(alloc);
     let element = Element::Track(TrackId(number));
-    let state = element_state(alloc, scene.layout, scene.shown, element)?;
-    Ok(thing(Subject::Track(track.name), state, marks))
+    draw_track(&mut marks, &mut more, scene.sketch, number, track.name)?;
+    let marked = element_marked(alloc, scene.layout, scene.shown, element)?;
+    Ok(Thing {
+        subject: Subject::Track(track.name),
+        marked,
+        state: String::new(alloc),
+        marks: marks.marks,
+        more: more.marks,
+    })
 }
 
 fn point_thing(
@@ -93,16 +107,25 @@ fn point_thing(
     number: usize,
     point: &Point,
 ) -> Result<Thing, AllocError>
-    ensures { IfOk result (λ thing. thing.subject ≡ point_subject point.now) }
+    ensures stands { IfOk result (λ thing. thing.subject ≡ point_subject point.now) }
+    ensures drawn { IfOk result (IsDrawn scene.layout.now scene.shown.now.seen) }
 {
     let mut marks = Marks::new(alloc);
+    let mut more = Marks::new(alloc);
     let element = scene.sketch.grid.yard.point(number);
-    draw_point(&mut marks, scene.sketch, element)?;
+    let name = point.name;
+    draw_point(&mut marks, &mut more, scene.sketch, element, name)?;
     if is_flank(scene.layout, scene.shown, PointId(number)) {
-        draw_guard(&mut marks, scene.sketch, element)?;
+        draw_guard(&mut more, scene.sketch, element)?;
     }
-    let state = point_state(alloc, scene.layout, scene.shown, PointId(number))?;
-    Ok(thing(Subject::Point(point.name), state, marks))
+    let marked = point_marked(alloc, scene.layout, scene.shown, PointId(number))?;
+    Ok(Thing {
+        subject: Subject::Point(name),
+        marked,
+        state: String::new(alloc),
+        marks: marks.marks,
+        more: more.marks,
+    })
 }
 
 /// The tip of a point.
@@ -112,33 +135,89 @@ fn tip_thing(
     number: usize,
     name: Name,
 ) -> Result<Thing, AllocError>
-    ensures { IfOk result (λ thing. thing.subject ≡ tip_subject name) }
+    ensures stands { IfOk result (λ thing. thing.subject ≡ tip_subject name) }
+    ensures drawn { IfOk result (IsDrawn scene.layout.now scene.shown.now.seen) }
 {
     let mut marks = Marks::new(alloc);
+    let mut more = Marks::new(alloc);
     let element = scene.sketch.grid.yard.point(number);
     let end = End::Tip;
-    draw_branch(&mut marks, scene.sketch, Place { element, end })?;
+    draw_branch(&mut marks, &mut more, scene.sketch, Place { element, end })?;
     let element = Element::Point(PointId(number));
-    let state = element_state(alloc, scene.layout, scene.shown, element)?;
-    Ok(thing(Subject::Tip(name), state, marks))
+    let marked = element_marked(alloc, scene.layout, scene.shown, element)?;
+    Ok(Thing {
+        subject: Subject::Tip(name),
+        marked,
+        state: String::new(alloc),
+        marks: marks.marks,
+        more: more.marks,
+    })
 }
 
-/// A leg of a point.
-fn leg_thing(
+/// The left leg of a point.
+fn left_thing(
     alloc: Global,
     scene: Scene<'_>,
     number: usize,
-    side: Side,
-    subject: Subject,
+    name: Name,
 ) -> Result<Thing, AllocError>
-    ensures { IfOk result (λ thing. thing.subject ≡ subject) }
+    ensures stands { IfOk result (λ thing. thing.subject ≡ subject.Left name) }
+    ensures drawn { IfOk result (IsDrawn scene.layout.now scene.shown.now.seen) }
 {
     let mut marks = Marks::new(alloc);
+    let mut more = Marks::new(alloc);
     let element = scene.sketch.grid.yard.point(number);
-    let end = leg(side);
-    draw_branch(&mut marks, scene.sketch, Place { element, end })?;
-    let state = leg_state(alloc, scene.layout, scene.shown, PointId(number), side)?;
-    Ok(thing(subject, state, marks))
+    let end = End::Left;
+    draw_branch(&mut marks, &mut more, scene.sketch, Place { element, end })?;
+    let marked = leg_marked(
+        alloc,
+        scene.layout,
+        scene.shown,
+        PointId(number),
+        Side::Left,
+    )?;
+    let seen = branch_state(scene.layout, scene.shown, &name, Side::Left);
+    let state = String::from_str(alloc, seen)?;
+    Ok(Thing {
+        subject: Subject::Left(name),
+        marked,
+        state,
+        marks: marks.marks,
+        more: more.marks,
+    })
+}
+
+/// The right leg of a point.
+fn right_thing(
+    alloc: Global,
+    scene: Scene<'_>,
+    number: usize,
+    name: Name,
+) -> Result<Thing, AllocError>
+    ensures stands { IfOk result (λ thing. thing.subject ≡ subject.Right name) }
+    ensures drawn { IfOk result (IsDrawn scene.layout.now scene.shown.now.seen) }
+{
+    let mut marks = Marks::new(alloc);
+    let mut more = Marks::new(alloc);
+    let element = scene.sketch.grid.yard.point(number);
+    let end = End::Right;
+    draw_branch(&mut marks, &mut more, scene.sketch, Place { element, end })?;
+    let marked = leg_marked(
+        alloc,
+        scene.layout,
+        scene.shown,
+        PointId(number),
+        Side::Right,
+    )?;
+    let seen = branch_state(scene.layout, scene.shown, &name, Side::Right);
+    let state = String::from_str(alloc, seen)?;
+    Ok(Thing {
+        subject: Subject::Right(name),
+        marked,
+        state,
+        marks: marks.marks,
+        more: more.marks,
+    })
 }
 
 fn border_thing(
@@ -147,13 +226,21 @@ fn border_thing(
     number: usize,
     name: Name,
 ) -> Result<Thing, AllocError>
-    ensures { IfOk result (λ thing. thing.subject ≡ border_subject name) }
+    ensures stands { IfOk result (λ thing. thing.subject ≡ border_subject name) }
+    ensures drawn { IfOk result (IsDrawn scene.layout.now scene.shown.now.seen) }
 {
     let mut marks = Marks::new(alloc);
+    let mut more = Marks::new(alloc);
     let element = scene.sketch.grid.yard.border(number);
-    draw_border(&mut marks, scene.sketch, element)?;
-    let state = border_state(alloc, scene.layout, scene.shown, BorderId(number))?;
-    Ok(thing(Subject::Border(name), state, marks))
+    draw_border(&mut marks, &mut more, scene.sketch, element, name)?;
+    let marked = border_marked(alloc, scene.layout, scene.shown, BorderId(number))?;
+    Ok(Thing {
+        subject: Subject::Border(name),
+        marked,
+        state: String::new(alloc),
+        marks: marks.marks,
+        more: more.marks,
+    })
 }
 
 fn joint_thing(
@@ -162,13 +249,20 @@ fn joint_thing(
     joint: Joint,
     name: Name,
 ) -> Result<Thing, AllocError>
-    ensures { IfOk result (λ thing. thing.subject ≡ joint_subject name joint.first.end) }
+    ensures stands { IfOk result (λ thing. thing.subject ≡ joint_subject name joint.first.end) }
+    ensures drawn { IfOk result (IsDrawn scene.layout.now scene.shown.now.seen) }
 {
     let mut marks = Marks::new(alloc);
+    let more = Marks::new(alloc);
     let place = scene.sketch.grid.yard.place(joint.first);
     draw_joint(&mut marks, scene.sketch, place)?;
-    let state = String::new(alloc);
-    Ok(thing(Subject::Joint(name, joint.first.end), state, marks))
+    Ok(Thing {
+        subject: Subject::Joint(name, joint.first.end),
+        marked: String::new(alloc),
+        state: String::new(alloc),
+        marks: marks.marks,
+        more: more.marks,
+    })
 }
 
 fn signal_thing(
@@ -177,13 +271,24 @@ fn signal_thing(
     number: usize,
     signal: &Signal,
 ) -> Result<Thing, AllocError>
-    ensures { IfOk result (λ thing. thing.subject ≡ signal_subject signal.now) }
+    ensures stands { IfOk result (λ thing. thing.subject ≡ signal_subject signal.now) }
+    ensures drawn { IfOk result (IsDrawn scene.layout.now scene.shown.now.seen) }
 {
     let mut marks = Marks::new(alloc);
+    let more = Marks::new(alloc);
+    let name = signal.name;
     let place = scene.sketch.grid.yard.place(signal.at);
-    draw_signal(&mut marks, scene.sketch, place, signal.name)?;
-    let state = signal_state(alloc, scene.layout, scene.shown, SignalId(number))?;
-    Ok(thing(Subject::Signal(signal.name), state, marks))
+    draw_signal(&mut marks, scene.sketch, place, name)?;
+    let marked = signal_marked(alloc, scene.layout, scene.shown, SignalId(number))?;
+    let seen = signal_state(scene.layout, scene.shown, &name);
+    let state = String::from_str(alloc, seen)?;
+    Ok(Thing {
+        subject: Subject::Signal(name),
+        marked,
+        state,
+        marks: marks.marks,
+        more: more.marks,
+    })
 }
 
 fn add_sections(
@@ -192,10 +297,12 @@ fn add_sections(
     scene: Scene<'_>,
     sections: &[Name],
 ) -> Result<(), AllocError>
-    ensures { OnOk result (subjects_of things.new.items ≡ subjects_of things.old.items ++ map section_subject sections.now) }
+    requires { AreDrawn scene.layout.now scene.shown.now.seen things.old.items }
+    ensures listed { OnOk result (subjects_of things.new.items ≡ subjects_of things.old.items ++ map section_subject sections.now) }
+    ensures drawn { OnOk result (AreDrawn scene.layout.now scene.shown.now.seen things.new.items) }
 {
     for (number, name) in sections.iter().enumerate() {
-        add(things, section_thing(alloc, scene, number, *name)?)?;
+        add(things, scene, section_thing(alloc, scene, number, *name)?)?;
     }
     Ok(())
 }
@@ -206,10 +313,12 @@ fn add_tracks(
     scene: Scene<'_>,
     tracks: &[Track],
 ) -> Result<(), AllocError>
-    ensures { OnOk result (subjects_of things.new.items ≡ subjects_of things.old.items ++ map track_subject tracks.now) }
+    requires { AreDrawn scene.layout.now scene.shown.now.seen things.old.items }
+    ensures listed { OnOk result (subjects_of things.new.items ≡ subjects_of things.old.items ++ map track_subject tracks.now) }
+    ensures drawn { OnOk result (AreDrawn scene.layout.now scene.shown.now.seen things.new.items) }
 {
     for (number, track) in tracks.iter().enumerate() {
-        add(things, track_thing(alloc, scene, number, track)?)?;
+        add(things, scene, track_thing(alloc, scene, number, track)?)?;
     }
     Ok(())
 }
@@ -222,14 +331,15 @@ fn add_point(
     number: usize,
     point: &Point,
 ) -> Result<(), AllocError>
-    ensures { OnOk result (subjects_of things.new.items ≡ subjects_of things.old.items ++ point_subjects point.now) }
+    requires { AreDrawn scene.layout.now scene.shown.now.seen things.old.items }
+    ensures listed { OnOk result (subjects_of things.new.items ≡ subjects_of things.old.items ++ point_subjects point.now) }
+    ensures drawn { OnOk result (AreDrawn scene.layout.now scene.shown.now.seen things.new.items) }
 {
-    let left = Subject::Left(point.name);
-    let right = Subject::Right(point.name);
-    add(things, point_thing(alloc, scene, number, point)?)?;
-    add(things, tip_thing(alloc, scene, number, point.name)?)?;
-    add(things, leg_thing(alloc, scene, number, Side::Left, left)?)?;
-    add(things, leg_thing(alloc, scene, number, Side::Right, right)?)
+    let name = point.name;
+    add(things, scene, point_thing(alloc, scene, number, point)?)?;
+    add(things, scene, tip_thing(alloc, scene, number, name)?)?;
+    add(things, scene, left_thing(alloc, scene, number, name)?)?;
+    add(things, scene, right_thing(alloc, scene, number, name)?)
 }
 
 fn add_points(
@@ -238,7 +348,9 @@ fn add_points(
     scene: Scene<'_>,
     points: &[Point],
 ) -> Result<(), AllocError>
-    ensures { OnOk result (subjects_of things.new.items ≡ subjects_of things.old.items ++ flat_map point_subjects points.now) }
+    requires { AreDrawn scene.layout.now scene.shown.now.seen things.old.items }
+    ensures listed { OnOk result (subjects_of things.new.items ≡ subjects_of things.old.items ++ flat_map point_subjects points.now) }
+    ensures drawn { OnOk result (AreDrawn scene.layout.now scene.shown.now.seen things.new.items) }
 {
     for (number, point) in points.iter().enumerate() {
         add_point(things, alloc, scene, number, point)?;
@@ -252,10 +364,12 @@ fn add_borders(
     scene: Scene<'_>,
     borders: &[Name],
 ) -> Result<(), AllocError>
-    ensures { OnOk result (subjects_of things.new.items ≡ subjects_of things.old.items ++ map border_subject borders.now) }
+    requires { AreDrawn scene.layout.now scene.shown.now.seen things.old.items }
+    ensures listed { OnOk result (subjects_of things.new.items ≡ subjects_of things.old.items ++ map border_subject borders.now) }
+    ensures drawn { OnOk result (AreDrawn scene.layout.now scene.shown.now.seen things.new.items) }
 {
     for (number, name) in borders.iter().enumerate() {
-        add(things, border_thing(alloc, scene, number, *name)?)?;
+        add(things, scene, border_thing(alloc, scene, number, *name)?)?;
     }
     Ok(())
 }
@@ -268,7 +382,9 @@ fn add_joint(
     layout: &Layout,
     joint: Joint,
 ) -> Result<(), AllocError>
-    ensures { OnOk result (subjects_of things.new.items ≡ subjects_of things.old.items ++ joint_subjects layout.now joint) }
+    requires { AreDrawn scene.layout.now scene.shown.now.seen things.old.items }
+    ensures listed { OnOk result (subjects_of things.new.items ≡ subjects_of things.old.items ++ joint_subjects layout.now joint) }
+    ensures drawn { OnOk result (AreDrawn scene.layout.now scene.shown.now.seen things.new.items) }
 {
     let before = section_of(layout, joint.first.element);
     let behind = section_of(layout, joint.second.element);
@@ -277,7 +393,7 @@ fn add_joint(
     }
     match element_name(layout, joint.first.element) {
         Some(name) => {
-            add(things, joint_thing(alloc, scene, joint, name)?)?;
+            add(things, scene, joint_thing(alloc, scene, joint, name)?)?;
             Ok(())
         }
         None => Ok(()),
@@ -291,7 +407,9 @@ fn add_joints(
     layout: &Layout,
     joints: &[Joint],
 ) -> Result<(), AllocError>
-    ensures { OnOk result (subjects_of things.new.items ≡ subjects_of things.old.items ++ flat_map (joint_subjects layout.now) joints.now) }
+    requires { AreDrawn scene.layout.now scene.shown.now.seen things.old.items }
+    ensures listed { OnOk result (subjects_of things.new.items ≡ subjects_of things.old.items ++ flat_map (joint_subjects layout.now) joints.now) }
+    ensures drawn { OnOk result (AreDrawn scene.layout.now scene.shown.now.seen things.new.items) }
 {
     for joint in joints {
         add_joint(things, alloc, scene, layout, *joint)?;
@@ -305,10 +423,12 @@ fn add_signals(
     scene: Scene<'_>,
     signals: &[Signal],
 ) -> Result<(), AllocError>
-    ensures { OnOk result (subjects_of things.new.items ≡ subjects_of things.old.items ++ map signal_subject signals.now) }
+    requires { AreDrawn scene.layout.now scene.shown.now.seen things.old.items }
+    ensures listed { OnOk result (subjects_of things.new.items ≡ subjects_of things.old.items ++ map signal_subject signals.now) }
+    ensures drawn { OnOk result (AreDrawn scene.layout.now scene.shown.now.seen things.new.items) }
 {
     for (number, signal) in signals.iter().enumerate() {
-        add(things, signal_thing(alloc, scene, number, signal)?)?;
+        add(things, scene, signal_thing(alloc, scene, number, signal)?)?;
     }
     Ok(())
 }
@@ -321,6 +441,29 @@ fn letters(extent: Extent) -> usize {
         .saturating_sub(6)
 }
 
+fn detector_thing(
+    alloc: Global,
+    scene: Scene<'_>,
+    number: usize,
+    name: Name,
+    at: Spot,
+    more: Marks,
+) -> Result<Thing, AllocError>
+    ensures stands { IfOk result (λ thing. thing.subject ≡ subject.Detector name) }
+    ensures drawn { IfOk result (IsDrawn scene.layout.now scene.shown.now.seen) }
+{
+    let mut marks = Marks::new(alloc);
+    draw_detector(&mut marks, &name, at)?;
+    let marked = tint(alloc, number)?;
+    Ok(Thing {
+        subject: Subject::Detector(name),
+        marked,
+        state: String::new(alloc),
+        marks: marks.marks,
+        more: more.marks,
+    })
+}
+
 /// Adds the detection controllers, one below the other.
 fn add_detectors(
     things: &mut Vec<Thing>,
@@ -328,7 +471,9 @@ fn add_detectors(
     scene: Scene<'_>,
     detectors: &[Detector],
 ) -> Result<(), AllocError>
-    ensures { OnOk result (subjects_of things.new.items ≡ subjects_of things.old.items ++ map detector_subject detectors.now) }
+    requires { AreDrawn scene.layout.now scene.shown.now.seen things.old.items }
+    ensures listed { OnOk result (subjects_of things.new.items ≡ subjects_of things.old.items ++ map detector_subject detectors.now) }
+    ensures drawn { OnOk result (AreDrawn scene.layout.now scene.shown.now.seen things.new.items) }
 {
     let extent = reach_of_things(
         things.as_slice(),
@@ -338,18 +483,15 @@ fn add_detectors(
     let letters = letters(extent);
     let mut down = extent.bottom + Units(32) + LINES;
     for (number, detector) in detectors.iter().enumerate() {
-        let mut marks = Marks::new(alloc);
-        down = draw_detector(
-            &mut marks,
-            alloc,
-            scene.layout,
-            number,
-            extent.left,
-            down,
-            letters,
+        let mut more = Marks::new(alloc);
+        let at = spot(extent.left, down);
+        down = draw_list(&mut more, alloc, scene.layout, detector, at, letters)?;
+        let name = *detector.name();
+        add(
+            things,
+            scene,
+            detector_thing(alloc, scene, number, name, at, more)?,
         )?;
-        let subject = Subject::Detector(*detector.name());
-        add(things, thing(subject, String::new(alloc), marks))?;
     }
     Ok(())
 }
@@ -361,7 +503,9 @@ fn add_ways(
     scene: Scene<'_>,
     layout: &Layout,
 ) -> Result<(), AllocError>
-    ensures { OnOk result (subjects_of things.new.items ≡ subjects_of things.old.items ++ (map section_subject layout.now.sections ++ (map track_subject layout.now.tracks ++ flat_map point_subjects layout.now.points))) }
+    requires { AreDrawn scene.layout.now scene.shown.now.seen things.old.items }
+    ensures listed { OnOk result (subjects_of things.new.items ≡ subjects_of things.old.items ++ (map section_subject layout.now.sections ++ (map track_subject layout.now.tracks ++ flat_map point_subjects layout.now.points))) }
+    ensures drawn { OnOk result (AreDrawn scene.layout.now scene.shown.now.seen things.new.items) }
 {
     add_sections(things, alloc, scene, layout.sections())?;
     add_tracks(things, alloc, scene, layout.tracks())?;
@@ -375,7 +519,9 @@ fn add_ends(
     scene: Scene<'_>,
     layout: &Layout,
 ) -> Result<(), AllocError>
-    ensures { OnOk result (subjects_of things.new.items ≡ subjects_of things.old.items ++ (map border_subject layout.now.borders ++ (flat_map (joint_subjects layout.now) layout.now.joints ++ map signal_subject layout.now.signals))) }
+    requires { AreDrawn scene.layout.now scene.shown.now.seen things.old.items }
+    ensures listed { OnOk result (subjects_of things.new.items ≡ subjects_of things.old.items ++ (map border_subject layout.now.borders ++ (flat_map (joint_subjects layout.now) layout.now.joints ++ map signal_subject layout.now.signals))) }
+    ensures drawn { OnOk result (AreDrawn scene.layout.now scene.shown.now.seen things.new.items) }
 {
     add_borders(things, alloc, scene, layout.borders())?;
     add_joints(things, alloc, scene, layout, layout.joints())?;
@@ -384,7 +530,8 @@ fn add_ends(
 
 /// The list of all that a plan of a layout draws. The error comes only where memory was refused.
 pub fn things(alloc: Global, table: &Checked, shown: &Shown) -> Result<Vec<Thing>, AllocError>
-    ensures { IfOk result (λ things. subjects_of things.items ≡ subjects table.now) }
+    ensures listed { IfOk result (λ things. subjects_of things.items ≡ subjects table.now) }
+    ensures drawn { IfOk result (λ things. AreDrawn table.now shown.now.seen things.items) }
 {
     let layout = table.layout();
     let sketch = Sketch::of(alloc, layout)?;

@@ -1,0 +1,137 @@
+//! What is seen of signals, points and sections, as words of their classes.
+
+ghost use Rattle.std.specs.Prelude.{◌≡◌};
+ghost use Rattle.std.specs.List.{position};
+ghost use Rattle.std.specs.Str.{bytes_eq};
+ghost use Rattle.station_plan.specs.Faces.{aspect_seen, aspect_state, branch_state, leg_state, occupancy_seen, occupancy_state, position_seen, section_state, signal_state};
+
+use crate::shown::{Seen, Shown};
+use control_table::layout::{Layout, Point, Signal};
+use control_table::sci_telegram::{Aspect, Name, Occupancy, Position, Side};
+
+/// The place of the signal of a name.
+fn signal_place(signals: &[Signal], name: &str) -> Option<usize>
+    ensures { result ≡ position (λ s. bytes_eq s.name name.now) signals.now }
+{
+    signals
+        .iter()
+        .position(|signal| signal.name.as_str() == name)
+}
+
+/// The place of the point of a name.
+fn point_place(points: &[Point], name: &str) -> Option<usize>
+    ensures { result ≡ position (λ p. bytes_eq p.name name.now) points.now }
+{
+    points.iter().position(|point| point.name.as_str() == name)
+}
+
+/// The place of the section of a name.
+fn section_place(sections: &[Name], name: &str) -> Option<usize>
+    ensures { result ≡ position (λ s. bytes_eq s name.now) sections.now }
+{
+    sections.iter().position(|section| section.as_str() == name)
+}
+
+/// What a signal shows.
+fn aspect_seen(layout: &Layout, seen: &Seen, name: &Name) -> Option<Aspect>
+    ensures { result ≡ aspect_seen layout.now seen.now name.now }
+{
+    match signal_place(layout.signals(), name.as_str()) {
+        Some(place) => match seen.aspects.get(place) {
+            Some(aspect) => *aspect,
+            None => None,
+        },
+        None => None,
+    }
+}
+
+/// Where a point lies.
+fn position_seen(layout: &Layout, seen: &Seen, name: &Name) -> Option<Position>
+    ensures { result ≡ position_seen layout.now seen.now name.now }
+{
+    match point_place(layout.points(), name.as_str()) {
+        Some(place) => match seen.positions.get(place) {
+            Some(position) => *position,
+            None => None,
+        },
+        None => None,
+    }
+}
+
+/// Whether a section is occupied.
+fn occupancy_seen(layout: &Layout, seen: &Seen, name: &Name) -> Option<Occupancy>
+    ensures { result ≡ occupancy_seen layout.now seen.now name.now }
+{
+    match section_place(layout.sections(), name.as_str()) {
+        Some(place) => match seen.occupancies.get(place) {
+            Some(occupancy) => *occupancy,
+            None => None,
+        },
+        None => None,
+    }
+}
+
+fn aspect_words(aspect: Option<Aspect>) -> &'static str
+    ensures { result.now ≡ aspect_state aspect }
+{
+    match aspect {
+        Some(Aspect::Stop) => " stop",
+        Some(Aspect::Proceed) => " proceed",
+        Some(Aspect::Slow) => " slow",
+        None => "",
+    }
+}
+
+/// How a point lies to one of its legs.
+fn leg_words(position: Option<Position>, side: Side) -> &'static str
+    ensures { result.now ≡ leg_state position side }
+{
+    match (position, side) {
+        (Some(Position::Left), Side::Left) => " lies",
+        (Some(Position::Left), Side::Right) => " off",
+        (Some(Position::Right), Side::Left) => " off",
+        (Some(Position::Right), Side::Right) => " lies",
+        (Some(Position::NoEndPosition), _) => " moving",
+        (None, _) => "",
+    }
+}
+
+fn occupancy_words(occupancy: Option<Occupancy>) -> &'static str
+    ensures { result.now ≡ occupancy_state occupancy }
+{
+    match occupancy {
+        Some(Occupancy::Clear) => " clear",
+        Some(Occupancy::Occupied) => " occupied",
+        None => " unknown",
+    }
+}
+
+/// The words for what is seen of a signal.
+pub(crate) fn signal_state(layout: &Layout, shown: &Shown, name: &Name) -> &'static str
+    ensures { result.now ≡ signal_state layout.now shown.now.seen name.now }
+{
+    match &shown.seen {
+        Some(seen) => aspect_words(aspect_seen(layout, seen, name)),
+        None => "",
+    }
+}
+
+/// The words for what is seen of a leg of a point.
+pub(crate) fn branch_state(layout: &Layout, shown: &Shown, name: &Name, side: Side) -> &'static str
+    ensures { result.now ≡ branch_state layout.now shown.now.seen name.now side }
+{
+    match &shown.seen {
+        Some(seen) => leg_words(position_seen(layout, seen, name), side),
+        None => "",
+    }
+}
+
+/// The words for what is seen of a section.
+pub(crate) fn section_state(layout: &Layout, shown: &Shown, name: &Name) -> &'static str
+    ensures { result.now ≡ section_state layout.now shown.now.seen name.now }
+{
+    match &shown.seen {
+        Some(seen) => occupancy_words(occupancy_seen(layout, seen, name)),
+        None => "",
+    }
+}

@@ -1,0 +1,4 @@
+pub mod Names
+pub mod Sightings
+pub mod SeenByLines
+pub mod PlanText
