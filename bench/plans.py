@@ -8,8 +8,9 @@
     plans.py SVG ..       these, each with a PNG beside it
 
 It tells of texts that overlap, of lines that run through a text, of circles over one, of identities that stand twice, of
-what lies outside the picture, and of names that aren't written. The status is 1 where there is any. Texts are judged by boxes of a fixed advance of 6 units. A PNG is made by
-rsvg-convert (of the Debian package librsvg2-bin) or by chromium, whichever is there."""
+what lies outside the picture, and of names that aren't written. The status is 1 where there is any. Texts are judged by
+boxes of a fixed advance of 6 units. A PNG is made by rsvg-convert (of the Debian package librsvg2-bin) or by chromium,
+whichever is there."""
 import collections
 import pathlib
 import shutil
