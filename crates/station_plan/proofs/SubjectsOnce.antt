@@ -31,7 +31,7 @@ member-rest x xs d i j y lt within = d (suc i) (suc j) y (omega (arith, lt)) (om
 member-cons : {A : Type 0} (x : A) (xs : List A) → (Contains xs x → ⊥) → Distinct xs → Distinct (x ∷ xs)
 member-cons x xs absent rest = AllPairs-cons (λ a b. a ≢ b) x xs (λ k d lt e. absent (k, lt, get_or_default xs k x d lt ∙ sym e)) rest
 
-none-distinct : {A : Type 0} → Distinct {A} []
+none-distinct : {A : Type 0} → Distinct {A = A} []
 none-distinct = λ i j x lt within. absurd (omega (arith, within))
 
 contains-none : {A : Type 0} (x : A) → Contains [] x → ⊥
@@ -255,7 +255,7 @@ module _ (l : Site) where
       ⊎_elim (λ e. subst (λ (port : Port). Contains (w.first ∷ w.second ∷ joined_ports js) port) (ap (λ (x : Joint). x.first) e) (contains-here w.first (w.second ∷ joined_ports js)))
       (λ later. contains-there w.first j.first (w.second ∷ joined_ports js) (contains-there w.second j.first (joined_ports js) (first-joined js j later))) (contains-cases w j js c)
 
-  joint_end : Subject → End
+  abbrev joint_end : Subject → End
   joint_end (subject.Section name) = end.A
   joint_end (subject.Track name) = end.A
   joint_end (subject.Point name) = end.A

@@ -10,14 +10,12 @@ ghost use Rattle.station_plan.specs.declared.thing.Subject.{Subject};
 
 /// Two subjects have one identity only where they are one, and none has that of what is written below a plan: a name has no
 /// dot.
-#[tactic(auto, using(crate::proofs::Identities::apart, crate::proofs::Identities::not_notes))]
 pub fn identities_differ()
     ensures apart { (s t : Subject) → IsName (own_name s) → IsName (own_name t) → subject_id s ≡ subject_id t → s ≡ t }
     ensures notes { (s : Subject) → subject_id s ≡ notes_id → ⊥ }
 {}
 
 /// A layout has each subject once.
-#[tactic(auto, using(crate::proofs::SubjectsOnce::once))]
 pub fn subjects_stand_once()
     ensures { (l : Site) → Once l → Distinct (subjects l) }
 {}

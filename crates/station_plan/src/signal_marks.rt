@@ -2,7 +2,7 @@
 
 ghost use Rattle.std.specs.Prelude.{◌≡◌, ◌++◌, ◌∷◌, [], OnOk, codes};
 ghost use Rattle.station_plan.specs.Faces.{signal_strokes};
-ghost use Rattle.station_plan.specs.Strokes.{line, strokes, written};
+ghost use Rattle.station_plan.specs.Strokes.{circle, line, strokes, written};
 
 use crate::element_marks::moved;
 use crate::marks::Marks;
@@ -59,9 +59,13 @@ fn draw_level(
         side.saturating_mul(11),
     );
     marks.line("mast", moved(foot, 0, -4), moved(foot, 0, 4))?;
-    marks.line("mast", foot, along(foot, side, 0, 12))?;
-    marks.circle("lamp near", along(foot, side, 0, 16), 4)?;
-    marks.circle("lamp distant", along(foot, side, 0, 24), 4)?;
+    draw_lamps(
+        marks,
+        foot,
+        along(foot, side, 0, 12),
+        along(foot, side, 0, 16),
+        along(foot, side, 0, 24),
+    )?;
     let down = if right { 14 } else { -7 };
     let at = moved(along(foot, side, 0, 28), 0, down);
     let anchor = if right { Anchor::End } else { Anchor::Start };
@@ -85,9 +89,13 @@ fn draw_slanted(
     // The right hand of a train on the leg.
     let foot = moved(start, slope.saturating_mul(-8), side.saturating_mul(8));
     draw_foot(marks, foot, side, slope)?;
-    marks.line("mast", foot, along(foot, side, slope, 8))?;
-    marks.circle("lamp near", along(foot, side, slope, 11), 4)?;
-    marks.circle("lamp distant", along(foot, side, slope, 17), 4)?;
+    draw_lamps(
+        marks,
+        foot,
+        along(foot, side, slope, 8),
+        along(foot, side, slope, 11),
+        along(foot, side, slope, 17),
+    )?;
     let at = moved(
         along(foot, side, slope, 11),
         slope.saturating_mul(-9),
@@ -112,4 +120,20 @@ fn draw_foot(marks: &mut Marks, foot: Spot, side: i32, slope: i32) -> Result<(),
         moved(foot, across, down.saturating_neg()),
         moved(foot, across.saturating_neg(), down),
     )
+}
+
+/// Draws the mast of a signal from its foot to its top, and its two lamps.
+fn draw_lamps(
+    marks: &mut Marks,
+    foot: Spot,
+    top: Spot,
+    near: Spot,
+    distant: Spot,
+) -> Result<(), AllocError>
+    ensures drawn { OnOk result (strokes marks.new.marks.items ≡ strokes marks.old.marks.items ++ line (codes "mast") ∷ circle (codes "lamp near") ∷ circle (codes "lamp distant") ∷ []) }
+    ensures named { OnOk result (written marks.new.marks.items ≡ written marks.old.marks.items) }
+{
+    marks.line("mast", foot, top)?;
+    marks.circle("lamp near", near, 4)?;
+    marks.circle("lamp distant", distant, 4)
 }

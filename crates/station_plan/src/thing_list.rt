@@ -47,7 +47,7 @@ fn add(things: &mut Vec<Thing>, scene: Scene<'_>, thing: Thing) -> Result<(), Al
     requires all { AreDrawn scene.layout.now scene.shown.now.seen things.old.items }
     requires this { IsDrawn scene.layout.now scene.shown.now.seen thing }
     ensures listed { OnOk result (subjects_of things.new.items ≡ subjects_of things.old.items ++ thing.subject ∷ []) }
-    ensures drawn { OnOk result (AreDrawn scene.layout.now scene.shown.now.seen things.new.items) }
+    ensures drawn { OnOk result (AreDrawn scene.entry.layout.now scene.entry.shown.now.seen things.new.items) }
 {
     things.push(thing)?;
     Ok(())
@@ -60,7 +60,7 @@ fn section_thing(
     name: Name,
 ) -> Result<Thing, AllocError>
     ensures stands { IfOk result (λ thing. thing.subject ≡ section_subject name) }
-    ensures drawn { IfOk result (IsDrawn scene.layout.now scene.shown.now.seen) }
+    ensures drawn { IfOk result (IsDrawn scene.entry.layout.now scene.entry.shown.now.seen) }
 {
     let mut marks = Marks::new(alloc);
     let mut more = Marks::new(alloc);
@@ -85,7 +85,7 @@ fn track_thing(
     track: &Track,
 ) -> Result<Thing, AllocError>
     ensures stands { IfOk result (λ thing. thing.subject ≡ track_subject track.now) }
-    ensures drawn { IfOk result (IsDrawn scene.layout.now scene.shown.now.seen) }
+    ensures drawn { IfOk result (IsDrawn scene.entry.layout.now scene.entry.shown.now.seen) }
 {
     let mut marks = Marks::new(alloc);
     let mut more = Marks::new(alloc);
@@ -108,7 +108,7 @@ fn point_thing(
     point: &Point,
 ) -> Result<Thing, AllocError>
     ensures stands { IfOk result (λ thing. thing.subject ≡ point_subject point.now) }
-    ensures drawn { IfOk result (IsDrawn scene.layout.now scene.shown.now.seen) }
+    ensures drawn { IfOk result (IsDrawn scene.entry.layout.now scene.entry.shown.now.seen) }
 {
     let mut marks = Marks::new(alloc);
     let mut more = Marks::new(alloc);
@@ -136,7 +136,7 @@ fn tip_thing(
     name: Name,
 ) -> Result<Thing, AllocError>
     ensures stands { IfOk result (λ thing. thing.subject ≡ tip_subject name) }
-    ensures drawn { IfOk result (IsDrawn scene.layout.now scene.shown.now.seen) }
+    ensures drawn { IfOk result (IsDrawn scene.entry.layout.now scene.entry.shown.now.seen) }
 {
     let mut marks = Marks::new(alloc);
     let mut more = Marks::new(alloc);
@@ -162,7 +162,7 @@ fn left_thing(
     name: Name,
 ) -> Result<Thing, AllocError>
     ensures stands { IfOk result (λ thing. thing.subject ≡ subject.Left name) }
-    ensures drawn { IfOk result (IsDrawn scene.layout.now scene.shown.now.seen) }
+    ensures drawn { IfOk result (IsDrawn scene.entry.layout.now scene.entry.shown.now.seen) }
 {
     let mut marks = Marks::new(alloc);
     let mut more = Marks::new(alloc);
@@ -195,7 +195,7 @@ fn right_thing(
     name: Name,
 ) -> Result<Thing, AllocError>
     ensures stands { IfOk result (λ thing. thing.subject ≡ subject.Right name) }
-    ensures drawn { IfOk result (IsDrawn scene.layout.now scene.shown.now.seen) }
+    ensures drawn { IfOk result (IsDrawn scene.entry.layout.now scene.entry.shown.now.seen) }
 {
     let mut marks = Marks::new(alloc);
     let mut more = Marks::new(alloc);
@@ -227,7 +227,7 @@ fn border_thing(
     name: Name,
 ) -> Result<Thing, AllocError>
     ensures stands { IfOk result (λ thing. thing.subject ≡ border_subject name) }
-    ensures drawn { IfOk result (IsDrawn scene.layout.now scene.shown.now.seen) }
+    ensures drawn { IfOk result (IsDrawn scene.entry.layout.now scene.entry.shown.now.seen) }
 {
     let mut marks = Marks::new(alloc);
     let mut more = Marks::new(alloc);
@@ -250,7 +250,7 @@ fn joint_thing(
     name: Name,
 ) -> Result<Thing, AllocError>
     ensures stands { IfOk result (λ thing. thing.subject ≡ joint_subject name joint.first.end) }
-    ensures drawn { IfOk result (IsDrawn scene.layout.now scene.shown.now.seen) }
+    ensures drawn { IfOk result (IsDrawn scene.entry.layout.now scene.entry.shown.now.seen) }
 {
     let mut marks = Marks::new(alloc);
     let more = Marks::new(alloc);
@@ -272,7 +272,7 @@ fn signal_thing(
     signal: &Signal,
 ) -> Result<Thing, AllocError>
     ensures stands { IfOk result (λ thing. thing.subject ≡ signal_subject signal.now) }
-    ensures drawn { IfOk result (IsDrawn scene.layout.now scene.shown.now.seen) }
+    ensures drawn { IfOk result (IsDrawn scene.entry.layout.now scene.entry.shown.now.seen) }
 {
     let mut marks = Marks::new(alloc);
     let more = Marks::new(alloc);
@@ -299,7 +299,7 @@ fn add_sections(
 ) -> Result<(), AllocError>
     requires { AreDrawn scene.layout.now scene.shown.now.seen things.old.items }
     ensures listed { OnOk result (subjects_of things.new.items ≡ subjects_of things.old.items ++ map section_subject sections.now) }
-    ensures drawn { OnOk result (AreDrawn scene.layout.now scene.shown.now.seen things.new.items) }
+    ensures drawn { OnOk result (AreDrawn scene.entry.layout.now scene.entry.shown.now.seen things.new.items) }
 {
     for (number, name) in sections.iter().enumerate() {
         add(things, scene, section_thing(alloc, scene, number, *name)?)?;
@@ -315,7 +315,7 @@ fn add_tracks(
 ) -> Result<(), AllocError>
     requires { AreDrawn scene.layout.now scene.shown.now.seen things.old.items }
     ensures listed { OnOk result (subjects_of things.new.items ≡ subjects_of things.old.items ++ map track_subject tracks.now) }
-    ensures drawn { OnOk result (AreDrawn scene.layout.now scene.shown.now.seen things.new.items) }
+    ensures drawn { OnOk result (AreDrawn scene.entry.layout.now scene.entry.shown.now.seen things.new.items) }
 {
     for (number, track) in tracks.iter().enumerate() {
         add(things, scene, track_thing(alloc, scene, number, track)?)?;
@@ -333,7 +333,7 @@ fn add_point(
 ) -> Result<(), AllocError>
     requires { AreDrawn scene.layout.now scene.shown.now.seen things.old.items }
     ensures listed { OnOk result (subjects_of things.new.items ≡ subjects_of things.old.items ++ point_subjects point.now) }
-    ensures drawn { OnOk result (AreDrawn scene.layout.now scene.shown.now.seen things.new.items) }
+    ensures drawn { OnOk result (AreDrawn scene.entry.layout.now scene.entry.shown.now.seen things.new.items) }
 {
     let name = point.name;
     add(things, scene, point_thing(alloc, scene, number, point)?)?;
@@ -350,7 +350,7 @@ fn add_points(
 ) -> Result<(), AllocError>
     requires { AreDrawn scene.layout.now scene.shown.now.seen things.old.items }
     ensures listed { OnOk result (subjects_of things.new.items ≡ subjects_of things.old.items ++ flat_map point_subjects points.now) }
-    ensures drawn { OnOk result (AreDrawn scene.layout.now scene.shown.now.seen things.new.items) }
+    ensures drawn { OnOk result (AreDrawn scene.entry.layout.now scene.entry.shown.now.seen things.new.items) }
 {
     for (number, point) in points.iter().enumerate() {
         add_point(things, alloc, scene, number, point)?;
@@ -366,7 +366,7 @@ fn add_borders(
 ) -> Result<(), AllocError>
     requires { AreDrawn scene.layout.now scene.shown.now.seen things.old.items }
     ensures listed { OnOk result (subjects_of things.new.items ≡ subjects_of things.old.items ++ map border_subject borders.now) }
-    ensures drawn { OnOk result (AreDrawn scene.layout.now scene.shown.now.seen things.new.items) }
+    ensures drawn { OnOk result (AreDrawn scene.entry.layout.now scene.entry.shown.now.seen things.new.items) }
 {
     for (number, name) in borders.iter().enumerate() {
         add(things, scene, border_thing(alloc, scene, number, *name)?)?;
@@ -384,7 +384,7 @@ fn add_joint(
 ) -> Result<(), AllocError>
     requires { AreDrawn scene.layout.now scene.shown.now.seen things.old.items }
     ensures listed { OnOk result (subjects_of things.new.items ≡ subjects_of things.old.items ++ joint_subjects layout.now joint) }
-    ensures drawn { OnOk result (AreDrawn scene.layout.now scene.shown.now.seen things.new.items) }
+    ensures drawn { OnOk result (AreDrawn scene.entry.layout.now scene.entry.shown.now.seen things.new.items) }
 {
     let before = section_of(layout, joint.first.element);
     let behind = section_of(layout, joint.second.element);
@@ -409,7 +409,7 @@ fn add_joints(
 ) -> Result<(), AllocError>
     requires { AreDrawn scene.layout.now scene.shown.now.seen things.old.items }
     ensures listed { OnOk result (subjects_of things.new.items ≡ subjects_of things.old.items ++ flat_map (joint_subjects layout.now) joints.now) }
-    ensures drawn { OnOk result (AreDrawn scene.layout.now scene.shown.now.seen things.new.items) }
+    ensures drawn { OnOk result (AreDrawn scene.entry.layout.now scene.entry.shown.now.seen things.new.items) }
 {
     for joint in joints {
         add_joint(things, alloc, scene, layout, *joint)?;
@@ -425,7 +425,7 @@ fn add_signals(
 ) -> Result<(), AllocError>
     requires { AreDrawn scene.layout.now scene.shown.now.seen things.old.items }
     ensures listed { OnOk result (subjects_of things.new.items ≡ subjects_of things.old.items ++ map signal_subject signals.now) }
-    ensures drawn { OnOk result (AreDrawn scene.layout.now scene.shown.now.seen things.new.items) }
+    ensures drawn { OnOk result (AreDrawn scene.entry.layout.now scene.entry.shown.now.seen things.new.items) }
 {
     for (number, signal) in signals.iter().enumerate() {
         add(things, scene, signal_thing(alloc, scene, number, signal)?)?;
@@ -450,7 +450,7 @@ fn detector_thing(
     more: Marks,
 ) -> Result<Thing, AllocError>
     ensures stands { IfOk result (λ thing. thing.subject ≡ subject.Detector name) }
-    ensures drawn { IfOk result (IsDrawn scene.layout.now scene.shown.now.seen) }
+    ensures drawn { IfOk result (IsDrawn scene.entry.layout.now scene.entry.shown.now.seen) }
 {
     let mut marks = Marks::new(alloc);
     draw_detector(&mut marks, &name, at)?;
@@ -473,7 +473,7 @@ fn add_detectors(
 ) -> Result<(), AllocError>
     requires { AreDrawn scene.layout.now scene.shown.now.seen things.old.items }
     ensures listed { OnOk result (subjects_of things.new.items ≡ subjects_of things.old.items ++ map detector_subject detectors.now) }
-    ensures drawn { OnOk result (AreDrawn scene.layout.now scene.shown.now.seen things.new.items) }
+    ensures drawn { OnOk result (AreDrawn scene.entry.layout.now scene.entry.shown.now.seen things.new.items) }
 {
     let extent = reach_of_things(
         things.as_slice(),
@@ -505,7 +505,7 @@ fn add_ways(
 ) -> Result<(), AllocError>
     requires { AreDrawn scene.layout.now scene.shown.now.seen things.old.items }
     ensures listed { OnOk result (subjects_of things.new.items ≡ subjects_of things.old.items ++ (map section_subject layout.now.sections ++ (map track_subject layout.now.tracks ++ flat_map point_subjects layout.now.points))) }
-    ensures drawn { OnOk result (AreDrawn scene.layout.now scene.shown.now.seen things.new.items) }
+    ensures drawn { OnOk result (AreDrawn scene.entry.layout.now scene.entry.shown.now.seen things.new.items) }
 {
     add_sections(things, alloc, scene, layout.sections())?;
     add_tracks(things, alloc, scene, layout.tracks())?;
@@ -521,7 +521,7 @@ fn add_ends(
 ) -> Result<(), AllocError>
     requires { AreDrawn scene.layout.now scene.shown.now.seen things.old.items }
     ensures listed { OnOk result (subjects_of things.new.items ≡ subjects_of things.old.items ++ (map border_subject layout.now.borders ++ (flat_map (joint_subjects layout.now) layout.now.joints ++ map signal_subject layout.now.signals))) }
-    ensures drawn { OnOk result (AreDrawn scene.layout.now scene.shown.now.seen things.new.items) }
+    ensures drawn { OnOk result (AreDrawn scene.entry.layout.now scene.entry.shown.now.seen things.new.items) }
 {
     add_borders(things, alloc, scene, layout.borders())?;
     add_joints(things, alloc, scene, layout, layout.joints())?;
