@@ -235,7 +235,7 @@ For more information, try '--help'.
 
 const A_WORD_TOO_MANY: &str = "error: unexpected argument 'b.toml' found
 
-Usage: station check <FILE>
+Usage: station check [OPTIONS] <FILE>
 
 For more information, try '--help'.
 ";
