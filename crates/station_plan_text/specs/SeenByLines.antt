@@ -19,19 +19,19 @@ put list place value = if nat_lt place (length list) then slice_set list place v
 
 unfoldable pub with_aspect : List (Option Aspect) → Sighting → List (Option Aspect)
 with_aspect list (sighting.Signal signal aspect) = put list signal.0 (Some aspect)
-with_aspect list other = list
+with_aspect list _ = list
 
 unfoldable pub with_position : List (Option Position) → Sighting → List (Option Position)
 with_position list (sighting.Point point position) = put list point.0 (Some position)
-with_position list other = list
+with_position list _ = list
 
 unfoldable pub with_occupancy : List (Option Occupancy) → Sighting → List (Option Occupancy)
 with_occupancy list (sighting.Section section occupancy) = put list section.0 (Some occupancy)
-with_occupancy list other = list
+with_occupancy list _ = list
 
 unfoldable pub with_set : List Bool → Sighting → List Bool
 with_set list (sighting.Route route set) = put list route.0 set
-with_set list other = list
+with_set list _ = list
 
 -- ---- all lines
 

@@ -5,6 +5,7 @@ ghost use Rattle.std.specs.List.{fold};
 ghost use Rattle.station_plan_text.specs.SeenByLines.{IsSeenBy, IsSeenOf, put, with_aspect, with_occupancy, with_position, with_set};
 
 use crate::sighting::Sighting;
+use control_table::Checked;
 use control_table::layout::Layout;
 use control_table::sci_telegram::{Aspect, Occupancy, Position};
 use station_plan::Seen;
@@ -13,13 +14,13 @@ use std::alloc::{AllocError, Global};
 /// What is seen by the lines of a picture, where one is given.
 pub(crate) fn seen_in(
     alloc: Global,
-    layout: &Layout,
+    table: &Checked,
     sightings: Option<Vec<Sighting>>,
 ) -> Result<Option<Seen>, AllocError>
-    ensures { IfOk result (IsSeenOf layout.now (option_map (λ said. said.items) sightings)) }
+    ensures { IfOk result (IsSeenOf table.now (option_map (λ said. said.items) sightings)) }
 {
     match sightings {
-        Some(sightings) => Ok(Some(seen_by(alloc, layout, &sightings)?)),
+        Some(sightings) => Ok(Some(seen_by(alloc, table.layout(), &sightings)?)),
         None => Ok(None),
     }
 }

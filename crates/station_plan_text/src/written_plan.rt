@@ -73,7 +73,7 @@ fn drawn(
     let table = table_of(alloc, layout)?;
     let route = route_asked(&table, route)?;
     let sightings = sightings_given(alloc, &table, picture)?;
-    let seen = seen_in(alloc, table.layout(), sightings)?;
+    let seen = seen_in(alloc, &table, sightings)?;
     let shown = Shown { route, seen };
     let text = plan_of(alloc, &table, &shown)?;
     Ok(text)
