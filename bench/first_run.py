@@ -132,15 +132,17 @@ class SideBySide:
             self.begin(crate, 10 if is_near else 19)
 
     def are_built(self):
-        """Builds them all, and ends where one can't be."""
-        while self.left or self.running:
-            self.begin_those_that_may()
+        """Builds them all. Where one can't be, no other one begins, and those that have begun end."""
+        all_well = True
+        while self.running or (all_well and self.left):
+            if all_well:
+                self.begin_those_that_may()
             crate, done = self.ended.get()
             self.running.remove(crate)
-            if not done:
-                return False
-            self.built.add(crate.name)
-        return True
+            all_well = all_well and done
+            if done:
+                self.built.add(crate.name)
+        return all_well
 
 
 @contextlib.contextmanager
