@@ -1,2 +1,3 @@
 pub mod ReadAgain
 pub mod WorkedLines
+pub mod AuthorityTold

@@ -6,7 +6,7 @@
 --     section S clear|occupied|unknown
 --     point P left|right|unknown
 --     signal S ASPECT R                 the authority given, and the route into which it leads
---     signal S stop -                   no authority
+--     signal S stop -                   no authority; a route has another aspect than stop, also one that is called `-`
 --     indicates S ASPECT                what its controller reports that it shows
 --     route R set|free
 --     holding
@@ -65,16 +65,15 @@ route_state_word false = codes "free"
 
 -- ---- lines
 
-abbrev pub link_text : Site → NodeId → LinkState → List ℕ
-link_text site node state = codes "link " ++ (node_word site node ++ 32 ∷ link_word state)
+abbrev pub authority_text : Site → Option Authority → List ℕ
+authority_text site (Some authority) = aspect_word authority.aspect ++ 32 ∷ route_word site authority.route
+authority_text site None = codes "stop -"
 
 abbrev pub signal_text : Site → SignalId → Option Authority → List ℕ
-signal_text site signal (Some authority) =
-    codes "signal " ++ (signal_word site signal ++ 32 ∷ (aspect_word authority.aspect ++ 32 ∷ route_word site authority.route))
-signal_text site signal None = codes "signal " ++ (signal_word site signal ++ codes " stop -")
+signal_text site signal authority = codes "signal " ++ (signal_word site signal ++ 32 ∷ authority_text site authority)
 
 abbrev pub known_text : Site → KnownThing → List ℕ
-known_text site (Link node state) = link_text site node state
+known_text site (Link node state) = codes "link " ++ (node_word site node ++ 32 ∷ link_word state)
 known_text site (Section section occupancy) = codes "section " ++ (section_word site section ++ 32 ∷ known_occupancy_word occupancy)
 known_text site (Point point side) = codes "point " ++ (point_word site point ++ 32 ∷ known_side_word side)
 known_text site (Signal signal authority) = signal_text site signal authority

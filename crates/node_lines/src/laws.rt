@@ -1,15 +1,19 @@
 //! What is written in a line is read again.
 
-ghost use Rattle.std.specs.Prelude.{◌≡◌, Ok};
+ghost use Rattle.std.specs.Prelude.{◌≡◌, ◌≢◌, None, Ok, Some};
 ghost use Rattle.replay_words.specs.Cut.{words};
 ghost use Rattle.ixl_rules.specs.layout.Entries.{Site};
 ghost use Rattle.ixl_rules.specs.layout.Once.{Once};
 ghost use Rattle.ixl_rules.specs.layout.Station.{IsStation};
 ghost use Rattle.node_lines.specs.Commands.{command_said, command_text, operator_read};
+ghost use Rattle.ixl_rules.specs.layout.declared.ids.SignalId.{SignalId};
+ghost use Rattle.ixl_rules.specs.sci_telegram.declared.message.Aspect.TheVariants.{Stop};
+ghost use Rattle.node_lines.specs.Known.{signal_text};
 ghost use Rattle.node_lines.specs.Orders.{order_line_said, order_text};
 ghost use Rattle.node_lines.specs.ReadAgain.{IsOrderLine, IsReport};
 ghost use Rattle.node_lines.specs.Reports.{report_said, report_text};
 ghost use Rattle.node_lines.specs.Worked.{Worked};
+ghost use Rattle.node_lines.specs.declared.operator_line.Authority.{Authority};
 ghost use Rattle.node_lines.specs.declared.operator_command.OperatorCommand.{OperatorCommand as Asked};
 ghost use Rattle.node_lines.specs.declared.order.OrderLine.{OrderLine as Line};
 ghost use Rattle.node_lines.specs.declared.report.FieldReport.{FieldReport as Told};
@@ -44,6 +48,13 @@ pub fn commands_are_read_again()
     names_are_read_again();
     names_are_words();
 }
+
+/// A signal without authority is told otherwise than one that has authority for an aspect other than stop, also where its route
+/// is called `-`.
+#[tactic(auto, using(crate::proofs::AuthorityTold::told_apart))]
+pub fn authority_is_told_apart()
+    ensures { (site : Site) (signal : SignalId) (authority : Authority) → authority.aspect ≢ Stop → signal_text site signal (Some authority) ≢ signal_text site signal None }
+{}
 
 /// Lines worked by hand.
 pub fn lines_are_as_worked_by_hand()

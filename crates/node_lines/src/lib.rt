@@ -10,8 +10,8 @@ mod report;
 mod word_table;
 
 pub use laws::{
-    commands_are_read_again, lines_are_as_worked_by_hand, orders_are_read_again,
-    reports_are_read_again,
+    authority_is_told_apart, commands_are_read_again, lines_are_as_worked_by_hand,
+    orders_are_read_again, reports_are_read_again,
 };
 pub use operator_command::{CommandText, OperatorCommand, read_command};
 pub use operator_line::{Authority, Known, LinkState, OperatorLine, OperatorText};

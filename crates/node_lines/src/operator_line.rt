@@ -129,8 +129,9 @@ impl<'a> fmt::Display for KnownText<'a> {
         let layout = self.layout;
         match self.known {
             Known::Link { node, state } => {
-                let link = LinkText(layout, node, state);
-                write!(f, "{link}")
+                let node = NodeWord { layout, node };
+                let word = link_word(state);
+                write!(f, "link {node} {word}")
             }
             Known::Section { section, occupancy } => {
                 let section = section_word(layout, section);
@@ -143,8 +144,9 @@ impl<'a> fmt::Display for KnownText<'a> {
                 write!(f, "point {point} {word}")
             }
             Known::Signal { signal, authority } => {
-                let signal = SignalText(layout, signal, authority);
-                write!(f, "{signal}")
+                let signal = signal_word(layout, signal);
+                let authority = AuthorityText { layout, authority };
+                write!(f, "signal {signal} {authority}")
             }
             Known::Indicates { signal, aspect } => {
                 let signal = signal_word(layout, signal);
@@ -162,47 +164,51 @@ impl<'a> fmt::Display for KnownText<'a> {
     }
 }
 
-/// The state of the link of a node, as its line tells it.
+/// The word that stands for a node: its name, or `_` where the layout lacks it.
 #[derive(Clone, Copy)]
-struct LinkText<'a>(&'a Layout, NodeId, LinkState);
+struct NodeWord<'a> {
+    layout: &'a Layout,
+    node: NodeId,
+}
 
-impl<'a> fmt::Display for LinkText<'a> {
+impl<'a> fmt::Display for NodeWord<'a> {
     ghost use Rattle.std.specs.Prelude.{Some};
-    ghost use Rattle.node_lines.specs.Known.{link_text};
+    ghost use Rattle.node_lines.specs.Known.{node_word};
 
-    ghost output = { λ text. Some (link_text text.0.now text.1 text.2) };
+    ghost output = { λ word. Some (node_word word.layout.now word.node) };
 
     fn fmt<W: fmt::Write>(&self, f: &mut fmt::Formatter<W>) -> fmt::Result {
-        let word = link_word(self.2);
-        match node_name(self.0, self.1) {
+        match node_name(self.layout, self.node) {
             Some(name) => {
                 let name = name.as_str();
-                write!(f, "link {name} {word}")
+                write!(f, "{name}")
             }
-            None => write!(f, "link _ {word}"),
+            None => write!(f, "_"),
         }
     }
 }
 
-/// The authority given at a signal, as its line tells it.
+/// The authority given at a signal, as the signal's line tells it.
 #[derive(Clone, Copy)]
-struct SignalText<'a>(&'a Layout, SignalId, Option<Authority>);
+struct AuthorityText<'a> {
+    layout: &'a Layout,
+    authority: Option<Authority>,
+}
 
-impl<'a> fmt::Display for SignalText<'a> {
+impl<'a> fmt::Display for AuthorityText<'a> {
     ghost use Rattle.std.specs.Prelude.{Some};
-    ghost use Rattle.node_lines.specs.Known.{signal_text};
+    ghost use Rattle.node_lines.specs.Known.{authority_text};
 
-    ghost output = { λ text. Some (signal_text text.0.now text.1 text.2) };
+    ghost output = { λ text. Some (authority_text text.layout.now text.authority) };
 
     fn fmt<W: fmt::Write>(&self, f: &mut fmt::Formatter<W>) -> fmt::Result {
-        let signal = signal_word(self.0, self.1);
-        match self.2 {
+        match self.authority {
             Some(authority) => {
                 let word = aspect_word(authority.aspect);
-                let route = route_word(self.0, authority.route);
-                write!(f, "signal {signal} {word} {route}")
+                let route = route_word(self.layout, authority.route);
+                write!(f, "{word} {route}")
             }
-            None => write!(f, "signal {signal} stop -"),
+            None => write!(f, "stop -"),
         }
     }
 }
