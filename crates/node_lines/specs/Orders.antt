@@ -5,7 +5,7 @@
 --     8 at 12310 show stop
 --     9 at 500 drive left until 2280          drive the point to a side, and from that moment on don't drive it
 --     10 at 900 drive none
-use Rattle.std.specs.Prelude.{ℕ, if◌then◌else◌, List, [], ◌∷◌, codes, Result, Ok, Err}
+use Rattle.std.specs.Prelude.{ℕ, nat_lt, if◌then◌else◌, List, [], ◌∷◌, codes, Option, Some, None, Result, Ok, Err}
 use Rattle.std.specs.Fmt.{decimal as written}
 use Rattle.std.specs.List.{join_with_byte}
 use Rattle.std.specs.Str.{bytes_eq}
@@ -13,11 +13,26 @@ use Rattle.replay_words.specs.declared.fault.Fault.{Fault}
 use Rattle.replay_words.specs.declared.fault.Fault.TheVariants.{Words}
 use Rattle.replay_words.specs.Fault.{both, ◌>>=◌}
 use Rattle.replay_words.specs.Read.{decimal}
+use Rattle.ixl_rules.specs.sci_telegram.declared.message.Aspect.{Aspect}
+use Rattle.ixl_rules.specs.sci_telegram.declared.message.Aspect.TheVariants as aspects
 use Rattle.ixl_rules.specs.sci_telegram.declared.message.Side.{Side}
 use Rattle.ixl_rules.specs.sci_telegram.declared.message.Side.TheVariants as side
 use Rattle.node_lines.specs.declared.order.Order.{Order}
 use Rattle.node_lines.specs.declared.order.Order.TheVariants.{ShowStop, ShowProceed, ShowSlow, DriveNone, Drive}
 use Rattle.node_lines.specs.declared.order.OrderLine.{OrderLine}
+
+-- ---- what they mean
+
+-- what a signal shows at a reading of the node's clock that keeps this order
+abbrev pub aspect_ordered : Order → ℕ → Aspect
+aspect_ordered (ShowProceed until) now = if nat_lt now until then aspects.Proceed else aspects.Stop
+aspect_ordered (ShowSlow until) now = if nat_lt now until then aspects.Slow else aspects.Stop
+aspect_ordered order now = aspects.Stop
+
+-- and to which side a point is driven then, if it is
+abbrev pub side_ordered : Order → ℕ → Option Side
+side_ordered (Drive to until) now = if nat_lt now until then Some to else None
+side_ordered order now = None
 
 -- ---- written
 
