@@ -1,0 +1,2 @@
+pub mod RowsMore
+pub mod SpansClose

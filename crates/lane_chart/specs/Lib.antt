@@ -1,0 +1,4 @@
+pub mod Subjects
+pub mod Spans
+pub mod Drawn
+pub mod Chart
