@@ -1,2 +1,0 @@
-pub mod RowsMore
-pub mod SpansClose

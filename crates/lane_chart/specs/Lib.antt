@@ -1,4 +1,0 @@
-pub mod Subjects
-pub mod Spans
-pub mod Drawn
-pub mod Chart
