@@ -4,9 +4,7 @@
 //! - `sim LAYOUT EVENTS`: the lines of a file are carried out, and answered one by one;
 //! - `replay LAYOUT SESSION`: a recorded session is applied again;
 //! - `each-sim LAYOUT EVENTS` and `each-replay LAYOUT SESSION`: so with each line of a file, as if it stood alone;
-//! - `script LAYOUT SCRIPT`: a script is judged;
-//! - `decode-session LAYOUT SESSION` and `capture LAYOUT SESSION`: what goes over the network in a session is told in words,
-//!   or captured.
+//! - `script LAYOUT SCRIPT`: a script is judged.
 //!
 //! Of layouts, most of them a small station with a change:
 //!

@@ -2,7 +2,7 @@
 
 use crate::failure::Failure;
 use crate::status::write_end;
-use station_traffic::station_run::station_sim::station_check::check_text;
+use station_sim::station_check::check_text;
 use std::alloc::{AllocError, Global};
 use std::io;
 use std::io::Write;

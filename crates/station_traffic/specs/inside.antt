@@ -1,5 +1,0 @@
--- What contracts inside the crate say. No promise names any of it.
-pub mod SoundTexts
-pub mod Late
-pub mod Places
-pub mod CapturesSoFar
