@@ -1,12 +1,3 @@
 pub mod Places
-pub mod LayoutNames
-pub mod Joints
-pub mod FieldKeys
-pub mod ValueForms
-pub mod EntryAdvice
-pub mod SharedAdvice
-pub mod UnknownAdvice
-pub mod RouteDetails
-pub mod DetailWords
 pub mod Advice
 pub mod AdviceTold

@@ -10,7 +10,6 @@
 //!
 //! - `report CASES`: what `station check` writes, and its status;
 //! - `commented CASES`: the same of the text behind many lines of comment;
-//! - `explain CASES`: what `station check --explain` writes, and its status;
 //! - `table LAYOUT` and `csv LAYOUT`: the control table of a layout, in either form;
 //! - `contents CASES`: what the layout reads from the text, and what the control table says of each route.
 //!

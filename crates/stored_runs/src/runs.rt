@@ -25,7 +25,7 @@ pub(crate) fn carry_out_all(rt: &HostRuntime) -> Result<(), Failure> {
 fn carry_out<W: Write>(rt: &HostRuntime, run: &str, out: &mut W) -> Result<(), Failure> {
     let (kind, files) = parts(run, " ")?;
     match kind {
-        "report" | "commented" | "explain" | "contents" => cases::carry_out(rt, kind, files, out),
+        "report" | "commented" | "contents" => cases::carry_out(rt, kind, files, out),
         "table" => tables::print(rt, files, Form::Markdown, out),
         "csv" => tables::print(rt, files, Form::Csv, out),
         "decode" => datagrams::decode_named(rt, files, out),
