@@ -1,14 +1,12 @@
 -- Good rounds of a station, with requests and occupancies between them.
-use Rattle.std.specs.Prelude.{◌≡◌, ℕ, suc, ◌+◌, ◌-◌, ◌*◌, ◌≤◌, false, List, [], ◌∷◌, ◌++◌, length, map, Option, Some, None}
+use Rattle.std.specs.Prelude.{◌≡◌, ℕ, suc, ◌+◌, ◌-◌, ◌*◌, ◌≤◌, false, List, [], ◌∷◌, ◌++◌, length, map, None}
 use Rattle.simulator_run.specs.rasta_core.Each.{Each}
 use Rattle.simulator_run.specs.rasta_core.Links.{OnLink}
 use Rattle.simulator_run.specs.simulator_event.declared.event.Event.{Event}
 use Rattle.simulator_run.specs.simulator_event.declared.event.Event.TheVariants as event
-use Rattle.simulator_run.specs.simulator_event.refused.Refused.{Refused}
 use Rattle.simulator_run.specs.declared.round.RoundEvent.{RoundEvent}
-use Rattle.simulator_run.specs.Flow.{Flowing, deliveries, due, round, round_of_time, stations}
+use Rattle.simulator_run.specs.Flow.{Flowing, deliveries, round, round_of_time, stations}
 use Rattle.simulator_run.specs.Refusals.{clock_limit}
-use Rattle.simulator_run.specs.Run.{CanHappen, after_all}
 use Rattle.simulator_run.specs.State.{ClockedControllerState, WorldState}
 use Rattle.simulator_run.specs.Tried.{Played, after, receiver, refusal_of}
 
@@ -27,28 +25,6 @@ all_tried (first ∷ others) flowing = all_tried others (record flowing { state 
 abbrev pub good_rounds : List (List Event) → Flowing Played → Flowing Played
 good_rounds [] flowing = flowing
 good_rounds (between ∷ later) flowing = good_rounds later (all_tried between (round stations flowing))
-
--- what is tried in good rounds and between them, in its order
-abbrev pub event_of : RoundEvent → Event
-event_of one = one.event
-
-abbrev pub events_tried : List (List Event) → Flowing Played → List Event
-events_tried [] flowing = []
-events_tried (between ∷ later) flowing = map event_of (due stations flowing) ++ (between ++ events_tried later (all_tried between (round stations flowing)))
-
--- of events that are tried one after another, those that happen; the others are refused, and change nothing
-abbrev pub with_event_where : Option Refused → Event → List Event → List Event
-with_event_where (Some why) one others = others
-with_event_where None one others = one ∷ others
-
-abbrev pub events_that_happen : List Event → Played → List Event
-events_that_happen [] world = []
-events_that_happen (first ∷ others) world = with_event_where (refusal_of first world) first (events_that_happen others (after world first))
-
--- these events can happen to a station, one after another, and this is the world behind them
-pub record LeadTo (events : List Event) (old : Played) (new : WorldState) : Type 0 where
-  pub can : CanHappen old.sited.site old.sited.table events old.run
-  pub behind : new ≡ after_all old.sited.site old.sited.table events old.run
 
 -- true time and the clocks of all nodes, in microseconds
 abbrev pub clock_of : {Object : Type 0} → ClockedControllerState Object → ℕ

@@ -5,35 +5,21 @@ ghost use Rattle.simulator_run.specs.layout.Once.{Once};
 ghost use Rattle.simulator_run.specs.layout.Station.{IsStation};
 ghost use Rattle.simulator_run.specs.ixl_rules.View.{is_holding};
 ghost use Rattle.simulator_run.specs.rasta_core.Each.{Each};
-ghost use Rattle.simulator_run.specs.rasta_core.EachLink.{AreTimely};
 ghost use Rattle.simulator_run.specs.rasta_core.Ends.{reading_of};
-ghost use Rattle.simulator_run.specs.rasta_core.Links.{Links};
 ghost use Rattle.simulator_run.specs.simulator_event.declared.event.Event.{Event};
 ghost use Rattle.simulator_run.specs.Flow.{Flowing, round, stations};
-ghost use Rattle.simulator_run.specs.Links.{AreLinksOf, names_at};
-ghost use Rattle.simulator_run.specs.Nodes.{links};
 ghost use Rattle.simulator_run.specs.Tried.{Played};
 ghost use Rattle.simulator_headline.specs.Reached.{IsReached};
-ghost use Rattle.simulator_recovery.specs.LinkRounds.{ControllersReceive, LinksGoThroughRounds};
-ghost use Rattle.simulator_recovery.specs.Rounds.{AllCome, HasTime, IsWork, LeadTo, LeavesFresh, all_tried, clocks_of, events_that_happen, events_tried, good_rounds, hold_rounds, rounds_later};
+ghost use Rattle.simulator_recovery.specs.Rounds.{AllCome, HasTime, IsWork, LeavesFresh, all_tried, clocks_of, good_rounds, hold_rounds, rounds_later};
 
 use simulator_headline::reached_worlds_are_safe;
-use simulator_run::ixl_rules::rasta_core::{each_link_sees_its_events, links_keep_time};
-use simulator_run::object_host::step_is_calls;
-use simulator_run::point_ctl::Point;
-use simulator_run::signal_ctl::Signal;
-use simulator_run::tds_ctl::Detection;
-use simulator_run_links::{
-    events_are_those_of_the_links, layouts_name_their_links, stations_have_links,
-};
+use simulator_run::ixl_rules::rasta_core::links_keep_time;
+use simulator_run_links::{layouts_name_their_links, stations_have_links};
 
-/// Good rounds, and what comes between them, are events that can happen, one after another: those of the events tried that aren't
-/// refused. So they lead from a world that is reached to one that is, and whatever is true after every list of events is true
-/// behind good rounds.
+/// Good rounds, and what comes between them, are events that can happen: they lead from a world that is reached to one that is.
+/// So whatever is true after every list of events is true behind good rounds.
 pub fn good_rounds_are_events()
-    ensures lead { (between : List (List Event)) (flowing : Flowing Played)
-        → LeadTo (events_that_happen (events_tried between flowing) flowing.state) flowing.state (good_rounds between flowing).state.run }
-    ensures reached { (between : List (List Event)) (flowing : Flowing Played) → IsReached flowing.state.sited.site flowing.state.sited.table flowing.state.run
+    ensures { (between : List (List Event)) (flowing : Flowing Played) → IsReached flowing.state.sited.site flowing.state.sited.table flowing.state.run
         → IsReached flowing.state.sited.site flowing.state.sited.table (good_rounds between flowing).state.run }
 {
     reached_worlds_are_safe();
@@ -78,39 +64,4 @@ pub fn the_hold_ends()
 {
     reached_worlds_are_safe();
     stations_have_links();
-}
-
-/// On each link of a station good rounds are time and calls alone: in each round 10 ms pass at both its ends, and then they are
-/// called, whatever requests and occupancies come. No datagram is lost, and no end is made anew.
-pub fn links_go_through_good_rounds()
-    ensures { (between : List (List Event)) (flowing : Flowing Played) (before : Links) → Once flowing.state.sited.site → IsStation flowing.state.sited.site
-        → IsReached flowing.state.sited.site flowing.state.sited.table flowing.state.run → Each (Each IsWork) between → HasTime (length between) flowing.state.run
-        → AreTimely (links flowing.state.sited.site) (names_at flowing.state.sited.site) before → AreLinksOf flowing.state.sited.site flowing.state.run before
-        → LinksGoThroughRounds flowing.state.sited.site (length between) before (good_rounds between flowing).state.run }
-{
-    reached_worlds_are_safe();
-    stations_have_links();
-    layouts_name_their_links();
-    events_are_those_of_the_links();
-    each_link_sees_its_events();
-    links_keep_time();
-}
-
-/// What the interlocking sent on a link since a good round began comes to the link's controller in the next one: the controller
-/// receives it in the order of sending, and nothing else.
-pub fn controllers_receive_what_was_sent()
-    ensures { (old new : Flowing Played) (leaves : LeavesFresh old new) (between : List Event) (before : Links) → Once new.state.sited.site → IsStation new.state.sited.site
-        → IsReached new.state.sited.site new.state.sited.table new.state.run → Each IsWork between → HasTime 1 new.state.run
-        → AreTimely (links new.state.sited.site) (names_at new.state.sited.site) before → AreLinksOf new.state.sited.site new.state.run before
-        → ControllersReceive new.state.sited.site leaves.more before (all_tried between (round stations new)).state.run }
-{
-    reached_worlds_are_safe();
-    stations_have_links();
-    layouts_name_their_links();
-    events_are_those_of_the_links();
-    each_link_sees_its_events();
-    links_keep_time();
-    step_is_calls::<Detection>();
-    step_is_calls::<Point>();
-    step_is_calls::<Signal>();
 }

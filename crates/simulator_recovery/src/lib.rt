@@ -5,7 +5,6 @@
 mod laws;
 
 pub use laws::{
-    controllers_receive_what_was_sent, each_round_delivers_what_the_last_one_left,
-    good_rounds_are_events, good_rounds_leave_fresh_datagrams, good_rounds_take_their_time,
-    links_go_through_good_rounds, the_hold_ends,
+    each_round_delivers_what_the_last_one_left, good_rounds_are_events,
+    good_rounds_leave_fresh_datagrams, good_rounds_take_their_time, the_hold_ends,
 };
