@@ -1,0 +1,4 @@
+pub mod Seen
+pub mod Lines
+pub mod Asked
+pub mod Worked
