@@ -1,5 +1,0 @@
-use Rattle.panel_request.proofs.WorkedRequests.{worked}
-use Rattle.panel_request.proofs.laws.requests_are_as_worked_by_hand.Goals as goal
-
-pub returns : goal.returns
-returns c site = worked site

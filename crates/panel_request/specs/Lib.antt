@@ -1,4 +1,0 @@
-pub mod Seen
-pub mod Lines
-pub mod Asked
-pub mod Worked
