@@ -1,0 +1,50 @@
+use Rattle.std.proofs.Common.{◌∷◌, [], true, false, string_bytes, arith}
+use Rattle.node_drive.proofs.Calls.{latest_rises, read_is, stopped}
+use Rattle.node_drive.proofs.LinesHeard.{none_came, none_comes, nothing_called, one_cut, one_line}
+use Rattle.node_drive.proofs.lines_heard.hear_next.Goals as goal
+
+pub returns-in_err-next_line-clause-stopped : goal.returns-in_err-next_line-clause-stopped
+returns-in_err-next_line-clause-stopped g c = stopped c.from_residual.result ([], false, omega arith, nothing_called c.in_err-next_line.ensures.none)
+
+pub hear_line-requires : goal.hear_line-requires
+hear_line-requires g c =
+    let asked = latest_rises c.in_ok-next_line.ensures.heard in
+    let read = (read_is c.read_clock-reading.ensures).0 in
+    let reached = c.requires in
+    omega (arith, asked, read, reached)
+
+pub returns-in_err-hear_line-clause-stopped : goal.returns-in_err-hear_line-clause-stopped
+returns-in_err-hear_line-clause-stopped g c =
+    let text = string_bytes c.in-Text.text in
+    let reading = c.read_clock-reading.result in
+    stopped c.from_residual-in_err-hear_line.result (
+      (reading, text) ∷ [],
+      false,
+      omega arith,
+      one_cut reading text c.in_ok-next_line.ensures.heard c.read_clock-reading.ensures c.in_err-hear_line.ensures.stopped,
+    )
+
+pub returns-in-Text-clause-done : goal.returns-in-Text-clause-done
+returns-in-Text-clause-done g c =
+    let text = string_bytes c.in-Text.text in
+    let reading = c.read_clock-reading.result in
+    ((reading, text), one_line reading text c.in_ok-next_line.ensures.heard c.read_clock-reading.ensures c.in_ok-hear_line.ensures.standing c.in_ok-hear_line.ensures.done)
+
+pub returns-in-Text-clause-reached : goal.returns-in-Text-clause-reached
+returns-in-Text-clause-reached g c =
+    let read = (read_is c.read_clock-reading.ensures).1 in
+    let done = latest_rises c.in_ok-hear_line.ensures.done in
+    let reached = c.in_ok-hear_line.ensures.reached in
+    omega (arith, read, done, reached)
+
+pub returns-in-Nothing-clause-done : goal.returns-in-Nothing-clause-done
+returns-in-Nothing-clause-done g c = none_came c.in_ok-next_line.ensures.heard
+
+pub returns-in-Nothing-clause-reached : goal.returns-in-Nothing-clause-reached
+returns-in-Nothing-clause-reached g c =
+    let asked = latest_rises c.in_ok-next_line.ensures.heard in
+    let reached = c.requires in
+    omega (arith, asked, reached)
+
+pub returns-in-Closed-clause-stopped : goal.returns-in-Closed-clause-stopped
+returns-in-Closed-clause-stopped g c = ([], true, omega arith, none_comes c.in_ok-next_line.ensures.heard)
