@@ -8,8 +8,6 @@ mod lines;
 #[cfg(test)]
 mod lines_written;
 #[cfg(test)]
-mod nodes;
-#[cfg(test)]
 mod sessions;
 #[cfg(test)]
 mod words;
