@@ -5,7 +5,7 @@ use station_command::{Failure, text_of};
 use std::alloc::Global;
 use std::io;
 use std::io::{Error, ErrorKind, Read};
-use std::process::Abort;
+use std::test::Fail;
 
 /// The text of a reader. Its clauses aren't known to the tests, which so are proved quickly.
 fn read<R: Read>(alloc: Global, reader: &mut R, limit: u32) -> Result<String, TextFault> {
@@ -53,48 +53,50 @@ impl Read for Halting {
     }
 }
 
-/// Expects that a reader gives this text, where there is room for 3 bytes.
-fn expect_text<R: Read>(rt: &impl Abort, alloc: Global, reader: &mut R, wanted: &str) {
-    let text = read(alloc, reader, 3).expect(rt, "a text");
-    assert!(rt; text.as_str() == wanted);
+#[test]
+fn a_device_that_does_not_end_cannot_be_read(rt: HostRuntime) -> Result<(), Fail> {
+    let Err(failure) = text_of(&rt, "/dev/zero") else {
+        return Err(Fail::from("a text"));
+    };
+    assert!(rt; matches!(failure, Failure::File(_)));
+    Ok(())
 }
 
 #[test]
-fn a_device_that_does_not_end_cannot_be_read(rt: HostRuntime) {
-    let answer = text_of(&rt, "/dev/zero");
-    assert!(rt; matches!(answer, Err(Failure::File(_))));
-}
-
-#[test]
-fn no_more_is_taken_than_shows_that_it_is_too_long(rt: HostRuntime) {
+fn no_more_is_taken_than_shows_that_it_is_too_long(rt: HostRuntime) -> Result<(), Fail> {
     let mut endless = Endless { taken: 0 };
     let answer = read(rt.alloc(), &mut endless, 10_000);
     assert!(rt; matches!(answer, Err(TextFault::TooLong)));
     assert!(rt; endless.taken == 10_001);
+    Ok(())
 }
 
 #[test]
-fn a_text_at_the_limit_is_read(rt: HostRuntime) {
+fn a_text_at_the_limit_is_read(rt: HostRuntime) -> Result<(), Fail> {
     let mut reader: &[u8] = b"abc";
-    expect_text(&rt, rt.alloc(), &mut reader, "abc");
+    let text = read(rt.alloc(), &mut reader, 3).map_err(|_| "no text")?;
+    assert!(rt; text.as_str() == "abc");
     let mut reader: &[u8] = b"abc";
     assert!(rt; matches!(read(rt.alloc(), &mut reader, 2), Err(TextFault::TooLong)));
     let mut reader: &[u8] = b"a\xff";
     assert!(rt; matches!(read(rt.alloc(), &mut reader, 3), Err(TextFault::NotUtf8)));
+    Ok(())
 }
 
 #[test]
-fn a_reader_that_was_interrupted_is_asked_again(rt: HostRuntime) {
+fn a_reader_that_was_interrupted_is_asked_again(rt: HostRuntime) -> Result<(), Fail> {
     let mut reader = Halting {
         left: 3,
         fails: false,
         halts: false,
     };
-    expect_text(&rt, rt.alloc(), &mut reader, "aaa");
+    let text = read(rt.alloc(), &mut reader, 3).map_err(|_| "no text")?;
+    assert!(rt; text.as_str() == "aaa");
     let mut reader = Halting {
         left: 2,
         fails: true,
         halts: false,
     };
     assert!(rt; matches!(read(rt.alloc(), &mut reader, 3), Err(TextFault::Unreadable)));
+    Ok(())
 }
