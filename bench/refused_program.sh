@@ -19,7 +19,7 @@ from concurrent.futures import ThreadPoolExecutor
 crates, room, words = os.path.realpath(sys.argv[1]), sys.argv[2], sys.argv[3:]
 STATION = os.environ.get("STATION", f"{crates}/station/out/station")
 STEP, JOBS = int(os.environ.get("STEP", 1)), int(os.environ.get("JOBS", os.cpu_count() or 1))
-WANT = re.compile(rb"(out of memory|session fault 7 at line \d+|layout fault 8 OutOfMemory|table fault 10 OutOfMemory)\n")
+WANT = re.compile(rb"(out of memory|(?:session|picture) fault 7 at line \d+|layout fault 8 OutOfMemory|table fault 10 OutOfMemory)\n")
 SMALL = f"{crates}/stored_runs/data/small.toml"
 EVENTS = "flow 7000\nresume\nset R1\nflow 200\nreach P1 right\nflow 300\noccupy GA\nrestart S1 7000 5\npicture\n"
 DATAGRAM = "32003818020000000100000000000000000000007017000000000000303330331400000000000000000023e6b5e69928e086"
@@ -35,12 +35,13 @@ def stored(name, text):
 def short_ones():
     """A command of each kind."""
     events, script = stored("events", EVENTS), stored("script", SCRIPT)
+    picture = stored("picture", "signal S1 proceed R1\npoint P1 right\nsection GA occupied\nroute R1 set\n")
     session = f"{crates}/stored_runs/data/proceed.session"
     with open(SMALL) as file:
         faulty = stored("faulty.toml", file.read().replace('"P1.tip"', '"P1.end"'))
     return [["--help"], ["check", SMALL], ["check", SMALL, "--explain"], ["check", faulty, "--explain"],
             ["table", SMALL], ["table", SMALL, "--csv"], ["sim", SMALL, events], ["replay", SMALL, session],
-            ["plan", SMALL], ["plan", SMALL, "--route", "R1"],
+            ["plan", SMALL], ["plan", SMALL, "--route", "R1"], ["plan", SMALL, "--picture", picture],
             ["decode", "--hex", DATAGRAM], ["decode", "--hex", DATAGRAM, "--layout", SMALL],
             ["run", SMALL, "--script", script, "--record", "record", "--for", "1000"]]
 
