@@ -116,7 +116,7 @@ asking_is now l at asking_now young own = record { clock = at; starts = starts l
     client : (l : LinkState) → is_asking l ≡ true → is_client l.identity.role ≡ true
     client l e = grind (arith, e)
 
-asks_lively : (now : ℕ) (l : LinkState) → Asks now l → Lively now l
+pub asks_lively : (now : ℕ) (l : LinkState) → Asks now l → Lively now l
 asks_lively now l is = record { clock = is.clock; connected = ap is_open is.starts; young = is.young }
 
 pub asks_hears : (p : Pdu) (l : LinkState) → Asks l.clock l → AskDeed p l (hearing p l).link (hearing p l).pdus
@@ -147,21 +147,21 @@ pub record AsksOn (now : ℕ) (l : LinkState) (s : Step) : Type 0 where
 
 module _ (now : ℕ) where
   -- where it still asks, it has asked before, and said nothing
-  abbrev Mute : ℕ → LinkState → List Pdu → ℕ → LinkState → Type 0
+  abbrev pub Mute : ℕ → LinkState → List Pdu → ℕ → LinkState → Type 0
   Mute g l ps h k = is_asking k ≡ true → (is_asking l ≡ true) × (k.own_stamp ≡ l.own_stamp) × (ps ≡ [])
 
-  mute_then : (g h i : ℕ) (l k j : LinkState) (ps qs : List Pdu) → Mute g l ps h k → Mute h k qs i j → Mute g l (ps ++ qs) i j
+  pub mute_then : (g h i : ℕ) (l k j : LinkState) (ps qs : List Pdu) → Mute g l ps h k → Mute h k qs i j → Mute g l (ps ++ qs) i j
   mute_then g h i l k j ps qs a b e = let y = b e in let x = a y.0 in (x.0, y.1 ∙ x.1, both x.2 y.2)
     where
       both : ps ≡ [] → qs ≡ [] → ps ++ qs ≡ []
       both f g = cc
 
-  in_lively : (l : LinkState) → InIt now l → Lively now l
+  pub in_lively : (l : LinkState) → InIt now l → Lively now l
   in_lively l (inl is) = lively now l is
   in_lively l (inr is) = asks_lively now l is
 
   in_deed : (p : Pdu) (l k : LinkState) (qs : List Pdu) → Joined now l → Deed p l k qs → Out now k ⊎ (InIt now k × Mute 0 l qs 0 k)
-  in_deed p l k qs is (leaves left) = inl (record { clock = left.clock ∙ is.clock; is_out = left.is_out; quiet = omega (arith, left.closed_at, is.clock); lately = omega (arith, left.closed_at, is.clock) })
+  in_deed p l k qs is (leaves why left) = inl (record { clock = left.clock ∙ is.clock; is_out = left.is_out; quiet = omega (arith, left.closed_at, is.clock); lately = omega (arith, left.closed_at, is.clock) })
   in_deed p l k qs is (keeps b same none) = inr (inl (subst (Joined now) (sym same) is), λ e. absurd (cc (e, ap (λ (j : LinkState). is_asking j) same, is.joined)))
   in_deed p l k qs is (asks passes apart a) = let j = asked_joined now l k qs is a in inr (inl j, λ e. absurd (cc (e, j.joined)))
   in_deed p l k qs is (takes passes t) = let j = taken_joined now p l k qs is passes t in inr (inl j, λ e. absurd (cc (e, j.joined)))
@@ -171,7 +171,7 @@ module _ (now : ℕ) where
   ask_deed p l k qs is (ask_keeps same none) = inr (inr (subst (Asks now) (sym same) is), λ e. (asks_asking now l is, ap (λ (j : LinkState). j.own_stamp) same, none))
   ask_deed p l k qs is (ask_joins opens clock in_it joined own said confirmed sent) = inr (inl (record { clock = clock ∙ is.clock; connected = in_it; joined = joined; young = omega (arith, is.young, own); own = omega (arith, is.own, own) }), λ e. absurd (cc (e, joined)))
 
-  in_step : (g : ℕ) (p : Pdu) (ps : List Pdu) (l : LinkState) → InIt now l → Next ℕ now (λ g ps l. InIt now l) Mute g l ps (heard now p l)
+  pub in_step : (g : ℕ) (p : Pdu) (ps : List Pdu) (l : LinkState) → InIt now l → Next ℕ now (λ g ps l. InIt now l) Mute g l ps (heard now p l)
   in_step g p ps l is = choose (heard_case now p l (in_lively l is))
     where
       next : Out now (heard now p l).link ⊎ (InIt now (heard now p l).link × Mute 0 l (heard now p l).pdus 0 (heard now p l).link) → Next ℕ now (λ g ps l. InIt now l) Mute g l ps (heard now p l)
@@ -188,10 +188,10 @@ module _ (now : ℕ) where
       choose (inl left) = gone_next left
       choose (inr (room, e, f)) = next (deed is e f)
 
-reading_asks : (now : ℕ) (l : LinkState) → Asks l.clock l → now ≡ l.clock + 10 → now < l.own_stamp + 1800 → Asks now (at_reading now l)
+pub reading_asks : (now : ℕ) (l : LinkState) → Asks l.clock l → now ≡ l.clock + 10 → now < l.own_stamp + 1800 → Asks now (at_reading now l)
 reading_asks now l is at young = record { clock = refl; starts = is.starts; client = is.client; young = young; own = omega (arith, is.own, at) }
 
-not_up : (l : LinkState) → is_asking l ≡ true → is_up l.phase ≡ false
+pub not_up : (l : LinkState) → is_asking l ≡ true → is_up l.phase ≡ false
 not_up l e = grind (arith, e)
 
 -- what a round makes of an end inside
@@ -245,13 +245,13 @@ in_round now ps l is at = choose (begins now l at (open_is is) (young_is is))
 -- ---- a round of an end that asks, to which no opening comes
 
 module _ (now : ℕ) where
-  abbrev Alone : ℕ → List Pdu → LinkState → Type 0
+  abbrev pub Alone : ℕ → List Pdu → LinkState → Type 0
   Alone g ps l = Asks now l × Each IsTalkPdu ps
 
-  abbrev Same : ℕ → LinkState → List Pdu → ℕ → LinkState → Type 0
+  abbrev pub Same : ℕ → LinkState → List Pdu → ℕ → LinkState → Type 0
   Same g l ps h k = (k.own_stamp ≡ l.own_stamp) × (ps ≡ [])
 
-  same_then : (g h i : ℕ) (l k j : LinkState) (ps qs : List Pdu) → Same g l ps h k → Same h k qs i j → Same g l (ps ++ qs) i j
+  pub same_then : (g h i : ℕ) (l k j : LinkState) (ps qs : List Pdu) → Same g l ps h k → Same h k qs i j → Same g l (ps ++ qs) i j
   same_then g h i l k j ps qs a b = (b.0 ∙ a.0, both a.1 b.1)
     where
       both : ps ≡ [] → qs ≡ [] → ps ++ qs ≡ []
@@ -262,7 +262,7 @@ module _ (now : ℕ) where
   alone_deed p ps l k qs is talk (ask_keeps same none) = inr ((subst (Asks now) (sym same) is, talk.1), (ap (λ (j : LinkState). j.own_stamp) same, none))
   alone_deed p ps l k qs is talk (ask_joins opens clock in_it joined own said confirmed sent) = absurd (opens talk.0)
 
-  alone_step : (g : ℕ) (p : Pdu) (ps : List Pdu) (l : LinkState) → Alone g (p ∷ ps) l → Next ℕ now Alone Same g l ps (heard now p l)
+  pub alone_step : (g : ℕ) (p : Pdu) (ps : List Pdu) (l : LinkState) → Alone g (p ∷ ps) l → Next ℕ now Alone Same g l ps (heard now p l)
   alone_step g p ps l (is, talk) = choose (heard_case now p l (asks_lively now l is))
     where
       next : Out now (heard now p l).link ⊎ (Alone 0 ps (heard now p l).link × Same 0 l (heard now p l).pdus 0 (heard now p l).link) → Next ℕ now Alone Same g l ps (heard now p l)
@@ -303,7 +303,7 @@ alone_round now ps l is talk at = choose (begins now l at (ap is_open is.starts)
 
 -- ---- what a server says to which nothing comes opens nothing
 
-first_talks : (b : Bool) (j : LinkState) → Each IsTalkPdu (if b then telling reason.Sequence j else silent j).pdus
+pub first_talks : (b : Bool) (j : LinkState) → Each IsTalkPdu (if b then telling reason.Sequence j else silent j).pdus
 unfolding telling sending pdu_of
 first_talks true j = (tt, tt)
 first_talks false j = tt
@@ -313,7 +313,7 @@ unfolding sending pdu_of
 beat_talks true j = (tt, tt)
 beat_talks false j = tt
 
-beating_talks : (j : LinkState) → Each IsTalkPdu (beating j).pdus
+pub beating_talks : (j : LinkState) → Each IsTalkPdu (beating j).pdus
 unfolding beating
 beating_talks j = beat_talks (is_up j.phase && nat_le 300 (j.clock - j.sent_at)) j
 

@@ -40,7 +40,7 @@ HandsOut = (names : Names) (ends : Ends) (who : Role) (call : Call) → Timely n
 
 -- ---- what comes to a link
 
-received : (now : ℕ) (bytes : List ℕ) (pdu : Pdu) (l : LinkState) → reading l.identity.key bytes ≡ Ok pdu
+pub received : (now : ℕ) (bytes : List ℕ) (pdu : Pdu) (l : LinkState) → reading l.identity.key bytes ≡ Ok pdu
     → ((receiving now bytes l).link ≡ (heard now pdu l).link) × ((receiving now bytes l).pdus ≡ (heard now pdu l).pdus)
 unfolding receiving heard hearing_bytes
 received now bytes pdu l read = (
@@ -50,7 +50,7 @@ received now bytes pdu l read = (
 
 -- ---- what is sent
 
-from_append : (who : Role) (a b : List Sent) → bytes_from who (a ++ b) ≡ bytes_from who a ++ bytes_from who b
+pub from_append : (who : Role) (a b : List Sent) → bytes_from who (a ++ b) ≡ bytes_from who a ++ bytes_from who b
 from_append who [] b = refl
 from_append who (d ∷ a) b = ap (chosen who d.sender d.bytes) (from_append who a b) ∙ split who d.sender d.bytes (bytes_from who a) (bytes_from who b)
   where
@@ -60,12 +60,12 @@ from_append who (d ∷ a) b = ap (chosen who d.sender d.bytes) (from_append who 
     split role.Client role.Server x p q = refl
     split role.Server role.Client x p q = refl
 
-from_own : (who : Role) (time : ℕ) (c : Option ℕ) (bs : List (List ℕ)) → bytes_from who (handed_out time who c bs) ≡ bs
+pub from_own : (who : Role) (time : ℕ) (c : Option ℕ) (bs : List (List ℕ)) → bytes_from who (handed_out time who c bs) ≡ bs
 from_own who time c [] = refl
 from_own role.Client time c (b ∷ bs) = ap (λ (r : List (List ℕ)). b ∷ r) (from_own role.Client time c bs)
 from_own role.Server time c (b ∷ bs) = ap (λ (r : List (List ℕ)). b ∷ r) (from_own role.Server time c bs)
 
-from_other : (who : Role) (time : ℕ) (c : Option ℕ) (bs : List (List ℕ)) → bytes_from (partner_of who) (handed_out time who c bs) ≡ []
+pub from_other : (who : Role) (time : ℕ) (c : Option ℕ) (bs : List (List ℕ)) → bytes_from (partner_of who) (handed_out time who c bs) ≡ []
 from_other who time c [] = refl
 from_other role.Client time c (b ∷ bs) = from_other role.Client time c bs
 from_other role.Server time c (b ∷ bs) = from_other role.Server time c bs
@@ -75,34 +75,34 @@ spelled_append key [] b = refl
 spelled_append key (p ∷ a) b = ap (λ (r : List (List ℕ)). writing key p ∷ r) (spelled_append key a b)
 
 -- sent at this time, and not lost
-abbrev IsNow : ℕ → Sent → Type 0
+abbrev pub IsNow : ℕ → Sent → Type 0
 IsNow time d = (d.at ≡ time) × (d.is_lost ≡ false)
 
-each_append : {X : Type 0} (P : X → Type 0) (xs ys : List X) → Each P xs → Each P ys → Each P (xs ++ ys)
+pub each_append : {X : Type 0} (P : X → Type 0) (xs ys : List X) → Each P xs → Each P ys → Each P (xs ++ ys)
 each_append P [] ys a b = b
 each_append P (x ∷ xs) ys a b = (a.0, each_append P xs ys a.1 b)
 
-handed_now : (time : ℕ) (who : Role) (c : Option ℕ) (bs : List (List ℕ)) → Each (IsNow time) (handed_out time who c bs)
+pub handed_now : (time : ℕ) (who : Role) (c : Option ℕ) (bs : List (List ℕ)) → Each (IsNow time) (handed_out time who c bs)
 handed_now time who c [] = tt
 handed_now time who c (b ∷ bs) = ((refl, refl), handed_now time who c bs)
 
 -- from some ends to others at one time: what each has sent
-record Sends (names : Names) (old new : Ends) (to_client to_server : List Pdu) : Type 0 where
-  time : new.time ≡ old.time
-  client_clock : new.client.clock ≡ old.client.clock
-  server_clock : new.server.clock ≡ old.server.clock
-  more : List Sent
-  sent : new.sent ≡ old.sent ++ more
-  of_server : bytes_from role.Server more ≡ spellings names.key to_client
-  of_client : bytes_from role.Client more ≡ spellings names.key to_server
-  sent_now : Each (IsNow old.time) more
-  client_pdus : Each IsPdu to_client
-  server_pdus : Each IsPdu to_server
+pub record Sends (names : Names) (old new : Ends) (to_client to_server : List Pdu) : Type 0 where
+  pub time : new.time ≡ old.time
+  pub client_clock : new.client.clock ≡ old.client.clock
+  pub server_clock : new.server.clock ≡ old.server.clock
+  pub more : List Sent
+  pub sent : new.sent ≡ old.sent ++ more
+  pub of_server : bytes_from role.Server more ≡ spellings names.key to_client
+  pub of_client : bytes_from role.Client more ≡ spellings names.key to_server
+  pub sent_now : Each (IsNow old.time) more
+  pub client_pdus : Each IsPdu to_client
+  pub server_pdus : Each IsPdu to_server
 
-sends_none : (names : Names) (ends : Ends) → Sends names ends ends [] []
+pub sends_none : (names : Names) (ends : Ends) → Sends names ends ends [] []
 sends_none names ends = record { time = refl; client_clock = refl; server_clock = refl; more = []; sent = sym (append-nil ends.sent); of_server = refl; of_client = refl; sent_now = tt; client_pdus = tt; server_pdus = tt }
 
-sends_then : (names : Names) (a b c : Ends) (tc ts tc' ts' : List Pdu) → Sends names a b tc ts → Sends names b c tc' ts' → Sends names a c (tc ++ tc') (ts ++ ts')
+pub sends_then : (names : Names) (a b c : Ends) (tc ts tc' ts' : List Pdu) → Sends names a b tc ts → Sends names b c tc' ts' → Sends names a c (tc ++ tc') (ts ++ ts')
 sends_then names a b c tc ts tc' ts' x y = record {
   time = y.time ∙ x.time;
   client_clock = y.client_clock ∙ x.client_clock;
@@ -119,7 +119,7 @@ sends_then names a b c tc ts tc' ts' x y = record {
     two : {p q r s : List (List ℕ)} → p ≡ q → r ≡ s → p ++ r ≡ q ++ s
     two e f = cc
 
-client_calls : HandsOut → (names : Names) (call : Call) (ends : Ends) → Timely names ends → MayCall names role.Client call ends → Sends names ends (called role.Client call ends) [] (outcome call ends.moment ends.client).pdus
+pub client_calls : HandsOut → (names : Names) (call : Call) (ends : Ends) → Timely names ends → MayCall names role.Client call ends → Sends names ends (called role.Client call ends) [] (outcome call ends.moment ends.client).pdus
 unfolding called end_after
 client_calls hands names call ends is may = record {
   time = refl;
@@ -134,7 +134,7 @@ client_calls hands names call ends is may = record {
   server_pdus = hands names ends role.Client call is may;
 }
 
-server_calls : HandsOut → (names : Names) (call : Call) (ends : Ends) → Timely names ends → MayCall names role.Server call ends → Sends names ends (called role.Server call ends) (outcome call ends.moment ends.server).pdus []
+pub server_calls : HandsOut → (names : Names) (call : Call) (ends : Ends) → Timely names ends → MayCall names role.Server call ends → Sends names ends (called role.Server call ends) (outcome call ends.moment ends.server).pdus []
 unfolding called end_after
 server_calls hands names call ends is may = record {
   time = refl;
@@ -160,34 +160,34 @@ record Came (names : Names) (old new : Ends) (tc ts : List Pdu) : Type 0 where
 
 -- ---- one datagram
 
-reads_it : (names : Names) (who : Role) (l : LinkState) (bytes : List ℕ) (p : Pdu) → l.identity ≡ identity_of who names → reading names.key bytes ≡ Ok p → reading l.identity.key bytes ≡ Ok p
+pub reads_it : (names : Names) (who : Role) (l : LinkState) (bytes : List ℕ) (p : Pdu) → l.identity ≡ identity_of who names → reading names.key bytes ≡ Ok p → reading l.identity.key bytes ≡ Ok p
 reads_it names who l bytes p identity e = ap (λ (i : Identity). reading i.key bytes) identity ∙ e
 
 -- what was written is read back
-read_back : WrittenIsRead → (key : Key) (ps : List Pdu) (bs : List (List ℕ)) → Each IsPdu ps → bs ≡ spellings key ps → AreRead key bs ps
+pub read_back : WrittenIsRead → (key : Key) (ps : List Pdu) (bs : List (List ℕ)) → Each IsPdu ps → bs ≡ spellings key ps → AreRead key bs ps
 read_back written key ps bs each e = subst (λ (cs : List (List ℕ)). AreRead key cs ps) (sym e) (spelled ps each)
   where
     spelled : (ps : List Pdu) → Each IsPdu ps → AreRead key (spellings key ps) ps
     spelled [] each = tt
     spelled (p ∷ ps) each = (written key p each.0, spelled ps each.1)
 
-client_link : (bytes : List ℕ) (c : ℕ) (p : Pdu) (ends : Ends) → reading ends.client.link.identity.key bytes ≡ Ok p
+pub client_link : (bytes : List ℕ) (c : ℕ) (p : Pdu) (ends : Ends) → reading ends.client.link.identity.key bytes ≡ Ok p
     → ((called role.Client (Receives bytes c) ends).client.link ≡ (heard (reading_of ends.client.clock) p ends.client.link).link)
     × ((outcome (Receives bytes c) ends.moment ends.client).pdus ≡ (heard (reading_of ends.client.clock) p ends.client.link).pdus)
 unfolding called end_after outcome
 client_link bytes c p ends read = received (reading_of ends.client.clock) bytes p ends.client.link read
 
-server_link : (bytes : List ℕ) (c : ℕ) (p : Pdu) (ends : Ends) → reading ends.server.link.identity.key bytes ≡ Ok p
+pub server_link : (bytes : List ℕ) (c : ℕ) (p : Pdu) (ends : Ends) → reading ends.server.link.identity.key bytes ≡ Ok p
     → ((called role.Server (Receives bytes c) ends).server.link ≡ (heard (reading_of ends.server.clock) p ends.server.link).link)
     × ((outcome (Receives bytes c) ends.moment ends.server).pdus ≡ (heard (reading_of ends.server.clock) p ends.server.link).pdus)
 unfolding called end_after outcome
 server_link bytes c p ends read = received (reading_of ends.server.clock) bytes p ends.server.link read
 
-client_alone : (call : Call) (ends : Ends) → ((called role.Client call ends).server ≡ ends.server) × ((called role.Client call ends).client.clock ≡ ends.client.clock)
+pub client_alone : (call : Call) (ends : Ends) → ((called role.Client call ends).server ≡ ends.server) × ((called role.Client call ends).client.clock ≡ ends.client.clock)
 unfolding called end_after
 client_alone call ends = (refl, refl)
 
-server_alone : (call : Call) (ends : Ends) → ((called role.Server call ends).client ≡ ends.client) × ((called role.Server call ends).server.clock ≡ ends.server.clock)
+pub server_alone : (call : Call) (ends : Ends) → ((called role.Server call ends).client ≡ ends.client) × ((called role.Server call ends).server.clock ≡ ends.server.clock)
 unfolding called end_after
 server_alone call ends = (refl, refl)
 
@@ -342,7 +342,7 @@ arriving_come t (d ∷ ds) = choose (can_come t d) (arriving_come t ds)
     choose true e = ap (λ (r : List Event). Calls (partner_of d.sender) (Receives d.bytes d.connection) ∷ r) e
     choose false e = e
 
-now_arrives : (time : ℕ) (ds : List Sent) → Each (IsNow time) ds → arriving (time + 10000) ds ≡ ds
+pub now_arrives : (time : ℕ) (ds : List Sent) → Each (IsNow time) ds → arriving (time + 10000) ds ≡ ds
 now_arrives time [] each = refl
 now_arrives time (d ∷ ds) each = ap (λ (b : Bool). if b then d ∷ arriving (time + 10000) ds else arriving (time + 10000) ds) can ∙ ap (λ (r : List Sent). d ∷ r) (now_arrives time ds each.1)
   where
@@ -352,11 +352,11 @@ now_arrives time (d ∷ ds) each = ap (λ (b : Bool). if b then d ∷ arriving (
     can : can_come (time + 10000) d ≡ true
     can = ap (λ (b : Bool). not b && nat_le (time + 10000) (d.at + lifetime)) each.0.1 ∙ in_time
 
-drop_append : {X : Type 0} (xs ys : List X) → drop (length xs) (xs ++ ys) ≡ ys
+pub drop_append : {X : Type 0} (xs ys : List X) → drop (length xs) (xs ++ ys) ≡ ys
 drop_append [] ys = refl
 drop_append (x ∷ xs) ys = drop_append xs ys
 
-passed_on : (ends : Ends) → ((later 10000 10000 10000 ends).client.link ≡ settled (reading_of (ends.client.clock + 10000)) ends.client.link)
+pub passed_on : (ends : Ends) → ((later 10000 10000 10000 ends).client.link ≡ settled (reading_of (ends.client.clock + 10000)) ends.client.link)
     × ((later 10000 10000 10000 ends).client.clock ≡ ends.client.clock + 10000)
     × ((later 10000 10000 10000 ends).server.link ≡ settled (reading_of (ends.server.clock + 10000)) ends.server.link)
     × ((later 10000 10000 10000 ends).server.clock ≡ ends.server.clock + 10000)
@@ -364,7 +364,7 @@ passed_on : (ends : Ends) → ((later 10000 10000 10000 ends).client.link ≡ se
 unfolding later end_later
 passed_on ends = (refl, refl, refl, refl, refl)
 
-ten_later : (clock now : ℕ) → now ≡ reading_of clock → reading_of (clock + 10000) ≡ now + 10
+pub ten_later : (clock now : ℕ) → now ≡ reading_of clock → reading_of (clock + 10000) ≡ now + 10
 ten_later clock now e = omega (arith, e)
 
 -- an end's round from what came and what it did of its own

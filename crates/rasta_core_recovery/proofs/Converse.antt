@@ -14,8 +14,8 @@ use Rattle.rasta_core_recovery.proofs.Healthy.{beats, waits}
 use Rattle.rasta_core_recovery.proofs.Calls.{at_reading}
 use Rattle.rasta_core_recovery.proofs.Words.{voice_of, Chain, chain_ends}
 use Rattle.rasta_core_recovery.proofs.Course.{Joined}
-use Rattle.rasta_core_recovery.proofs.TunedEnds.{IsPlainPdu, not_before, Shut, far_off, outdated, missed, stuck, nothing, unheard, Round, Bounds, Ghost, Tuned, Mode, Hearing}
-use Rattle.rasta_core_recovery.proofs.Turn.{Either, gone, so, Notes, Turn, EndMode, turns}
+use Rattle.rasta_core_recovery.proofs.TunedEnds.{IsPlainPdu, not_before, Shut, far_off, outdated, missed, stuck, nothing, unheard, Round, Bounds, Ghost, Tuned, HasHeard, HasWaited, Mode, Hearing}
+use Rattle.rasta_core_recovery.proofs.Turn.{Either, gone, so, Notes, Heeds, heeds_of, Turn, EndMode, turns}
 
 -- a tuned end takes what is under way to it, and has heard the last but that; one that isn't has heard nothing that was
 -- said since a reading of its partner's clock, which therefore knows no younger stamp of its own
@@ -78,7 +78,7 @@ names_sender names role.Server = refl
 module _ (names : Names) (who : Role) (start own_start : ℕ) (tuned other_tuned : Bool) (kept other_kept : ℕ) (l m : LinkState) (ps qs : List Pdu)
     (are : Are names who l m) (there : Way start own_start tuned kept other_kept l m ps) (back : Way own_start start other_tuned other_kept kept m l qs)
     (fits : m.sent < 2 ^ 31) (short : l.clock ≤ own_start + 100000) where
-  abbrev x : Round
+  abbrev pub x : Round
   x = round_of tuned kept other_kept l m ps there.number there.count there.reading
 
   level_of : (b : Bool) → tuned ≡ b → WayMode b start kept l m there.number there.count there.reading ps → l.expected ≤ there.number
@@ -93,17 +93,17 @@ module _ (names : Names) (who : Role) (start own_start : ℕ) (tuned other_tuned
   shut_at k e o c f n qs (stuck u none) = stuck (ap waits f ∙ u) none
   shut_at k e o c f n qs (nothing u) = nothing u
 
-  bounds : Bounds x
+  pub bounds : Bounds x
   bounds = record { level = level_of tuned refl there.mode; fits = fits; old = omega (arith, back.before); stamped = refl; kept = there.before }
 
-  abbrev ghost_now : Ghost
+  abbrev pub ghost_now : Ghost
   ghost_now = record { kept = kept; tuned = tuned }
 
   start_mode : (b : Bool) → tuned ≡ b → WayMode b start kept l m there.number there.count there.reading ps → Mode x b kept (at_reading (l.clock + 10) l) there.number there.count there.reading ps
-  start_mode true e (t, recent) = (record { reading = t.reading; expected = t.expected; confirmed = t.confirmed; own = t.own }, inr (refl, refl, e))
+  start_mode true e (t, recent) = (record { reading = t.reading; expected = t.expected; confirmed = t.confirmed; own = t.own }, inr (refl, (refl, e, refl)))
   start_mode false e m = (refl, refl)
 
-  hearing_now : l.clock + 10 < l.own_stamp + 1800 → Hearing x ghost_now ps (at_reading (l.clock + 10) l)
+  pub hearing_now : l.clock + 10 < l.own_stamp + 1800 → Hearing x ghost_now ps (at_reading (l.clock + 10) l)
   hearing_now young = record {
     is = record { clock = refl; connected = there.is.connected; joined = there.is.joined; young = young; own = omega (arith, there.is.own) };
     first = sym there.first;
@@ -140,10 +140,10 @@ module _ (names : Names) (who : Role) (start own_start : ℕ) (tuned other_tuned
       choose (so t) = t
 
 -- the direction after a round, from the rounds of both its ends
-pub way_goes : (start own_start : ℕ) (tuned other_tuned : Bool) (kept other_kept : ℕ) (l m : LinkState) (ps qs : List Pdu) (s r : Step)
+unfoldable pub way_goes : (start own_start : ℕ) (tuned other_tuned : Bool) (kept other_kept : ℕ) (l m : LinkState) (ps qs : List Pdu) (s r : Step)
     → (there : Way start own_start tuned kept other_kept l m ps) → (back : Way own_start start other_tuned other_kept kept m l qs)
     → (b : Bounds (round_of tuned kept other_kept l m ps there.number there.count there.reading)) → (c : Bounds (round_of other_tuned other_kept kept m l qs back.number back.count back.reading))
-    → (t : Turn (round_of tuned kept other_kept l m ps there.number there.count there.reading) b tuned l s) → (u : Turn (round_of other_tuned other_kept kept m l qs back.number back.count back.reading) c other_tuned m r)
+    → (t : Heeds (round_of tuned kept other_kept l m ps there.number there.count there.reading) b tuned l s) → (u : Heeds (round_of other_tuned other_kept kept m l qs back.number back.count back.reading) c other_tuned m r)
     → Way start own_start t.then_tuned t.says.kept u.says.kept s.link r.link r.pdus
 way_goes start own_start tuned other_tuned kept other_kept l m ps qs s r there back b c t u = record {
   is = record { clock = refl; connected = t.says.is.connected; joined = t.says.is.joined; young = omega (arith, t.says.is.young, t.says.is.clock); own = omega (arith, t.says.is.own, t.says.is.clock) };
@@ -162,7 +162,7 @@ way_goes start own_start tuned other_tuned kept other_kept l m ps qs s r there b
   mode = choose t.then_tuned refl t.mode;
   later = omega (arith, there.later, u.says.is.clock);
   young = λ e. young_then t.then_tuned e t.mode;
-  deaf = λ e. (omega (arith, (t.notes.deaf e).expected, there.most), own_then t.then_tuned e t.mode refl);
+  deaf = λ e. (omega (arith, t.still e, there.most), own_then t.then_tuned e t.mode refl);
 }
   where
     sent_rises : m.sent ≤ r.link.sent
@@ -172,16 +172,16 @@ way_goes start own_start tuned other_tuned kept other_kept l m ps qs s r there b
     either (inl e) = omega (arith, e, there.sent_before, u.says.is.clock)
     either (inr e) = omega (arith, e, u.says.is.clock)
 
-    recent : (t.says.kept ≡ m.clock) ⊎ ((ps ≡ []) × (t.says.kept ≡ kept) × (tuned ≡ true)) → r.pdus ≡ [] → r.link.sent_at ≤ t.says.kept
-    recent (inl e) none = omega (arith, e, u.says.spoken none, there.sent_before)
-    recent (inr (e, f, g)) none = omega (arith, f, u.says.spoken none, before g there.mode e)
+    recent : HasHeard (round_of tuned kept other_kept l m ps there.number there.count there.reading) t.says.kept s.link ⊎ ((ps ≡ []) × HasWaited (round_of tuned kept other_kept l m ps there.number there.count there.reading) t.says.kept s.link) → r.pdus ≡ [] → r.link.sent_at ≤ t.says.kept
+    recent (inl e) none = omega (arith, e.0, u.says.spoken none, there.sent_before)
+    recent (inr (e, w)) none = omega (arith, w.0, u.says.spoken none, before w.1 there.mode e)
       where
         before : tuned ≡ true → WayMode tuned start kept l m there.number there.count there.reading ps → ps ≡ [] → m.sent_at ≤ kept
         before g mode e = (subst (λ (y : Bool). WayMode y start kept l m there.number there.count there.reading ps) g mode).1 e
 
     young_then : (y : Bool) → y ≡ true → EndMode (round_of tuned kept other_kept l m ps there.number there.count there.reading) b y t.says.kept s.link → start ≤ t.says.kept
-    young_then true e (v, inl f) = omega (arith, f, there.later)
-    young_then true e (v, inr (f, g, h)) = omega (arith, g, there.young h)
+    young_then true e (v, inl f) = omega (arith, f.0, there.later)
+    young_then true e (v, inr (f, w)) = omega (arith, w.0, there.young w.1)
     young_then false e mode = absurd (cc e)
 
     own_then : (y : Bool) → t.then_tuned ≡ false → EndMode (round_of tuned kept other_kept l m ps there.number there.count there.reading) b y t.says.kept s.link → y ≡ t.then_tuned → s.link.own_stamp ≤ own_start
@@ -246,8 +246,8 @@ pub record Goes (names : Names) (of_client of_server : ℕ) (client_tuned server
   pub client_clock : (pair_round p).client.clock ≡ p.client.clock + 10
   pub server_clock : (pair_round p).server.clock ≡ p.server.clock + 10
 
-near_after : (start own_start : ℕ) (tuned : Bool) (kept other_kept : ℕ) (l m : LinkState) (ps : List Pdu) (s : Step) (there : Way start own_start tuned kept other_kept l m ps)
-    → (b : Bounds (round_of tuned kept other_kept l m ps there.number there.count there.reading)) (t : Turn (round_of tuned kept other_kept l m ps there.number there.count there.reading) b tuned l s)
+pub near_after : (start own_start : ℕ) (tuned : Bool) (kept other_kept : ℕ) (l m : LinkState) (ps : List Pdu) (s : Step) (there : Way start own_start tuned kept other_kept l m ps)
+    → (b : Bounds (round_of tuned kept other_kept l m ps there.number there.count there.reading)) (t : Heeds (round_of tuned kept other_kept l m ps there.number there.count there.reading) b tuned l s)
     → tuned ≡ true → m.clock < m.sent_at + 300 → m.clock + 10 ≤ t.says.kept + 309
 near_after start own_start tuned kept other_kept l m ps s there b t is calm = choose t.then_tuned (t.keeps is) t.mode
   where
@@ -256,8 +256,8 @@ near_after start own_start tuned kept other_kept l m ps s there b t is calm = ch
     recent false e mode none = absurd (cc e)
 
     choose : (y : Bool) → y ≡ true → EndMode (round_of tuned kept other_kept l m ps there.number there.count there.reading) b y t.says.kept s.link → m.clock + 10 ≤ t.says.kept + 309
-    choose true e (v, inl f) = omega (arith, f)
-    choose true e (v, inr (f, g, h)) = omega (arith, g, calm, recent tuned is there.mode f)
+    choose true e (v, inl f) = omega (arith, f.0)
+    choose true e (v, inr (f, w)) = omega (arith, w.0, calm, recent tuned is there.mode f)
     choose false e mode = absurd (cc e)
 
 still : (x : Round) (b : Bounds x) (kept : ℕ) (k : LinkState) (y : Bool) → y ≡ false → EndMode x b y kept k → (kept ≡ x.kept) × (k.own_stamp ≡ x.own)
@@ -278,8 +278,8 @@ talks_on names of_client of_server client_tuned server_tuned p talk client_fits 
     server = u.says.identity ∙ talk.server;
     client_kept = t.says.kept;
     server_kept = u.says.kept;
-    to_client = way_goes of_server of_client client_tuned server_tuned talk.client_kept talk.server_kept p.client p.server p.to_client p.to_server c s talk.to_client talk.to_server bc bs t u;
-    to_server = way_goes of_client of_server server_tuned client_tuned talk.server_kept talk.client_kept p.server p.client p.to_server p.to_client s c talk.to_server talk.to_client bs bc u t;
+    to_client = way_goes of_server of_client client_tuned server_tuned talk.client_kept talk.server_kept p.client p.server p.to_client p.to_server c s talk.to_client talk.to_server bc bs (heeds_of _ bc client_tuned p.client c t) (heeds_of _ bs server_tuned p.server s u);
+    to_server = way_goes of_client of_server server_tuned client_tuned talk.server_kept talk.client_kept p.server p.client p.to_server p.to_client s c talk.to_server talk.to_client bs bc (heeds_of _ bs server_tuned p.server s u) (heeds_of _ bc client_tuned p.client c t);
   };
   client_plain = t.plain;
   server_plain = u.plain;
@@ -287,8 +287,8 @@ talks_on names of_client of_server client_tuned server_tuned p talk client_fits 
   server_beats = λ e f. let g = u.beating e f in (g.0, g.1, λ h. g.2 h ∙ sym u.says.is.clock);
   client_calm = λ e. omega (arith, t.says.calm e, t.says.is.clock);
   server_calm = λ e. omega (arith, u.says.calm e, u.says.is.clock);
-  client_near = λ e f. omega (arith, near_after of_server of_client client_tuned talk.client_kept talk.server_kept p.client p.server p.to_client c talk.to_client bc t e f, u.says.is.clock);
-  server_near = λ e f. omega (arith, near_after of_client of_server server_tuned talk.server_kept talk.client_kept p.server p.client p.to_server s talk.to_server bs u e f, t.says.is.clock);
+  client_near = λ e f. omega (arith, near_after of_server of_client client_tuned talk.client_kept talk.server_kept p.client p.server p.to_client c talk.to_client bc (heeds_of _ bc client_tuned p.client c t) e f, u.says.is.clock);
+  server_near = λ e f. omega (arith, near_after of_client of_server server_tuned talk.server_kept talk.client_kept p.server p.client p.to_server s talk.to_server bs (heeds_of _ bs server_tuned p.server s u) e f, t.says.is.clock);
   client_notes = t.notes;
   server_notes = u.notes;
   client_still = λ e. still _ bc t.says.kept c.link t.then_tuned e t.mode;

@@ -101,7 +101,7 @@ counted v d p l first number counts fits = let h : p.confirmed_sequence_number �
 
 -- ---- what an end says in the middle of a round
 
-speaks_now : (now : ℕ) (l : LinkState) (kept : ℕ) → Joined now l → 1 ≤ l.expected → l.expected < 2 ^ 31 → l.partner_stamp ≡ stamp kept → Speaks l (voice_of l) (l.expected - 1) kept
+pub speaks_now : (now : ℕ) (l : LinkState) (kept : ℕ) → Joined now l → 1 ≤ l.expected → l.expected < 2 ^ 31 → l.partner_stamp ≡ stamp kept → Speaks l (voice_of l) (l.expected - 1) kept
 speaks_now now l kept is some fits kept_is = record { joined = is.joined; voice = refl; some = omega (arith, some); fits = omega (arith, fits); kept_is = kept_is }
 
 -- the answers of an end that took a PDU

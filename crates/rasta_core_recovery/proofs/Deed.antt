@@ -16,7 +16,7 @@ use Rattle.rasta_core_run.specs.pdu.Pdu.{Pdu}
 use Rattle.rasta_core_run.specs.body.Body.{Body}
 use Rattle.rasta_core_run.specs.body.Body.TheVariants.{ConnectionRequest, ConnectionResponse, RetransmissionRequest, RetransmissionResponse, DisconnectionRequest, Heartbeat, Data, RetransmittedData}
 use Rattle.rasta_core_recovery.proofs.Healthy.{is_reading, waits}
-use Rattle.rasta_core_recovery.proofs.Words.{IsTalk, IsPlain, Says, says_then, says_again}
+use Rattle.rasta_core_recovery.proofs.Words.{IsTalk, IsPlain, IsSimple, Says, says_then, says_again}
 
 -- an end stays in its connection
 pub record Stays (l k : LinkState) : Type 0 where
@@ -72,7 +72,8 @@ pub record Asked (l k : LinkState) (ps : List Pdu) : Type 0 where
   pub free : waits l.phase ≡ false
 
 pub data Deed (p : Pdu) (l k : LinkState) (ps : List Pdu) : Type 0 where
-  leaves : Leaves l k → Deed p l k ps
+  -- neither a heartbeat nor new items do that
+  leaves : (IsSimple p.body → ⊥) → Leaves l k → Deed p l k ps
   keeps : Blocked p l → k ≡ l → ps ≡ [] → Deed p l k ps
   asks : Passes p l → (ahead p l == 0) ≡ false → Asked l k ps → Deed p l k ps
   takes : Passes p l → Taken p l k ps → Deed p l k ps
@@ -174,13 +175,13 @@ module _ (l : LinkState) (p : Pdu) (connected_is : is_open l.phase ≡ true) (jo
     turn = inl is;
   })
 
-  closes_by : Deed p l (record (taking p l) { phase = phase.Closed; closed_at = l.clock }) []
+  closes_by : (IsSimple p.body → ⊥) → Deed p l (record (taking p l) { phase = phase.Closed; closed_at = l.clock }) []
   unfolding taking
-  closes_by = leaves (record { clock = refl; is_out = refl; closed_at = refl })
+  closes_by why = leaves why (record { clock = refl; is_out = refl; closed_at = refl })
 
-  violated : Deed p l (violating l).link (violating l).pdus
+  violated : (IsSimple p.body → ⊥) → Deed p l (violating l).link (violating l).pdus
   unfolding telling sending
-  violated = leaves (record { clock = refl; is_out = refl; closed_at = refl })
+  violated why = leaves why (record { clock = refl; is_out = refl; closed_at = refl })
 
   asked : (ahead p l == 0) ≡ false → waits l.phase ≡ false → Deed p l (missing l).link (missing l).pdus
   unfolding missing sending
@@ -217,19 +218,19 @@ module _ (l : LinkState) (p : Pdu) (connected_is : is_open l.phase ≡ true) (jo
 
   admits : (body : Body) → p.body ≡ body → (at : Phase) → l.phase ≡ at → Does (admitting (admission body at) p l)
   unfolding admitting taking
-  admits (ConnectionRequest o) e at f = violated
-  admits (ConnectionResponse o) e at f = violated
+  admits (ConnectionRequest o) e at f = violated (λ s. subst IsSimple e s)
+  admits (ConnectionResponse o) e at f = violated (λ s. subst IsSimple e s)
   admits RetransmissionRequest e phase.Closed f = no_phase f
-  admits RetransmissionRequest e phase.Start f = violated
+  admits RetransmissionRequest e phase.Start f = violated (λ s. subst IsSimple e s)
   admits RetransmissionRequest e phase.Up f = turns RetransmissionRequest e (subst IsTalk (sym e) tt) (λ is. ap is_reading f) (λ items is. ap is_reading f) (ap waits f)
   admits RetransmissionRequest e phase.RetransmissionRequested f = discards_it (ap waits f)
   admits RetransmissionRequest e phase.RetransmissionRunning f = turns RetransmissionRequest e (subst IsTalk (sym e) tt) (λ is. ap is_reading f) (λ items is. ap is_reading f) (ap waits f)
   admits RetransmissionResponse e phase.Closed f = no_phase f
-  admits RetransmissionResponse e phase.Start f = violated
-  admits RetransmissionResponse e phase.Up f = violated
+  admits RetransmissionResponse e phase.Start f = violated (λ s. subst IsSimple e s)
+  admits RetransmissionResponse e phase.Up f = violated (λ s. subst IsSimple e s)
   admits RetransmissionResponse e phase.RetransmissionRequested f = resumes e
-  admits RetransmissionResponse e phase.RetransmissionRunning f = violated
-  admits (DisconnectionRequest d r) e at f = closes_by
+  admits RetransmissionResponse e phase.RetransmissionRunning f = violated (λ s. subst IsSimple e s)
+  admits (DisconnectionRequest d r) e at f = closes_by (λ s. subst IsSimple e s)
   admits Heartbeat e phase.Closed f = no_phase f
   admits Heartbeat e phase.Start f = turns Heartbeat e (subst IsTalk (sym e) tt) (λ is. absurd (cc is)) (λ items is. absurd (cc is)) (ap waits f)
   admits Heartbeat e phase.Up f = turns Heartbeat e (subst IsTalk (sym e) tt) (λ is. absurd (cc is)) (λ items is. absurd (cc is)) (ap waits f)
@@ -241,16 +242,16 @@ module _ (l : LinkState) (p : Pdu) (connected_is : is_open l.phase ≡ true) (jo
   admits (Data x) e phase.RetransmissionRequested f = discards_it (ap waits f)
   admits (Data x) e phase.RetransmissionRunning f = turns (Data x) e (subst IsTalk (sym e) tt) (λ is. absurd (cc is)) (λ items is. absurd (cc is)) (ap waits f)
   admits (RetransmittedData x) e phase.Closed f = no_phase f
-  admits (RetransmittedData x) e phase.Start f = violated
-  admits (RetransmittedData x) e phase.Up f = violated
+  admits (RetransmittedData x) e phase.Start f = violated (λ s. subst IsSimple e s)
+  admits (RetransmittedData x) e phase.Up f = violated (λ s. subst IsSimple e s)
   admits (RetransmittedData x) e phase.RetransmissionRequested f = discards_it (ap waits f)
   admits (RetransmittedData x) e phase.RetransmissionRunning f = turns (RetransmittedData x) e (subst IsTalk (sym e) tt) (λ is. ap is_reading f) (λ items is. ap is_reading f) (ap waits f)
 
 -- ---- the tests
 
-violated_at : (p : Pdu) (l : LinkState) → Deed p l (violating l).link (violating l).pdus
+violated_at : (p : Pdu) (l : LinkState) → (IsSimple p.body → ⊥) → Deed p l (violating l).link (violating l).pdus
 unfolding telling sending
-violated_at p l = leaves (record { clock = refl; is_out = refl; closed_at = refl })
+violated_at p l why = leaves why (record { clock = refl; is_out = refl; closed_at = refl })
 
 tests : (p : Pdu) (l : LinkState) → is_open l.phase ≡ true → is_asking l ≡ false → Deed p l (testing p l).link (testing p l).pdus
 unfolding testing
@@ -270,7 +271,7 @@ connects p l (ConnectionRequest o) e is_in joined = choose (is_opening_again p l
   where
     choose : (b : Bool) → let r = (if b then refusing verdict.Discarded l else violating l) in Deed p l r.link r.pdus
     choose true = keeps (opens (λ talk. subst IsTalk e talk)) refl refl
-    choose false = violated_at p l
+    choose false = violated_at p l (λ s. subst IsSimple e s)
 connects p l (ConnectionResponse o) e is_in joined = tests p l is_in joined
 connects p l RetransmissionRequest e is_in joined = tests p l is_in joined
 connects p l RetransmissionResponse e is_in joined = tests p l is_in joined

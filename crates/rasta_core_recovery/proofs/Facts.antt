@@ -1,5 +1,5 @@
 -- What is so of two ends at any moment, and is used of good rounds: from the invariants of time and of order.
-use Rattle.std.proofs.Common.{◌≡◌, ◌≢◌, ℕ, zero, suc, ◌∙◌, ◌+◌, ◌*◌, ◌/◌, ◌≤◌, ◌<◌, Bool, true, false, ◌&&◌, not, nat_le, if◌then◌else◌, List, [], ◌∷◌, drop, Some, refl, sym, ap, subst, arith, leb-true}
+use Rattle.std.proofs.Common.{◌≡◌, ◌≢◌, ℕ, zero, suc, ◌∙◌, ◌+◌, ◌*◌, ◌/◌, ◌^◌, ◌≤◌, ◌<◌, Bool, true, false, ◌&&◌, not, nat_le, if◌then◌else◌, List, [], ◌∷◌, drop, Some, refl, sym, ap, subst, arith, leb-true}
 use Rattle.rasta_core_run.specs.Sequence.{stamp}
 use Rattle.rasta_core_run.specs.State.{LinkState, is_open, is_asking}
 use Rattle.rasta_core_run.specs.identity.Role.{Role}
@@ -37,6 +37,7 @@ pub record Shares (l m : LinkState) : Type 0 where
   pub first : l.partner_first ≡ m.own_first
   pub some : 1 ≤ l.expected
   pub most : l.expected ≤ m.sent
+  pub fits : l.sent < 2 ^ 31
   pub kept : Kept l m
 
 pub record Facts (names : Names) (p : Pair) : Type 0 where
@@ -173,12 +174,14 @@ module _ (names : Names) (f : Flow) (p : Pair) (m : Mirrors names f p) (ordered 
               first = x.partner_first ∙ sym y.inside.own_first;
               some = omega (arith, x.expected, there.some);
               most = omega (arith, x.expected, there.most, y.inside.counted);
+              fits = omega (arith, x.inside.counted, x.inside.room);
               kept = client_keeps client_in client_joined server_in;
             },
             record {
               first = y.partner_first ∙ sym x.inside.own_first;
               some = omega (arith, y.expected, back.some);
               most = omega (arith, y.expected, back.most, x.inside.counted);
+              fits = omega (arith, y.inside.counted, y.inside.room);
               kept = server_keeps server_in (server_joined server_in) client_in;
             },
           )

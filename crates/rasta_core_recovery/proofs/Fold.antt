@@ -96,15 +96,15 @@ pub data Work (now : ℕ) (k : LinkState) (s : Step) : Type 0 where
   calm_work : s ≡ silent k → (is_up k.phase ≡ true → now < k.sent_at + 300) → Work now k s
   beats_work : is_up k.phase ≡ true → s ≡ sending Heartbeat k → Work now k s
 
-calm_then : (up : Bool) (now sent_at : ℕ) → (up && nat_le 300 (now - sent_at)) ≡ false → up ≡ true → now < sent_at + 300
+pub calm_then : (up : Bool) (now sent_at : ℕ) → (up && nat_le 300 (now - sent_at)) ≡ false → up ≡ true → now < sent_at + 300
 calm_then true now sent_at e f = let g = leb-false 300 (now - sent_at) e in omega (arith, g)
 calm_then false now sent_at e f = cc
 
-due_then : (up due : Bool) → (up && due) ≡ true → up ≡ true
+pub due_then : (up due : Bool) → (up && due) ≡ true → up ≡ true
 due_then true due e = refl
 due_then false due e = cc
 
-not_up : (p : Phase) → is_open p ≡ false → is_up p ≡ false
+pub not_up : (p : Phase) → is_open p ≡ false → is_up p ≡ false
 not_up phase.Closed o = refl
 not_up phase.Start o = cc
 not_up phase.Up o = cc

@@ -28,5 +28,19 @@ pub mod Fates
 pub mod Limit
 pub mod Gaps
 pub mod Recovers
+-- Rounds at work.
+pub mod Acts
+pub mod Own
+pub mod WorkFold
+pub mod WorkTurn
+pub mod WorkTalk
+pub mod Hale
+pub mod WorkOpens
+pub mod WorkAsks
+pub mod WorkNew
+pub mod WorkFates
+pub mod WorkBridge
+pub mod WorkRecovers
+pub mod WorkGood
 -- Rounds that go wrong.
 pub mod Wrong

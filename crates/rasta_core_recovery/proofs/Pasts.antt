@@ -169,7 +169,7 @@ resting_ready p l (Data x) is = is
 resting_ready p l (RetransmittedData x) is = is
 
 deed_ready : (p : Pdu) (l k : LinkState) (qs : List Pdu) → Ready l → is_open l.phase ≡ true → is_asking l ≡ false → Deed p l k qs → Ready k
-deed_ready p l k qs is in_it joined (leaves left) = left_ready l k left
+deed_ready p l k qs is in_it joined (leaves why left) = left_ready l k left
 deed_ready p l k qs is in_it joined (keeps b same none) = subst Ready (sym same) is
 deed_ready p l k qs is in_it joined (asks passes apart a) = subst Ready (sym a.link) (record { past = record { closed = λ e. absurd (cc e); said = λ e. omega arith; counts = λ e. omega (arith, is.past.counts in_it) }; young = λ e. is.young in_it; own = λ e. is.own in_it })
 deed_ready p l k qs is in_it joined (takes passes t) =

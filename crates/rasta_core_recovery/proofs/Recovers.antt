@@ -35,10 +35,10 @@ pub record Laws : Type 0 where
   pub hands : HandsOut
 
 -- what holds of two ends
-record Holds (names : Names) (ends : Ends) : Type 0 where
-  timely : Timely names ends
-  ordered : Ordered names ends
-  pasts : Pasts ends
+pub record Holds (names : Names) (ends : Ends) : Type 0 where
+  pub timely : Timely names ends
+  pub ordered : Ordered names ends
+  pub pasts : Pasts ends
 
 own_before : (names : Names) (ends : Ends) → Timely names ends → OwnBefore ends.client.link × OwnBefore ends.server.link
 own_before names ends is = (
@@ -51,7 +51,7 @@ own_before names ends is = (
     standing_in : (l : LinkState) → is_open l.phase ≡ true → standing l ≡ Inside (is_asking l) l.own_stamp l.partner_stamp
     standing_in l e = ap (λ (b : Bool). if b then Inside (is_asking l) l.own_stamp l.partner_stamp else Outside l.closed_at) e
 
-holds_run : Laws → (names : Names) → AreNames names → (events : List Event) (ends : Ends) → Holds names ends → MayRun names events ends → Holds names (run events ends)
+pub holds_run : Laws → (names : Names) → AreNames names → (events : List Event) (ends : Ends) → Holds names ends → MayRun names events ends → Holds names (run events ends)
 holds_run laws names are [] ends is may = is
 holds_run laws names are (e ∷ events) ends is may = holds_run laws names are events (happened e ends) (record {
   timely = laws.time names e ends are is.timely may.0;
@@ -145,7 +145,7 @@ module _ (laws : Laws) (names : Names) (are : AreNames names) (f : Flow) (start 
             up_at (k + n) u.steady_client.up u.steady_server.up
 
 -- two fresh ends to which these events happened
-holds_after : Laws → (names : Names) (start : Start) (events : List Event) → AreNames names → MayRun names events (started names start) → Holds names (run events (started names start))
+pub holds_after : Laws → (names : Names) (start : Start) (events : List Event) → AreNames names → MayRun names events (started names start) → Holds names (run events (started names start))
 holds_after laws names start events are may = holds_run laws names are events (started names start) (record {
   timely = laws.starts_timely names start are;
   ordered = laws.starts_ordered names start;

@@ -96,7 +96,7 @@ rows_after p c s then_in = record { joined = x.is.joined; client = x.row; server
         choose (so n) = n
 
 -- a round in which the numbers of what comes go on
-abbrev loose_round : ℕ → LinkState → LinkState → List Pdu → Round
+abbrev pub loose_round : ℕ → LinkState → LinkState → List Pdu → Round
 loose_round kept l m ps = record { now = l.clock + 10; said_at = m.clock; end = m.sent; confirmed = 0; returned = 0; voice = voice_of m; kept = kept; own = l.own_stamp; tuned = false; before = l; number = l.expected; count = 0; reading = 0; pdus = ps }
 
 loose_says : (l m : LinkState) (n : ℕ) (ps : List Pdu) (k : Kept l m) → Joined l.clock l → Shares l m → m.sent < 2 ^ 31 → Row (IsNumbered (voice_of m)) n ps m.sent
@@ -107,7 +107,7 @@ loose_says l m n ps k is shares fits row then_in = choose (loosely (loose_round 
     choose (gone left) = absurd (cc (left.is_out, then_in))
     choose (so says) = says
 
-first_way : (l m : LinkState) (ps qs : List Pdu) (s r : Step) (k : Kept l m) (j : Kept m l) → Spoke (loose_round k.reading l m ps) l s → Spoke (loose_round j.reading m l qs) m r → (t : Spoke (loose_round k.reading l m ps) l s) → (u : Spoke (loose_round j.reading m l qs) m r)
+pub first_way : (l m : LinkState) (ps qs : List Pdu) (s r : Step) (k : Kept l m) (j : Kept m l) → Spoke (loose_round k.reading l m ps) l s → Spoke (loose_round j.reading m l qs) m r → (t : Spoke (loose_round k.reading l m ps) l s) → (u : Spoke (loose_round j.reading m l qs) m r)
     → Shares s.link r.link → Young r.link → Past r.link → is_open r.link.phase ≡ true → Way r.link.clock s.link.clock false t.kept u.kept s.link r.link r.pdus
 first_way l m ps qs s r k j a b t u shares young past partner_in = record {
   is = record { clock = refl; connected = t.is.connected; joined = t.is.joined; young = omega (arith, t.is.young, t.is.clock); own = omega (arith, t.is.own, t.is.clock) };

@@ -129,7 +129,7 @@ unfolding opening
 quiet_opening now k out quiet = ap (λ (s : Step). then_do s (λ j. if may_open j then requesting j else silent j)) (entered_out now k out) ∙ quiet_may_not (record k { clock = now }) out quiet
 
 -- an end outside that is quiet: whatever comes, it stays so and says nothing
-quiet_hears : (now : ℕ) (pdu : Pdu) (l : LinkState) → is_open l.phase ≡ false → now < l.closed_at + 6000 → heard now pdu l ≡ silent (record l { clock = now })
+pub quiet_hears : (now : ℕ) (pdu : Pdu) (l : LinkState) → is_open l.phase ≡ false → now < l.closed_at + 6000 → heard now pdu l ≡ silent (record l { clock = now })
 unfolding heard hearing by_state
 quiet_hears now pdu l out quiet =
     ap (λ (s : Step). then_do s (λ k. record { link = (hearing pdu k).link; pdus = (hearing pdu k).pdus })) (entered_out now l out)

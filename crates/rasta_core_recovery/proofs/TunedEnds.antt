@@ -3,7 +3,7 @@ use Rattle.std.proofs.Common.{◌≡◌, ℕ, ◌∙◌, ◌+◌, ◌-◌, ◌^�
 use Rattle.std.proofs.lemmas.Bool.Decides.{nat_tests}
 use Rattle.rasta_core_run.specs.Sequence.{wire, stamp}
 use Rattle.rasta_core_run.specs.State.{LinkState}
-use Rattle.rasta_core_run.specs.PdusHandedOut.{header_of, pdu_of}
+use Rattle.rasta_core_run.specs.PdusHandedOut.{Step, header_of, pdu_of}
 use Rattle.rasta_core_run.specs.Receipt.{age, ahead, behind, hearing}
 use Rattle.rasta_core_run.specs.header.Header.{Header}
 use Rattle.rasta_core_run.specs.identity.Identity.{Identity}
@@ -14,9 +14,10 @@ use Rattle.rasta_core_run.specs.body.Body.TheVariants.{RetransmissionRequest, Re
 use Rattle.rasta_core_run.specs.Each.{Each}
 use Rattle.rasta_core_recovery.proofs.Links.{heard, all_heard}
 use Rattle.rasta_core_recovery.proofs.Healthy.{is_reading, waits}
-use Rattle.rasta_core_recovery.proofs.Words.{IsPlain, IsNoAnswer, Says, Voice, voice_of, IsWord, Chain, chain_lower, chain_then, chain_ends}
+use Rattle.rasta_core_recovery.proofs.Calls.{heard_lives}
+use Rattle.rasta_core_recovery.proofs.Words.{IsPlain, IsSimple, IsNoAnswer, Says, Voice, voice_of, IsWord, Chain, chain_lower, chain_then, chain_ends}
 use Rattle.rasta_core_recovery.proofs.Deed.{InTurn, Blocked, stranger, other, opens, far, stale, unconfirming, discarded, Passes, Taken, Asked, Deed, leaves, keeps, asks, takes, hears}
-use Rattle.rasta_core_recovery.proofs.Fold.{Out, heard_case, Next, gone_next, stays_next, all_hear}
+use Rattle.rasta_core_recovery.proofs.Fold.{Out, heard_case, same_clock, Next, gone_next, stays_next, all_hear}
 use Rattle.rasta_core_recovery.proofs.Course.{Joined, lively, Goes, goes_none, goes_then, voice_goes, fresh_age, taken_joined, placed, returned, counted, answers_chain, asked_chain, asked_joined, asked_goes, taken_goes}
 
 abbrev pub IsPlainPdu : Pdu → Type 0
@@ -87,9 +88,16 @@ pub record Tuned (l : LinkState) (n c r : ℕ) : Type 0 where
   pub confirmed : l.confirmed ≤ c
   pub own : l.own_stamp ≤ r
 
+-- it has heard one of them, or none of them has come yet
+abbrev pub HasHeard : Round → ℕ → LinkState → Type 0
+HasHeard x kept l = (kept ≡ x.said_at) × (x.reading ≤ l.own_stamp)
+
+abbrev pub HasWaited : Round → ℕ → LinkState → Type 0
+HasWaited x kept l = (kept ≡ x.kept) × (x.tuned ≡ true) × (l.own_stamp ≡ x.own)
+
 abbrev pub Mode : Round → Bool → ℕ → LinkState → ℕ → ℕ → ℕ → List Pdu → Type 0
 Mode x false kept l n c r ps = (kept ≡ x.kept) × (l.own_stamp ≡ x.own)
-Mode x true kept l n c r ps = Tuned l n c r × ((kept ≡ x.said_at) ⊎ ((ps ≡ x.pdus) × (kept ≡ x.kept) × (x.tuned ≡ true)))
+Mode x true kept l n c r ps = Tuned l n c r × (HasHeard x kept l ⊎ ((ps ≡ x.pdus) × HasWaited x kept l))
 
 -- what they return is older, or what they confirm is less, than an end knows
 abbrev pub IsOutdated : Round → LinkState → Type 0
@@ -182,7 +190,7 @@ answers_then x g h i l k j ps qs a b = record {
 
 module _ (x : Round) (bounds : Bounds x) (g : Ghost) (p : Pdu) (ps : List Pdu) (l : LinkState) (is : Hearing x g (p ∷ ps) l) (room : l.sent < 2147483000) where
   abbrev After : LinkState → List Pdu → Type 0
-  After k qs = Out x.now k ⊎ ((h : Ghost) × Hearing x h ps k × Answers x g l qs h k)
+  After k qs = ((IsSimple p.body → ⊥) × Out x.now k) ⊎ ((h : Ghost) × Hearing x h ps k × Answers x g l qs h k)
 
   -- what the chain says of this PDU and the others
   module _ (d q : ℕ) (h : is.count ≤ d) (i : is.reading ≤ q) (w : IsWord x.voice is.number d q p) (more : Chain x.voice (is.number + 1) d q ps x.end x.confirmed x.returned) where
@@ -401,7 +409,7 @@ module _ (x : Round) (bounds : Bounds x) (g : Ghost) (p : Pdu) (ps : List Pdu) (
             confirmed = omega (arith, t.confirmed, behind_is, d_most, is.counts);
             own = omega (arith, t.own_stamp, age_is, is.is.clock, q_most, bounds.old);
           },
-          inl refl,
+          inl (refl, omega (arith, t.own_stamp, age_is, is.is.clock, q_most, bounds.old, is.from_reading, i)),
         );
         plain = λ e. (is.plain e).1;
         from_number = omega (arith, is.from_number);
@@ -428,7 +436,7 @@ module _ (x : Round) (bounds : Bounds x) (g : Ghost) (p : Pdu) (ps : List Pdu) (
       }
 
     deed_after : (k : LinkState) (qs : List Pdu) → Deed p l k qs → After k qs
-    deed_after k qs (leaves left) = inl (record { clock = left.clock ∙ is.is.clock; is_out = left.is_out; quiet = omega (arith, left.closed_at, is.is.clock); lately = omega (arith, left.closed_at, is.is.clock) })
+    deed_after k qs (leaves why left) = inl (why, record { clock = left.clock ∙ is.is.clock; is_out = left.is_out; quiet = omega (arith, left.closed_at, is.is.clock); lately = omega (arith, left.closed_at, is.is.clock) })
     deed_after k qs (keeps b same none) =
         let m = lets_be g.tuned refl (λ t. not_blocked t b) is.mode in
         inr (
@@ -445,11 +453,21 @@ module _ (x : Round) (bounds : Bounds x) (g : Ghost) (p : Pdu) (ps : List Pdu) (
       cell : Chain x.voice is.number is.count is.reading (p ∷ ps) x.end x.confirmed x.returned → After k qs
       cell (d, q, h, i, w, more) = deed_after d q h i w more k qs deed
 
+-- what one PDU comes to at an end with room: a heartbeat and new items never make it leave
+pub tunes_one : (x : Round) → Bounds x → (g : Ghost) (p : Pdu) (ps : List Pdu) (l : LinkState) → Hearing x g (p ∷ ps) l → l.sent < 2147483000
+    → ((IsSimple p.body → ⊥) × Out x.now (heard x.now p l).link) ⊎ ((h : Ghost) × Hearing x h ps (heard x.now p l).link × Answers x g l (heard x.now p l).pdus h (heard x.now p l).link)
+tunes_one x bounds g p ps l is room = after x bounds g p ps l is room (heard x.now p l).link (heard x.now p l).pdus
+    (subst (λ (s : Step). Deed p l s.link s.pdus) (sym same) (hears p l is.is.connected is.is.joined (omega (arith, is.is.young, is.is.clock))))
+  where
+    same : heard x.now p l ≡ record { link = (hearing p l).link; pdus = (hearing p l).pdus }
+    same = heard_lives x.now p l (record { connected = is.is.connected; young = is.is.young; room = room })
+        ∙ ap (λ (k : LinkState). record { link = (hearing p k).link; pdus = (hearing p k).pdus }) (same_clock x.now l is.is.clock)
+
 tune_step : (x : Round) → Bounds x → (g : Ghost) (p : Pdu) (ps : List Pdu) (l : LinkState) → Hearing x g (p ∷ ps) l → Next Ghost x.now (Hearing x) (Answers x) g l ps (heard x.now p l)
 tune_step x bounds g p ps l is = choose (heard_case x.now p l (lively x.now l is.is))
   where
-    next : Out x.now (heard x.now p l).link ⊎ ((h : Ghost) × Hearing x h ps (heard x.now p l).link × Answers x g l (heard x.now p l).pdus h (heard x.now p l).link) → Next Ghost x.now (Hearing x) (Answers x) g l ps (heard x.now p l)
-    next (inl left) = gone_next left
+    next : ((IsSimple p.body → ⊥) × Out x.now (heard x.now p l).link) ⊎ ((h : Ghost) × Hearing x h ps (heard x.now p l).link × Answers x g l (heard x.now p l).pdus h (heard x.now p l).link) → Next Ghost x.now (Hearing x) (Answers x) g l ps (heard x.now p l)
+    next (inl left) = gone_next left.1
     next (inr (h, a, b)) = stays_next h a b
 
     choose : Out x.now (heard x.now p l).link ⊎ ((l.sent < 2147483000) × ((heard x.now p l).link ≡ (hearing p l).link) × ((heard x.now p l).pdus ≡ (hearing p l).pdus)) → Next Ghost x.now (Hearing x) (Answers x) g l ps (heard x.now p l)

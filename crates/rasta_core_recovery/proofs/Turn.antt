@@ -17,7 +17,7 @@ use Rattle.rasta_core_recovery.proofs.Words.{IsTalk, IsPlain, plain_talk, Row, V
 use Rattle.rasta_core_recovery.proofs.Deed.{Deed, leaves, keeps, asks, takes, hears}
 use Rattle.rasta_core_recovery.proofs.Fold.{Out, heard_case, Next, gone_next, stays_next, all_hear, Work, gone_work, calm_work, beats_work, works, Begins, late, on, begins, stays_out, works_out, round_on}
 use Rattle.rasta_core_recovery.proofs.Course.{Joined, lively, Goes, goes_none, goes_then, voice_goes, taken_joined, placed, answers_chain, asked_chain, asked_joined, asked_goes, taken_goes}
-use Rattle.rasta_core_recovery.proofs.TunedEnds.{IsPlainPdu, IsNoAnswerPdu, not_before, IsShut, IsOutdated, Reached, unheard, waiting, off, low, Deaf, each_append, Round, Bounds, Ghost, Tuned, Mode, Hearing, Answers, tunes}
+use Rattle.rasta_core_recovery.proofs.TunedEnds.{IsPlainPdu, IsNoAnswerPdu, not_before, IsShut, IsOutdated, Reached, unheard, waiting, off, low, Deaf, each_append, Round, Bounds, Ghost, Tuned, HasHeard, HasWaited, Mode, Hearing, Answers, tunes}
 
 -- ---- its own work
 
@@ -93,11 +93,11 @@ pub data Either (now : ℕ) (k : LinkState) (A : Type 0) : Type 0 where
   so : A → Either now k A
 
 module _ (now : ℕ) where
-  record Rowed (g : ℕ) (l : LinkState) (ps : List Pdu) (h : ℕ) (k : LinkState) : Type 0 where
-    goes : Goes now l ps k
-    row : Row (IsNumbered (voice_of l)) l.sent ps k.sent
+  pub record Rowed (g : ℕ) (l : LinkState) (ps : List Pdu) (h : ℕ) (k : LinkState) : Type 0 where
+    pub goes : Goes now l ps k
+    pub row : Row (IsNumbered (voice_of l)) l.sent ps k.sent
 
-  rowed_then : (g h i : ℕ) (l k j : LinkState) (ps qs : List Pdu) → Rowed g l ps h k → Rowed h k qs i j → Rowed g l (ps ++ qs) i j
+  pub rowed_then : (g h i : ℕ) (l k j : LinkState) (ps qs : List Pdu) → Rowed g l ps h k → Rowed h k qs i j → Rowed g l (ps ++ qs) i j
   rowed_then g h i l k j ps qs a b = record {
     goes = goes_then now l k j ps qs a.goes b.goes;
     row = row_then (IsNumbered (voice_of l)) l.sent k.sent j.sent ps qs a.row (subst (λ (v : Voice). Row (IsNumbered v) k.sent qs j.sent) (voice_goes now l k ps a.goes) b.row);
@@ -105,7 +105,7 @@ module _ (now : ℕ) where
 
   rows_one : (p : Pdu) (l k : LinkState) (qs : List Pdu) → Joined now l → Deed p l k qs → Out now k ⊎ (Joined now k × Rowed 0 l qs 0 k)
   unfolding taking header_of pdu_of
-  rows_one p l k qs is (leaves left) = inl (record { clock = left.clock ∙ is.clock; is_out = left.is_out; quiet = omega (arith, left.closed_at, is.clock); lately = omega (arith, left.closed_at, is.clock) })
+  rows_one p l k qs is (leaves why left) = inl (record { clock = left.clock ∙ is.clock; is_out = left.is_out; quiet = omega (arith, left.closed_at, is.clock); lately = omega (arith, left.closed_at, is.clock) })
   rows_one p l k qs is (keeps b same none) = inr (subst (Joined now) (sym same) is, subst (λ (j : LinkState). Rowed 0 l qs 0 j) (sym same) (subst (λ (rs : List Pdu). Rowed 0 l rs 0 l) (sym none) (record { goes = goes_none now l; row = refl })))
   rows_one p l k qs is (asks passes apart a) = inr (
     asked_joined now l k qs is a,
@@ -123,7 +123,7 @@ module _ (now : ℕ) where
     },
   )
 
-  rows_step : (g : ℕ) (p : Pdu) (ps : List Pdu) (l : LinkState) → Joined now l → Next ℕ now (λ g ps l. Joined now l) Rowed g l ps (heard now p l)
+  pub rows_step : (g : ℕ) (p : Pdu) (ps : List Pdu) (l : LinkState) → Joined now l → Next ℕ now (λ g ps l. Joined now l) Rowed g l ps (heard now p l)
   rows_step g p ps l is = choose (heard_case now p l (lively now l is))
     where
       next : Out now (heard now p l).link ⊎ (Joined now (heard now p l).link × Rowed 0 l (heard now p l).pdus 0 (heard now p l).link) → Next ℕ now (λ g ps l. Joined now l) Rowed g l ps (heard now p l)
@@ -205,26 +205,26 @@ pub record Notes (x : Round) (then_tuned : Bool) (s : Step) : Type 0 where
   pub outdated_on : x.tuned ≡ false → IsOutdated x x.before → (then_tuned ≡ false) × (s.link.phase ≡ x.before.phase)
 
 module _ (x : Round) (bounds : Bounds x) where
-  record Loose (g : ℕ) (ps : List Pdu) (l : LinkState) : Type 0 where
-    is : Joined x.now l
-    first : x.voice.first ≡ l.partner_first
-    some : 1 ≤ l.expected
-    most : l.expected ≤ x.end
-    kept_is : l.partner_stamp ≡ stamp g
-    kept_before : g ≤ x.said_at
-    since : x.kept ≤ g
-    number : ℕ
-    row : Row (IsNumbered x.voice) number ps x.end
+  pub record Loose (g : ℕ) (ps : List Pdu) (l : LinkState) : Type 0 where
+    pub is : Joined x.now l
+    pub first : x.voice.first ≡ l.partner_first
+    pub some : 1 ≤ l.expected
+    pub most : l.expected ≤ x.end
+    pub kept_is : l.partner_stamp ≡ stamp g
+    pub kept_before : g ≤ x.said_at
+    pub since : x.kept ≤ g
+    pub number : ℕ
+    pub row : Row (IsNumbered x.voice) number ps x.end
 
-  record Linked (g : ℕ) (l : LinkState) (ps : List Pdu) (h : ℕ) (k : LinkState) : Type 0 where
-    goes : Goes x.now l ps k
-    rises : l.expected ≤ k.expected
-    chain : Chain (voice_of l) l.sent (l.expected - 1) g ps k.sent (k.expected - 1) h
+  pub record Linked (g : ℕ) (l : LinkState) (ps : List Pdu) (h : ℕ) (k : LinkState) : Type 0 where
+    pub goes : Goes x.now l ps k
+    pub rises : l.expected ≤ k.expected
+    pub chain : Chain (voice_of l) l.sent (l.expected - 1) g ps k.sent (k.expected - 1) h
 
-  linked_none : (g : ℕ) (l : LinkState) → Linked g l [] g l
+  pub linked_none : (g : ℕ) (l : LinkState) → Linked g l [] g l
   linked_none g l = record { goes = goes_none x.now l; rises = omega arith; chain = (refl, omega arith, omega arith) }
 
-  linked_then : (g h i : ℕ) (l k j : LinkState) (ps qs : List Pdu) → Linked g l ps h k → Linked h k qs i j → Linked g l (ps ++ qs) i j
+  pub linked_then : (g h i : ℕ) (l k j : LinkState) (ps qs : List Pdu) → Linked g l ps h k → Linked h k qs i j → Linked g l (ps ++ qs) i j
   linked_then g h i l k j ps qs a b = record {
     goes = goes_then x.now l k j ps qs a.goes b.goes;
     rises = omega (arith, a.rises, b.rises);
@@ -232,7 +232,7 @@ module _ (x : Round) (bounds : Bounds x) where
   }
 
   loose_one : (g : ℕ) (p : Pdu) (ps : List Pdu) (l k : LinkState) (qs : List Pdu) → Loose g (p ∷ ps) l → Deed p l k qs → Out x.now k ⊎ ((h : ℕ) × Loose h ps k × Linked g l qs h k)
-  loose_one g p ps l k qs is (leaves left) = inl (record { clock = left.clock ∙ is.is.clock; is_out = left.is_out; quiet = omega (arith, left.closed_at, is.is.clock); lately = omega (arith, left.closed_at, is.is.clock) })
+  loose_one g p ps l k qs is (leaves why left) = inl (record { clock = left.clock ∙ is.is.clock; is_out = left.is_out; quiet = omega (arith, left.closed_at, is.is.clock); lately = omega (arith, left.closed_at, is.is.clock) })
   loose_one g p ps l k qs is (keeps b same none) = inr (
     g,
     subst (Loose g ps) (sym same) (record { is = is.is; first = is.first; some = is.some; most = is.most; kept_is = is.kept_is; kept_before = is.kept_before; since = is.since; number = is.number + 1; row = is.row.1 }),
@@ -283,7 +283,7 @@ module _ (x : Round) (bounds : Bounds x) where
         },
       )
 
-  loose_step : (g : ℕ) (p : Pdu) (ps : List Pdu) (l : LinkState) → Loose g (p ∷ ps) l → Next ℕ x.now Loose Linked g l ps (heard x.now p l)
+  pub loose_step : (g : ℕ) (p : Pdu) (ps : List Pdu) (l : LinkState) → Loose g (p ∷ ps) l → Next ℕ x.now Loose Linked g l ps (heard x.now p l)
   loose_step g p ps l is = choose (heard_case x.now p l (lively x.now l is.is))
     where
       next : Out x.now (heard x.now p l).link ⊎ ((h : ℕ) × Loose h ps (heard x.now p l).link × Linked g l (heard x.now p l).pdus h (heard x.now p l).link) → Next ℕ x.now Loose Linked g l ps (heard x.now p l)
@@ -371,7 +371,7 @@ module _ (x : Round) (bounds : Bounds x) where
 
   abbrev pub EndMode : Bool → ℕ → LinkState → Type 0
   EndMode false kept k = (kept ≡ x.kept) × (k.own_stamp ≡ x.own)
-  EndMode true kept k = Tuned k x.end x.confirmed x.returned × ((kept ≡ x.said_at) ⊎ ((x.pdus ≡ []) × (kept ≡ x.kept) × (x.tuned ≡ true)))
+  EndMode true kept k = Tuned k x.end x.confirmed x.returned × (HasHeard x kept k ⊎ ((x.pdus ≡ []) × HasWaited x kept k))
 
   reached_as : (j k : LinkState) (n : ℕ) → j.expected ≡ k.expected → j.own_stamp ≡ k.own_stamp → j.confirmed ≡ k.confirmed → j.phase ≡ k.phase → n ≡ x.end → Reached x k n [] → Reached x j x.end []
   reached_as j k n e o c f at (unheard u) = unheard u
@@ -402,6 +402,15 @@ module _ (x : Round) (bounds : Bounds x) where
   both_none : (ps qs : List Pdu) → ps ≡ [] → qs ≡ [] → ps ++ qs ≡ []
   both_none ps qs e f = cc
 
+  -- what such a round makes of an end
+  pub record Heeds (tuned : Bool) (l : LinkState) (s : Step) : Type 0 where
+    pub says : Spoke x l s
+    pub then_tuned : Bool
+    pub mode : EndMode then_tuned says.kept s.link
+    pub keeps : tuned ≡ true → then_tuned ≡ true
+    pub still : then_tuned ≡ false → s.link.expected ≡ x.before.expected
+
+  -- where it is given no items
   pub record Turn (tuned : Bool) (l : LinkState) (s : Step) : Type 0 where
     pub says : Spoke x l s
     pub then_tuned : Bool
@@ -411,13 +420,16 @@ module _ (x : Round) (bounds : Bounds x) where
     pub beating : tuned ≡ true → Each IsPlainPdu x.pdus → (b : Bool) × (s.pdus ≡ beats b s.link) × (b ≡ true → s.link.sent_at ≡ x.now)
     pub notes : Notes x then_tuned s
 
-  end_mode : (tuned : Bool) (kept : ℕ) (k : LinkState) (n c r : ℕ) → Mode x tuned kept k n c r [] → (n ≡ x.end) × (c ≤ x.confirmed) × (r ≤ x.returned) → EndMode tuned kept k
+  abbrev pub heeds_of : (tuned : Bool) (l : LinkState) (s : Step) → Turn tuned l s → Heeds tuned l s
+  heeds_of tuned l s t = record { says = t.says; then_tuned = t.then_tuned; mode = t.mode; keeps = t.keeps; still = λ e. (t.notes.deaf e).expected }
+
+  pub end_mode : (tuned : Bool) (kept : ℕ) (k : LinkState) (n c r : ℕ) → Mode x tuned kept k n c r [] → (n ≡ x.end) × (c ≤ x.confirmed) × (r ≤ x.returned) → EndMode tuned kept k
   end_mode false kept k n c r m ends_at = m
   end_mode true kept k n c r (t, how) (i, j, h) = (record { reading = t.reading; expected = t.expected ∙ i; confirmed = omega (arith, t.confirmed, j); own = omega (arith, t.own, h) }, either how)
     where
-      either : ((kept ≡ x.said_at) ⊎ (([] ≡ x.pdus) × (kept ≡ x.kept) × (x.tuned ≡ true))) → ((kept ≡ x.said_at) ⊎ ((x.pdus ≡ []) × (kept ≡ x.kept) × (x.tuned ≡ true)))
+      either : HasHeard x kept k ⊎ (([] ≡ x.pdus) × HasWaited x kept k) → HasHeard x kept k ⊎ ((x.pdus ≡ []) × HasWaited x kept k)
       either (inl e) = inl e
-      either (inr (a, b, c)) = inr (sym a, b, c)
+      either (inr (a, b)) = inr (sym a, b)
 
   spoken_mode : (tuned b : Bool) (kept : ℕ) (k : LinkState) → EndMode tuned kept k → EndMode tuned kept (spoken b k)
   spoken_mode tuned false kept k m = m

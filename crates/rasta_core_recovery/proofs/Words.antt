@@ -8,7 +8,7 @@ use Rattle.rasta_core_run.specs.header.Header.{Header}
 use Rattle.rasta_core_run.specs.window.Unconfirmed.{Unconfirmed}
 use Rattle.rasta_core_run.specs.pdu.Pdu.{Pdu}
 use Rattle.rasta_core_run.specs.body.Body.{Body}
-use Rattle.rasta_core_run.specs.body.Body.TheVariants.{ConnectionRequest, ConnectionResponse, RetransmissionRequest, RetransmissionResponse}
+use Rattle.rasta_core_run.specs.body.Body.TheVariants.{ConnectionRequest, ConnectionResponse, RetransmissionRequest, RetransmissionResponse, DisconnectionRequest, Heartbeat, Data, RetransmittedData}
 
 -- what an end inside may say: nothing that opens
 abbrev pub IsTalk : Body → Type 0
@@ -28,6 +28,25 @@ plain_talk (ConnectionRequest opening) is = is
 plain_talk (ConnectionResponse opening) is = is
 plain_talk RetransmissionRequest is = tt
 plain_talk _ is = tt
+
+-- a heartbeat, or items for the first time
+abbrev pub IsSimple : Body → Type 0
+IsSimple Heartbeat = Unit {0}
+IsSimple (Data items) = Unit {0}
+IsSimple _ = ⊥
+
+pub simple_plain : (body : Body) → IsSimple body → IsPlain body
+simple_plain Heartbeat is = tt
+simple_plain (Data items) is = tt
+simple_plain (ConnectionRequest opening) is = absurd is
+simple_plain (ConnectionResponse opening) is = absurd is
+simple_plain RetransmissionRequest is = absurd is
+simple_plain RetransmissionResponse is = absurd is
+simple_plain (DisconnectionRequest detail reason) is = absurd is
+simple_plain (RetransmittedData items) is = absurd is
+
+pub simple_talk : (body : Body) → IsSimple body → IsTalk body
+simple_talk body is = plain_talk body (simple_plain body is)
 
 -- anything but the answer to one that asks
 abbrev pub IsNoAnswer : Body → Type 0

@@ -1,5 +1,5 @@
 -- A client that doesn't open again stays outside, and so does its server.
-use Rattle.std.proofs.Common.{◌≡◌, ℕ, zero, suc, ◌∙◌, ◌+◌, ◌/◌, ◌≤◌, Bool, true, false, List, [], ◌∷◌, ◌++◌, length, drop, refl, sym, ap, subst, arith}
+use Rattle.std.proofs.Common.{◌≡◌, ℕ, zero, suc, ◌∙◌, ◌+◌, Bool, true, false, List, [], ◌∷◌, ◌++◌, length, drop, refl, sym, ap, subst, arith}
 use Rattle.rasta_core_run.specs.State.{LinkState, is_open, is_up}
 use Rattle.rasta_core_run.specs.Clock.{settled, deadline, state_at}
 use Rattle.rasta_core_run.specs.Outbox.{spellings}
@@ -10,10 +10,9 @@ use Rattle.rasta_core_run.specs.identity.Role.{Role}
 use Rattle.rasta_core_run.specs.identity.Role.TheVariants as role
 use Rattle.rasta_core_run.specs.phase.Phase.{Phase}
 use Rattle.rasta_core_run.specs.phase.Phase.TheVariants as phase
-use Rattle.rasta_core_run.specs.pdu.Pdu.{Pdu}
-use Rattle.rasta_core_run.specs.Ends.{Sent, EndState, Ticks, Opens, outcome, end_after, end_later, handed_out, reading_of}
+use Rattle.rasta_core_run.specs.Ends.{Sent, EndState, Ticks, outcome, end_after, end_later, handed_out, reading_of}
 use Rattle.rasta_core_run.specs.Run.{Ends, end_of, called, later}
-use Rattle.rasta_core_run.specs.Events.{Event, Calls, Passes, MayRun, run, started}
+use Rattle.rasta_core_run.specs.Events.{Passes, MayRun, run, started}
 use Rattle.rasta_core_run.specs.Names.{Names}
 use Rattle.rasta_core_recovery.specs.Rounds.{AreUp, Flow, comings, flow_after}
 use Rattle.rasta_core_recovery.specs.WrongRounds.{NeverUp, RestsFor, asks_in_vain, asks_once, at_zero, round_where, rounds_where, work_where}

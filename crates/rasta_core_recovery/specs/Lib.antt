@@ -1,2 +1,3 @@
 pub mod Rounds
 pub mod WrongRounds
+pub mod Work

@@ -1,9 +1,11 @@
 //! Recovery, for two ends that were just created and every list of events that may happen to them.
 
-ghost use Rattle.std.specs.Prelude.{◌≡◌, ℕ, ◌+◌, ◌≤◌, ◌<◌, List};
+ghost use Rattle.std.specs.Prelude.{◌≡◌, ℕ, ◌+◌, ◌≤◌, ◌<◌, List, ◌++◌, drop, length};
+ghost use Rattle.rasta_core_run.specs.Each.{Each};
 ghost use Rattle.rasta_core_run.specs.Events.{Event, MayRun, Start, run, started};
 ghost use Rattle.rasta_core_run.specs.Names.{AreNames, Names};
-ghost use Rattle.rasta_core_recovery.specs.Rounds.{AreUp, Flow, StayBelowLimit, calm_rounds, events_of, flow_after, gap_rounds, good_rounds, recovery_rounds};
+ghost use Rattle.rasta_core_recovery.specs.Rounds.{AreUp, Flow, StayBelowLimit, calm_rounds, comings, events_of, flow_after, gap_rounds, good_round, good_rounds, own_work, recovery_rounds};
+ghost use Rattle.rasta_core_recovery.specs.Work.{AreAtWork, IsAtWork, LeavesOpen, StayBelow, recovery_rounds_at_work, work_round, work_rounds};
 ghost use Rattle.rasta_core_recovery.specs.WrongRounds.{NeverUp, RestsFor, asks_in_vain, asks_once, ends_at_limit, rounds_where};
 
 use rasta_core::{
@@ -62,6 +64,29 @@ pub fn gaps_are_rare()
     written_is_read();
     calls_hand_out_pdus();
 }
+
+/// Two ends at work come up, too: whatever has happened to them before, and whatever items they are given meanwhile, both are up
+/// after each round at work from the 1601st on, so for good 16.01 s after these rounds began. That is where nothing closes
+/// an end in them, and no end comes to the limit of PDUs in a connection.
+pub fn two_ends_at_work_come_up()
+    ensures { (names : Names) (start : Start) (events : List Event) (passed : ℕ) (rounds : List (List Event)) → AreNames names → MayRun names events (started names start)
+        → AreAtWork names rounds (flow_after names start events passed) → Each (Each LeavesOpen) rounds → StayBelow rounds (flow_after names start events passed)
+        → recovery_rounds_at_work ≤ length rounds
+        → AreUp (work_rounds rounds (flow_after names start events passed)).ends }
+{
+    starts_in_time();
+    every_event_keeps_time();
+    every_event_keeps_order();
+    written_is_read();
+    calls_hand_out_pdus();
+}
+
+/// Good rounds are rounds at work, in which no end is given an item and none is closed.
+pub fn good_rounds_are_at_work()
+    ensures work { (names : Names) (f : Flow) → IsAtWork names f (comings (f.ends.time + 10000) (drop f.passed f.ends.sent) ++ own_work) }
+    ensures stays_open { (f : Flow) → Each LeavesOpen (comings (f.ends.time + 10000) (drop f.passed f.ends.sent) ++ own_work) }
+    ensures same { (f : Flow) → good_round f ≡ work_round (comings (f.ends.time + 10000) (drop f.passed f.ends.sent) ++ own_work) f }
+{}
 
 /// Clients that go wrong, and are safe. One that asks once and never again is never up where its request was lost (*once*). Two ends
 /// outside stay so for ever if the client never opens again after it closed at the limit of PDUs (*limit*).
