@@ -1,0 +1,105 @@
+-- The last order that was written is what the equipment has to do.
+use Rattle.std.proofs.Common.{◌≡◌, ◌∙◌, ◌&&◌, ◌==◌, ℕ, nat_le, Bool, true, false, cond, List, [], ◌∷◌, Option, Some, None, IsSome, refl, ap, arith}
+use Rattle.std.proofs.lemmas.Bool.Decides.{nat_tests}
+use Rattle.ixl_rules.specs.sci_telegram.declared.message.Side.{Side}
+use Rattle.ixl_rules.specs.sci_telegram.declared.message.Side.TheVariants as side
+use Rattle.node_lines.specs.declared.order.Order.{Order}
+use Rattle.node_lines.specs.declared.order.Order.TheVariants.{ShowStop, ShowProceed, ShowSlow, DriveNone, Drive}
+use Rattle.node_drive.specs.Calls.{Complains}
+use Rattle.node_drive.specs.Kinds.{Kind, Meaning, InForce, Comes, Faulty}
+use Rattle.node_drive.specs.Rounds.{Coming, RoundBegins, Listened, Line, NoLine, LinesEnd, Datagram, Late, NoDatagram, Tick, CourseState, Standing, all_come, comes, counted, heard_one, is_taken, last_order, later, new_order, released, step, steps, told}
+use Rattle.node_drive.specs.Same.{is_same_order, is_same_side}
+use Rattle.replay_words.specs.declared.fault.Fault.TheVariants.{Number}
+
+same_side : (one other : Side) → is_same_side one other ≡ true → one ≡ other
+same_side side.Right side.Right e = refl
+same_side side.Left side.Left e = refl
+same_side side.Right side.Left e = cc
+same_side side.Left side.Right e = cc
+
+both_true : (a b : Bool) → (a && b) ≡ true → (a ≡ true) × (b ≡ true)
+both_true true true e = (refl, refl)
+both_true true false e = (refl, e)
+both_true false b e = cc
+
+same_order : (one other : Order) → is_same_order one other ≡ true → one ≡ other
+same_order ShowStop ShowStop e = refl
+same_order (ShowProceed one) (ShowProceed other) e = ap ShowProceed (grind (arith, nat_tests, e))
+same_order (ShowSlow one) (ShowSlow other) e = ap ShowSlow (grind (arith, nat_tests, e))
+same_order DriveNone DriveNone e = refl
+same_order (Drive to one) (Drive side other) e =
+    let both = both_true (is_same_side to side) (one == other) e in
+    let until = both.1 in
+    ap (λ (s : Side). Drive s one) (same_side to side both.0) ∙ ap (Drive side) (grind (arith, nat_tests, until))
+same_order ShowStop (ShowProceed other) e = cc
+same_order ShowStop (ShowSlow other) e = cc
+same_order ShowStop DriveNone e = cc
+same_order ShowStop (Drive side other) e = cc
+same_order (ShowProceed one) ShowStop e = cc
+same_order (ShowProceed one) (ShowSlow other) e = cc
+same_order (ShowProceed one) DriveNone e = cc
+same_order (ShowProceed one) (Drive side other) e = cc
+same_order (ShowSlow one) ShowStop e = cc
+same_order (ShowSlow one) (ShowProceed other) e = cc
+same_order (ShowSlow one) DriveNone e = cc
+same_order (ShowSlow one) (Drive side other) e = cc
+same_order DriveNone ShowStop e = cc
+same_order DriveNone (ShowProceed other) e = cc
+same_order DriveNone (ShowSlow other) e = cc
+same_order DriveNone (Drive side other) e = cc
+same_order (Drive to one) ShowStop e = cc
+same_order (Drive to one) (ShowProceed other) e = cc
+same_order (Drive to one) (ShowSlow other) e = cc
+same_order (Drive to one) DriveNone e = cc
+
+by_same : (last order : Order) (same : Bool) → is_same_order last order ≡ same → last_order (Some last) (cond same None (Some order)) ≡ Some order
+by_same last order true e = ap Some (same_order last order e)
+by_same last order false e = refl
+
+order_kept : (last now : Option Order) → IsSome now → last_order last (new_order last now) ≡ now
+order_kept last None some = cc
+order_kept None (Some order) some = refl
+order_kept (Some last) (Some order) some = by_same last order (is_same_order last order) refl
+
+-- what is put in force changes no order
+order_forced : (now number : ℕ) (course : CourseState) (known : Bool)
+    → (cond known (released now (record course { in_force = later course.in_force number })) (Complains course.heard Number ∷ [], course)).1.order ≡ course.order
+order_forced now number course true = refl
+order_forced now number course false = refl
+
+module _ {State In : Type 0} (kind : Kind State In) (some : (state : State) → IsSome (kind.order state)) where
+  abbrev Stands : Standing State → Type 0
+  Stands standing = standing.course.order ≡ kind.order standing.state
+
+  step-stands : (now : ℕ) (input : In) (standing : Standing State) → Stands (step kind now input standing).1
+  step-stands now input standing = order_kept standing.course.order (kind.order (kind.after now input standing.state)) (some (kind.after now input standing.state))
+
+  steps-stands : (now : ℕ) (inputs : List In) (standing : Standing State) → Stands standing → Stands (steps kind now inputs standing).1
+  steps-stands now [] standing h = h
+  steps-stands now (input ∷ inputs) standing h = steps-stands now inputs (step kind now input standing).1 (step-stands now input standing)
+
+  told-stands : (now : ℕ) (meaning : Meaning In) (standing : Standing State) → Stands standing → Stands (told kind now meaning standing).1
+  told-stands now (InForce number) standing h = order_forced now number standing.course (nat_le number standing.course.written) ∙ h
+  told-stands now (Comes answer inputs) standing h = steps-stands now inputs standing h
+  told-stands now (Faulty fault) standing h = h
+
+  taken-stands : (now : ℕ) (bytes : List ℕ) (standing : Standing State) (taken : Bool) → Stands standing → Stands (cond taken (step kind now (kind.datagram bytes) standing) ([], counted standing)).1
+  taken-stands now bytes standing true h = step-stands now (kind.datagram bytes) standing
+  taken-stands now bytes standing false h = h
+
+  comes-stands : (now : ℕ) (coming : Coming) (standing : Standing State) → Stands standing → Stands (comes kind now coming standing).1
+  comes-stands now RoundBegins standing h = h
+  comes-stands now (Listened true) standing h = h
+  comes-stands now (Listened false) standing h = h
+  comes-stands now (Line text) standing h = told-stands now (kind.meaning now text standing.state) (heard_one standing) h
+  comes-stands now NoLine standing h = h
+  comes-stands now LinesEnd standing h = h
+  comes-stands now (Datagram from bytes) standing h = taken-stands now bytes standing (is_taken kind from) h
+  comes-stands now (Late from bytes) standing h = h
+  comes-stands now NoDatagram standing h = h
+  comes-stands now Tick standing h = step-stands now kind.tick standing
+
+  pub last_order_stands : (comings : List (ℕ × Coming)) (standing : Standing State) → standing.course.order ≡ kind.order standing.state
+      → (all_come kind comings standing).1.course.order ≡ kind.order (all_come kind comings standing).1.state
+  last_order_stands [] standing h = h
+  last_order_stands (one ∷ others) standing h = last_order_stands others (comes kind one.0 one.1 standing).1 (comes-stands one.0 one.1 standing h)

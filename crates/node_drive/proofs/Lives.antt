@@ -1,0 +1,52 @@
+-- A node by the inputs that came to it.
+use Rattle.std.proofs.Common.{◌≡◌, ◌∙◌, ℕ, List, [], ◌∷◌, ◌++◌, map, Option, Bool, true, false, cond, refl, sym, ap}
+use Rattle.simulator_event.specs.declared.event.NodeId.{NodeId}
+use Rattle.node_drive.specs.Kinds.{Kind, Meaning, InForce, Comes, Faulty}
+use Rattle.node_drive.specs.Lives.{came, inputs_of, inputs_told, state_after}
+use Rattle.node_drive.specs.Rounds.{Coming, RoundBegins, Listened, Line, NoLine, LinesEnd, Datagram, Late, NoDatagram, Tick, Standing, all_come, comes, counted, datagram, is_taken, step, steps, told}
+
+module _ {State In : Type 0} (kind : Kind State In) where
+  after-append : (some more : List (ℕ × In)) (state : State) → state_after kind (some ++ more) state ≡ state_after kind more (state_after kind some state)
+  after-append [] more state = refl
+  after-append (one ∷ some) more state = after-append some more (kind.after one.0 one.1 state)
+
+  steps-state : (now : ℕ) (inputs : List In) (standing : Standing State)
+      → (steps kind now inputs standing).1.state ≡ state_after kind (map (λ (input : In). (now, input)) inputs) standing.state
+  steps-state now [] standing = refl
+  steps-state now (input ∷ inputs) standing = steps-state now inputs _
+
+  told-state : (now : ℕ) (meaning : Meaning In) (standing : Standing State)
+      → (told kind now meaning standing).1.state ≡ state_after kind (inputs_told now meaning) standing.state
+  told-state now (InForce number) standing = refl
+  told-state now (Comes answer inputs) standing = steps-state now inputs standing
+  told-state now (Faulty fault) standing = refl
+
+  datagram-state : (now : ℕ) (from : Option NodeId) (bytes : List ℕ) (standing : Standing State)
+      → (datagram kind now from bytes standing).1.state ≡ state_after kind (inputs_of kind now (Datagram from bytes) standing) standing.state
+  datagram-state now from bytes standing = by (is_taken kind from)
+    where
+      by : (taken : Bool) → (cond taken (step kind now (kind.datagram bytes) standing) ([], counted standing)).1.state
+          ≡ state_after kind (cond taken ((now, kind.datagram bytes) ∷ []) []) standing.state
+      by true = refl
+      by false = refl
+
+  comes-state : (now : ℕ) (coming : Coming) (standing : Standing State)
+      → (comes kind now coming standing).1.state ≡ state_after kind (inputs_of kind now coming standing) standing.state
+  comes-state now RoundBegins standing = refl
+  comes-state now (Listened true) standing = refl
+  comes-state now (Listened false) standing = refl
+  comes-state now (Line text) standing = told-state now (kind.meaning now text standing.state) _
+  comes-state now NoLine standing = refl
+  comes-state now LinesEnd standing = refl
+  comes-state now (Datagram from bytes) standing = datagram-state now from bytes standing
+  comes-state now (Late from bytes) standing = refl
+  comes-state now NoDatagram standing = refl
+  comes-state now Tick standing = refl
+
+  pub node_is_what_came : (comings : List (ℕ × Coming)) (standing : Standing State)
+      → (all_come kind comings standing).1.state ≡ state_after kind (came kind comings standing) standing.state
+  node_is_what_came [] standing = refl
+  node_is_what_came (one ∷ others) standing =
+      node_is_what_came others (comes kind one.0 one.1 standing).1
+      ∙ ap (state_after kind (came kind others (comes kind one.0 one.1 standing).1)) (comes-state one.0 one.1 standing)
+      ∙ sym (after-append (inputs_of kind one.0 one.1 standing) (came kind others (comes kind one.0 one.1 standing).1) standing.state)

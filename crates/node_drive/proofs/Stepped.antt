@@ -1,0 +1,77 @@
+-- A step of the node, and what is performed behind it.
+use Rattle.std.proofs.Common.{◌≡◌, ℕ, Bool, true, false, cond, List, [], ◌∷◌, Option, map, refl, sym, ap, ◌∙◌, append-nil}
+use Rattle.simulator_event.specs.declared.event.NodeId.{NodeId}
+use Rattle.node_drive.specs.Calls.{AsksListener, Call, Calls, CallsCut, Reads, Rests, Told, Writes}
+use Rattle.node_drive.specs.Drives.{Performs, Stops, opening}
+use Rattle.node_drive.specs.Inside.{standing_of}
+use Rattle.node_drive.specs.Kinds.{Kind, NodeState, node_after}
+use Rattle.node_drive.specs.Rounds.{CourseState, Standing, counted, datagram, is_taken, performed, step}
+use Rattle.node_drive.proofs.Calls.{calls_same, calls_then, cuts_same, cuts_then}
+
+module _ {State In : Type 0} (kind : Kind State In) where
+  abbrev behind : ℕ → CourseState → NodeState State In → List Call × CourseState
+  behind now course node = performed now node.said (kind.order node.state) node.handed course
+
+  pub step_calls : {ta tb : Told} (now : ℕ) (input : In) (course : CourseState) (old new : NodeState State In) → new ≡ node_after kind now input old
+      → Calls ta tb (performed now new.said (kind.order new.state) new.handed course).0 → Calls ta tb (step kind now input (standing_of old course)).0
+  step_calls now input course old new e p = calls_same (ap (λ (n : NodeState State In). (behind now course n).0) e) p
+
+  pub step_cut : {ta tb : Told} (now : ℕ) (input : In) (course : CourseState) (old new : NodeState State In) → new ≡ node_after kind now input old
+      → CallsCut ta tb (performed now new.said (kind.order new.state) new.handed course).0 → CallsCut ta tb (step kind now input (standing_of old course)).0
+  step_cut now input course old new e p = cuts_same (ap (λ (n : NodeState State In). (behind now course n).0) e) p
+
+  pub step_standing : (now : ℕ) (input : In) (course after : CourseState) (old new last : NodeState State In) → new ≡ node_after kind now input old
+      → after ≡ (performed now new.said (kind.order new.state) new.handed course).1 → last ≡ record new { handed = []; said = [] }
+      → standing_of last after ≡ (step kind now input (standing_of old course)).1
+  step_standing now input course after old new last e f h =
+      ap (λ (n : NodeState State In). standing_of n after) h
+      ∙ ap (λ (n : NodeState State In). standing_of n after) e
+      ∙ ap (λ (c : CourseState). standing_of (node_after kind now input old) c) (f ∙ ap (λ (n : NodeState State In). (behind now course n).1) e)
+
+  pub step_reached : (now : ℕ) (input : In) (old new last : NodeState State In) → new ≡ node_after kind now input old → last ≡ record new { handed = []; said = [] } → last.reached ≡ now
+  step_reached now input old new last e h = ap (λ (n : NodeState State In). n.reached) h ∙ ap (λ (n : NodeState State In). n.reached) e
+
+  -- ---- a datagram
+
+  pub taken_is : (now : ℕ) (from : Option NodeId) (bytes : List ℕ) (standing : Standing State) → is_taken kind from ≡ true → step kind now (kind.datagram bytes) standing ≡ datagram kind now from bytes standing
+  taken_is now from bytes standing e = ap (λ (v : Bool). cond v (step kind now (kind.datagram bytes) standing) ([], counted standing)) (sym e)
+
+  pub dropped_is : (now : ℕ) (from : Option NodeId) (bytes : List ℕ) (standing : Standing State) → is_taken kind from ≡ false → ([], counted standing) ≡ datagram kind now from bytes standing
+  dropped_is now from bytes standing e = ap (λ (v : Bool). cond v (step kind now (kind.datagram bytes) standing) ([], counted standing)) (sym e)
+
+  -- ---- the beginning of a round
+
+  pub opens_quiet : {ta tb tc td : Told} (begins : ℕ) (state : State) (course : CourseState) → Calls ta tb (Rests ∷ []) → Calls tb tc (Reads begins ∷ []) → Calls tc td (AsksListener false ∷ [])
+      → Performs kind (opening begins false) (record { state = state; course = course }) (record { state = state; course = course }) ta td
+  opens_quiet begins state course p q r = record { standing_is = refl; called = calls_then p (calls_then q r) }
+
+  pub opens_told : {ta tb tc td te : Told} (begins : ℕ) (state after : State) (course : CourseState) → after ≡ state → Calls ta tb (Rests ∷ []) → Calls tb tc (Reads begins ∷ []) → Calls tc td (AsksListener true ∷ [])
+      → Calls td te (map Writes (kind.stands begins state)) → Performs kind (opening begins true) (record { state = state; course = course }) (record { state = after; course = course }) ta te
+  opens_told begins state after course same p q r w = record {
+    standing_is = ap (λ (s : State). record { state = s; course = course }) same;
+    called = calls_same (ap (λ l. Rests ∷ Reads begins ∷ AsksListener true ∷ l) (sym (append-nil (map Writes (kind.stands begins state))))) (calls_then p (calls_then q (calls_then r w)));
+  }
+
+  -- all that stands was told
+  pub opens_listened : {ta tb tc td te : Told} (begins : ℕ) (old new last : NodeState State In) (course : CourseState) → new ≡ record old { said = kind.stands begins old.state } → last ≡ record new { said = [] }
+      → Calls ta tb (Rests ∷ []) → Calls tb tc (Reads begins ∷ []) → Calls tc td (AsksListener true ∷ []) → Calls td te (map Writes new.said) → Performs kind (opening begins true) (standing_of old course) (standing_of last course) ta te
+  opens_listened begins old new last course e h p q r w =
+      opens_told begins old.state last.state course
+      (ap (λ (n : NodeState State In). n.state) h ∙ ap (λ (n : NodeState State In). n.state) e)
+      p
+      q
+      r
+      (calls_same (ap (λ (n : NodeState State In). map Writes n.said) e) w)
+
+  pub listened_reached : (begins : ℕ) (old new last : NodeState State In) → new ≡ record old { said = kind.stands begins old.state } → last ≡ record new { said = [] } → last.reached ≡ old.reached
+  listened_reached begins old new last e h = ap (λ (n : NodeState State In). n.reached) h ∙ ap (λ (n : NodeState State In). n.reached) e
+
+  pub opens_cut : {ta tb tc td te : Told} (begins : ℕ) (state : State) (course : CourseState) → Calls ta tb (Rests ∷ []) → Calls tb tc (Reads begins ∷ []) → Calls tc td (AsksListener true ∷ [])
+      → CallsCut td te (map Writes (kind.stands begins state)) → Stops kind (opening begins true) (record { state = state; course = course }) ta te
+  opens_cut begins state course p q r w = record {
+    cut = cuts_same (ap (λ l. Rests ∷ Reads begins ∷ AsksListener true ∷ l) (sym (append-nil (map Writes (kind.stands begins state))))) (cuts_then p (cuts_then q (cuts_then r w)));
+  }
+
+  pub opens_listened_cut : {ta tb tc td te : Told} (begins : ℕ) (old new : NodeState State In) (course : CourseState) → new ≡ record old { said = kind.stands begins old.state }
+      → Calls ta tb (Rests ∷ []) → Calls tb tc (Reads begins ∷ []) → Calls tc td (AsksListener true ∷ []) → CallsCut td te (map Writes new.said) → Stops kind (opening begins true) (standing_of old course) ta te
+  opens_listened_cut begins old new course e p q r w = opens_cut begins old.state course p q r (cuts_same (ap (λ (n : NodeState State In). map Writes n.said) e) w)

@@ -1,0 +1,48 @@
+use Rattle.std.proofs.Common.{◌∙◌, ◌∷◌, [], ℕ, List, true, false, sym, ap, arith}
+use Rattle.node_drive.specs.Calls.{Text, line_heard}
+use Rattle.node_drive.proofs.Calls.{latest_rises, read_is, stopped}
+use Rattle.node_drive.proofs.LinesHeard.{asked_as, none_came, none_comes, nothing_called, one_cut, one_line}
+use Rattle.node_drive.proofs.lines_heard.hear_next.Goals as goal
+
+pub returns-in_err-line-clause-stopped : goal.returns-in_err-line-clause-stopped
+returns-in_err-line-clause-stopped g c = stopped c.from_residual.result ([], false, omega arith, nothing_called c.in_err-line.ensures.none)
+
+pub hear_line-requires : goal.hear_line-requires
+hear_line-requires g c =
+    let asked = latest_rises c.in_ok-line.ensures.heard in
+    let read = (read_is c.read_clock-reading.ensures).0 in
+    let reached = c.requires in
+    omega (arith, asked, read, reached)
+
+pub returns-in_err-hear_line-in-Text-clause-stopped : goal.returns-in_err-hear_line-in-Text-clause-stopped
+returns-in_err-hear_line-in-Text-clause-stopped g c =
+    let text : List ℕ = c.as_str.result.now in
+    let reading = c.read_clock-reading.result in
+    let asked = asked_as (ap line_heard c.in-Text.is ∙ ap Text (sym c.as_str.ensures.value)) c.in_ok-line.ensures.heard in
+    stopped c.from_residual-in_err-hear_line-in-Text.result ((reading, text) ∷ [], false, omega arith, one_cut reading text asked c.read_clock-reading.ensures c.in_err-hear_line-in-Text.ensures.stopped)
+
+pub returns-in_ok-hear_line-in-Text-clause-done : goal.returns-in_ok-hear_line-in-Text-clause-done
+returns-in_ok-hear_line-in-Text-clause-done g c =
+    let text : List ℕ = c.as_str.result.now in
+    let reading = c.read_clock-reading.result in
+    let asked = asked_as (ap line_heard c.in-Text.is ∙ ap Text (sym c.as_str.ensures.value)) c.in_ok-line.ensures.heard in
+    ((reading, text), one_line reading text asked c.read_clock-reading.ensures c.in_ok-hear_line-in-Text.ensures.standing c.in_ok-hear_line-in-Text.ensures.done)
+
+pub returns-in_ok-hear_line-in-Text-clause-reached : goal.returns-in_ok-hear_line-in-Text-clause-reached
+returns-in_ok-hear_line-in-Text-clause-reached g c =
+    let read = (read_is c.read_clock-reading.ensures).1 in
+    let done = latest_rises c.in_ok-hear_line-in-Text.ensures.done in
+    let reached = c.in_ok-hear_line-in-Text.ensures.reached in
+    omega (arith, read, done, reached)
+
+pub returns-in-Nothing-clause-done : goal.returns-in-Nothing-clause-done
+returns-in-Nothing-clause-done g c = none_came (asked_as (ap line_heard c.in-Nothing.is) c.in_ok-line.ensures.heard)
+
+pub returns-in-Nothing-clause-reached : goal.returns-in-Nothing-clause-reached
+returns-in-Nothing-clause-reached g c =
+    let asked = latest_rises c.in_ok-line.ensures.heard in
+    let reached = c.requires in
+    omega (arith, asked, reached)
+
+pub returns-in-Closed-clause-stopped : goal.returns-in-Closed-clause-stopped
+returns-in-Closed-clause-stopped g c = ([], true, omega arith, none_comes (asked_as (ap line_heard c.in-Closed.is) c.in_ok-line.ensures.heard))

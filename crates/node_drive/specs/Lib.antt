@@ -1,0 +1,10 @@
+pub mod Waiting
+pub mod Calls
+pub mod Kinds
+pub mod Same
+pub mod Rounds
+pub mod Drives
+pub mod Inside
+pub mod Beginning
+pub mod Lives
+pub mod Worked

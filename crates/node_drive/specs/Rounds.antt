@@ -1,0 +1,190 @@
+-- What the process of a node does with what comes, one after another.
+use Rattle.std.specs.Prelude.{ℕ, suc, nat_le, nat_lt, if◌then◌else◌, Bool, true, false, List, [], ◌∷◌, ◌++◌, map, Option, Some, None}
+use Rattle.replay_words.specs.declared.fault.Fault.TheVariants.{Number}
+use Rattle.simulator_event.specs.declared.event.NodeId.{NodeId}
+use Rattle.node_lines.specs.Orders.{order_text}
+use Rattle.node_lines.specs.declared.order.Order.{Order}
+use Rattle.node_drive.specs.Same.{is_same_order}
+use Rattle.node_drive.specs.Waiting.{Addressed, Waiting, leaving, waiting_of, waiting_on}
+use Rattle.node_drive.specs.Calls.{Call, Rests, Reads, AsksListener, AsksLine, AsksDatagram, ThrowsAway, Writes, Sends, Complains, Text, Nothing, Closed as ClosedLine}
+use Rattle.node_drive.specs.Kinds.{Kind, Meaning, InForce, Comes, Faulty}
+
+-- ---- how far a process has come
+
+-- its lines and datagrams
+pub record CourseState : Type 0 where
+  -- how many lines came
+  pub heard : ℕ
+  -- how many orders were written, the last of them, and the number of the last that is in force
+  pub written : ℕ
+  pub order : Option Order
+  pub in_force : ℕ
+  pub waiting : List Waiting
+  -- how many datagrams came from elsewhere than from a partner
+  pub strangers : ℕ
+
+-- and its node
+pub record Standing (State : Type 0) : Type 0 where
+  pub state : State
+  pub course : CourseState
+
+-- what was called, and how far the process has come then
+abbrev pub Done : Type 0 → Type 0
+Done Now = List Call × Now
+
+-- ---- orders
+
+-- the order that is to be written: none where it is that of the last line
+abbrev pub new_order : Option Order → Option Order → Option Order
+new_order last None = None
+new_order None (Some order) = Some order
+new_order (Some last) (Some order) = if is_same_order last order then None else Some order
+
+-- how many orders were written then
+abbrev pub count : Option Order → ℕ → ℕ
+count None written = written
+count (Some order) written = suc written
+
+abbrev pub line_of : ℕ → ℕ → Option Order → List Call
+line_of number now None = []
+line_of number now (Some order) = Writes (order_text (record { number = number; reading = now; order = order })) ∷ []
+
+abbrev pub last_order : Option Order → Option Order → Option Order
+last_order old None = old
+last_order old (Some order) = Some order
+
+-- ---- datagrams
+
+abbrev pub sent : List Waiting → List Call
+sent leaving = map (λ (one : Waiting). Sends one.datagram.0 one.datagram.1) leaving
+
+-- those whose line is in force leave, and those that waited too long are dropped
+abbrev pub released : ℕ → CourseState → Done CourseState
+released now course =
+    (sent (leaving now course.in_force course.waiting), record course { waiting = waiting_on now course.in_force course.waiting })
+
+abbrev pub later : ℕ → ℕ → ℕ
+later one other = if nat_lt one other then other else one
+
+-- An order that was written is in force, and so is each before it. A number that no line has is a fault.
+abbrev pub put_in_force : ℕ → ℕ → CourseState → Done CourseState
+put_in_force now number course =
+    if nat_le number course.written
+    then released now (record course { in_force = later course.in_force number })
+    else (Complains course.heard Number ∷ [], course)
+
+-- ---- a step
+
+-- how far the process has come with the order and the datagrams of a step, before any datagram leaves
+abbrev pub with_order : Option Order → CourseState → CourseState
+with_order new course = record course { written = count new course.written; order = last_order course.order new }
+
+abbrev pub with_datagrams : ℕ → List Addressed → CourseState → CourseState
+with_datagrams now handed course = record course { waiting = course.waiting ++ waiting_of course.written now handed }
+
+-- The lines of a step are written first. Then its datagrams leave, where no order has to come into force before.
+abbrev pub performed : ℕ → List (List ℕ) → Option Order → List Addressed → CourseState → Done CourseState
+performed now said order handed course =
+    let new = new_order course.order order
+    in let left = released now (with_datagrams now handed (with_order new course))
+    in (map Writes said ++ (line_of (count new course.written) now new ++ left.0), left.1)
+
+-- what counts up to the largest number of 64 bits, and stays there
+abbrev pub one_more : ℕ → ℕ
+one_more number = if nat_lt number 18446744073709551615 then suc number else number
+
+-- ---- what comes
+
+pub data Coming : Type 0 where
+  RoundBegins : Coming
+  -- it was asked whether an operator began to listen
+  Listened : (began : Bool) → Coming
+  -- a line, without its line feed; that there was none; or that none comes any more
+  Line : (text : List ℕ) → Coming
+  NoLine : Coming
+  LinesEnd : Coming
+  -- a datagram; one that may have waited too long; or that there was none
+  Datagram : (from : Option NodeId) (bytes : List ℕ) → Coming
+  Late : (from : Option NodeId) (bytes : List ℕ) → Coming
+  NoDatagram : Coming
+  Tick : Coming
+
+-- Behind which calls it comes. The clock is read once an input has come.
+abbrev pub asked : ℕ → Coming → List Call
+asked now RoundBegins = Rests ∷ Reads now ∷ []
+asked now (Listened began) = AsksListener began ∷ []
+asked now (Line text) = AsksLine (Text text) ∷ Reads now ∷ []
+asked now NoLine = AsksLine Nothing ∷ []
+asked now LinesEnd = AsksLine ClosedLine ∷ []
+asked now (Datagram from bytes) = AsksDatagram (Some (from, bytes)) ∷ Reads now ∷ []
+asked now (Late from bytes) = AsksDatagram (Some (from, bytes)) ∷ Reads now ∷ ThrowsAway ∷ []
+asked now NoDatagram = AsksDatagram None ∷ []
+asked now Tick = Reads now ∷ []
+
+module _ {State : Type 0} where
+  -- the course goes on, and the node stays as it is
+  abbrev pub of_course : State → Done CourseState → Done (Standing State)
+  of_course state done = (done.0, record { state = state; course = done.1 })
+
+  -- one more line came
+  abbrev pub heard_one : Standing State → Standing State
+  heard_one standing = record standing { course = record standing.course { heard = suc standing.course.heard } }
+
+  -- one more datagram came from elsewhere than from a partner
+  abbrev pub counted : Standing State → Standing State
+  counted standing = record standing { course = record standing.course { strangers = one_more standing.course.strangers } }
+
+module _ {State Input : Type 0} (kind : Kind State Input) where
+  abbrev pub step : ℕ → Input → Standing State → Done (Standing State)
+  step now input standing =
+      let state = kind.after now input standing.state
+      in let done = performed now (kind.says now input standing.state) (kind.order state) (kind.hands now input standing.state) standing.course
+      in (done.0, record { state = state; course = done.1 })
+
+  abbrev pub steps : ℕ → List Input → Standing State → Done (Standing State)
+  steps now [] standing = ([], standing)
+  steps now (input ∷ inputs) standing =
+      let first = step now input standing
+      in let others = steps now inputs first.1
+      in (first.0 ++ others.0, others.1)
+
+  -- ---- lines
+
+  abbrev pub told : ℕ → Meaning Input → Standing State → Done (Standing State)
+  told now (InForce number) standing = of_course standing.state (put_in_force now number standing.course)
+  told now (Comes answer inputs) standing =
+      let done = steps now inputs standing
+      in (map Writes answer ++ done.0, done.1)
+  told now (Faulty fault) standing = (Complains standing.course.heard fault ∷ [], standing)
+
+  -- a line, which has the next number
+  abbrev pub line : ℕ → List ℕ → Standing State → Done (Standing State)
+  line now text standing = told now (kind.meaning now text standing.state) (heard_one standing)
+
+  -- ---- datagrams
+
+  -- what comes from the address of a partner is taken
+  abbrev pub is_taken : Option NodeId → Bool
+  is_taken None = false
+  is_taken (Some node) = kind.is_partner node
+
+  -- and all else is dropped, and counted
+  abbrev pub datagram : ℕ → Option NodeId → List ℕ → Standing State → Done (Standing State)
+  datagram now from bytes standing = if is_taken from then step now (kind.datagram bytes) standing else ([], counted standing)
+
+  -- ---- all of it
+
+  abbrev pub comes : ℕ → Coming → Standing State → Done (Standing State)
+  comes now (Line text) standing = line now text standing
+  comes now (Datagram from bytes) standing = datagram now from bytes standing
+  comes now (Listened true) standing = (map Writes (kind.stands now standing.state), standing)
+  comes now Tick standing = step now kind.tick standing
+  comes now coming standing = ([], standing)
+
+  -- one after another
+  abbrev pub all_come : List (ℕ × Coming) → Standing State → Done (Standing State)
+  all_come [] standing = ([], standing)
+  all_come (one ∷ others) standing =
+      let first = comes one.0 one.1 standing
+      in let more = all_come others first.1
+      in ((asked one.0 one.1 ++ first.0) ++ more.0, more.1)

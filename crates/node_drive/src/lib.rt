@@ -1,0 +1,27 @@
+//! The engine by which a node runs as a process of its own: rounds, in which it hears lines, then datagrams, and ticks. What a step
+//! writes goes out first, and its datagrams once its line is in force.
+#![tactic(auto)]
+
+mod course;
+mod datagrams_heard;
+mod datagrams_sent;
+mod fault;
+mod laws;
+mod lines_heard;
+mod node;
+mod order_changes;
+mod orders_written;
+mod outside;
+mod rounds;
+mod step;
+
+pub use course::Course;
+pub use fault::NodeFault;
+pub use laws::{
+    Behaves, a_node_is_what_came_to_it, datagrams_wait_for_their_line,
+    rounds_are_as_worked_by_hand, the_last_order_stands,
+};
+pub use node::{LineMeaning, Node, Outgoing};
+pub use orders_written::finish;
+pub use outside::{Arrived, BrokenOff, NextLine, Outside, Received};
+pub use rounds::drive;

@@ -1,0 +1,81 @@
+//! What a node's process has outside: its clock, its lines in and out, and its socket.
+
+use arrayvec::ArrayVec;
+use replay_words::Fault;
+use simulator_event::NodeId;
+use std::alloc::{AllocError, Global};
+
+/// The bytes that are received at once; longer datagrams are cut.
+pub type Received = ArrayVec<u8, 512>;
+
+/// A datagram that has come.
+#[derive(Drop)]
+pub struct Arrived {
+    /// The node from whose address it came, if it is that of one.
+    pub from: Option<NodeId>,
+    pub bytes: Received,
+}
+
+/// What the question for a line is answered.
+#[derive(Drop)]
+pub enum NextLine {
+    /// A line, without its line feed.
+    Text(String),
+    /// There is none yet.
+    Nothing,
+    /// None comes any more.
+    Closed,
+}
+
+/// A line wasn't written whole.
+#[derive(Clone, Copy, Debug, PartialEq, Eq)]
+pub struct BrokenOff;
+
+/// What a node's process has outside. One list tells of all of it, so that the order of its calls is seen. Nothing of it blocks
+/// but `rest`.
+pub trait Outside {
+    ghost use Rattle.std.specs.Prelude.{◌≡◌, [], ◌∷◌, IfOk, OnErr, OnOk, Some};
+    ghost use Rattle.std.specs.Option.{option_map};
+    ghost use Rattle.node_drive.specs.Calls.{AsksDatagram, AsksLine, AsksListener, BreaksOff, Calls, Complains, Reads, Rests, Sends, ThrowsAway, Told, Writes, line_heard};
+
+    /// What it tells.
+    ghost told: { Self → Told };
+
+    /// Waits until the next round is due.
+    fn rest(&mut self)
+        ensures { Calls (told self.old) (told self.new) (Rests ∷ []) };
+
+    /// Reads the clock, in milliseconds that don't fall.
+    fn read_clock(&mut self) -> u64
+        ensures { Calls (told self.old) (told self.new) (Reads result ∷ []) };
+
+    /// Whether an operator began to listen since the last question. Field equipment never does.
+    fn has_listener(&mut self) -> bool
+        ensures { Calls (told self.old) (told self.new) (AsksListener result ∷ []) };
+
+    /// The next line, if there is one.
+    fn next_line(&mut self, alloc: Global) -> Result<NextLine, AllocError>
+        ensures heard { IfOk result (λ line. Calls (told self.old) (told self.new) (AsksLine (line_heard line) ∷ [])) }
+        ensures none { OnErr result (Calls (told self.old) (told self.new) []) };
+
+    /// The next datagram, if there is one. A call that fails is silence.
+    fn next_datagram(&mut self) -> Option<Arrived>
+        ensures { Calls (told self.old) (told self.new) (AsksDatagram (option_map (λ d. (d.from, d.bytes.items)) result) ∷ []) };
+
+    /// Throws away all datagrams that wait.
+    fn throw_away(&mut self)
+        ensures { Calls (told self.old) (told self.new) (ThrowsAway ∷ []) };
+
+    /// Writes a line with its line feed, and hands it on; or at most a beginning of it was written.
+    fn write_line(&mut self, text: &str) -> Result<(), BrokenOff>
+        ensures done { OnOk result (Calls (told self.old) (told self.new) (Writes text.now ∷ [])) }
+        ensures failed { OnErr result (Calls (told self.old) (told self.new) (BreaksOff text.now ∷ [])) };
+
+    /// Sends bytes to a node. Where that fails they are lost.
+    fn send(&mut self, to: NodeId, bytes: &[u8])
+        ensures { Calls (told self.old) (told self.new) (Sends to bytes.now ∷ []) };
+
+    /// Tells the fault of a line on standard error, with the line's number. Where that fails it isn't told.
+    fn complain(&mut self, line: u64, fault: Fault)
+        ensures { Calls (told self.old) (told self.new) (Complains line fault ∷ []) };
+}

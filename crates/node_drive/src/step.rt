@@ -1,0 +1,103 @@
+//! What a process does behind each step of its node, and with a line.
+
+ghost use Rattle.std.specs.Prelude.{◌≡◌, ◌≤◌, ◌++◌, [], map, OnErr, OnOk};
+ghost use Rattle.node_drive.specs.Calls.{Calls, CallsCut, Writes};
+ghost use Rattle.node_drive.specs.Rounds.{line, performed, put_in_force, steps};
+ghost use Rattle.node_drive.specs.Inside.{standing_of};
+
+use crate::course::Course;
+use crate::datagrams_sent::{release, take_datagrams};
+use crate::fault::NodeFault;
+use crate::node::{LineMeaning, Node};
+use crate::orders_written::{say_all, write_order};
+use crate::outside::Outside;
+use replay_words::Fault;
+use std::alloc::Global;
+
+/// What a step has left is performed: its lines are written, its datagrams wait, and those leave that may.
+pub(crate) fn perform<N: Node, O: Outside>(
+    alloc: Global,
+    node: &mut N,
+    course: &mut Course,
+    outside: &mut O,
+    reading: u64,
+) -> Result<(), NodeFault>
+    ensures done { OnOk result (Calls (O.told outside.old) (O.told outside.new) (performed reading (N.node node.old).said (N.does.order (N.node node.old).state) (N.node node.old).handed course.old).0) }
+    ensures course { OnOk result (course.new ≡ (performed reading (N.node node.old).said (N.does.order (N.node node.old).state) (N.node node.old).handed course.old).1) }
+    ensures node { OnOk result (N.node node.new ≡ record (N.node node.old) { handed = []; said = [] }) }
+    ensures stopped { OnErr result (CallsCut (O.told outside.old) (O.told outside.new) (performed reading (N.node node.old).said (N.does.order (N.node node.old).state) (N.node node.old).handed course.old).0) }
+{
+    say_all(node, outside)?;
+    write_order(alloc, course, outside, reading, node.order())?;
+    take_datagrams(node, course, reading)?;
+    release(course, outside, reading);
+    Ok(())
+}
+
+/// An order that was written is in force, and so is each before it. A number that no line has is a fault.
+fn put_in_force<O: Outside>(course: &mut Course, outside: &mut O, reading: u64, number: u64)
+    ensures done { Calls (O.told outside.old) (O.told outside.new) (put_in_force reading number course.old).0 }
+    ensures course { course.new ≡ (put_in_force reading number course.old).1 }
+{
+    if number > course.written() {
+        outside.complain(course.heard(), Fault::Number);
+        return;
+    }
+    course.note_in_force(number);
+    release(course, outside, reading);
+}
+
+/// The inputs of a line come to the node one after another, each as a step of its own.
+fn step_through<N: Node, O: Outside>(
+    alloc: Global,
+    node: &mut N,
+    course: &mut Course,
+    outside: &mut O,
+    reading: u64,
+) -> Result<(), NodeFault>
+    requires { (N.node node.old).reached ≤ reading }
+    ensures done { OnOk result (Calls (O.told outside.old) (O.told outside.new) (steps N.does reading (N.node node.old).left (standing_of (N.node node.old) course.old)).0) }
+    ensures standing { OnOk result (standing_of (N.node node.new) course.new ≡ (steps N.does reading (N.node node.old).left (standing_of (N.node node.old) course.old)).1) }
+    ensures reached { OnOk result ((N.node node.new).reached ≤ reading) }
+    ensures stopped { OnErr result (CallsCut (O.told outside.old) (O.told outside.new) (steps N.does reading (N.node node.old).left (standing_of (N.node node.old) course.old)).0) }
+{
+    while node.step_on(alloc, reading)? {
+        perform(alloc, node, course, outside, reading)?;
+    }
+    Ok(())
+}
+
+/// A line comes at a reading.
+pub(crate) fn hear_line<N: Node, O: Outside>(
+    alloc: Global,
+    node: &mut N,
+    course: &mut Course,
+    outside: &mut O,
+    reading: u64,
+    text: &str,
+) -> Result<(), NodeFault>
+    requires { (N.node node.old).reached ≤ reading }
+    ensures done { OnOk result (Calls (O.told outside.old) (O.told outside.new) (line N.does reading text.now (standing_of (N.node node.old) course.old)).0) }
+    ensures standing { OnOk result (standing_of (N.node node.new) course.new ≡ (line N.does reading text.now (standing_of (N.node node.old) course.old)).1) }
+    ensures reached { OnOk result ((N.node node.new).reached ≤ reading) }
+    ensures stopped { OnErr result (CallsCut (O.told outside.old) (O.told outside.new) (line N.does reading text.now (standing_of (N.node node.old) course.old)).0) }
+{
+    let Some(heard) = course.hear_line() else {
+        return Err(NodeFault::OutOfNumbers);
+    };
+    let told = node.take_line(alloc, reading, text)?;
+    match told {
+        LineMeaning::InForce(number) => {
+            put_in_force(course, outside, reading, number);
+            Ok(())
+        }
+        LineMeaning::Comes => {
+            say_all(node, outside)?;
+            step_through(alloc, node, course, outside, reading)
+        }
+        LineMeaning::Faulty(fault) => {
+            outside.complain(heard, fault);
+            Ok(())
+        }
+    }
+}
