@@ -1,37 +1,66 @@
 -- What is told behind the line of a fault.
-use Rattle.std.specs.Prelude.{◌≡◌, ◌≤◌, ℕ, List, length, take, Option, Ok}
+use Rattle.std.specs.Prelude.{◌≡◌, ◌⊎◌, ◌≤◌, ℕ, List, length, take, Option, Ok}
 use Rattle.std.specs.Io.KnownBytes.{Appends}
 use Rattle.control_table.specs.layout.Entries.{Site}
 use Rattle.control_table.specs.layout.NamesResolved.{layout_in}
 use Rattle.control_table.specs.Faults.{IsFirstFault}
 use Rattle.control_table.specs.Table.{Sound}
+use Rattle.control_table.specs.declared.fault.TableFault.{TableFault}
 use Rattle.layout_text.specs.FirstFault.{Fails}
-use Rattle.layout_text.specs.declared.fault.LayoutFault.TheVariants.{Toml}
-use Rattle.station_check.specs.Report.{Explained, IsSound}
+use Rattle.layout_text.specs.Text.{document_of, text_of}
+use Rattle.layout_text.specs.Written.{LayoutText}
+use Rattle.layout_text.specs.declared.fault.LayoutFault.{LayoutFault}
+use Rattle.layout_text.specs.declared.fault.LayoutFault.TheVariants as fault
+use Rattle.toml.specs.Data.{Members}
+use Rattle.toml.specs.Parse.{parse_document}
+use Rattle.station_check.specs.Report.{Explained}
 use Rattle.station_explain.specs.Advice.{advice_line}
+use Rattle.station_explain.specs.EntryAdvice.{missing_advice, wrong_advice}
 use Rattle.station_explain.specs.Places.{place_behind}
+use Rattle.station_explain.specs.RouteDetails.{table_advice}
+use Rattle.station_explain.specs.SharedAdvice.{double_advice, port_advice}
+use Rattle.station_explain.specs.UnknownAdvice.{unknown_advice}
 use Rattle.station_explain.specs.declared.advice.Advice.{Advice}
-use Rattle.station_explain.specs.declared.advice.Advice.TheVariants.{Broken, Layout, Table, Nothing}
+use Rattle.station_explain.specs.declared.advice.Advice.TheVariants.{Broken, Layout, Nothing}
 
 -- The advice for a text that is no TOML: the place behind some beginning of it, where reading stopped; or the fault alone,
 -- where memory was lacking when it was read once more.
 abbrev pub IsBroken : List ℕ → Advice → Type 0
 IsBroken text (Broken at) = (n : ℕ) × (n ≤ length text) × (at ≡ place_behind (take n text))
-IsBroken text (Layout fault) = fault ≡ Toml
+IsBroken text (Layout f) = f ≡ fault.Toml
 IsBroken text advice = ⊥
+
+-- The advice by what the document of a text has.
+abbrev pub IsByDocument : List ℕ → (Members → Advice) → Advice → Type 0
+IsByDocument text advice_of advice = (document : Members) × (document_of (parse_document text) ≡ Ok document) × (advice ≡ advice_of document)
+
+-- The advice by what a text writes.
+abbrev pub IsByWritten : List ℕ → (LayoutText → Advice) → Advice → Type 0
+IsByWritten text advice_of advice =
+    (document : Members) × (document_of (parse_document text) ≡ Ok document) × (w : LayoutText) × (text_of document ≡ Ok w) × (advice ≡ advice_of w)
+
+-- The advice for a fault of a layout.
+abbrev pub IsFaultAdvice : List ℕ → LayoutFault → Advice → Type 0
+IsFaultAdvice text fault.Toml advice = IsBroken text advice
+IsFaultAdvice text (fault.MissingKey place) advice = IsByDocument text (λ document. missing_advice document place) advice
+IsFaultAdvice text (fault.WrongKind place) advice = IsByDocument text (λ document. wrong_advice document place) advice
+IsFaultAdvice text (fault.UnknownName place) advice = IsByWritten text (λ w. unknown_advice w place) advice
+IsFaultAdvice text (fault.DoubleName place) advice = IsByWritten text (λ w. double_advice w place) advice
+IsFaultAdvice text (fault.DoubleJoint place) advice = IsByWritten text (λ w. port_advice w place) advice
+IsFaultAdvice text f advice = advice ≡ Layout f
+
+-- The same, or that memory was lacking when the text was read once more.
+abbrev pub IsLayoutAdvice : List ℕ → LayoutFault → Advice → Type 0
+IsLayoutAdvice text f advice = IsFaultAdvice text f advice ⊎ (advice ≡ Layout fault.OutOfMemory)
 
 -- The advice for the table of a layout.
 abbrev pub IsTableAdvice : Site → Advice → Type 0
-IsTableAdvice site (Table fault) = IsFirstFault site fault
-IsTableAdvice site Nothing = Sound site
-IsTableAdvice site advice = ⊥
+IsTableAdvice site advice = ((f : TableFault) × IsFirstFault site f × (advice ≡ table_advice site f)) ⊎ (Sound site × (advice ≡ Nothing))
 
--- The advice for a text: for its first fault, and for none where it is sound.
+-- The advice for a text: for its first fault, and none where it is sound. Nothing is said of want of memory.
 abbrev pub IsAdvice : List ℕ → Advice → Type 0
-IsAdvice text (Broken at) = Fails Toml (layout_in text) × IsBroken text (Broken at)
-IsAdvice text (Layout fault) = Fails fault (layout_in text)
-IsAdvice text (Table fault) = (site : Site) × (layout_in text ≡ Ok site) × IsFirstFault site fault
-IsAdvice text Nothing = (site : Site) × IsSound text site
+IsAdvice text advice =
+    ((f : LayoutFault) × Fails f (layout_in text) × IsLayoutAdvice text f advice) ⊎ ((site : Site) × (layout_in text ≡ Ok site) × IsTableAdvice site advice)
 
 -- The advice for a text was told, as far as the writer took it, and nothing else.
 abbrev pub Advised : List ℕ → Option (List ℕ) → Option (List ℕ) → Type 0

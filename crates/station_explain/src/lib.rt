@@ -3,7 +3,25 @@
 
 mod advice;
 mod advised;
+mod detail;
+mod detail_words;
+mod entry_advice;
+mod entry_words;
 mod explain;
+mod fault_words;
+mod field_key;
+mod joints;
+mod layout_names;
+mod port_words;
+mod repeats;
+mod route_detail;
+mod route_sides;
+mod route_start;
+mod shared;
+mod side_detail;
+mod side_words;
 mod text_place;
+mod unknown;
+mod value_forms;
 
 pub use explain::explain_text;

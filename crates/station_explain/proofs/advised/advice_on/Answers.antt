@@ -1,0 +1,6 @@
+use Rattle.std.proofs.Common.{inl, refl}
+use Rattle.control_table.specs.declared.fault.TableFault.TheVariants as fault
+use Rattle.station_explain.proofs.advised.advice_on.Goals as goal
+
+pub returns-in_default : goal.returns-in_default
+returns-in_default c = inl (fault.OutOfMemory, tt, refl)

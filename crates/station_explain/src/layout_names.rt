@@ -1,0 +1,60 @@
+//! What the entries of a layout are called.
+
+ghost use Rattle.std.specs.Prelude.{◌≡◌};
+ghost use Rattle.station_explain.specs.LayoutNames.{element_name, exit_name, point_name, port_name, route_name, signal_name};
+
+use control_table::layout::{Element, Exit, Layout, PointId, Port, RouteId};
+use control_table::sci_telegram::Name;
+use layout_text::PortName;
+
+/// The name of a point.
+pub(crate) fn point_name(layout: &Layout, point: PointId) -> Option<Name>
+    ensures { result ≡ point_name layout.now point }
+{
+    layout.points().get(point.0).map(|entry| entry.name)
+}
+
+/// The name of a signal, by its place in the layout.
+pub(crate) fn signal_name(layout: &Layout, place: usize) -> Option<Name>
+    ensures { result ≡ signal_name layout.now place }
+{
+    layout.signals().get(place).map(|entry| entry.name)
+}
+
+/// The name of a route.
+pub(crate) fn route_name(layout: &Layout, route: RouteId) -> Option<Name>
+    ensures { result ≡ route_name layout.now route }
+{
+    layout.routes().get(route.0).map(|entry| *entry.name())
+}
+
+/// The name of an element.
+pub(crate) fn element_name(layout: &Layout, element: Element) -> Option<Name>
+    ensures { result ≡ element_name layout.now element }
+{
+    match element {
+        Element::Track(track) => layout.tracks().get(track.0).map(|entry| entry.name),
+        Element::Point(point) => point_name(layout, point),
+        Element::Border(border) => layout.borders().get(border.0).copied(),
+    }
+}
+
+/// A port by the name of its element.
+pub(crate) fn port_name(layout: &Layout, port: Port) -> Option<PortName>
+    ensures { result ≡ port_name layout.now port }
+{
+    element_name(layout, port.element).map(|element| PortName {
+        element,
+        end: port.end,
+    })
+}
+
+/// The name of the signal or the border at which a route ends.
+pub(crate) fn exit_name(layout: &Layout, exit: Exit) -> Option<Name>
+    ensures { result ≡ exit_name layout.now exit }
+{
+    match exit {
+        Exit::Signal(signal) => signal_name(layout, signal.0),
+        Exit::Border(border) => layout.borders().get(border.0).copied(),
+    }
+}

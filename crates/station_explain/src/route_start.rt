@@ -1,0 +1,24 @@
+//! Where a route begins, and which points it writes.
+
+ghost use Rattle.std.specs.Prelude.{◌≡◌};
+ghost use Rattle.station_explain.specs.RouteStart.{is_written, start_of};
+
+use control_table::layout::{Layout, PointId, Port, Route};
+use control_table::sci_telegram::Side;
+
+/// The port at which the entry signal of a route stands.
+pub(crate) fn start_of(layout: &Layout, route: &Route) -> Option<Port>
+    ensures { result ≡ start_of layout.now route.now }
+{
+    layout
+        .signals()
+        .get(route.entry().0)
+        .map(|signal| signal.at)
+}
+
+/// Whether a point is written.
+pub(crate) fn is_written(points: &[(PointId, Side)], point: PointId) -> bool
+    ensures { result ≡ is_written points.now point }
+{
+    points.iter().any(|written| written.0.0 == point.0)
+}
