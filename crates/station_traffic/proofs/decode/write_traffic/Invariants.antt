@@ -1,0 +1,10 @@
+use Rattle.station_run.specs.station_sim.World.{IsFirst, Played, played}
+use Rattle.station_traffic.proofs.Lines.{GoesOn}
+use Rattle.station_traffic.proofs.decode.write_traffic.Given as goal
+
+-- what was written so far, and behind it the lines of the events that are left
+abbrev pub invariant-loop-entry : goal.invariant-loop-entry
+invariant-loop-entry g l =
+    (first : Played)
+    × IsFirst l.fn.table first
+    × GoesOn l.fn.table first l.entries l.entry-index (played l.world) (g.W.Write.contents l.fn.out) (g.W.Write.contents l.out)

@@ -1,0 +1,5 @@
+-- What contracts inside the crate say. No promise names any of it.
+pub mod SoundTexts
+pub mod Late
+pub mod Places
+pub mod CapturesSoFar

@@ -1,0 +1,33 @@
+-- A capture as it grows, and why there is none.
+use Rattle.std.specs.Prelude.{◌≡◌, ℕ, List, [], ◌∷◌, ◌++◌, Option, Some, None}
+use Rattle.capture_file.specs.Blocks.{packet_block}
+use Rattle.capture_file.specs.Captures.{IsCapture}
+use Rattle.capture_file.specs.Journeys.{Sent}
+use Rattle.station_run.specs.station_sim.replay_lines.declared.session.Entry.{Entry}
+use Rattle.station_run.specs.station_sim.layout.Entries.{Site}
+use Rattle.station_run.specs.station_sim.rasta_core.Links.{OnLink}
+use Rattle.station_run.specs.station_sim.station_check.declared.failure.Failure.TheVariants.{OutOfMemory}
+use Rattle.station_traffic.specs.CapturedSession.{HasTooLong, SendsTooLong, captured}
+use Rattle.station_traffic.specs.declared.capture_failure.Failure.{Failure}
+use Rattle.station_traffic.specs.declared.capture_failure.Failure.TheVariants.{Station, TooLong}
+
+-- a datagram was added to a capture
+pub record Adds (one : OnLink) (old new : List ℕ) : Type 0 where
+  pub exact : new ≡ old ++ packet_block (captured one)
+  pub is : (sent : List Sent) → IsCapture sent old → IsCapture (sent ++ captured one ∷ []) new
+
+-- so it was, if there is one
+abbrev pub Captures : Option OnLink → List ℕ → List ℕ → Type 0
+Captures None old new = new ≡ old
+Captures (Some one) old new = Adds one old new
+
+abbrev pub IsNoCapture : List OnLink → Failure → Type 0
+IsNoCapture sent (Station OutOfMemory) = Unit {0}
+IsNoCapture sent TooLong = HasTooLong sent
+IsNoCapture sent why = ⊥
+
+-- why a session has none
+abbrev pub IsNoFile : Site → List Entry → Failure → Type 0
+IsNoFile site entries (Station OutOfMemory) = Unit {0}
+IsNoFile site entries TooLong = SendsTooLong site entries
+IsNoFile site entries why = ⊥

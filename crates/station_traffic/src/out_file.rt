@@ -1,0 +1,71 @@
+//! The capture of a recorded session, in a file of its own.
+
+ghost use Rattle.std.specs.Prelude.{◌≡◌, ◌≤◌, IsErr, IfErr, OnOk};
+ghost use Rattle.station_run.specs.station_sim.ReplayedSession.{CanReplay};
+ghost use Rattle.station_traffic.specs.CaptureFiles.{Explained, Explains, HasCapture};
+
+use crate::capture::session_capture;
+use crate::file_failure::{FileFailure, tell_file_failure};
+use std::fs::{File, Files};
+use std::io::Write;
+use std::{fs, io};
+
+/// What `station capture` is asked: the texts of the layout and of the record, where the capture goes, and whether a file
+/// that is there is written over.
+#[derive(Clone, Copy, Debug)]
+pub struct Asked<'a> {
+    pub layout: &'a str,
+    pub recording: &'a str,
+    /// The path of the capture.
+    pub out: &'a str,
+    pub force: bool,
+}
+
+/// Makes the capture of a recorded session as `capture_session` does, and writes it to a file. The file is opened once the
+/// whole capture is there: where a text is faulty, none is made and none is written over. A file that is there already is
+/// written over only where that is wanted. The status is 0, or 1 where anything failed; `err` is then told why.
+pub fn capture_to_file<R: Files + AllocGlobal, E: Write>(
+    rt: &R,
+    asked: &Asked<'_>,
+    err: &mut E,
+) -> u8
+    ensures status { result ≤ 1 }
+    ensures done { result ≡ 0 → HasCapture asked.now.layout.now asked.now.recording.now }
+    ensures faulty { (CanReplay asked.now.layout.now asked.now.recording.now → ⊥) → result ≡ 1 }
+    ensures silent { result ≡ 0 → err.new ≡ err.old }
+    // Only a beginning of the line was told where a write to `err` failed.
+    ensures explains { result ≡ 1 → Explained asked.now.layout.now asked.now.recording.now (E.contents err.old) (E.contents err.new) }
+{
+    match write_capture(rt, asked) {
+        Ok(()) => 0,
+        Err(failure) => {
+            tell_file_failure(&failure, err);
+            1
+        }
+    }
+}
+
+/// Makes the capture, and then writes its file.
+fn write_capture<R: Files + AllocGlobal>(rt: &R, asked: &Asked<'_>) -> Result<(), FileFailure>
+    ensures done { OnOk result (HasCapture asked.now.layout.now asked.now.recording.now) }
+    ensures faulty { (CanReplay asked.now.layout.now asked.now.recording.now → ⊥) → IsErr result }
+    ensures explains { IfErr result (Explains asked.now.layout.now asked.now.recording.now) }
+{
+    let capture = session_capture(rt.alloc(), asked.layout, asked.recording)?;
+    match write_file(rt, asked, &capture) {
+        Ok(()) => Ok(()),
+        Err(error) if error.kind() == io::ErrorKind::AlreadyExists => Err(FileFailure::Exists),
+        Err(_) => Err(FileFailure::CannotWrite),
+    }
+}
+
+/// Writes these bytes to the file that is asked for, and nothing else.
+fn write_file<R: Files>(rt: &R, asked: &Asked<'_>, bytes: &[u8]) -> io::Result<()> {
+    let mut file = if asked.force {
+        fs::create(rt, asked.out)?
+    } else {
+        File::create_new(rt, asked.out)?
+    };
+    file.write_all(bytes)?;
+    file.flush()
+}

@@ -1,0 +1,57 @@
+//! A world to which the events of a session happen again.
+
+ghost use Rattle.std.specs.Prelude.{◌≡◌, IfOk, OnOk};
+ghost use Rattle.station_run.specs.station_sim.World.{IsFirst, Played, after, played, refusal_of};
+ghost use Rattle.station_traffic.specs.Traffic.{left_by};
+ghost use Rattle.station_traffic.specs.inside.Late.{IsKnown};
+
+use control_table::Checked;
+use station_run::station_sim::replay::simulator::{Event, Refused, World};
+use station_run::station_sim::replay::{self, Entry};
+use std::alloc::{AllocError, Global};
+
+/// The first world of a table.
+pub(crate) fn first_world(alloc: Global, table: Checked) -> Result<World, AllocError>
+    ensures { IfOk result (λ world. IsFirst table (played world)) }
+{
+    // Every checked layout is a station, in which no name stands twice.
+    table.layout();
+    World::new(alloc, table)
+}
+
+/// Applies an event, and tells why it can't happen, if it can't.
+pub(crate) fn try_event(world: &mut World, event: &Event) -> Result<Option<Refused>, AllocError>
+    ensures refused { IfOk result (λ refused. refused ≡ refusal_of event.now (played world.old)) }
+    ensures world { OnOk result (played world.new ≡ after (played world.old) event.now) }
+    ensures sited { OnOk result (world.new.sited ≡ world.old.sited) }
+{
+    match replay::try_event(world, event) {
+        Ok(_) => Ok(None),
+        Err(why) => known(why),
+    }
+}
+
+/// Why an event can't happen, if that is known: where memory was lacking it isn't.
+fn known(why: Refused) -> Result<Option<Refused>, AllocError>
+    ensures { IfOk result (λ told. IsKnown why told) }
+{
+    match why {
+        Refused::OutOfMemory => Err(AllocError),
+        _ => Ok(Some(why)),
+    }
+}
+
+/// The world behind a session: a first world of a table, to which each event was applied.
+pub(crate) fn world_behind(
+    alloc: Global,
+    table: Checked,
+    entries: &[Entry],
+) -> Result<World, AllocError>
+    ensures { IfOk result (λ world. (first : Played) × IsFirst table first × (played world ≡ left_by first entries.now)) }
+{
+    let mut world = first_world(alloc, table)?;
+    for entry in entries {
+        try_event(&mut world, &entry.event)?;
+    }
+    Ok(world)
+}
