@@ -1,0 +1,295 @@
+//! How a row is drawn: its name, a band for each of its lanes, and when its node was made anew.
+
+ghost use Rattle.std.specs.Prelude.{◌≡◌, ◌++◌, ◌∷◌, [], OnOk, Some, codes};
+ghost use Rattle.std.specs.List.{flat_map};
+ghost use Rattle.lane_chart.specs.Faces.{edge_class, edge_of, is_node, node_of, node_strokes, restart_strokes, row_strokes, span_end, span_strokes, state_text};
+ghost use Rattle.lane_chart.specs.Strokes.{line, named, on_paper, place_of, strokes};
+
+use crate::change::Happening;
+use crate::drawn::{DrawnRow, lower_kind};
+use crate::lane::{Progress, Seen};
+use crate::marks::{Marks, spot};
+use crate::scale::{LEFT, RIGHT, WIDTH, Window, on_paper, place_of};
+use crate::scene::Scene;
+use crate::spans::Span;
+use crate::subject::{Row, Sort, kind_word};
+use crate::words::{label, state_word};
+use control_table::layout::Layout;
+use control_table::sci_telegram::Position;
+use drawing::Anchor;
+use std::alloc::{AllocError, Global};
+
+/// How wide a letter is.
+pub(crate) const LETTER: usize = 6;
+
+/// How high a row is.
+pub(crate) fn height(sort: Sort) -> i32 {
+    match lower_kind(sort) {
+        Some(_) => 32,
+        None => 18,
+    }
+}
+
+/// The number of a row's node, if the row is one of a node.
+fn node_of(layout: &Layout, row: &Row) -> Option<usize>
+    ensures { result ≡ node_of layout.now row.now }
+{
+    let signals = layout.signals().len();
+    let points = layout.points().len();
+    let behind = row.place.saturating_add(1);
+    match row.subject.sort {
+        Sort::Interlocking => Some(0),
+        Sort::SignalNode => Some(behind),
+        Sort::PointNode => Some(behind.saturating_add(signals)),
+        Sort::DetectorNode => Some(behind.saturating_add(signals).saturating_add(points)),
+        _ => None,
+    }
+}
+
+/// How far above or below the middle of its band something is drawn: a point's side is told by it.
+pub(crate) fn offset(seen: Seen) -> i32 {
+    match seen {
+        Seen::Position(Some(Position::Left)) => -4,
+        Seen::Position(Some(Position::Right)) => 4,
+        _ => 0,
+    }
+}
+
+/// How far below the middle of its band the word of what is seen stands: beside a thin line, and within a wide one.
+fn word_offset(seen: Seen) -> i32 {
+    match seen {
+        Seen::Position(Some(Position::Left)) => 6,
+        Seen::Position(Some(Position::Right)) => 0,
+        Seen::Position(Some(Position::NoEndPosition)) | Seen::Route(Some(Progress::Waiting)) => -3,
+        _ => 3,
+    }
+}
+
+/// How many units a text takes.
+pub(crate) fn width(words: &str) -> i32 {
+    let letters = words.len().saturating_mul(LETTER).saturating_add(8);
+    i32::try_from(letters).unwrap_or(i32::MAX)
+}
+
+/// Where the line of a span ends: one unit behind its beginning at the earliest.
+fn span_end(span: Span) -> i32
+    ensures { result ≡ span_end span }
+{
+    let next = span.left.min(WIDTH) + 1;
+    on_paper(span.right.min(WIDTH).max(next))
+}
+
+/// Draws a span of a band, from this height of its middle on.
+fn draw_span(
+    marks: &mut Marks,
+    alloc: Global,
+    layout: &Layout,
+    span: Span,
+    middle: i32,
+) -> Result<(), AllocError>
+    ensures drawn { OnOk result (strokes marks.new.marks.items ≡ strokes marks.old.marks.items ++ span_strokes span) }
+    ensures named { OnOk result (named marks.new.marks.items ≡ named marks.old.marks.items) }
+{
+    draw_state(marks, alloc, span, middle)?;
+    draw_edge(marks, span, middle)?;
+    draw_label(marks, alloc, layout, span, middle)
+}
+
+/// Draws what a span shows, as a line.
+fn draw_state(marks: &mut Marks, alloc: Global, span: Span, middle: i32) -> Result<(), AllocError>
+    ensures drawn { OnOk result (strokes marks.new.marks.items ≡ strokes marks.old.marks.items ++ line (codes "band " ++ state_text span.seen) (place_of span.left) (span_end span) ∷ []) }
+    ensures named { OnOk result (named marks.new.marks.items ≡ named marks.old.marks.items) }
+{
+    let state = state_word(span.seen);
+    let class = format!(in alloc; "band {state}")?;
+    let y = middle.saturating_add(offset(span.seen));
+    let from = spot(place_of(span.left), y);
+    marks.line(class.as_str(), from, spot(span_end(span), y))
+}
+
+/// The class of the edge where a span begins: where it joins changes that are narrower than a unit, the edge is thick.
+fn edge_class(span: Span) -> &'static str
+    ensures { result.now ≡ edge_class span }
+{
+    if span.joins { "joined" } else { "edge" }
+}
+
+/// Draws where a span begins, unless that is the left border.
+fn draw_edge(marks: &mut Marks, span: Span, middle: i32) -> Result<(), AllocError>
+    ensures drawn { OnOk result (strokes marks.new.marks.items ≡ strokes marks.old.marks.items ++ edge_of span) }
+    ensures named { OnOk result (named marks.new.marks.items ≡ named marks.old.marks.items) }
+{
+    if span.left == 0 {
+        return Ok(());
+    }
+    let left = place_of(span.left);
+    let top = spot(left, middle.saturating_sub(7));
+    let bottom = spot(left, middle.saturating_add(7));
+    marks.line(edge_class(span), top, bottom)
+}
+
+/// Writes what a span shows, where there is room for it.
+fn draw_label(
+    marks: &mut Marks,
+    alloc: Global,
+    layout: &Layout,
+    span: Span,
+    middle: i32,
+) -> Result<(), AllocError>
+    ensures drawn { OnOk result (strokes marks.new.marks.items ≡ strokes marks.old.marks.items) }
+    ensures named { OnOk result (named marks.new.marks.items ≡ named marks.old.marks.items) }
+{
+    let left = place_of(span.left);
+    let room = span_end(span).saturating_sub(left);
+    let words = label(alloc, layout, span.seen)?;
+    if words.is_empty() || width(words.as_str()) > room {
+        return Ok(());
+    }
+    let base = middle.saturating_add(word_offset(span.seen));
+    let at = spot(left.saturating_add(4), base);
+    marks.text("state", at, Anchor::Start, words.as_str())
+}
+
+/// Draws a band.
+fn draw_band(
+    marks: &mut Marks,
+    alloc: Global,
+    layout: &Layout,
+    spans: &[Span],
+    middle: i32,
+) -> Result<(), AllocError>
+    ensures drawn { OnOk result (strokes marks.new.marks.items ≡ strokes marks.old.marks.items ++ flat_map span_strokes spans.now) }
+    ensures named { OnOk result (named marks.new.marks.items ≡ named marks.old.marks.items) }
+{
+    for span in spans {
+        draw_span(marks, alloc, layout, *span, middle)?;
+    }
+    Ok(())
+}
+
+/// Whether a node is the one that is made anew.
+fn is_node(node: usize, made_anew: Option<usize>) -> bool
+    ensures { result ≡ is_node node made_anew }
+{
+    match made_anew {
+        Some(other) => other == node,
+        None => false,
+    }
+}
+
+/// Draws that a node was made anew, where it was.
+fn draw_restart(
+    marks: &mut Marks,
+    window: Window,
+    node: usize,
+    happening: &Happening,
+    middle: i32,
+) -> Result<(), AllocError>
+    ensures drawn { OnOk result (strokes marks.new.marks.items ≡ strokes marks.old.marks.items ++ restart_strokes window node happening.now) }
+    ensures named { OnOk result (named marks.new.marks.items ≡ named marks.old.marks.items) }
+{
+    if !is_node(node, happening.node) || !window.has(happening.time) {
+        return Ok(());
+    }
+    let x = window.place(happening.time);
+    marks.arrow("restart", spot(x, middle.saturating_add(4)))
+}
+
+/// Draws when a node was made anew.
+fn draw_restarts(
+    marks: &mut Marks,
+    window: Window,
+    node: usize,
+    happenings: &[Happening],
+    middle: i32,
+) -> Result<(), AllocError>
+    ensures drawn { OnOk result (strokes marks.new.marks.items ≡ strokes marks.old.marks.items ++ flat_map (restart_strokes window node) happenings.now) }
+    ensures named { OnOk result (named marks.new.marks.items ≡ named marks.old.marks.items) }
+{
+    for happening in happenings {
+        draw_restart(marks, window, node, happening, middle)?;
+    }
+    Ok(())
+}
+
+/// Draws the line of a node.
+fn draw_node_line(marks: &mut Marks, middle: i32) -> Result<(), AllocError>
+    ensures drawn { OnOk result (strokes marks.new.marks.items ≡ strokes marks.old.marks.items ++ line (codes "band node-line") (on_paper 0) (on_paper 1380) ∷ []) }
+    ensures named { OnOk result (named marks.new.marks.items ≡ named marks.old.marks.items) }
+{
+    marks.line("band node-line", spot(LEFT, middle), spot(RIGHT, middle))
+}
+
+/// Draws the line of a node, and when it was made anew.
+fn draw_node(
+    marks: &mut Marks,
+    scene: Scene<'_>,
+    node: usize,
+    middle: i32,
+) -> Result<(), AllocError>
+    ensures drawn { OnOk result (strokes marks.new.marks.items ≡ strokes marks.old.marks.items ++ node_strokes scene.entry.window scene.entry.happenings.now (Some node)) }
+    ensures named { OnOk result (named marks.new.marks.items ≡ named marks.old.marks.items) }
+{
+    draw_node_line(marks, middle)?;
+    draw_restarts(marks, scene.window, node, scene.happenings, middle)
+}
+
+/// Draws the line of a row's node, if it has one.
+fn draw_node_if(
+    marks: &mut Marks,
+    scene: Scene<'_>,
+    node: Option<usize>,
+    middle: i32,
+) -> Result<(), AllocError>
+    ensures drawn { OnOk result (strokes marks.new.marks.items ≡ strokes marks.old.marks.items ++ node_strokes scene.entry.window scene.entry.happenings.now node) }
+    ensures named { OnOk result (named marks.new.marks.items ≡ named marks.old.marks.items) }
+{
+    match node {
+        Some(node) => draw_node(marks, scene, node, middle),
+        None => Ok(()),
+    }
+}
+
+/// Writes the kind of a row before the first one of its kind.
+fn draw_kind(marks: &mut Marks, row: &Row, top: i32) -> Result<(), AllocError>
+    ensures drawn { OnOk result (strokes marks.new.marks.items ≡ strokes marks.old.marks.items) }
+    ensures named { OnOk result (named marks.new.marks.items ≡ named marks.old.marks.items) }
+{
+    if row.place > 0 {
+        return Ok(());
+    }
+    let at = spot(12, top.saturating_add(12));
+    marks.text("sort", at, Anchor::Start, kind_word(row.subject.sort))
+}
+
+/// Draws the rule below a row, and its name.
+fn draw_name(marks: &mut Marks, row: &Row, top: i32) -> Result<(), AllocError>
+    ensures drawn { OnOk result (strokes marks.new.marks.items ≡ strokes marks.old.marks.items ++ line (codes "rule") (on_paper 0) (on_paper 1380) ∷ []) }
+    ensures named { OnOk result (named marks.new.marks.items ≡ named marks.old.marks.items ++ row.now.subject.name) }
+{
+    let rule = top.saturating_add(height(row.subject.sort));
+    marks.line("rule", spot(LEFT, rule), spot(RIGHT, rule))?;
+    let at = spot(LEFT.saturating_sub(8), top.saturating_add(12));
+    marks.text("name", at, Anchor::End, row.subject.name.as_str())
+}
+
+/// Draws a row, from this height on.
+pub(crate) fn draw_row(
+    marks: &mut Marks,
+    alloc: Global,
+    scene: Scene<'_>,
+    drawn: &DrawnRow,
+    top: i32,
+) -> Result<(), AllocError>
+    ensures drawn { OnOk result (strokes marks.new.marks.items ≡ strokes marks.old.marks.items ++ row_strokes scene.entry.layout.now scene.entry.window scene.entry.happenings.now drawn.now) }
+    ensures named { OnOk result (named marks.new.marks.items ≡ named marks.old.marks.items ++ drawn.now.row.subject.name) }
+{
+    let row = drawn.row;
+    let middle = top.saturating_add(9);
+    let below = middle.saturating_add(14);
+    draw_kind(marks, &row, top)?;
+    draw_name(marks, &row, top)?;
+    draw_band(marks, alloc, scene.layout, &drawn.upper, middle)?;
+    draw_band(marks, alloc, scene.layout, &drawn.lower, below)?;
+    draw_node_if(marks, scene, node_of(scene.layout, &row), middle)
+}

@@ -1,0 +1,76 @@
+//! What is seen of a lane, in words.
+
+ghost use Rattle.std.specs.Prelude.{◌≡◌};
+ghost use Rattle.lane_chart.specs.Faces.{progress_text, readiness_text, state_text};
+
+use crate::lane::{Progress, Readiness, Seen};
+use control_table::layout::{Layout, RouteId};
+use control_table::sci_telegram::{Aspect, Occupancy, Position, Side};
+use std::alloc::{AllocError, Global};
+
+/// The word of a route's state, by which a style knows it.
+fn progress_word(progress: Progress) -> &'static str
+    ensures { result.now ≡ progress_text progress }
+{
+    match progress {
+        Progress::Free => "free",
+        Progress::Waiting => "set",
+        Progress::Proceeding => "authority",
+        Progress::Withdrawn => "withdrawn",
+        Progress::Ended(_) => "ended",
+    }
+}
+
+/// The word of a link's state, by which a style knows it.
+fn readiness_word(readiness: Readiness) -> &'static str
+    ensures { result.now ≡ readiness_text readiness }
+{
+    match readiness {
+        Readiness::Down => "down",
+        Readiness::Up => "up",
+        Readiness::Ready => "ready",
+    }
+}
+
+/// The word by which a style knows what is seen.
+pub(crate) fn state_word(seen: Seen) -> &'static str
+    ensures { result.now ≡ state_text seen }
+{
+    match seen {
+        Seen::Aspect(Some(Aspect::Stop)) => "stop",
+        Seen::Aspect(Some(Aspect::Proceed)) => "proceed",
+        Seen::Aspect(Some(Aspect::Slow)) => "slow",
+        Seen::Authority(Some(_)) => "held",
+        Seen::Position(Some(Position::Left)) => "left",
+        Seen::Position(Some(Position::Right)) => "right",
+        Seen::Position(Some(Position::NoEndPosition)) => "moving",
+        Seen::Drive(Some(Side::Left)) => "driven-left",
+        Seen::Drive(Some(Side::Right)) => "driven-right",
+        Seen::Section(Some(Occupancy::Clear)) => "clear",
+        Seen::Section(Some(Occupancy::Occupied)) => "occupied",
+        Seen::Route(Some(progress)) => progress_word(progress),
+        Seen::Link(readiness) => readiness_word(readiness),
+        _ => "none",
+    }
+}
+
+/// The name of a route, or nothing where the layout lacks it.
+fn route_name(layout: &Layout, route: RouteId) -> &str {
+    match layout.routes().get(route.0) {
+        Some(entry) => entry.name().as_str(),
+        None => "",
+    }
+}
+
+/// What is written into a span, if it is wide enough.
+pub(crate) fn label(alloc: Global, layout: &Layout, seen: Seen) -> Result<String, AllocError> {
+    match seen {
+        Seen::Authority(Some(route)) => String::from_str(alloc, route_name(layout, route)),
+        Seen::Route(Some(Progress::Ended(freed))) => format!(in alloc; "freed {freed}"),
+        Seen::Drive(Some(_)) => String::from_str(alloc, ""),
+        _ => match state_word(seen) {
+            "none" | "free" | "clear" | "stop" | "ready" => String::from_str(alloc, ""),
+            word => String::from_str(alloc, word),
+        },
+    }
+}

@@ -1,0 +1,31 @@
+-- What is told of a session from a first world on.
+use Rattle.std.proofs.Common.{List, Result, Ok, Err, OnOk}
+use Rattle.std.specs.Prelude.{IfErr, IfOk}
+use Rattle.station_traffic.specs.station_run.station_sim.replay.World.{AnswersSame, IsFirst}
+use Rattle.station_traffic.specs.station_run.station_sim.layout.Entries.{Site}
+use Rattle.station_traffic.specs.station_run.station_sim.simulator_run.Tried.{Played}
+use Rattle.station_traffic.specs.station_run.station_sim.replay_lines.declared.session.Entry.{Entry}
+use Rattle.station_traffic.specs.station_run.station_sim.station_check.declared.failure.Failure.TheVariants as station
+use Rattle.station_chart.specs.Differences.{DiffersFrom, DiffersIn}
+use Rattle.station_chart.specs.Story.{IsStoryOf}
+use Rattle.station_chart.specs.declared.failure.Failure.{Failure}
+use Rattle.station_chart.specs.declared.failure.Failure.TheVariants.{Differs, Station}
+use Rattle.station_chart.specs.declared.session.Story.{Story}
+
+pub story_told : (site : Site) (first : Played) (entries : List Entry) (told : Result Story Failure) → IsFirst site first → OnOk told (AnswersSame first entries) → IfOk told (IsStoryOf first entries)
+    → IfOk told (λ story. (first : Played) × IsFirst site first × AnswersSame first entries × IsStoryOf first entries story)
+story_told site first entries (Ok story) begins agree is = (first, begins, agree, is)
+story_told site first entries (Err why) begins agree is = tt
+
+-- what differs from a first world on
+differs_in : (site : Site) (first : Played) (entries : List Entry) (why : Failure) → IsFirst site first → DiffersFrom first entries why → DiffersIn site entries why
+differs_in site first entries (Differs line) begins so = (first, begins, so)
+differs_in site first entries (Station station.OutOfMemory) begins so = tt
+differs_in site first entries (Station (station.Layout fault)) begins so = absurd so
+differs_in site first entries (Station (station.Table fault)) begins so = absurd so
+differs_in site first entries (Station (station.Line fault)) begins so = absurd so
+differs_in site first entries (Station station.NotWritten) begins so = absurd so
+
+pub story_differs : (site : Site) (first : Played) (entries : List Entry) (told : Result Story Failure) → IsFirst site first → IfErr told (DiffersFrom first entries) → IfErr told (DiffersIn site entries)
+story_differs site first entries (Ok story) begins so = tt
+story_differs site first entries (Err why) begins so = differs_in site first entries why begins so

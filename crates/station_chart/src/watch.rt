@@ -1,0 +1,10 @@
+//! What is looked at behind each event.
+
+use lane_chart::{Lane, Seen};
+
+/// A lane that is followed, and what it showed last.
+#[derive(Clone, Copy, Debug)]
+pub(crate) struct Watch {
+    pub(crate) lane: Lane,
+    pub(crate) seen: Seen,
+}
