@@ -37,12 +37,14 @@ def short_ones():
     events, script = stored("events", EVENTS), stored("script", SCRIPT)
     picture = stored("picture", "signal S1 proceed R1\npoint P1 right\nsection GA occupied\nroute R1 set\n")
     session = f"{crates}/stored_runs/data/proceed.session"
+    traffic = f"{crates}/stored_runs/data/traffic.session"
     with open(SMALL) as file:
         faulty = stored("faulty.toml", file.read().replace('"P1.tip"', '"P1.end"'))
     return [["--help"], ["check", SMALL], ["check", SMALL, "--explain"], ["check", faulty, "--explain"],
             ["table", SMALL], ["table", SMALL, "--csv"], ["sim", SMALL, events], ["replay", SMALL, session],
             ["plan", SMALL], ["plan", SMALL, "--route", "R1"], ["plan", SMALL, "--picture", picture],
             ["decode", "--hex", DATAGRAM], ["decode", "--hex", DATAGRAM, "--layout", SMALL],
+            ["decode", SMALL, traffic], ["chart", SMALL, traffic], ["capture", SMALL, traffic, f"{room}/capture", "--force"],
             ["run", SMALL, "--script", script, "--record", "record", "--for", "1000"]]
 
 

@@ -6,15 +6,19 @@ crates/station/out.
 1. Every datagram that the stored sessions, event files and lists of datagrams have, under the layout that it belongs to: the
    line of the dissector, and the line put together from the fields that it shows one by one, are word for word the line of
    `station decode`. The same without a layout. The checksums of IPv4 and UDP are right, and no packet is malformed.
-2. Damaged datagrams: bits turned, cut off, lengthened, two joined, fields of another value under a right code. In none does
+2. Every stored session, as `station capture` writes it: its packets are the datagrams that `station decode FILE RECORD` says
+   were sent, in their order, each at its time, from the address of its sender to that of its receiver, with its words as under 1.
+   Those that were lost have a comment, and no others. A file that is there is written over with `--force` alone.
+3. Damaged datagrams: bits turned, cut off, lengthened, two joined, fields of another value under a right code. In none does
    the dissector run into an error, none is malformed, and the line is that of `station decode`.
-3. A station that runs on loopback sockets while tshark captures there: every datagram that came to a node, as the record of
+4. A station that runs on loopback sockets while tshark captures there: every datagram that came to a node, as the record of
    the run has it, was captured, and each is read with its words. For this the user must be allowed to capture on `lo`.
 
 usage: python3 bench/wire.py [--damaged N] [--live MS] [STATION]. N is 10000 where none is told, and MS 4000; 0 leaves a part
 out. STATION is the program. The status is 1 where anything differs."""
 import argparse
 import collections
+import decimal
 import os
 import random
 import re
@@ -25,6 +29,7 @@ import subprocess
 import sys
 import tempfile
 import time
+import tomllib
 import xml.etree.ElementTree as xml
 from concurrent.futures import ThreadPoolExecutor
 from pathlib import Path
@@ -86,8 +91,9 @@ def tshark(*words):
     return ["tshark", "-X", f"lua_script:{DISSECTOR}", "-n", "-o", "udp.try_heuristic_first:TRUE", *words]
 
 
-# What is shown of a packet: the tree of the protocol `rasta`, None where there is none, what failed, and the payload.
-Shown = collections.namedtuple("Shown", "tree failed payload")
+# What is shown of a packet: the tree of the protocol `rasta`, None where there is none, what failed, the payload, and beside it
+# the time in microseconds, the addresses and the comment.
+Shown = collections.namedtuple("Shown", "tree failed payload beside")
 
 
 def shown(capture, layout, ports=(PORT,)):
@@ -104,8 +110,17 @@ def shown(capture, layout, ports=(PORT,)):
             failed = sorted(name for name in names if name.startswith(FAILED))
             payload = element.find(".//field[@name='udp.payload']")
             bytes_of = b"" if payload is None else bytes.fromhex(payload.get("value"))
-            yield Shown(element.find("proto[@name='rasta']"), failed + wrong_sums(element), bytes_of)
+            yield Shown(element.find("proto[@name='rasta']"), failed + wrong_sums(element), bytes_of, beside(element))
             element.clear()
+
+
+def beside(element):
+    """The time, the addresses and the comment of a packet."""
+    time_of, sender, receiver, comment = (
+        element.find(f".//field[@name='{name}']") for name in ("frame.time_epoch", "ip.src", "ip.dst", "frame.comment")
+    )
+    microseconds = int(decimal.Decimal(time_of.get("show")) * 1_000_000)
+    return microseconds, sender.get("show"), receiver.get("show"), None if comment is None else comment.get("show")
 
 
 def wrong_sums(element):
@@ -336,6 +351,88 @@ def compare_damaged(report, words, folder, count):
     print(f"damaged: {read} datagrams: {told(counts)}")
 
 
+# ---- sessions
+
+
+def sessions():
+    """The stored sessions, each with its layout."""
+    lines = [line.split() for line in (DATA / "runs").read_text().splitlines()]
+    return dict.fromkeys((DATA / files[0], DATA / files[1]) for kind, *files in lines if kind in ("replay", "decode-session"))
+
+
+def addresses(layout):
+    """The addresses of the nodes by their names, made of their places: the interlocking, the signals, points and detectors."""
+    told = tomllib.loads(layout.read_text())
+    nodes = [told["station"]] + [node for kind in ("signal", "point", "detector") for node in told[kind]]
+    return {node["name"]: f"10.0.{place // 250 % 250}.{place % 250 + 1}" for place, node in enumerate(nodes)}
+
+
+def lost_places(lines, losses, payloads):
+    """Which of the datagrams that were sent are lost: a loss takes the oldest copy that is left."""
+    lost, sent, losses = set(), 0, iter(losses)
+    for line in lines:
+        what = line.split(" ", 1)[1].split(": ")[0]
+        sent += what.startswith("sent")
+        if what.startswith(("lost", "not lost")):
+            data = bytes.fromhex(next(losses).replace("-", ""))
+            left = [place for place in range(sent) if payloads[place] == data and place not in lost]
+            lost.update(left[:1] if what == "lost" else [])
+    return lost
+
+
+def told_lines(report, station, layout, session, capture):
+    """The lines that tell of a session, whose capture was made too. A faulty one has neither, for one reason."""
+    capture.unlink(missing_ok=True)
+    files = [str(layout), str(session)]
+    told = subprocess.run([station, "decode", *files], capture_output=True, text=True)
+    made = subprocess.run([station, "capture", *files, str(capture)], capture_output=True, text=True)
+    if (told.returncode, told.stderr) != (made.returncode, made.stderr) or capture.exists() == bool(made.returncode):
+        report.differs(f"{session.name}: statuses {told.returncode} and {made.returncode}", told.stderr, made.stderr)
+    return told.stdout.splitlines() if capture.exists() else None
+
+
+def compare_session(report, station, layout, session, capture):
+    """Compares the capture of a session with the lines that tell of it, and answers how many datagrams it has."""
+    lines = told_lines(report, station, layout, session, capture)
+    if lines is None:
+        return 0
+    read = list(shown(capture, layout))
+    sent = [re.fullmatch(r"(\d+)\.(\d{3}) sent by (\S+) to (\S+): (.*)", line) for line in lines]
+    sent = [line.groups() for line in sent if line]
+    if len(sent) != len(read):
+        report.differs(f"{session.name}: {len(sent)} were sent, {len(read)} are captured")
+    lost = lost_places(lines, re.findall(r"^lose (\S+)", session.read_text(), re.MULTILINE), [it.payload for it in read])
+    found = addresses(layout)
+    for place, ((whole, parts, sender, receiver, wanted), it) in enumerate(zip(sent, read)):
+        compare_one(report, it, wanted)
+        told_beside = int(whole + parts), found[sender], found[receiver], "lost" if place in lost else None
+        if it.beside != told_beside:
+            report.differs(f"{session.name}, datagram {place}", it.beside, told_beside)
+    return len(read)
+
+
+def try_force(report, station, capture):
+    """A file that is there is written over with `--force` alone."""
+    capture.write_bytes(b"kept")
+    words = [station, "capture", str(DATA / "small.toml"), str(DATA / "traffic.session"), str(capture)]
+    refused = subprocess.run(words, capture_output=True, text=True)
+    if (refused.returncode, refused.stderr, capture.read_bytes()) != (1, "capture fault 2 Exists\n", b"kept"):
+        report.differs("a file that is there", refused.returncode, refused.stderr)
+    forced = subprocess.run([*words, "--force"], capture_output=True, text=True)
+    made = capture.read_bytes()
+    capture.unlink()
+    again = subprocess.run(words, capture_output=True, text=True)
+    if (forced.returncode, again.returncode) != (0, 0) or capture.read_bytes() != made:
+        report.differs("a file that is written over", forced.returncode, again.returncode)
+
+
+def compare_sessions(report, words, folder):
+    try_force(report, words.station, folder / "session.pcapng")
+    for layout, session in sessions():
+        read = compare_session(report, words.station, layout, session, folder / "session.pcapng")
+        print(f"{session.name}: {read} datagrams of a capture by `station capture`")
+
+
 # ---- a station that runs
 
 
@@ -394,6 +491,7 @@ def main():
     with tempfile.TemporaryDirectory() as folder:
         folder = Path(folder)
         compare_stored(report, words, folder)
+        compare_sessions(report, words, folder)
         if asked.damaged:
             compare_damaged(report, words, folder, asked.damaged)
         if asked.live:

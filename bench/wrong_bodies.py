@@ -38,6 +38,7 @@ TOGETHER = 16
 FUNCTION = re.compile(r'( *)(?:pub(?:\([^)]*\))? )?(?:const )?(?:unsafe )?(?:extern "C" )?fn (\w+)')
 HOLDER = re.compile(r"( *)(?:pub(?:\([^)]*\))? )?(?:unsafe )?(?:impl\b|trait \w|mod \w+ \{)")
 IMPL = re.compile(r"impl(?:<.*?>)? (?:([\w:]+)(?:<(.*)>)? for )?([\w:]+)")
+TYPE = re.compile(r"(?m)^(?:pub(?:\([^)]*\))? )?(?:struct|enum|union) (\w+)")
 # what a proof file says that names what the edit took away
 NAMES_WHAT_IS_GONE = re.compile(r"(\./)?proofs/.*(has no field|is not in scope|has no `|was not admitted)")
 
@@ -50,6 +51,21 @@ def module_of(path):
     return segments[:-1] if segments[-1] in ("lib", "main", "mod") else segments
 
 
+def homes_of(crate):
+    """The module in which each type of a crate stands: the prover names what a type's blocks hold by it, wherever they stand."""
+    found = {}
+    for file in pathlib.Path(crate.folder, "src").rglob("*.rt"):
+        module = module_of(str(file.relative_to(crate.folder)))
+        found |= dict.fromkeys(TYPE.findall(file.read_text()), module)
+    return found
+
+
+def home_of_holder(header, homes):
+    """The module of the type whose block it is, if the crate has that."""
+    found = IMPL.match(header)
+    return homes.get(found[3].split("::")[-1]) if found else None
+
+
 def name_of_holder(header):
     """How the prover names a block that holds functions: `cut::LinesIterator` has what `impl Iterator for Lines` in `cut` has."""
     found = IMPL.match(header)
@@ -60,7 +76,7 @@ def name_of_holder(header):
     return "".join(last)
 
 
-def functions_of(path, text):
+def functions_of(path, text, homes):
     """The text of each function by its path below the crate, and what stands in none. It goes by the layout of `rt fmt`: a block
     ends at a brace as far in as its first line begins."""
     found, rest, holders, name, inside = {}, [], [], None, ""
@@ -69,14 +85,15 @@ def functions_of(path, text):
         head = FUNCTION.match(line)
         if head and (name is None or len(head[1]) <= len(inside)):
             inside = head[1]
-            outer = [it for depth, it in holders if depth < len(inside)]
-            name = "::".join([*module_of(path), *outer, head[2]])
+            outer = [it for it in holders if it[0] < len(inside)]
+            module = next((home for _, _, home in outer if home is not None), module_of(path))
+            name = "::".join([*module, *(it for _, it, _ in outer), head[2]])
             found[name] = ""
         if name is None:
             rest.append(line)
             if HOLDER.match(line):
                 header = " ".join("\n".join(lines[at:]).split("{", 1)[0].split())
-                holders.append((len(HOLDER.match(line)[1]), name_of_holder(header)))
+                holders.append((len(HOLDER.match(line)[1]), name_of_holder(header), home_of_holder(header, homes)))
             elif holders and line == " " * holders[-1][0] + "}":
                 holders.pop()
             continue
@@ -99,10 +116,10 @@ class WrongBody:
         self.crate, self.file = crate, file
         self.label = f"{crate.name}/{os.path.basename(file).removesuffix('.edit')}"
         self.texts, self.fault = rt.read_edit(file, crate.folder)
-        self.changes = {}
+        self.changes, homes = {}, homes_of(crate)
         for path, text in (self.texts or {}).items():
-            before, rest = functions_of(path, pathlib.Path(crate.folder, path).read_text())
-            after, new_rest = functions_of(path, text)
+            before, rest = functions_of(path, pathlib.Path(crate.folder, path).read_text(), homes)
+            after, new_rest = functions_of(path, text, homes)
             if rest != new_rest or before.keys() != after.keys():
                 self.changes = {}
                 break

@@ -1,17 +1,21 @@
 //! The program `station`. `station check FILE` tells whether the layout in FILE is sound, `station plan FILE` draws its
 //! track plan, and `station table FILE` prints its control table; `station sim FILE EVENTS` applies lines of events to a
 //! station of it, `station run FILE --script S --record R --for MS` runs one over sockets, and `station replay FILE RECORD`
-//! applies a recorded session; `station decode --hex HEX` puts a datagram into words. The status is 0 where this was done, 1 at
-//! a fault, 2 where the command line is wrong, and 3 where a session answers otherwise than it was recorded.
+//! applies a recorded session, and `station chart FILE RECORD` draws it; `station decode --hex HEX` puts a datagram into
+//! words, and `station decode FILE RECORD` those of a session, which `station capture FILE RECORD OUT` writes to a file for
+//! Wireshark. The status is 0 where this was done, 1 at a fault, 2 where the command line is wrong, and 3 where a session
+//! answers otherwise than it was recorded.
 #![tactic(auto)]
 
+use station_chart::station_traffic::station_decode::decode_text;
+use station_chart::station_traffic::station_run::station_sim::station_check::check_text;
+use station_chart::station_traffic::station_run::station_sim::{replay_text, sim_text};
+use station_chart::station_traffic::station_run::{self, Asked as Run};
+use station_chart::station_traffic::{Asked as Capture, capture_to_file, decode_session_text};
+use station_chart::{Cut, chart_text};
 use station_command::{Asked, Error, Failure, is_memory, read_words, text_of, texts_of, words};
-use station_decode::decode_text;
 use station_explain::explain_text;
 use station_plan_text::plan_text;
-use station_run::Asked as Run;
-use station_run::station_sim::station_check::check_text;
-use station_run::station_sim::{replay_text, sim_text};
 use station_table::{Form, table_text};
 use std::io::{BufWriter, IsTerminal};
 use std::process::ExitCode;
@@ -38,7 +42,24 @@ fn main(rt: HostRuntime) -> ExitCode {
                 },
             ) => run_files(&rt, layout, script, record, for_ms),
             Ok(Asked::Replay { layout, recording }) => replay_files(&rt, layout, recording),
+            Ok(
+                Asked::Chart {
+                    layout,
+                    recording,
+                    from,
+                    to,
+                },
+            ) => chart_files(&rt, layout, recording, Cut { from, to }),
             Ok(Asked::Decode { word, layout }) => decode_word(&rt, layout, word),
+            Ok(Asked::DecodeSession { layout, recording }) => decode_files(&rt, layout, recording),
+            Ok(
+                Asked::Capture {
+                    layout,
+                    recording,
+                    out,
+                    force,
+                },
+            ) => capture_files(&rt, layout, recording, out, force),
             Err(error) => refuse(&rt, &error),
         },
         Err(failure) => fail(&rt, &failure),
@@ -139,6 +160,38 @@ fn decode_word(rt: &HostRuntime, layout: Option<&str>, word: &str) -> u8 {
     }
 }
 
+/// `chart FILE RECORD [--from MS] [--to MS]`.
+fn chart_files(rt: &HostRuntime, layout: &str, recording: &str, cut: Cut) -> u8 {
+    match texts_of(rt, layout, recording) {
+        Ok((layout, recording)) => chart(rt, layout.as_str(), recording.as_str(), cut),
+        Err(failure) => fail(rt, &failure),
+    }
+}
+
+/// `decode FILE RECORD`.
+fn decode_files(rt: &HostRuntime, layout: &str, recording: &str) -> u8 {
+    match texts_of(rt, layout, recording) {
+        Ok((layout, recording)) => decode_session(rt, layout.as_str(), recording.as_str()),
+        Err(failure) => fail(rt, &failure),
+    }
+}
+
+/// `capture FILE RECORD OUT [--force]`.
+fn capture_files(rt: &HostRuntime, layout: &str, recording: &str, out: &str, force: bool) -> u8 {
+    match texts_of(rt, layout, recording) {
+        Ok((layout, recording)) => {
+            let asked = Capture {
+                layout: layout.as_str(),
+                recording: recording.as_str(),
+                out,
+                force,
+            };
+            capture_to_file(rt, &asked, &mut rt.stderr())
+        }
+        Err(failure) => fail(rt, &failure),
+    }
+}
+
 /// Checks a text, with a fault explained or alone.
 fn report(rt: &HostRuntime, text: &str, explained: bool) -> u8 {
     if explained {
@@ -217,6 +270,31 @@ fn replay(rt: &HostRuntime, layout: &str, record: &str) -> u8 {
 fn decode(rt: &HostRuntime, layout: Option<&str>, word: &str) -> u8 {
     match BufWriter::new(rt.alloc(), rt.stdout()) {
         Ok(mut out) => decode_text(rt.alloc(), layout, word, &mut out, &mut rt.stderr()),
+        Err(_) => fail(rt, &Failure::OutOfMemory),
+    }
+}
+
+/// Writes the chart of a session to standard output.
+fn chart(rt: &HostRuntime, layout: &str, recording: &str, cut: Cut) -> u8 {
+    match BufWriter::new(rt.alloc(), rt.stdout()) {
+        Ok(mut out) => chart_text(
+            rt.alloc(),
+            layout,
+            recording,
+            cut,
+            &mut out,
+            &mut rt.stderr(),
+        ),
+        Err(_) => fail(rt, &Failure::OutOfMemory),
+    }
+}
+
+/// Writes the datagrams of a session in words to standard output.
+fn decode_session(rt: &HostRuntime, layout: &str, recording: &str) -> u8 {
+    match BufWriter::new(rt.alloc(), rt.stdout()) {
+        Ok(mut out) => {
+            decode_session_text(rt.alloc(), layout, recording, &mut out, &mut rt.stderr())
+        }
         Err(_) => fail(rt, &Failure::OutOfMemory),
     }
 }

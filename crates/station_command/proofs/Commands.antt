@@ -12,11 +12,11 @@ use Rattle.clap.specs.Walk.{Held, Row, Rule, Text, arg_by_short, first_of, rows_
 use Rattle.station_command.proofs.Given.{or_none, or_value}
 use Rattle.station_command.proofs.LineRead.{AreFound, LineReads, line_fault, line_reads, missing_kinds}
 use Rattle.station_command.proofs.Numbers.{number_in}
-use Rattle.station_command.proofs.Rules.{Files, IsFile, IsHelp, IsLine, IsNamed, IsOption, IsSwitch, TakesOne, first_due, names_help, names_nothing, none_due, second_due, short_help, short_nothing}
+use Rattle.station_command.proofs.Rules.{Files, IsFile, IsHelp, IsLine, IsNamed, IsOption, IsSwitch, TakesOne, first_due, names_help, names_nothing, none_due, second_due, short_help, short_nothing, third_due}
 use Rattle.station_command.proofs.WordsRead.{Fails, nth_or, top}
-use Rattle.station_command.specs.CommandWords.{Check, Decode, Given, Plan, Replay, Request, Run, Sim, Table, Usage, check_by, check_of, check_usage, decode_by, decode_of, decode_usage, given_in, is_on, plan_by, plan_of, plan_usage, replay_by, replay_of, run_by, run_of, run_usage, sim_by, sim_of, table_by, table_of, table_usage, time_of, two_files_usage, value_of}
+use Rattle.station_command.specs.CommandWords.{Capture, Chart, Check, Decode, DecodeSession, Given, Plan, Replay, Request, Run, Sim, Table, Usage, capture_by, capture_of, capture_usage, chart_by, chart_of, chart_usage, check_by, check_of, check_usage, decode_by, decode_of, decode_usage, given_in, is_on, plan_by, plan_of, plan_usage, replay_by, replay_of, run_by, run_of, run_usage, sim_by, sim_of, table_by, table_of, table_usage, time_of, two_files_usage, value_of}
 use Rattle.station_command.specs.Line.{station_line}
-use Rattle.station_command.specs.inside.Rows.{check_of_rows, decode_of_rows, number_of, plan_of_rows, replay_of_rows, run_of_rows, sim_of_rows, table_of_rows}
+use Rattle.station_command.specs.inside.Rows.{capture_of_rows, chart_of_rows, check_of_rows, decode_of_rows, number_of, plan_of_rows, replay_of_rows, run_of_rows, sim_of_rows, table_of_rows}
 
 -- ---- the arguments
 
@@ -46,8 +46,14 @@ run_rules = rules_of 4
 abbrev pub replay_rules : List Rule
 replay_rules = rules_of 5
 
+abbrev pub chart_rules : List Rule
+chart_rules = rules_of 6
+
 abbrev pub decode_rules : List Rule
-decode_rules = rules_of 6
+decode_rules = rules_of 7
+
+abbrev pub capture_rules : List Rule
+capture_rules = rules_of 8
 
 -- ---- `check`
 
@@ -63,6 +69,7 @@ check_help = record { valueless = refl; fails = λ rs. tt }
 check_file : (n : Files) → IsFile check_usage.files check_rules n
 check_file first_due = inl (rule_at 0 check_rules, record { one = check_one; found = refl; left = refl; steps = refl })
 check_file second_due = inr (refl, refl)
+check_file third_due = inr (refl, refl)
 check_file none_due = inr (refl, refl)
 
 check_named : (name : Text) (is_explain is_help : Bool) → bytes_eq (codes "explain") name ≡ is_explain → bytes_eq (codes "help") name ≡ is_help → IsNamed check_usage check_rules name
@@ -105,6 +112,7 @@ plan_help = record { valueless = refl; fails = λ rs. tt }
 plan_file : (n : Files) → IsFile plan_usage.files plan_rules n
 plan_file first_due = inl (rule_at 0 plan_rules, record { one = plan_one; found = refl; left = refl; steps = refl })
 plan_file second_due = inr (refl, refl)
+plan_file third_due = inr (refl, refl)
 plan_file none_due = inr (refl, refl)
 
 plan_named : (name : Text) (is_route is_picture is_help : Bool) → bytes_eq (codes "route") name ≡ is_route → bytes_eq (codes "picture") name ≡ is_picture → bytes_eq (codes "help") name ≡ is_help
@@ -140,6 +148,7 @@ table_help = record { valueless = refl; fails = λ rs. tt }
 table_file : (n : Files) → IsFile table_usage.files table_rules n
 table_file first_due = inl (rule_at 0 table_rules, record { one = table_one; found = refl; left = refl; steps = refl })
 table_file second_due = inr (refl, refl)
+table_file third_due = inr (refl, refl)
 table_file none_due = inr (refl, refl)
 
 table_named : (name : Text) (is_csv is_help : Bool) → bytes_eq (codes "csv") name ≡ is_csv → bytes_eq (codes "help") name ≡ is_help → IsNamed table_usage table_rules name
@@ -173,6 +182,7 @@ two_help = record { valueless = refl; fails = λ rs. tt }
 two_file : (n : Files) → IsFile two_files_usage.files sim_rules n
 two_file first_due = inl (rule_at 0 sim_rules, record { one = two_first; found = refl; left = refl; steps = refl })
 two_file second_due = inl (rule_at 1 sim_rules, record { one = two_second; found = refl; left = refl; steps = refl })
+two_file third_due = inr (refl, refl)
 two_file none_due = inr (refl, refl)
 
 two_named : (name : Text) (is_help : Bool) → bytes_eq (codes "help") name ≡ is_help → IsNamed two_files_usage sim_rules name
@@ -220,6 +230,7 @@ run_help = record { valueless = refl; fails = λ rs. tt }
 run_files : (n : Files) → IsFile run_usage.files run_rules n
 run_files first_due = inl (rule_at 0 run_rules, record { one = run_file; found = refl; left = refl; steps = refl })
 run_files second_due = inr (refl, refl)
+run_files third_due = inr (refl, refl)
 run_files none_due = inr (refl, refl)
 
 run_named : (name : Text) (is_script is_record is_time is_help : Bool) → bytes_eq (codes "script") name ≡ is_script → bytes_eq (codes "record") name ≡ is_record
@@ -242,6 +253,54 @@ run_is = record {
   defaults = (refl, (refl, (refl, (refl, (refl, tt)))));
 }
 
+-- ---- `chart`
+
+chart_layout : TakesOne chart_rules (rule_at 0 chart_rules)
+chart_layout = record { found = refl; same = refl; fault = λ text rs. refl; empty = λ rs. tt; leaves = λ text rs. refl; most = refl; alone = refl; once = refl; further = refl }
+
+chart_record : TakesOne chart_rules (rule_at 1 chart_rules)
+chart_record = record { found = refl; same = refl; fault = λ text rs. refl; empty = λ rs. tt; leaves = λ text rs. refl; most = refl; alone = refl; once = refl; further = refl }
+
+chart_from : IsOption chart_rules (rule_at 2 chart_rules)
+chart_from = record {
+  one = record { found = refl; same = refl; fault = λ text rs. refl; empty = λ rs. tt; leaves = λ text rs. refl; most = refl; alone = refl; once = refl; further = refl };
+  long = refl;
+}
+
+chart_to : IsOption chart_rules (rule_at 3 chart_rules)
+chart_to = record {
+  one = record { found = refl; same = refl; fault = λ text rs. refl; empty = λ rs. tt; leaves = λ text rs. refl; most = refl; alone = refl; once = refl; further = refl };
+  long = refl;
+}
+
+chart_help : IsHelp (rule_at 4 chart_rules)
+chart_help = record { valueless = refl; fails = λ rs. tt }
+
+chart_file : (n : Files) → IsFile chart_usage.files chart_rules n
+chart_file first_due = inl (rule_at 0 chart_rules, record { one = chart_layout; found = refl; left = refl; steps = refl })
+chart_file second_due = inl (rule_at 1 chart_rules, record { one = chart_record; found = refl; left = refl; steps = refl })
+chart_file third_due = inr (refl, refl)
+chart_file none_due = inr (refl, refl)
+
+chart_named : (name : Text) (is_from is_to is_help : Bool) → bytes_eq (codes "from") name ≡ is_from → bytes_eq (codes "to") name ≡ is_to → bytes_eq (codes "help") name ≡ is_help
+    → IsNamed chart_usage chart_rules name
+chart_named name true is_to is_help a b d = inl (rule_at 2 chart_rules, chart_from, (bytes_eq-Decides (codes "from") name).0 a, refl)
+chart_named name false true is_help a b d = inl (rule_at 3 chart_rules, chart_to, (bytes_eq-Decides (codes "to") name).0 b, refl)
+chart_named name false false true a b d = inr (inr (rw (a, b) refl, refl, names_help chart_rules name (rule_at 4 chart_rules) (rw (a, b, d) refl) chart_help))
+chart_named name false false false a b d = inr (inr (rw (a, b) refl, refl, names_nothing chart_rules name (rw (a, b, d) refl)))
+
+chart_short : (x : ℕ) (is_help : Bool) → nat_eq 104 x ≡ is_help → (rest : Text) (h : Held) (after : Held → Kinds) → Fails (short_fault chart_rules false (arg_by_short chart_rules x) rest h after)
+chart_short x true e = short_help chart_rules x (rule_at 4 chart_rules) (rw e refl) chart_help
+chart_short x false e = short_nothing chart_rules x (rw e refl)
+
+chart_is : IsLine chart_usage chart_rules
+chart_is = record {
+  file = chart_file;
+  named = λ name. chart_named name (bytes_eq (codes "from") name) (bytes_eq (codes "to") name) (bytes_eq (codes "help") name) refl refl refl;
+  short = λ x. chart_short x (nat_eq 104 x) refl;
+  defaults = (refl, (refl, (refl, (refl, (refl, tt)))));
+}
+
 -- ---- `decode`
 
 decode_hex : IsOption decode_rules (rule_at 0 decode_rules)
@@ -256,23 +315,30 @@ decode_layout = record {
   long = refl;
 }
 
-decode_help : IsHelp (rule_at 2 decode_rules)
+decode_layout_file : TakesOne decode_rules (rule_at 2 decode_rules)
+decode_layout_file = record { found = refl; same = refl; fault = λ text rs. refl; empty = λ rs. tt; leaves = λ text rs. refl; most = refl; alone = refl; once = refl; further = refl }
+
+decode_record : TakesOne decode_rules (rule_at 3 decode_rules)
+decode_record = record { found = refl; same = refl; fault = λ text rs. refl; empty = λ rs. tt; leaves = λ text rs. refl; most = refl; alone = refl; once = refl; further = refl }
+
+decode_help : IsHelp (rule_at 4 decode_rules)
 decode_help = record { valueless = refl; fails = λ rs. tt }
 
 decode_file : (n : Files) → IsFile decode_usage.files decode_rules n
-decode_file first_due = inr (refl, refl)
-decode_file second_due = inr (refl, refl)
+decode_file first_due = inl (rule_at 2 decode_rules, record { one = decode_layout_file; found = refl; left = refl; steps = refl })
+decode_file second_due = inl (rule_at 3 decode_rules, record { one = decode_record; found = refl; left = refl; steps = refl })
+decode_file third_due = inr (refl, refl)
 decode_file none_due = inr (refl, refl)
 
 decode_named : (name : Text) (is_hex is_layout is_help : Bool) → bytes_eq (codes "hex") name ≡ is_hex → bytes_eq (codes "layout") name ≡ is_layout → bytes_eq (codes "help") name ≡ is_help
     → IsNamed decode_usage decode_rules name
 decode_named name true is_layout is_help a b d = inl (rule_at 0 decode_rules, decode_hex, (bytes_eq-Decides (codes "hex") name).0 a, refl)
 decode_named name false true is_help a b d = inl (rule_at 1 decode_rules, decode_layout, (bytes_eq-Decides (codes "layout") name).0 b, refl)
-decode_named name false false true a b d = inr (inr (rw (a, b) refl, refl, names_help decode_rules name (rule_at 2 decode_rules) (rw (a, b, d) refl) decode_help))
+decode_named name false false true a b d = inr (inr (rw (a, b) refl, refl, names_help decode_rules name (rule_at 4 decode_rules) (rw (a, b, d) refl) decode_help))
 decode_named name false false false a b d = inr (inr (rw (a, b) refl, refl, names_nothing decode_rules name (rw (a, b, d) refl)))
 
 decode_short : (x : ℕ) (is_help : Bool) → nat_eq 104 x ≡ is_help → (rest : Text) (h : Held) (after : Held → Kinds) → Fails (short_fault decode_rules false (arg_by_short decode_rules x) rest h after)
-decode_short x true e = short_help decode_rules x (rule_at 2 decode_rules) (rw e refl) decode_help
+decode_short x true e = short_help decode_rules x (rule_at 4 decode_rules) (rw e refl) decode_help
 decode_short x false e = short_nothing decode_rules x (rw e refl)
 
 decode_is : IsLine decode_usage decode_rules
@@ -280,14 +346,55 @@ decode_is = record {
   file = decode_file;
   named = λ name. decode_named name (bytes_eq (codes "hex") name) (bytes_eq (codes "layout") name) (bytes_eq (codes "help") name) refl refl refl;
   short = λ x. decode_short x (nat_eq 104 x) refl;
-  defaults = (refl, (refl, (refl, tt)));
+  defaults = (refl, (refl, (refl, (refl, (refl, tt)))));
+}
+
+-- ---- `capture`
+
+capture_layout : TakesOne capture_rules (rule_at 0 capture_rules)
+capture_layout = record { found = refl; same = refl; fault = λ text rs. refl; empty = λ rs. tt; leaves = λ text rs. refl; most = refl; alone = refl; once = refl; further = refl }
+
+capture_record : TakesOne capture_rules (rule_at 1 capture_rules)
+capture_record = record { found = refl; same = refl; fault = λ text rs. refl; empty = λ rs. tt; leaves = λ text rs. refl; most = refl; alone = refl; once = refl; further = refl }
+
+capture_out : TakesOne capture_rules (rule_at 2 capture_rules)
+capture_out = record { found = refl; same = refl; fault = λ text rs. refl; empty = λ rs. tt; leaves = λ text rs. refl; most = refl; alone = refl; once = refl; further = refl }
+
+capture_force : IsSwitch capture_rules (rule_at 3 capture_rules)
+capture_force = record { long = refl; valueless = refl; fault = λ rs. refl; leaves = λ rs. refl }
+
+capture_help : IsHelp (rule_at 4 capture_rules)
+capture_help = record { valueless = refl; fails = λ rs. tt }
+
+capture_file : (n : Files) → IsFile capture_usage.files capture_rules n
+capture_file first_due = inl (rule_at 0 capture_rules, record { one = capture_layout; found = refl; left = refl; steps = refl })
+capture_file second_due = inl (rule_at 1 capture_rules, record { one = capture_record; found = refl; left = refl; steps = refl })
+capture_file third_due = inl (rule_at 2 capture_rules, record { one = capture_out; found = refl; left = refl; steps = refl })
+capture_file none_due = inr (refl, refl)
+
+capture_named : (name : Text) (is_force is_help : Bool) → bytes_eq (codes "force") name ≡ is_force → bytes_eq (codes "help") name ≡ is_help → IsNamed capture_usage capture_rules name
+capture_named name true is_help a e = inr (inl (rule_at 3 capture_rules, capture_force, (bytes_eq-Decides (codes "force") name).0 a, refl, refl))
+capture_named name false true a e = inr (inr (refl, rw a refl, names_help capture_rules name (rule_at 4 capture_rules) (rw (a, e) refl) capture_help))
+capture_named name false false a e = inr (inr (refl, rw a refl, names_nothing capture_rules name (rw (a, e) refl)))
+
+capture_short : (x : ℕ) (is_help : Bool) → nat_eq 104 x ≡ is_help → (rest : Text) (h : Held) (after : Held → Kinds) → Fails (short_fault capture_rules false (arg_by_short capture_rules x) rest h after)
+capture_short x true e = short_help capture_rules x (rule_at 4 capture_rules) (rw e refl) capture_help
+capture_short x false e = short_nothing capture_rules x (rw e refl)
+
+capture_is : IsLine capture_usage capture_rules
+capture_is = record {
+  file = capture_file;
+  named = λ name. capture_named name (bytes_eq (codes "force") name) (bytes_eq (codes "help") name) refl refl;
+  short = λ x. capture_short x (nat_eq 104 x) refl;
+  defaults = (refl, (refl, (refl, (refl, (refl, tt)))));
 }
 
 -- ---- what is asked for
 
--- something is missing, or nothing is and it is asked for, by what was given and by what was found
+-- something is missing, or nothing is, and something is asked for or nothing, by what was given and by what was found
 abbrev Ends : Option Request → Option Request → Kinds → Type 0
-Ends by_given by_found missing = ((request : Request) × ((by_given ≡ Some request) × ((missing ≡ []) × (by_found ≡ Some request)))) ⊎ ((by_given ≡ None) × Fails missing)
+Ends by_given by_found missing = ((request : Request) × ((by_given ≡ Some request) × ((missing ≡ []) × (by_found ≡ Some request))))
+    ⊎ (((by_given ≡ None) × ((missing ≡ []) × (by_found ≡ None))) ⊎ ((by_given ≡ None) × Fails missing))
 
 abbrev Settles : List Rule → Option Request → Option Request → List Given → Type 0
 Settles rules by_given by_found given = Ends by_given by_found (missing_kinds rules given)
@@ -295,7 +402,8 @@ Settles rules by_given by_found given = Ends by_given by_found (missing_kinds ru
 abbrev pub CommandReads : Text → Usage → List Rule → (List Given → Option Request) → (List Row → Option Request) → List Text → Type 0
 CommandReads name usage rules by by_rows words =
     ((request : Request) × ((option_and_then by (given_in usage words) ≡ Some request) × ((line_fault name rules words ≡ []) × (by_rows (rows_after rules [] words) ≡ Some request))))
-    ⊎ ((option_and_then by (given_in usage words) ≡ None) × Fails (line_fault name rules words))
+    ⊎ (((option_and_then by (given_in usage words) ≡ None) × ((line_fault name rules words ≡ []) × (by_rows (rows_after rules [] words) ≡ None)))
+    ⊎ ((option_and_then by (given_in usage words) ≡ None) × Fails (line_fault name rules words)))
 
 command_reads : (name : Text) (usage : Usage) (rules : List Rule) → IsLine usage rules → (by : List Given → Option Request) (by_rows : List Row → Option Request)
     → ((given : List Given) (found : List Row) → AreFound rules given found → Settles rules (by given) (by_rows found) given)
@@ -305,11 +413,12 @@ command_reads name usage rules line by by_rows settles words = go (line_reads na
     settled : (given : List Given) → given_in usage words ≡ Some given → line_fault name rules words ≡ missing_kinds rules given
         → Settles rules (by given) (by_rows (rows_after rules [] words)) given → CommandReads name usage rules by by_rows words
     settled given read fault (inl r) = inl (r.0, (ap (option_and_then by) read ∙ r.1.0, (fault ∙ r.1.1.0, r.1.1.1)))
-    settled given read fault (inr r) = inr (ap (option_and_then by) read ∙ r.0, subst Fails (sym fault) r.1)
+    settled given read fault (inr (inl r)) = inr (inl (ap (option_and_then by) read ∙ r.0, (fault ∙ r.1.0, r.1.1)))
+    settled given read fault (inr (inr r)) = inr (inr (ap (option_and_then by) read ∙ r.0, subst Fails (sym fault) r.1))
 
     go : LineReads name usage rules words → CommandReads name usage rules by by_rows words
     go (inl r) = settled r.0 r.1.0 r.1.1.0 (settles r.0 (rows_after rules [] words) r.1.1.1)
-    go (inr r) = inr (ap (option_and_then by) r.0, r.1)
+    go (inr r) = inr (inr (ap (option_and_then by) r.0, r.1))
 
 -- ---- of each command
 
@@ -324,7 +433,7 @@ off None = refl
 
 check_ends : (file : Option Text) (explained : Bool) → Ends (check_of file explained) (check_of file explained) (check_kinds false false (not (is_some file) || false))
 check_ends (Some file) explained = inl (Check file explained, (refl, (refl, refl)))
-check_ends None explained = inr (refl, tt)
+check_ends None explained = inr (inr (refl, tt))
 
 pub check_reads : (words : List Text) → CommandReads (codes "check") check_usage check_rules check_by check_of_rows words
 check_reads = command_reads (codes "check") check_usage check_rules check_is check_by check_of_rows settles
@@ -337,7 +446,7 @@ check_reads = command_reads (codes "check") check_usage check_rules check_is che
 
 plan_ends : (file route picture : Option Text) → Ends (plan_of file route picture) (plan_of file route picture) (check_kinds false false (not (is_some file) || false))
 plan_ends (Some file) route picture = inl (Plan file route picture, (refl, (refl, refl)))
-plan_ends None route picture = inr (refl, tt)
+plan_ends None route picture = inr (inr (refl, tt))
 
 pub plan_reads : (words : List Text) → CommandReads (codes "plan") plan_usage plan_rules plan_by plan_of_rows words
 plan_reads = command_reads (codes "plan") plan_usage plan_rules plan_is plan_by plan_of_rows settles
@@ -352,7 +461,7 @@ plan_reads = command_reads (codes "plan") plan_usage plan_rules plan_is plan_by 
 
 table_ends : (file : Option Text) (csv : Bool) → Ends (table_of file csv) (table_of file csv) (check_kinds false false (not (is_some file) || false))
 table_ends (Some file) csv = inl (Table file csv, (refl, (refl, refl)))
-table_ends None csv = inr (refl, tt)
+table_ends None csv = inr (inr (refl, tt))
 
 pub table_reads : (words : List Text) → CommandReads (codes "table") table_usage table_rules table_by table_of_rows words
 table_reads = command_reads (codes "table") table_usage table_rules table_is table_by table_of_rows settles
@@ -368,8 +477,8 @@ two_missing a b = check_kinds false false (not (is_some a) || (not (is_some b) |
 
 sim_ends : (a b : Option Text) → Ends (sim_of a b) (sim_of a b) (two_missing a b)
 sim_ends (Some a) (Some b) = inl (Sim a b, (refl, (refl, refl)))
-sim_ends (Some a) None = inr (refl, tt)
-sim_ends None b = inr (refl, tt)
+sim_ends (Some a) None = inr (inr (refl, tt))
+sim_ends None b = inr (inr (refl, tt))
 
 pub sim_reads : (words : List Text) → CommandReads (codes "sim") two_files_usage sim_rules sim_by sim_of_rows words
 sim_reads = command_reads (codes "sim") two_files_usage sim_rules two_is sim_by sim_of_rows settles
@@ -382,8 +491,8 @@ sim_reads = command_reads (codes "sim") two_files_usage sim_rules two_is sim_by 
 
 replay_ends : (a b : Option Text) → Ends (replay_of a b) (replay_of a b) (two_missing a b)
 replay_ends (Some a) (Some b) = inl (Replay a b, (refl, (refl, refl)))
-replay_ends (Some a) None = inr (refl, tt)
-replay_ends None b = inr (refl, tt)
+replay_ends (Some a) None = inr (inr (refl, tt))
+replay_ends None b = inr (inr (refl, tt))
 
 pub replay_reads : (words : List Text) → CommandReads (codes "replay") two_files_usage sim_rules replay_by replay_of_rows words
 replay_reads = command_reads (codes "replay") two_files_usage sim_rules two_is replay_by replay_of_rows settles
@@ -400,10 +509,10 @@ run_missing a b c d = check_kinds false false (not (is_some a) || (not (is_some 
 run_ends : (a b c d : Option Text) → ((text : Text) → d ≡ Some text → is_unsigned_in 1000 600000 text ≡ true)
     → Ends (run_of a b c (option_map time_of d)) (run_of a b c (option_and_then number_of d)) (run_missing a b c d)
 run_ends (Some a) (Some b) (Some c) (Some d) timed = inl (Run a b c (time_of d), (refl, (refl, ap (run_of (Some a) (Some b) (Some c)) (number_in 1000 600000 d (timed d refl)))))
-run_ends (Some a) (Some b) (Some c) None timed = inr (refl, tt)
-run_ends (Some a) (Some b) None d timed = inr (refl, tt)
-run_ends (Some a) None c d timed = inr (refl, tt)
-run_ends None b c d timed = inr (refl, tt)
+run_ends (Some a) (Some b) (Some c) None timed = inr (inr (refl, tt))
+run_ends (Some a) (Some b) None d timed = inr (inr (refl, tt))
+run_ends (Some a) None c d timed = inr (inr (refl, tt))
+run_ends None b c d timed = inr (inr (refl, tt))
 
 pub run_reads : (words : List Text) → CommandReads (codes "run") run_usage run_rules run_by run_of_rows words
 run_reads = command_reads (codes "run") run_usage run_rules run_is run_by run_of_rows settles
@@ -417,9 +526,38 @@ run_reads = command_reads (codes "run") run_usage run_rules run_is run_by run_of
         subst (λ r. Settles run_rules (run_by given) r given) (λ i. run_of (sym file_is i) (sym script_is i) (sym record_is i) (option_and_then number_of (sym time_is i)))
         (run_ends (value_of (codes "FILE") given) (value_of (codes "script") given) (value_of (codes "record") given) (value_of (codes "for") given) (are.taken (codes "for")))
 
-decode_ends : (hex layout : Option Text) → Ends (decode_of hex layout) (decode_of hex layout) (check_kinds false false (not (is_some hex) || false))
-decode_ends (Some hex) layout = inl (Decode hex layout, (refl, (refl, refl)))
-decode_ends None layout = inr (refl, tt)
+-- the number that a moment writes, if there is one
+moment_read : (d : Option Text) → ((text : Text) → d ≡ Some text → is_unsigned_in 0 18446744073709551 text ≡ true) → option_and_then number_of d ≡ option_map time_of d
+moment_read None timed = refl
+moment_read (Some d) timed = number_in 0 18446744073709551 d (timed d refl)
+
+chart_ends : (a b from to : Option Text) → ((text : Text) → from ≡ Some text → is_unsigned_in 0 18446744073709551 text ≡ true) → ((text : Text) → to ≡ Some text → is_unsigned_in 0 18446744073709551 text ≡ true)
+    → Ends (chart_of a b (option_map time_of from) (option_map time_of to)) (chart_of a b (option_and_then number_of from) (option_and_then number_of to)) (two_missing a b)
+chart_ends (Some a) (Some b) from to begins ends =
+    inl (Chart a b (option_map time_of from) (option_map time_of to), (refl, (refl, λ i. Some (Chart a b (moment_read from begins i) (moment_read to ends i)))))
+chart_ends (Some a) None from to begins ends = inr (inr (refl, tt))
+chart_ends None b from to begins ends = inr (inr (refl, tt))
+
+pub chart_reads : (words : List Text) → CommandReads (codes "chart") chart_usage chart_rules chart_by chart_of_rows words
+chart_reads = command_reads (codes "chart") chart_usage chart_rules chart_is chart_by chart_of_rows settles
+  where
+    settles : (given : List Given) (found : List Row) → AreFound chart_rules given found → Settles chart_rules (chart_by given) (chart_of_rows found) given
+    settles given found are =
+        let first_is = no_default given found (codes "FILE") (are.values (codes "FILE")) in
+        let second_is = no_default given found (codes "SECOND") (are.values (codes "SECOND")) in
+        let from_is = no_default given found (codes "from") (are.values (codes "from")) in
+        let to_is = no_default given found (codes "to") (are.values (codes "to")) in
+        subst (λ r. Settles chart_rules (chart_by given) r given) (λ i. chart_of (sym first_is i) (sym second_is i) (option_and_then number_of (sym from_is i)) (option_and_then number_of (sym to_is i)))
+        (chart_ends (value_of (codes "FILE") given) (value_of (codes "SECOND") given) (value_of (codes "from") given) (value_of (codes "to") given) (are.taken (codes "from")) (are.taken (codes "to")))
+
+decode_ends : (hex layout file recording : Option Text) → Ends (decode_of hex layout file recording) (decode_of hex layout file recording) []
+decode_ends (Some hex) layout None None = inl (Decode hex layout, (refl, (refl, refl)))
+decode_ends (Some hex) layout None (Some recording) = inr (inl (refl, (refl, refl)))
+decode_ends (Some hex) layout (Some file) recording = inr (inl (refl, (refl, refl)))
+decode_ends None None (Some file) (Some recording) = inl (DecodeSession file recording, (refl, (refl, refl)))
+decode_ends None None (Some file) None = inr (inl (refl, (refl, refl)))
+decode_ends None None None recording = inr (inl (refl, (refl, refl)))
+decode_ends None (Some layout) file recording = inr (inl (refl, (refl, refl)))
 
 pub decode_reads : (words : List Text) → CommandReads (codes "decode") decode_usage decode_rules decode_by decode_of_rows words
 decode_reads = command_reads (codes "decode") decode_usage decode_rules decode_is decode_by decode_of_rows settles
@@ -428,4 +566,28 @@ decode_reads = command_reads (codes "decode") decode_usage decode_rules decode_i
     settles given found are =
         let hex_is = no_default given found (codes "hex") (are.values (codes "hex")) in
         let layout_is = no_default given found (codes "layout") (are.values (codes "layout")) in
-        subst (λ r. Settles decode_rules (decode_by given) r given) (λ i. decode_of (sym hex_is i) (sym layout_is i)) (decode_ends (value_of (codes "hex") given) (value_of (codes "layout") given))
+        let file_is = no_default given found (codes "FILE") (are.values (codes "FILE")) in
+        let record_is = no_default given found (codes "SECOND") (are.values (codes "SECOND")) in
+        subst (λ r. Settles decode_rules (decode_by given) r given) (λ i. decode_of (sym hex_is i) (sym layout_is i) (sym file_is i) (sym record_is i))
+        (decode_ends (value_of (codes "hex") given) (value_of (codes "layout") given) (value_of (codes "FILE") given) (value_of (codes "SECOND") given))
+
+abbrev three_missing : Option Text → Option Text → Option Text → Kinds
+three_missing a b c = check_kinds false false (not (is_some a) || (not (is_some b) || (not (is_some c) || false)))
+
+capture_ends : (a b c : Option Text) (force : Bool) → Ends (capture_of a b c force) (capture_of a b c force) (three_missing a b c)
+capture_ends (Some a) (Some b) (Some c) force = inl (Capture a b c force, (refl, (refl, refl)))
+capture_ends (Some a) (Some b) None force = inr (inr (refl, tt))
+capture_ends (Some a) None c force = inr (inr (refl, tt))
+capture_ends None b c force = inr (inr (refl, tt))
+
+pub capture_reads : (words : List Text) → CommandReads (codes "capture") capture_usage capture_rules capture_by capture_of_rows words
+capture_reads = command_reads (codes "capture") capture_usage capture_rules capture_is capture_by capture_of_rows settles
+  where
+    settles : (given : List Given) (found : List Row) → AreFound capture_rules given found → Settles capture_rules (capture_by given) (capture_of_rows found) given
+    settles given found are =
+        let first_is = no_default given found (codes "FILE") (are.values (codes "FILE")) in
+        let second_is = no_default given found (codes "SECOND") (are.values (codes "SECOND")) in
+        let out_is = no_default given found (codes "OUT") (are.values (codes "OUT")) in
+        let force_is : is_on (first_of (codes "force") found) ≡ is_on (value_of (codes "force") given) = ap is_on (are.values (codes "force")) ∙ off (value_of (codes "force") given) in
+        subst (λ r. Settles capture_rules (capture_by given) r given) (λ i. capture_of (sym first_is i) (sym second_is i) (sym out_is i) (sym force_is i))
+        (capture_ends (value_of (codes "FILE") given) (value_of (codes "SECOND") given) (value_of (codes "OUT") given) (is_on (value_of (codes "force") given)))

@@ -1,13 +1,18 @@
 -- What was found on a command line, as what is asked for.
 use Rattle.std.proofs.Common.{◌≡◌, ℕ, Bool, false, Option, Some, None, ap, ◌∙◌, codes}
 use Rattle.std.specs.Prelude.{option_and_then}
+use Rattle.std.specs.Option.{option_map}
 use Rattle.std.specs.Str.{bytes_eq}
 use Rattle.clap.specs.Words.{first_value, found_of}
 use Rattle.clap.specs.declared.parser.matches.ArgMatches.{ArgMatches}
 use Rattle.clap.proofs.WalkLemmas.{first_value-rows}
 use Rattle.clap.specs.Walk.{Text, first_of, rows_of}
-use Rattle.station_command.specs.CommandWords.{Check, Decode, Plan, Run, Table, both_of, check_of, decode_of, is_on, plan_of, run_of, table_of}
-use Rattle.station_command.specs.inside.Rows.{check_of_rows, decode_of_rows, files_of, number_of, plan_of_rows, run_of_rows, table_of_rows}
+use Rattle.station_command.specs.CommandWords.{Capture, Chart, Check, Plan, Request, Run, Table, both_of, captured, check_of, decode_of, is_on, plan_of, run_of, table_of}
+use Rattle.station_command.specs.inside.Rows.{capture_of_rows, chart_of_rows, check_of_rows, decode_of_rows, files_of, number_of, plan_of_rows, run_of_rows, table_of_rows}
+
+-- the chart of two files
+abbrev charted : Option (Text × Text) → Option ℕ → Option ℕ → Option Request
+charted files from to = option_map (λ both. Chart both.0 both.1 from to) files
 
 module _ (m : ArgMatches) where
   abbrev FirstOf : Text → Option Text
@@ -120,14 +125,45 @@ module _ (m : ArgMatches) where
       → Some c ≡ first_value (found_of m) (codes "record") → Some t ≡ first_value (found_of m) (codes "for") → None ≡ number_of t → None ≡ run_of_rows (rows_of (found_of m))
   no_number a b c t e f g h is = four_found a b c t None e f g h is
 
+  -- ---- `chart`
+
+  pub moment_found : (id text : Text) (n : Option ℕ) → n ≡ number_of text → Some text ≡ first_value (found_of m) id → n ≡ option_and_then number_of (first_of id (rows_of (found_of m)))
+  moment_found id text n is e = is ∙ ap (option_and_then number_of) (value_found id (Some text) e)
+
+  pub moment_missing : (id : Text) → None ≡ first_value (found_of m) id → None ≡ option_and_then number_of (first_of id (rows_of (found_of m)))
+  moment_missing id e = ap (option_and_then number_of) (value_found id None e)
+
+  pub chart_found : (a b : Text) (from to : Option ℕ) → Some (a, b) ≡ files_of (rows_of (found_of m)) → from ≡ option_and_then number_of (FirstOf (codes "from"))
+      → to ≡ option_and_then number_of (FirstOf (codes "to")) → Some (Chart a b from to) ≡ chart_of_rows (rows_of (found_of m))
+  chart_found a b from to e f g = λ i. charted (e i) (f i) (g i)
+
+  pub no_chart : None ≡ files_of (rows_of (found_of m)) → None ≡ chart_of_rows (rows_of (found_of m))
+  no_chart e = ap (λ o. charted o (option_and_then number_of (FirstOf (codes "from"))) (option_and_then number_of (FirstOf (codes "to")))) e
+
   -- ---- `decode`
 
-  pub decode_found : (word : Text) (layout : Option Text) → Some word ≡ first_value (found_of m) (codes "hex") → layout ≡ first_value (found_of m) (codes "layout")
-      → Some (Decode word layout) ≡ decode_of_rows (rows_of (found_of m))
-  decode_found word layout e f =
-      let hex_is = value_found (codes "hex") (Some word) e in
+  pub decode_found : (hex layout file recording : Option Text) (asked : Option Request) → asked ≡ decode_of hex layout file recording → hex ≡ first_value (found_of m) (codes "hex")
+      → layout ≡ first_value (found_of m) (codes "layout") → file ≡ first_value (found_of m) (codes "FILE") → recording ≡ first_value (found_of m) (codes "SECOND")
+      → asked ≡ decode_of_rows (rows_of (found_of m))
+  decode_found hex layout file recording asked is e f g h =
+      let hex_is = value_found (codes "hex") hex e in
       let layout_is = value_found (codes "layout") layout f in
-      λ i. decode_of (hex_is i) (layout_is i)
+      let file_is = value_found (codes "FILE") file g in
+      let record_is = value_found (codes "SECOND") recording h in
+      is ∙ (λ i. decode_of (hex_is i) (layout_is i) (file_is i) (record_is i))
 
-  pub no_decode : None ≡ first_value (found_of m) (codes "hex") → None ≡ decode_of_rows (rows_of (found_of m))
-  no_decode e = ap (λ o. decode_of o (FirstOf (codes "layout"))) (value_found (codes "hex") None e)
+  -- ---- `capture`
+
+  pub capture_found : (a b out : Text) (force : Bool) → Some (a, b) ≡ files_of (rows_of (found_of m)) → Some out ≡ first_value (found_of m) (codes "OUT")
+      → force ≡ is_on (first_of (codes "force") (rows_of (found_of m))) → Some (Capture a b out force) ≡ capture_of_rows (rows_of (found_of m))
+  capture_found a b out force e f g =
+      let out_is = value_found (codes "OUT") (Some out) f in
+      λ i. captured (e i) (out_is i) (g i)
+
+  pub no_files : None ≡ files_of (rows_of (found_of m)) → None ≡ capture_of_rows (rows_of (found_of m))
+  no_files e = ap (λ o. captured o (FirstOf (codes "OUT")) (is_on (FirstOf (codes "force")))) e
+
+  pub no_out : (a b : Text) → Some (a, b) ≡ files_of (rows_of (found_of m)) → None ≡ first_value (found_of m) (codes "OUT") → None ≡ capture_of_rows (rows_of (found_of m))
+  no_out a b e f =
+      let out_is = value_found (codes "OUT") None f in
+      λ i. captured (e i) (out_is i) (is_on (FirstOf (codes "force")))

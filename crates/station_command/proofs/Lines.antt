@@ -5,8 +5,8 @@ use Rattle.clap.specs.declared.builder.arg.Arg.{Arg}
 use Rattle.clap.specs.declared.builder.value_parser.ValueParser.{ValueParser}
 use Rattle.clap.specs.declared.builder.value_parser.ValueParser.TheVariants as parsers
 use Rattle.clap.specs.Simple.{App}
-use Rattle.clap.specs.Walk.{Rule, rule_of}
-use Rattle.station_command.specs.Line.{alone_line, check_line, decode_line, doing_line, file_rule, layout_line, needed_rule, option_rule, plan_line, reading_line, replay_line, run_line, sim_line, station_line, switch_rule, table_line, time_rule}
+use Rattle.clap.specs.Walk.{Rule, Text, rule_of}
+use Rattle.station_command.specs.Line.{alone_line, capture_line, chart_line, check_line, datagram_line, decode_line, doing_line, file_rule, layout_line, moment_rule, needed_rule, option_rule, optional_rule, out_rule, plan_line, reading_line, replay_line, run_line, second_rule, session_line, sim_line, station_line, switch_rule, table_line, time_rule}
 
 -- ---- the commands
 
@@ -20,8 +20,10 @@ pub doing_is : (a b c d sim run replay : App) → a ≡ layout_line → sim ≡ 
 doing_is a b c d sim run replay layouts e f g first second last =
     last ∙ (λ i. with_subcommand ((second ∙ (λ j. with_subcommand ((first ∙ (λ k. with_subcommand (layouts k) (e k).top)) j) (f j).top)) i) (g i).top)
 
-pub station_is : (doing whole decode : App) → doing ≡ doing_line → decode ≡ decode_line → whole ≡ with_subcommand doing decode.top → whole ≡ station_line
-station_is doing whole decode e f is = is ∙ (λ i. with_subcommand (e i) (f i).top)
+pub station_is : (a b c d chart decode capture : App) → a ≡ doing_line → chart ≡ chart_line → decode ≡ decode_line → capture ≡ capture_line
+    → b ≡ with_subcommand a chart.top → c ≡ with_subcommand b decode.top → d ≡ with_subcommand c capture.top → d ≡ station_line
+station_is a b c d chart decode capture doing e f g first second last =
+    last ∙ (λ i. with_subcommand ((second ∙ (λ j. with_subcommand ((first ∙ (λ k. with_subcommand (doing k) (e k).top)) j) (f j).top)) i) (g i).top)
 
 -- ---- the arguments
 
@@ -56,6 +58,29 @@ pub time_is : (before after : Arg) (parser : ValueParser) → after ≡ record b
 time_is before after parser others given is rule = ap rule_of others ∙ (λ i. record (rule i) { parser = (given ∙ ap Some is) i })
 
 -- `decode`
-pub decode_is : (a b c : App) (hex layout : Rule) → a ≡ new_app (codes "decode") → hex ≡ needed_rule (codes "hex") → layout ≡ option_rule (codes "layout")
-    → b ≡ with_rule a hex → c ≡ with_rule b layout → c ≡ decode_line
-decode_is a b c hex layout new h l first last = last ∙ (λ i. with_rule ((first ∙ (λ j. with_rule (new j) (h j))) i) (l i))
+pub datagram_is : (a b c : App) (hex layout : Rule) → a ≡ new_app (codes "decode") → hex ≡ option_rule (codes "hex") → layout ≡ option_rule (codes "layout")
+    → b ≡ with_rule a hex → c ≡ with_rule b layout → c ≡ datagram_line
+datagram_is a b c hex layout new h l first last = last ∙ (λ i. with_rule ((first ∙ (λ j. with_rule (new j) (h j))) i) (l i))
+
+pub decode_is : (a b c : App) (file recording : Rule) → a ≡ datagram_line → file ≡ optional_rule (codes "FILE") → recording ≡ optional_rule (codes "SECOND")
+    → b ≡ with_rule a file → c ≡ with_rule b recording → c ≡ decode_line
+decode_is a b c file recording datagram f r first last = last ∙ (λ i. with_rule ((first ∙ (λ j. with_rule (datagram j) (f j))) i) (r i))
+
+-- a command with a layout and a session
+pub session_is : (name : Text) (a b c : App) (file recording : Rule) → a ≡ new_app name → file ≡ file_rule → recording ≡ second_rule
+    → b ≡ with_rule a file → c ≡ with_rule b recording → c ≡ session_line name
+session_is name a b c file recording new f r first last = last ∙ (λ i. with_rule ((first ∙ (λ j. with_rule (new j) (f j))) i) (r i))
+
+-- `chart`
+pub moment_is : (name : Text) (before after : Arg) (parser : ValueParser) → after ≡ record before { value_parser = after.value_parser } → after.value_parser ≡ Some parser
+    → parser ≡ parsers.Unsigned 0 18446744073709551 → rule_of before ≡ option_rule name → rule_of after ≡ moment_rule name
+moment_is name before after parser others given is rule = ap rule_of others ∙ (λ i. record (rule i) { parser = (given ∙ ap Some is) i })
+
+pub chart_is : (a b c : App) (from to : Rule) → a ≡ session_line (codes "chart") → from ≡ moment_rule (codes "from") → to ≡ moment_rule (codes "to")
+    → b ≡ with_rule a from → c ≡ with_rule b to → c ≡ chart_line
+chart_is a b c from to session f t first last = last ∙ (λ i. with_rule ((first ∙ (λ j. with_rule (session j) (f j))) i) (t i))
+
+-- `capture`
+pub capture_is : (a b c : App) (out force : Rule) → a ≡ session_line (codes "capture") → out ≡ out_rule → force ≡ switch_rule (codes "force")
+    → b ≡ with_rule a out → c ≡ with_rule b force → c ≡ capture_line
+capture_is a b c out force session o s first last = last ∙ (λ i. with_rule ((first ∙ (λ j. with_rule (session j) (o j))) i) (s i))

@@ -60,20 +60,23 @@ pub record IsSwitch (rules : List Rule) (a : Rule) : Type 0 where
 
 -- ---- the files
 
--- which file is due: the first, the second, or none any more
+-- which file is due: the first, the second, the third, or none any more
 pub data Files : Type 0 where
   first_due : Files
   second_due : Files
+  third_due : Files
   none_due : Files
 
 abbrev pub position_of : Files → ℕ
 position_of first_due = 1
 position_of second_due = 2
-position_of none_due = 3
+position_of third_due = 3
+position_of none_due = 4
 
 abbrev pub after : Files → Files
 after first_due = second_due
-after second_due = none_due
+after second_due = third_due
+after third_due = none_due
 after none_due = none_due
 
 abbrev pub behind_first : List Text → List Text
@@ -84,7 +87,8 @@ behind_first (file ∷ files) = files
 abbrev pub left_of : List Text → Files → List Text
 left_of files first_due = files
 left_of files second_due = behind_first files
-left_of files none_due = behind_first (behind_first files)
+left_of files third_due = behind_first (behind_first files)
+left_of files none_due = behind_first (behind_first (behind_first files))
 
 -- the argument of the file that comes next
 pub record FileAt (files : List Text) (rules : List Rule) (n : Files) (a : Rule) : Type 0 where

@@ -4,7 +4,11 @@ use Rattle.std.specs.List.{list_any}
 use Rattle.std.specs.Option.{option_map}
 use Rattle.std.specs.Str.{bytes_eq, chars}
 use Rattle.std.specs.Str.Parse.{digits_value, without_leading_plus}
+use Rattle.clap.specs.Faults.{fault_of}
+use Rattle.clap.specs.Kinds.{Kinds, or_else}
 use Rattle.clap.specs.Lexer.{long_of}
+use Rattle.clap.specs.declared.error.kind.ErrorKind.TheVariants as kind
+use Rattle.station_command.specs.Line.{station_line}
 use Rattle.clap.specs.ValueTests.{is_unsigned_in}
 use Rattle.station_command.specs.declared.command.Asked.{Asked}
 use Rattle.station_command.specs.declared.command.Asked.TheVariants as asked
@@ -38,9 +42,13 @@ abbrev pub value_of : List ℕ → List Given → Option (List ℕ)
 value_of name [] = None
 value_of name (one ∷ given) = if bytes_eq one.0 name then Some one.1 else value_of name given
 
--- A time is a number from 1000 to 600000, in decimal digits, with or without a plus before them. All else takes any word.
+-- How long a run takes is a number from 1000 to 600000, and a moment of a chart one from 0 to 18446744073709551: in decimal
+-- digits, with or without a plus before them. All else takes any word.
 abbrev pub takes : List ℕ → List ℕ → Bool
-takes name value = if bytes_eq (codes "for") name then is_unsigned_in 1000 600000 value else true
+takes name value =
+    if bytes_eq (codes "for") name then is_unsigned_in 1000 600000 value
+    else (if bytes_eq (codes "from") name then is_unsigned_in 0 18446744073709551 value
+    else (if bytes_eq (codes "to") name then is_unsigned_in 0 18446744073709551 value else true))
 
 -- one more value, where the name has none yet and takes it
 abbrev pub with_value : List Given → List ℕ → List ℕ → Option (List Given)
@@ -101,7 +109,10 @@ pub data Request : Type 0 where
   Sim : List ℕ → List ℕ → Request
   Run : List ℕ → List ℕ → List ℕ → ℕ → Request
   Replay : List ℕ → List ℕ → Request
+  Chart : List ℕ → List ℕ → Option ℕ → Option ℕ → Request
   Decode : List ℕ → Option (List ℕ) → Request
+  DecodeSession : List ℕ → List ℕ → Request
+  Capture : List ℕ → List ℕ → List ℕ → Bool → Request
 
 -- a switch is on
 abbrev pub is_on : Option (List ℕ) → Bool
@@ -155,12 +166,32 @@ run_of _ _ _ _ = None
 abbrev pub time_of : List ℕ → ℕ
 time_of time = digits_value 10 (without_leading_plus time)
 
--- `decode --hex HEX [--layout FILE]`
-abbrev pub decode_usage : Usage
-decode_usage = record { files = []; options = codes "hex" ∷ codes "layout" ∷ []; switches = [] }
+-- `chart FILE RECORD [--from MS] [--to MS]`
+abbrev pub chart_usage : Usage
+chart_usage = record { files = codes "FILE" ∷ codes "SECOND" ∷ []; options = codes "from" ∷ codes "to" ∷ []; switches = [] }
 
-abbrev pub decode_of : Option (List ℕ) → Option (List ℕ) → Option Request
-decode_of hex layout = option_map (λ hex. Decode hex layout) hex
+abbrev pub chart_of : Option (List ℕ) → Option (List ℕ) → Option ℕ → Option ℕ → Option Request
+chart_of layout recording from to = option_map (λ files. Chart files.0 files.1 from to) (both_of layout recording)
+
+-- `decode --hex HEX [--layout FILE]`, or `decode FILE RECORD`
+abbrev pub decode_usage : Usage
+decode_usage = record { files = codes "FILE" ∷ codes "SECOND" ∷ []; options = codes "hex" ∷ codes "layout" ∷ []; switches = [] }
+
+abbrev pub decode_of : Option (List ℕ) → Option (List ℕ) → Option (List ℕ) → Option (List ℕ) → Option Request
+decode_of (Some hex) layout None None = Some (Decode hex layout)
+decode_of None None (Some file) (Some recording) = Some (DecodeSession file recording)
+decode_of _ _ _ _ = None
+
+-- `capture FILE RECORD OUT [--force]`
+abbrev pub capture_usage : Usage
+capture_usage = record { files = codes "FILE" ∷ codes "SECOND" ∷ codes "OUT" ∷ []; options = []; switches = codes "force" ∷ [] }
+
+abbrev pub captured : Option (List ℕ × List ℕ) → Option (List ℕ) → Bool → Option Request
+captured (Some files) (Some out) force = Some (Capture files.0 files.1 out force)
+captured _ _ force = None
+
+abbrev pub capture_of : Option (List ℕ) → Option (List ℕ) → Option (List ℕ) → Bool → Option Request
+capture_of layout recording out force = captured (both_of layout recording) out force
 
 -- what each command asks for by what it was given
 abbrev pub check_by : List Given → Option Request
@@ -181,8 +212,14 @@ run_by given = run_of (value_of (codes "FILE") given) (value_of (codes "script")
 abbrev pub replay_by : List Given → Option Request
 replay_by given = replay_of (value_of (codes "FILE") given) (value_of (codes "SECOND") given)
 
+abbrev pub chart_by : List Given → Option Request
+chart_by given = chart_of (value_of (codes "FILE") given) (value_of (codes "SECOND") given) (option_map time_of (value_of (codes "from") given)) (option_map time_of (value_of (codes "to") given))
+
 abbrev pub decode_by : List Given → Option Request
-decode_by given = decode_of (value_of (codes "hex") given) (value_of (codes "layout") given)
+decode_by given = decode_of (value_of (codes "hex") given) (value_of (codes "layout") given) (value_of (codes "FILE") given) (value_of (codes "SECOND") given)
+
+abbrev pub capture_by : List Given → Option Request
+capture_by given = capture_of (value_of (codes "FILE") given) (value_of (codes "SECOND") given) (value_of (codes "OUT") given) (is_on (value_of (codes "force") given))
 
 -- What a command line asks for, the first word of which is the program's name.
 abbrev pub request_in : List (List ℕ) → Option Request
@@ -193,7 +230,9 @@ request_in (program ∷ command ∷ words) =
     (if bytes_eq (codes "sim") command then option_and_then sim_by (given_in two_files_usage words) else
     (if bytes_eq (codes "run") command then option_and_then run_by (given_in run_usage words) else
     (if bytes_eq (codes "replay") command then option_and_then replay_by (given_in two_files_usage words) else
-    (if bytes_eq (codes "decode") command then option_and_then decode_by (given_in decode_usage words) else None))))))
+    (if bytes_eq (codes "chart") command then option_and_then chart_by (given_in chart_usage words) else
+    (if bytes_eq (codes "decode") command then option_and_then decode_by (given_in decode_usage words) else
+    (if bytes_eq (codes "capture") command then option_and_then capture_by (given_in capture_usage words) else None))))))))
 request_in _ = None
 
 -- an answer as a request
@@ -204,8 +243,16 @@ request_of (asked.Table layout csv) = Table layout.now csv
 request_of (asked.Sim layout events) = Sim layout.now events.now
 request_of (asked.Run layout script recording for_ms) = Run layout.now script.now recording.now for_ms
 request_of (asked.Replay layout recording) = Replay layout.now recording.now
+request_of (asked.Chart layout recording from to) = Chart layout.now recording.now from to
 request_of (asked.Decode word layout) = Decode word.now (option_copied layout)
+request_of (asked.DecodeSession layout recording) = DecodeSession layout.now recording.now
+request_of (asked.Capture layout recording out force) = Capture layout.now recording.now out.now force
 
 -- What is asked is what the words say.
 abbrev pub Asks : List (List ℕ) → Asked → Type 0
 Asks words asked = request_in words ≡ Some (request_of asked)
+
+-- The kinds of error that a command line may have: those of clap's reading, and otherwise that something is missing, where its
+-- words are read and ask for nothing.
+abbrev pub faults_in : List (List ℕ) → Kinds
+faults_in words = or_else (fault_of station_line words) (if is_some (request_in words) then [] else kind.MissingRequiredArgument ∷ [])

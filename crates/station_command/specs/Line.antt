@@ -56,9 +56,37 @@ run_line = with_rule (with_rule reading_line (needed_rule (codes "record"))) tim
 abbrev pub replay_line : App
 replay_line = with_rule (with_rule (new_app (codes "replay")) file_rule) second_rule
 
--- `decode --hex HEX [--layout FILE]`
+-- a moment of a chart, in its range
+abbrev pub moment_rule : List ℕ → Rule
+moment_rule name = record (option_rule name) { parser = Some (value.Unsigned 0 18446744073709551) }
+
+-- a file that may be left out, which has a name of its own in the help
+abbrev pub optional_rule : List ℕ → Rule
+optional_rule name = record (new_rule name) { value_names = 1 }
+
+-- `decode`, with the options for a datagram
+abbrev pub datagram_line : App
+datagram_line = with_rule (with_rule (new_app (codes "decode")) (option_rule (codes "hex"))) (option_rule (codes "layout"))
+
+-- `decode --hex HEX [--layout FILE]`, or `decode FILE RECORD`
 abbrev pub decode_line : App
-decode_line = with_rule (with_rule (new_app (codes "decode")) (needed_rule (codes "hex"))) (option_rule (codes "layout"))
+decode_line = with_rule (with_rule datagram_line (optional_rule (codes "FILE"))) (optional_rule (codes "SECOND"))
+
+-- a command with a layout and a session
+abbrev pub session_line : List ℕ → App
+session_line name = with_rule (with_rule (new_app name) file_rule) second_rule
+
+-- the file to which a capture goes
+abbrev pub out_rule : Rule
+out_rule = record (new_rule (codes "OUT")) { required = true }
+
+-- `capture FILE RECORD OUT [--force]`
+abbrev pub capture_line : App
+capture_line = with_rule (with_rule (session_line (codes "capture")) out_rule) (switch_rule (codes "force"))
+
+-- `chart FILE RECORD [--from MS] [--to MS]`
+abbrev pub chart_line : App
+chart_line = with_rule (with_rule (session_line (codes "chart")) (moment_rule (codes "from"))) (moment_rule (codes "to"))
 
 -- `station`, which has a version, and tells its help where no word is given
 abbrev pub alone_line : App
@@ -76,4 +104,4 @@ doing_line = with_subcommand (with_subcommand (with_subcommand layout_line sim_l
 
 -- `station COMMAND`
 abbrev pub station_line : App
-station_line = with_subcommand doing_line decode_line.top
+station_line = with_subcommand (with_subcommand (with_subcommand doing_line chart_line.top) decode_line.top) capture_line.top

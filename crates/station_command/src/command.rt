@@ -1,16 +1,15 @@
 //! What the words of a command line ask for.
 
-ghost use Rattle.std.specs.Prelude.{◌≡◌, ◌↔◌, ◌⊎◌, IsTrue, IfOk, IfErr, None, codes, map};
+ghost use Rattle.std.specs.Prelude.{◌≡◌, ◌↔◌, ◌⊎◌, IsTrue, IfOk, IfErr, None, codes, map, option_and_then, option_copied};
 ghost use Rattle.std.specs.Option.{option_map};
-ghost use Rattle.clap.specs.Words.{FailsBy, fault_of, first_of, found_of, kind_of, rows_of, subcommand_rows_of};
-ghost use Rattle.station_command.specs.CommandWords.{Asks, is_on, request_in, request_of};
-ghost use Rattle.station_command.specs.Line.{station_line};
-ghost use Rattle.station_command.specs.inside.Rows.{check_of_rows, decode_of_rows, files_of, number_of, plan_of_rows, request_of_rows, run_of_rows, table_of_rows};
+ghost use Rattle.clap.specs.Words.{FailsBy, first_of, found_of, kind_of, rows_of, subcommand_rows_of};
+ghost use Rattle.station_command.specs.CommandWords.{Asks, faults_in, decode_of, is_on, request_in, request_of};
+ghost use Rattle.station_command.specs.inside.Rows.{capture_of_rows, chart_of_rows, check_of_rows, decode_of_rows, files_of, number_of, plan_of_rows, request_of_rows, run_of_rows, table_of_rows};
 ghost use Rattle.clap.specs.declared.error.kind.ErrorKind.TheVariants as kind;
 
 use crate::line::{
-    CHECK, CSV, DECODE, EXPLAIN, FILE, FOR, HEX, LAYOUT, PICTURE, PLAN, RECORD, REPLAY, ROUTE, RUN,
-    SCRIPT, SECOND, SIM, TABLE, station,
+    CAPTURE, CHART, CHECK, CSV, DECODE, EXPLAIN, FILE, FOR, FORCE, FROM, HEX, LAYOUT, OUT, PICTURE,
+    PLAN, RECORD, REPLAY, ROUTE, RUN, SCRIPT, SECOND, SIM, TABLE, TO, station,
 };
 use clap::error::ErrorKind;
 use clap::{ArgMatches, Error};
@@ -54,12 +53,35 @@ pub enum Asked<'a> {
         layout: &'a str,
         recording: &'a str,
     },
+    /// `chart FILE RECORD [--from MS] [--to MS]`: a recorded session on the layout in a file as a chart over true time, from one moment to another.
+    Chart {
+        layout: &'a str,
+        recording: &'a str,
+        from: Option<u64>,
+        to: Option<u64>,
+    },
     /// `decode --hex HEX [--layout FILE]`: a datagram in words, those of the layout in a file if there is one.
     Decode {
         word: &'a str,
         layout: Option<&'a str>,
     },
+    /// `decode FILE RECORD`: the datagrams of a recorded session on the layout in a file, in words.
+    DecodeSession {
+        layout: &'a str,
+        recording: &'a str,
+    },
+    /// `capture FILE RECORD OUT [--force]`: the datagrams of a recorded session on the layout in a file, as a capture in a third file, which is written over if that is wanted.
+    Capture {
+        layout: &'a str,
+        recording: &'a str,
+        out: &'a str,
+        force: bool,
+    },
 }
+
+/// What is told of words that are read and ask for nothing.
+const ASKS_NOTHING: &str =
+    "decode takes either --hex HEX, with or without --layout FILE, or FILE and RECORD";
 
 /// The value of a switch that is on.
 const ON: &str = "true";
@@ -157,14 +179,77 @@ fn asked_run<'a>(matches: &ArgMatches<'a>) -> Option<Asked<'a>>
     })
 }
 
-/// The datagram that is to be put into words.
-#[tactic(auto, using(crate::proofs::Found::decode_found, crate::proofs::Found::no_decode))]
+/// A moment of a chart, if it is given.
+#[tactic(auto, using(crate::proofs::Found::moment_found, crate::proofs::Found::moment_missing))]
+fn moment(matches: &ArgMatches<'_>, name: &str) -> Option<u64>
+    ensures { result ≡ option_and_then number_of (first_of name.now (rows_of (found_of matches.now))) }
+{
+    match matches.get_str(name) {
+        Some(text) => number(text),
+        None => None,
+    }
+}
+
+/// The chart that is asked for.
+#[tactic(auto, using(crate::proofs::Found::chart_found, crate::proofs::Found::no_chart))]
+fn asked_chart<'a>(matches: &ArgMatches<'a>) -> Option<Asked<'a>>
+    ensures { option_map request_of result ≡ chart_of_rows (rows_of (found_of matches.now)) }
+{
+    let (layout, recording) = files(matches)?;
+    let from = moment(matches, FROM);
+    let to = moment(matches, TO);
+    Some(Asked::Chart {
+        layout,
+        recording,
+        from,
+        to,
+    })
+}
+
+/// What is to be put into words: a datagram, or a session.
+#[tactic(auto, using(crate::proofs::Found::decode_found))]
 fn asked_decode<'a>(matches: &ArgMatches<'a>) -> Option<Asked<'a>>
     ensures { option_map request_of result ≡ decode_of_rows (rows_of (found_of matches.now)) }
 {
-    let word = matches.get_str(HEX)?;
+    let hex = matches.get_str(HEX);
     let layout = matches.get_str(LAYOUT);
-    Some(Asked::Decode { word, layout })
+    let file = matches.get_str(FILE);
+    let record = matches.get_str(SECOND);
+    decode_of(hex, layout, file, record)
+}
+
+/// What the values of `decode` ask for, if for anything.
+fn decode_of<'a>(
+    hex: Option<&'a str>,
+    layout: Option<&'a str>,
+    file: Option<&'a str>,
+    recording: Option<&'a str>,
+) -> Option<Asked<'a>>
+    ensures { option_map request_of result ≡ decode_of (option_copied hex.entry) (option_copied layout.entry) (option_copied file.entry) (option_copied recording.entry) }
+{
+    match (hex, layout, file, recording) {
+        (Some(word), layout, None, None) => Some(Asked::Decode { word, layout }),
+        (None, None, Some(layout), Some(recording)) => {
+            Some(Asked::DecodeSession { layout, recording })
+        }
+        _ => None,
+    }
+}
+
+/// The capture that is asked for.
+#[tactic(auto, using(crate::proofs::Found::capture_found, crate::proofs::Found::no_files, crate::proofs::Found::no_out))]
+fn asked_capture<'a>(matches: &ArgMatches<'a>) -> Option<Asked<'a>>
+    ensures { option_map request_of result ≡ capture_of_rows (rows_of (found_of matches.now)) }
+{
+    let (layout, recording) = files(matches)?;
+    let out = matches.get_str(OUT)?;
+    let force = is_on(matches, FORCE);
+    Some(Asked::Capture {
+        layout,
+        recording,
+        out,
+        force,
+    })
 }
 
 /// What was found on a command line asks for, if for anything.
@@ -185,7 +270,9 @@ fn asked_by<'a>(matches: &ArgMatches<'a>) -> Option<Asked<'a>>
             let (layout, recording) = files(matches)?;
             Some(Asked::Replay { layout, recording })
         }
+        CHART => asked_chart(matches),
         DECODE => asked_decode(matches),
+        CAPTURE => asked_capture(matches),
         _ => None,
     }
 }
@@ -196,13 +283,13 @@ fn asked_by<'a>(matches: &ArgMatches<'a>) -> Option<Asked<'a>>
 pub fn read_words<'a, S: AsStr>(alloc: Global, words: &'a [S]) -> Result<Asked<'a>, Error>
     ensures asked { IfOk result (Asks (map S.text words.entry.now)) }
     ensures refused { IfErr result (λ error. (kind_of error ≡ kind.OutOfMemory) ⊎ (request_in (map S.text words.entry.now) ≡ None)) }
-    ensures kinds { FailsBy (fault_of station_line (map S.text words.entry.now)) result }
+    ensures kinds { FailsBy (faults_in (map S.text words.entry.now)) result }
 {
     let mut command = station(alloc)?;
     let matches = command.try_get_matches_from_mut(words)?;
     match asked_by(&matches) {
         Some(asked) => Ok(asked),
-        None => Err(command.error(ErrorKind::MissingSubcommand, "no subcommand was given")?),
+        None => Err(command.error(ErrorKind::MissingRequiredArgument, ASKS_NOTHING)?),
     }
 }
 

@@ -3,7 +3,7 @@
 ghost use Rattle.std.specs.Prelude.{◌≡◌, IfOk, false};
 ghost use Rattle.clap.specs.Words.{app_of, rule_of};
 ghost use Rattle.clap.specs.declared.builder.command.Command.TheViews.{out-Command};
-ghost use Rattle.station_command.specs.Line.{alone_line, check_line, decode_line, doing_line, layout_line, needed_rule, option_rule, plan_line, reading_line, replay_line, run_line, sim_line, station_line, switch_rule, table_line, time_rule};
+ghost use Rattle.station_command.specs.Line.{alone_line, capture_line, chart_line, check_line, datagram_line, decode_line, doing_line, layout_line, moment_rule, needed_rule, option_rule, optional_rule, plan_line, reading_line, replay_line, run_line, session_line, sim_line, station_line, switch_rule, table_line, time_rule};
 
 use crate::texts;
 use clap::builder::ValueParser;
@@ -23,7 +23,11 @@ pub(crate) const RUN: &str = "run";
 
 pub(crate) const REPLAY: &str = "replay";
 
+pub(crate) const CHART: &str = "chart";
+
 pub(crate) const DECODE: &str = "decode";
+
+pub(crate) const CAPTURE: &str = "capture";
 
 /// The file of the layout, and the one that is applied to it.
 pub(crate) const FILE: &str = "FILE";
@@ -53,10 +57,23 @@ pub(crate) const HEX: &str = "hex";
 
 pub(crate) const LAYOUT: &str = "layout";
 
+/// The options of a chart.
+pub(crate) const FROM: &str = "from";
+
+pub(crate) const TO: &str = "to";
+
+/// The file and the switch of a capture.
+pub(crate) const OUT: &str = "OUT";
+
+pub(crate) const FORCE: &str = "force";
+
 /// The shortest and the longest run, in milliseconds.
 const SHORTEST: u64 = 1000;
 
 const LONGEST: u64 = 600_000;
+
+/// The last moment of a chart, in milliseconds of true time.
+const LATEST: u64 = 18_446_744_073_709_551;
 
 /// The command line of `station`, without its commands.
 fn alone<'a>(alloc: Global) -> Result<Command<'a>, AllocError>
@@ -96,7 +113,9 @@ fn about_stations<'a>(alloc: Global) -> Result<Command<'a>, AllocError>
 pub(crate) fn station<'a>(alloc: Global) -> Result<Command<'a>, AllocError>
     ensures { IfOk result (λ line. app_of line ≡ station_line) }
 {
-    about_stations(alloc)?.subcommand(decode(alloc)?)
+    let line = about_stations(alloc)?.subcommand(chart(alloc)?)?;
+    let line = line.subcommand(decode(alloc)?)?;
+    line.subcommand(capture(alloc)?)
 }
 
 /// An option with its value.
@@ -108,6 +127,14 @@ fn option<'a>(alloc: Global, name: &'a str, value: &'a str, help: &'a str) -> Ar
         .long(name)
         .value_name(value)
         .help(help)
+}
+
+/// A file that may be left out.
+fn optional<'a>(alloc: Global, name: &'a str, value: &'a str, help: &'a str) -> Arg<'a>
+    ensures rule { rule_of result ≡ optional_rule name.entry.now }
+    ensures local { result.global ≡ false }
+{
+    Arg::new(alloc, name).value_name(value).help(help)
 }
 
 /// A required option with its value.
@@ -235,14 +262,77 @@ fn replay<'a>(alloc: Global) -> Result<Command<'a>, AllocError>
         .arg(record)
 }
 
-/// `decode --hex HEX [--layout FILE]`.
-#[tactic(auto, using(crate::proofs::Lines::decode_is))]
-fn decode<'a>(alloc: Global) -> Result<Command<'a>, AllocError>
-    ensures { IfOk result (λ line. (app_of line ≡ decode_line) × ((out-Command line).has_globals ≡ false)) }
+/// `decode`, with the options for a datagram.
+#[tactic(auto, using(crate::proofs::Lines::datagram_is))]
+fn decode_alone<'a>(alloc: Global) -> Result<Command<'a>, AllocError>
+    ensures { IfOk result (λ line. (app_of line ≡ datagram_line) × ((out-Command line).has_globals ≡ false)) }
 {
     Command::new(alloc, DECODE)
         .about(texts::DECODE)
         .long_about(texts::DECODE_DETAILS)
-        .arg(needed(alloc, HEX, "HEX", texts::HEX))?
+        .arg(option(alloc, HEX, "HEX", texts::HEX))?
         .arg(option(alloc, LAYOUT, "FILE", texts::LAYOUT))
+}
+
+/// `decode --hex HEX [--layout FILE]`, or `decode FILE RECORD`.
+#[tactic(auto, using(crate::proofs::Lines::decode_is))]
+fn decode<'a>(alloc: Global) -> Result<Command<'a>, AllocError>
+    ensures { IfOk result (λ line. (app_of line ≡ decode_line) × ((out-Command line).has_globals ≡ false)) }
+{
+    let record = optional(alloc, SECOND, "RECORD", texts::RECORD);
+    decode_alone(alloc)?
+        .arg(optional(alloc, FILE, "FILE", texts::FILE))?
+        .arg(record)
+}
+
+/// A command with a layout and a session.
+#[tactic(auto, using(crate::proofs::Lines::session_is))]
+fn on_session<'a>(
+    alloc: Global,
+    name: &'a str,
+    about: &'a str,
+    details: &'a str,
+) -> Result<Command<'a>, AllocError>
+    ensures { IfOk result (λ line. (app_of line ≡ session_line name.entry.now) × ((out-Command line).has_globals ≡ false)) }
+{
+    let file = Arg::new(alloc, FILE).required(true).help(texts::FILE);
+    let record = Arg::new(alloc, SECOND)
+        .value_name("RECORD")
+        .required(true)
+        .help(texts::RECORD);
+    Command::new(alloc, name)
+        .about(about)
+        .long_about(details)
+        .arg(file)?
+        .arg(record)
+}
+
+/// A moment of a chart.
+fn moment<'a>(alloc: Global, name: &'a str, help: &'a str) -> Arg<'a>
+    ensures rule { rule_of result ≡ moment_rule name.entry.now }
+    ensures local { result.global ≡ false }
+{
+    option(alloc, name, "MS", help).value_parser(ValueParser::unsigned(0, LATEST))
+}
+
+/// `chart FILE RECORD [--from MS] [--to MS]`.
+#[tactic(auto, using(crate::proofs::Lines::chart_is))]
+fn chart<'a>(alloc: Global) -> Result<Command<'a>, AllocError>
+    ensures { IfOk result (λ line. (app_of line ≡ chart_line) × ((out-Command line).has_globals ≡ false)) }
+{
+    let from = moment(alloc, FROM, texts::FROM);
+    on_session(alloc, CHART, texts::CHART, texts::CHART_DETAILS)?
+        .arg(from)?
+        .arg(moment(alloc, TO, texts::TO))
+}
+
+/// `capture FILE RECORD OUT [--force]`.
+#[tactic(auto, using(crate::proofs::Lines::capture_is))]
+fn capture<'a>(alloc: Global) -> Result<Command<'a>, AllocError>
+    ensures { IfOk result (λ line. (app_of line ≡ capture_line) × ((out-Command line).has_globals ≡ false)) }
+{
+    let out = Arg::new(alloc, OUT).required(true).help(texts::OUT);
+    on_session(alloc, CAPTURE, texts::CAPTURE, texts::CAPTURE_DETAILS)?
+        .arg(out)?
+        .arg(switch(alloc, FORCE, texts::FORCE))
 }

@@ -117,13 +117,51 @@ it prints the first line that differs, and ends with status 3.
 
 Example: station replay examples/small.toml examples/commands.session";
 
-pub(crate) const DECODE: &str = "Puts a datagram into words";
+pub(crate) const FROM: &str = "The moment at which the chart begins, in milliseconds of true time";
 
-pub(crate) const DECODE_DETAILS: &str = "Puts a datagram into words, in one line.
+pub(crate) const TO: &str = "The moment at which the chart ends, in milliseconds of true time";
 
-It tells the sender and the receiver, the type, the sequence number and the confirmed one (SN, CS),
-the time stamp and the confirmed one (TS, CTS), and behind a colon what the datagram carries. With a
-layout its key is used and its nodes are called by name, otherwise the standard key and numbers.
-Where the bytes are no PDU, it tells the fault, and ends with status 0 all the same.
+pub(crate) const CHART: &str = "Draws a session as a chart over true time";
 
-Example: station decode --hex 32003818020000000100000000000000000000007017000000000000303330331400000000000000000023e6b5e69928e086 --layout examples/small.toml";
+pub(crate) const CHART_DETAILS: &str =
+    "Draws a session as a chart over true time, as an SVG picture on standard output.
+
+The session is applied again, as by replay. The chart has a lane for each signal (its aspect, its
+authority), point (its position, its drive), section, route, link and node, and a mark for each
+command with its answer. --from and --to cut it.
+
+Example: station chart examples/small.toml examples/commands.session > commands.svg";
+
+pub(crate) const DECODE: &str = "Puts a datagram, or those of a session, into words";
+
+pub(crate) const DECODE_DETAILS: &str =
+    "Puts a datagram, or those of a session, into words, each in one line.
+
+With --hex it is one datagram. Its line tells the sender and the receiver, the type, the sequence
+number and the confirmed one (SN, CS), the time stamp and the confirmed one (TS, CTS), and behind a
+colon what the datagram carries. With a layout its key is used and its nodes are called by name,
+otherwise the standard key and numbers. Where the bytes are no PDU, it tells the fault, and ends
+with status 0 all the same.
+
+With a layout and a session, the session is applied again, as by replay. A line for each datagram
+that is sent, delivered or lost tells true time in milliseconds, what becomes of it, and its words.
+
+Examples: station decode examples/small.toml examples/traffic.session
+          station decode --hex 32003818020000000100000000000000000000007017000000000000303330331400000000000000000023e6b5e69928e086 --layout examples/small.toml";
+
+pub(crate) const OUT: &str = "The capture, a file that Wireshark reads";
+
+pub(crate) const FORCE: &str = "Writes over the capture, if it is there already";
+
+pub(crate) const CAPTURE: &str = "Writes the datagrams of a session as a capture";
+
+pub(crate) const CAPTURE_DETAILS: &str =
+    "Writes the datagrams of a session as a capture, a file that Wireshark reads.
+
+The session is applied again, as by replay. Each datagram that is sent stands in the capture at its
+true time, with addresses that are made of the places of its two nodes in the layout. One that is
+lost has the comment lost. The file is written when the session has been applied to its end. A file
+that is there already stays as it is, unless --force stands.
+docs/WIRE.md tells how a capture is looked at.
+
+Example: station capture examples/small.toml examples/traffic.session traffic.pcapng";

@@ -1,14 +1,14 @@
 -- The station of the tests: once it was commanded its station node has sent a datagram to itself, and its points are driven.
 use Rattle.std.specs.Prelude.{ℕ, Bool, true, false, List, [], ◌∷◌, Option, Some, None, Result, Ok, Err}
-use Rattle.station_run.specs.station_sim.sci_telegram.declared.message.Side.{Side}
-use Rattle.station_run.specs.station_sim.sci_telegram.declared.message.Side.TheVariants.{Right}
-use Rattle.station_run.specs.station_sim.simulator_event.declared.event.Event.{Event}
-use Rattle.station_run.specs.station_sim.simulator_event.declared.event.Event.TheVariants.{Request, Reach}
-use Rattle.station_run.specs.station_sim.simulator_event.declared.event.NodeId.{NodeId}
-use Rattle.station_run.specs.station_sim.simulator_event.refused.Refused.{Refused}
-use Rattle.station_run.specs.station_sim.simulator_event.refused.Refused.TheVariants.{NotDriven}
-use Rattle.station_run.specs.station_sim.simulator_event.declared.reply.Answer.{Answer}
-use Rattle.station_run.specs.station_sim.simulator_event.declared.reply.Answer.TheVariants.{Accepted, Done}
+use Rattle.station_traffic.specs.station_run.station_sim.sci_telegram.declared.message.Side.{Side}
+use Rattle.station_traffic.specs.station_run.station_sim.sci_telegram.declared.message.Side.TheVariants.{Right}
+use Rattle.station_traffic.specs.station_run.station_sim.simulator_event.declared.event.Event.{Event}
+use Rattle.station_traffic.specs.station_run.station_sim.simulator_event.declared.event.Event.TheVariants.{Request, Reach}
+use Rattle.station_traffic.specs.station_run.station_sim.simulator_event.declared.event.NodeId.{NodeId}
+use Rattle.station_traffic.specs.station_run.station_sim.simulator_event.refused.Refused.{Refused}
+use Rattle.station_traffic.specs.station_run.station_sim.simulator_event.refused.Refused.TheVariants.{NotDriven}
+use Rattle.station_traffic.specs.station_run.station_sim.simulator_event.declared.reply.Answer.{Answer}
+use Rattle.station_traffic.specs.station_run.station_sim.simulator_event.declared.reply.Answer.TheVariants.{Accepted, Done}
 use Rattle.station_drive.specs.Doings.{Behaviour}
 
 abbrev pub answer : Bool → Event → Result Answer Refused

@@ -4,7 +4,9 @@ use control_table::Checked;
 use control_table::layout::PointId;
 use control_table::sci_telegram::Side;
 use station_drive::{Outgoing, Station};
-use station_run::station_sim::replay::simulator::{Answer, Event, NodeId, Refused, Reply};
+use station_traffic::station_run::station_sim::replay::simulator::{
+    Answer, Event, NodeId, Refused, Reply,
+};
 
 /// Once it was commanded its station node has sent a datagram to itself, and its points are driven.
 #[derive(Drop)]

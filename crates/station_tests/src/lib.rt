@@ -1,9 +1,11 @@
-//! Tests of what the programs `station` and `pair` do: reports, files, want of memory, runs over memory and sockets, and command
-//! lines.
+//! Tests of what the programs `station` and `pair` do: reports, files, want of memory, runs over memory and sockets, captures, and
+//! command lines.
 #![tactic(auto)]
 
 #[cfg(test)]
 mod bell;
+#[cfg(test)]
+mod captures;
 #[cfg(test)]
 mod command_bench;
 #[cfg(test)]

@@ -1,7 +1,7 @@
 //! One round of a run over memory in which all comes that a round can have.
 
 use station_network::{MemoryNetwork, SteppingClock};
-use station_run::prepare;
+use station_traffic::station_run::prepare;
 use std::alloc::Global;
 
 /// A point behind a signal, with a route over its right leg.

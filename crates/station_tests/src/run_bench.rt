@@ -2,8 +2,8 @@
 
 use station_drive::{Clock, Datagrams};
 use station_network::{MemoryNetwork, NetCall};
-use station_run::station_sim::replay_text;
-use station_run::{Asked, Prepared, prepare, run};
+use station_traffic::station_run::station_sim::replay_text;
+use station_traffic::station_run::{Asked, Prepared, prepare, run};
 use std::alloc::Global;
 use std::io;
 use std::io::Write;

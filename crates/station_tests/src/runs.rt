@@ -4,7 +4,7 @@ use crate::command_bench::expect_of;
 use crate::run_bench::{
     Drive, SMALL, Told, is_same, lacks_delivery, run_over_sockets, run_small, whole_lines,
 };
-use station_run::Asked;
+use station_traffic::station_run::Asked;
 use std::alloc::{AllocError, Global};
 use std::fs::File;
 use std::ops::Range;
@@ -227,7 +227,7 @@ fn seen_after(rt: &HostRuntime, seconds: u64, record: &str) -> Vec<u8> {
 }
 
 /// What is written in a file; nothing where it can't be read.
-fn read(rt: &HostRuntime, file: &str) -> Vec<u8> {
+pub(crate) fn read(rt: &HostRuntime, file: &str) -> Vec<u8> {
     fs::read(rt, file).unwrap_or(Vec::new(rt.alloc()))
 }
 

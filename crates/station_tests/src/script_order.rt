@@ -7,7 +7,7 @@ use control_table::layout::{Layout, SectionId};
 use control_table::sci_telegram::Occupancy;
 use station_drive::drive;
 use station_network::{MemoryNetwork, SteppingClock};
-use station_run::station_sim::replay::simulator::Event;
+use station_traffic::station_run::station_sim::replay::simulator::Event;
 use std::alloc::Global;
 use std::test::Fail;
 

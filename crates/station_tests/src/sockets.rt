@@ -3,7 +3,7 @@
 use crate::memory::receives;
 use station_drive::{Clock, Datagrams, NetFault};
 use station_network::{RoundClock, Sockets};
-use station_run::station_sim::replay::simulator::NodeId;
+use station_traffic::station_run::station_sim::replay::simulator::NodeId;
 use std::alloc::Global;
 use std::cell::Cell;
 use std::io;

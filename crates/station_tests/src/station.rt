@@ -11,14 +11,16 @@ const HELP: &str = "The interlocking of a railway station
 Usage: station <COMMAND>
 
 Commands:
-  check   Checks the layout of a station and its table of routes
-  plan    Draws the track plan of a layout
-  table   Prints the control table of a layout
-  sim     Applies lines of events to a station of a layout
-  run     Runs a station of a layout over loopback sockets
-  replay  Applies a recorded session to a station of a layout again
-  decode  Puts a datagram into words
-  help    Print this message or the help of the given subcommand(s)
+  check    Checks the layout of a station and its table of routes
+  plan     Draws the track plan of a layout
+  table    Prints the control table of a layout
+  sim      Applies lines of events to a station of a layout
+  run      Runs a station of a layout over loopback sockets
+  replay   Applies a recorded session to a station of a layout again
+  chart    Draws a session as a chart over true time
+  decode   Puts a datagram, or those of a session, into words
+  capture  Writes the datagrams of a session as a capture
+  help     Print this message or the help of the given subcommand(s)
 
 Options:
   -h, --help     Print help
@@ -208,14 +210,78 @@ Options:
           Print help (see a summary with '-h')
 ";
 
-const SHORT_DECODE_HELP: &str = "Puts a datagram into words
+const CHART_HELP: &str =
+    "Draws a session as a chart over true time, as an SVG picture on standard output.
 
-Usage: station decode [OPTIONS] --hex <HEX>
+The session is applied again, as by replay. The chart has a lane for each signal (its aspect, its
+authority), point (its position, its drive), section, route, link and node, and a mark for each
+command with its answer. --from and --to cut it.
+
+Example: station chart examples/small.toml examples/commands.session > commands.svg
+
+Usage: station chart [OPTIONS] <FILE> <RECORD>
+
+Arguments:
+  <FILE>
+          The layout, a TOML file
+
+  <RECORD>
+          The recorded session
+
+Options:
+      --from <MS>
+          The moment at which the chart begins, in milliseconds of true time
+
+      --to <MS>
+          The moment at which the chart ends, in milliseconds of true time
+
+  -h, --help
+          Print help (see a summary with '-h')
+";
+
+const SHORT_DECODE_HELP: &str = "Puts a datagram, or those of a session, into words
+
+Usage: station decode [OPTIONS] [FILE] [RECORD]
+
+Arguments:
+  [FILE]    The layout, a TOML file
+  [RECORD]  The recorded session
 
 Options:
       --hex <HEX>      The bytes of the datagram in hexadecimal digits, a hyphen for none
       --layout <FILE>  The layout whose key and names are used, a TOML file
   -h, --help           Print help (see more with '--help')
+";
+
+const CAPTURE_HELP: &str =
+    "Writes the datagrams of a session as a capture, a file that Wireshark reads.
+
+The session is applied again, as by replay. Each datagram that is sent stands in the capture at its
+true time, with addresses that are made of the places of its two nodes in the layout. One that is
+lost has the comment lost. The file is written when the session has been applied to its end. A file
+that is there already stays as it is, unless --force stands.
+docs/WIRE.md tells how a capture is looked at.
+
+Example: station capture examples/small.toml examples/traffic.session traffic.pcapng
+
+Usage: station capture [OPTIONS] <FILE> <RECORD> <OUT>
+
+Arguments:
+  <FILE>
+          The layout, a TOML file
+
+  <RECORD>
+          The recorded session
+
+  <OUT>
+          The capture, a file that Wireshark reads
+
+Options:
+      --force
+          Writes over the capture, if it is there already
+
+  -h, --help
+          Print help (see a summary with '-h')
 ";
 
 const NO_FILE: &str = "error: the following required arguments were not provided:
@@ -244,6 +310,14 @@ const NO_EVENTS: &str = "error: the following required arguments were not provid
   <EVENTS>
 
 Usage: station sim <FILE> <EVENTS>
+
+For more information, try '--help'.
+";
+
+const NO_OUT: &str = "error: the following required arguments were not provided:
+  <OUT>
+
+Usage: station capture <FILE> <RECORD> <OUT>
 
 For more information, try '--help'.
 ";
@@ -280,6 +354,11 @@ const NO_TIME: &str = "error: invalid value '1s' for '--for <MS>': invalid digit
 For more information, try '--help'.
 ";
 
+const NO_MOMENT: &str = "error: invalid value '-1' for '--to <MS>': invalid digit found in string
+
+For more information, try '--help'.
+";
+
 const A_SECOND_SCRIPT: &str = "error: the argument '--script <S>' cannot be used multiple times
 
 Usage: station run --script <S> --record <R> --for <MS> <FILE>
@@ -302,62 +381,64 @@ Usage: station table [OPTIONS] <FILE>
 For more information, try '--help'.
 ";
 
-const NO_HEX: &str = "error: the following required arguments were not provided:
-  --hex <HEX>
+const NOTHING_TO_DECODE: &str =
+    "error: decode takes either --hex HEX, with or without --layout FILE, or FILE and RECORD
 
-Usage: station decode --hex <HEX> --layout <FILE>
+Usage: station <COMMAND>
 
 For more information, try '--help'.
 ";
 
-/// Command lines that ask for nothing, each with its status and what is printed.
-const PRINTED: [(&[&str], i32, &str); 26] = [
-    (&["station", "--help"], 0, HELP),
-    (&["station", "help"], 0, HELP),
-    (&["station", "check", "--help"], 0, CHECK_HELP),
-    (&["station", "check", "-h"], 0, SHORT_CHECK_HELP),
-    (&["station", "plan", "--help"], 0, PLAN_HELP),
-    (&["station", "table", "--help"], 0, TABLE_HELP),
-    (&["station", "sim", "--help"], 0, SIM_HELP),
-    (&["station", "help", "replay"], 0, REPLAY_HELP),
-    (&["station", "run", "--help"], 0, RUN_HELP),
-    (&["station", "decode", "-h"], 0, SHORT_DECODE_HELP),
-    (&["station", "--version"], 0, "station 1.0.0\n"),
-    (&["station", "-V"], 0, "station 1.0.0\n"),
-    (&["station"], 2, HELP),
-    (&["station", "check"], 2, NO_FILE),
-    (&["station", "frobnicate"], 2, NO_SUCH_COMMAND),
-    (
-        &["station", "check", "a.toml", "b.toml"],
-        2,
-        A_WORD_TOO_MANY,
-    ),
-    (&["station", "sim", "a.toml"], 2, NO_EVENTS),
-    (&["station", "replay", "a", "b", "c"], 2, A_RECORD_TOO_MANY),
+/// Command lines that ask for help or for the version, with what is printed.
+const HELPED: [(&[&str], &str); 14] = [
+    (&["station", "--help"], HELP),
+    (&["station", "help"], HELP),
+    (&["station", "check", "--help"], CHECK_HELP),
+    (&["station", "check", "-h"], SHORT_CHECK_HELP),
+    (&["station", "plan", "--help"], PLAN_HELP),
+    (&["station", "table", "--help"], TABLE_HELP),
+    (&["station", "sim", "--help"], SIM_HELP),
+    (&["station", "help", "replay"], REPLAY_HELP),
+    (&["station", "run", "--help"], RUN_HELP),
+    (&["station", "chart", "--help"], CHART_HELP),
+    (&["station", "decode", "-h"], SHORT_DECODE_HELP),
+    (&["station", "capture", "--help"], CAPTURE_HELP),
+    (&["station", "--version"], "station 1.0.0\n"),
+    (&["station", "-V"], "station 1.0.0\n"),
+];
+
+/// Command lines that ask for nothing, with what is printed.
+const REFUSED: [(&[&str], &str); 18] = [
+    (&["station", "chart", "a", "b", "--to=-1"], NO_MOMENT),
+    (&["station", "capture", "a", "b"], NO_OUT),
+    (&["station"], HELP),
+    (&["station", "check"], NO_FILE),
+    (&["station", "frobnicate"], NO_SUCH_COMMAND),
+    (&["station", "check", "a.toml", "b.toml"], A_WORD_TOO_MANY),
+    (&["station", "sim", "a.toml"], NO_EVENTS),
+    (&["station", "replay", "a", "b", "c"], A_RECORD_TOO_MANY),
     (
         &["station", "run", "f", "--script", "s"],
-        2,
         NO_RECORD_AND_NO_TIME,
     ),
     (
         &["station", "run", "f", "--script", "s", "--for", "999"],
-        2,
         TOO_SHORT,
     ),
-    (&["station", "run", "--for=600001"], 2, TOO_LONG),
-    (&["station", "run", "--for=1s"], 2, NO_TIME),
+    (&["station", "run", "--for=600001"], TOO_LONG),
+    (&["station", "run", "--for=1s"], NO_TIME),
     (
         &["station", "run", "--script=a", "--script=b"],
-        2,
         A_SECOND_SCRIPT,
     ),
+    (&["station", "table", "f", "--csv=yes"], A_VALUE_OF_A_SWITCH),
+    (&["station", "table", "--csv", "--csv"], A_SECOND_SWITCH),
+    (&["station", "decode", "--layout", "f"], NOTHING_TO_DECODE),
+    (&["station", "decode", "f"], NOTHING_TO_DECODE),
     (
-        &["station", "table", "f", "--csv=yes"],
-        2,
-        A_VALUE_OF_A_SWITCH,
+        &["station", "decode", "--hex", "-", "f", "r"],
+        NOTHING_TO_DECODE,
     ),
-    (&["station", "table", "--csv", "--csv"], 2, A_SECOND_SWITCH),
-    (&["station", "decode", "--layout", "f"], 2, NO_HEX),
 ];
 
 const CHECK: Asked<'static> = Asked::Check {
@@ -416,6 +497,20 @@ const LONG_RUN: Asked<'static> = Asked::Run {
     for_ms: 600_000,
 };
 
+const CHART: Asked<'static> = Asked::Chart {
+    layout: "a b",
+    recording: "-",
+    from: None,
+    to: None,
+};
+
+const CUT_CHART: Asked<'static> = Asked::Chart {
+    layout: "a b",
+    recording: "-",
+    from: Some(0),
+    to: Some(18_446_744_073_709_551),
+};
+
 const DECODE: Asked<'static> = Asked::Decode {
     word: "-",
     layout: None,
@@ -426,8 +521,27 @@ const NAMED_DECODE: Asked<'static> = Asked::Decode {
     layout: Some("a b"),
 };
 
+const DECODED_SESSION: Asked<'static> = Asked::DecodeSession {
+    layout: "a b",
+    recording: "-",
+};
+
+const CAPTURE: Asked<'static> = Asked::Capture {
+    layout: "a b",
+    recording: "-",
+    out: "o",
+    force: false,
+};
+
+const FORCED_CAPTURE: Asked<'static> = Asked::Capture {
+    layout: "a b",
+    recording: "-",
+    out: "--force",
+    force: true,
+};
+
 /// Command lines with what they ask for.
-const ASKED: [(&[&str], Asked<'static>); 17] = [
+const ASKED: [(&[&str], Asked<'static>); 22] = [
     (&["station", "check", "a b/c"], CHECK),
     (&["/usr/bin/other", "check", "--", "a b/c"], CHECK),
     (
@@ -466,10 +580,29 @@ const ASKED: [(&[&str], Asked<'static>); 17] = [
         ],
         LONG_RUN,
     ),
+    (&["station", "chart", "a b", "-"], CHART),
+    (
+        &[
+            "station",
+            "chart",
+            "--from=+0",
+            "a b",
+            "--to",
+            "18446744073709551",
+            "-",
+        ],
+        CUT_CHART,
+    ),
     (&["station", "decode", "--hex", "-"], DECODE),
     (
         &["station", "decode", "--layout=a b", "--hex=00"],
         NAMED_DECODE,
+    ),
+    (&["station", "decode", "a b", "-"], DECODED_SESSION),
+    (&["station", "capture", "a b", "-", "o"], CAPTURE),
+    (
+        &["station", "capture", "a b", "--force", "-", "--", "--force"],
+        FORCED_CAPTURE,
     ),
 ];
 
@@ -500,9 +633,16 @@ fn asks(rt: &impl Abort, alloc: Global, words: &[&str], wanted: Asked<'_>) -> bo
 }
 
 #[test]
-fn help_the_version_or_what_is_wrong_is_printed(rt: HostRuntime) {
-    for (words, status, text) in &PRINTED {
-        expect_text(&rt, rt.alloc(), *words, *status, *text);
+fn help_and_the_version_are_printed(rt: HostRuntime) {
+    for (words, text) in &HELPED {
+        expect_text(&rt, rt.alloc(), *words, 0, *text);
+    }
+}
+
+#[test]
+fn what_is_wrong_is_printed(rt: HostRuntime) {
+    for (words, text) in &REFUSED {
+        expect_text(&rt, rt.alloc(), *words, 2, *text);
     }
 }
 

@@ -3,7 +3,7 @@
 use crate::contents::show_contents;
 use crate::failure::Failure;
 use crate::files::{parts, read};
-use crate::report::{show_behind_comments, show_report};
+use crate::report::{show_behind_comments, show_explained, show_report};
 use std::alloc::{AllocError, Global};
 use std::io::Write;
 
@@ -56,6 +56,7 @@ fn show_as<W: Write>(alloc: Global, kind: &str, text: &str, out: &mut W) -> Resu
     match kind {
         "report" => show_report(alloc, text, out)?,
         "commented" => show_behind_comments(alloc, text, out)?,
+        "explain" => show_explained(alloc, text, out)?,
         _ => show_contents(alloc, text, out)?,
     }
     Ok(())

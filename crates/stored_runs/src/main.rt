@@ -4,12 +4,17 @@
 //! - `sim LAYOUT EVENTS`: the lines of a file are carried out, and answered one by one;
 //! - `replay LAYOUT SESSION`: a recorded session is applied again;
 //! - `each-sim LAYOUT EVENTS` and `each-replay LAYOUT SESSION`: so with each line of a file, as if it stood alone;
-//! - `script LAYOUT SCRIPT`: a script is judged.
+//! - `script LAYOUT SCRIPT`: a script is judged;
+//! - `decode-session LAYOUT SESSION` and `capture LAYOUT SESSION`: what goes over the network in a session is told in words,
+//!   or captured;
+//! - `chart LAYOUT SESSION FROM TO`: a session is drawn, from one time in milliseconds to another, or a hyphen where none is
+//!   asked for.
 //!
 //! Of layouts, most of them a small station with a change:
 //!
 //! - `report CASES`: what `station check` writes, and its status;
 //! - `commented CASES`: the same of the text behind many lines of comment;
+//! - `explain CASES`: what `station check --explain` writes, and its status;
 //! - `table LAYOUT` and `csv LAYOUT`: the control table of a layout, in either form;
 //! - `contents CASES`: what the layout reads from the text, and what the control table says of each route.
 //!
@@ -31,6 +36,7 @@
 #![tactic(auto)]
 
 mod cases;
+mod charts;
 mod contents;
 mod datagrams;
 mod failure;

@@ -2,7 +2,8 @@
 
 use crate::failure::Failure;
 use crate::status::write_end;
-use station_sim::station_check::check_text;
+use station_chart::station_traffic::station_run::station_sim::station_check::check_text;
+use station_explain::explain_text;
 use std::alloc::{AllocError, Global};
 use std::io;
 use std::io::Write;
@@ -14,6 +15,13 @@ const MANY: usize = 2000;
 pub(crate) fn show_report<W: Write>(alloc: Global, text: &str, out: &mut W) -> io::Result<()> {
     let mut told = Vec::new(alloc);
     let status = check_text(alloc, text, out, &mut told);
+    write_end(told.as_slice(), status, out)
+}
+
+/// Writes the report on a text, with a fault explained, and the status.
+pub(crate) fn show_explained<W: Write>(alloc: Global, text: &str, out: &mut W) -> io::Result<()> {
+    let mut told = Vec::new(alloc);
+    let status = explain_text(alloc, text, out, &mut told);
     write_end(told.as_slice(), status, out)
 }
 

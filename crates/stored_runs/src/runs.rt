@@ -2,7 +2,7 @@
 
 use crate::failure::Failure;
 use crate::files::{parts, read};
-use crate::{cases, datagrams, pairs, stations, tables};
+use crate::{cases, charts, datagrams, pairs, stations, tables};
 use station_table::Form;
 use std::io::{BufWriter, Write};
 
@@ -25,9 +25,10 @@ pub(crate) fn carry_out_all(rt: &HostRuntime) -> Result<(), Failure> {
 fn carry_out<W: Write>(rt: &HostRuntime, run: &str, out: &mut W) -> Result<(), Failure> {
     let (kind, files) = parts(run, " ")?;
     match kind {
-        "report" | "commented" | "contents" => cases::carry_out(rt, kind, files, out),
+        "report" | "commented" | "explain" | "contents" => cases::carry_out(rt, kind, files, out),
         "table" => tables::print(rt, files, Form::Markdown, out),
         "csv" => tables::print(rt, files, Form::Csv, out),
+        "chart" => charts::draw(rt, files, out),
         "decode" => datagrams::decode_named(rt, files, out),
         "plain-decode" => datagrams::decode_plain(rt, files, out),
         "pair" => pairs::run_file(rt, files, out),

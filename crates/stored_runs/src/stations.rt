@@ -4,12 +4,16 @@ use crate::failure::Failure;
 use crate::files::{parts, read};
 use crate::status::write_told;
 use control_table::Checked;
-use station_sim::replay::read_script;
-use station_sim::station_check::table_of;
-use station_sim::{replay_text, sim_text};
+use station_chart::station_traffic::station_run::station_sim::replay::read_script;
+use station_chart::station_traffic::station_run::station_sim::station_check::table_of;
+use station_chart::station_traffic::station_run::station_sim::{replay_text, sim_text};
+use station_chart::station_traffic::{capture_session, decode_session_text};
 use std::alloc::{AllocError, Global};
 use std::io;
 use std::io::Write;
+
+/// How many bytes stand in a line.
+const ROW: usize = 32;
 
 /// Does what a line asks for with a layout and another file.
 pub(crate) fn carry_out<W: Write>(
@@ -38,6 +42,8 @@ fn run<W: Write>(
         "each-sim" => each_sim(alloc, layout, text, out)?,
         "each-replay" => each_replay(alloc, layout, text, out)?,
         "script" => judge(alloc, layout, text, out)?,
+        "decode-session" => decode(alloc, layout, text, out)?,
+        "capture" => capture(alloc, layout, text, out)?,
         _ => return Err(Failure::Words),
     }
     Ok(())
@@ -55,6 +61,34 @@ fn replay<W: Write>(alloc: Global, layout: &str, session: &str, out: &mut W) -> 
     let mut fault = Vec::new(alloc);
     let status = replay_text(alloc, layout, session, out, &mut fault);
     write_told(fault.as_slice(), status, out)
+}
+
+/// Tells what goes over the network in a session, and the fault if there is one, and the status.
+fn decode<W: Write>(alloc: Global, layout: &str, session: &str, out: &mut W) -> io::Result<()> {
+    let mut fault = Vec::new(alloc);
+    let status = decode_session_text(alloc, layout, session, out, &mut fault);
+    write_told(fault.as_slice(), status, out)
+}
+
+/// Writes the capture of a session in hexadecimal digits, or the fault, and the status.
+fn capture<W: Write>(alloc: Global, layout: &str, session: &str, out: &mut W) -> io::Result<()> {
+    let mut file = Vec::new(alloc);
+    let mut fault = Vec::new(alloc);
+    let status = capture_session(alloc, layout, session, &mut file, &mut fault);
+    write_digits(file.as_slice(), out)?;
+    write_told(fault.as_slice(), status, out)
+}
+
+/// Writes bytes in hexadecimal digits, 32 bytes in a line.
+fn write_digits<W: Write>(bytes: &[u8], out: &mut W) -> io::Result<()> {
+    for row in bytes.chunks(ROW) {
+        for byte in row {
+            let byte = *byte;
+            write!(out, "{byte:02x}")?;
+        }
+        out.writeln("")?;
+    }
+    Ok(())
 }
 
 /// Carries out each line alone.

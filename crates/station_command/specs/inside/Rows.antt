@@ -4,7 +4,7 @@ use Rattle.std.specs.Str.{bytes_eq}
 use Rattle.std.specs.Str.Parse.{digits_value, without_leading_plus}
 use Rattle.clap.specs.ValueTests.{is_numeral}
 use Rattle.clap.specs.Words.{Row, Text, first_of}
-use Rattle.station_command.specs.CommandWords.{Request, both_of, check_of, decode_of, is_on, plan_of, replay_of, run_of, sim_of, table_of}
+use Rattle.station_command.specs.CommandWords.{Request, both_of, capture_of, chart_of, check_of, decode_of, is_on, plan_of, replay_of, run_of, sim_of, table_of}
 
 -- the two files of a subcommand
 abbrev pub files_of : List Row → Option (Text × Text)
@@ -36,8 +36,14 @@ run_of_rows rows = run_of (first_of (codes "FILE") rows) (first_of (codes "scrip
 abbrev pub replay_of_rows : List Row → Option Request
 replay_of_rows rows = replay_of (first_of (codes "FILE") rows) (first_of (codes "SECOND") rows)
 
+abbrev pub chart_of_rows : List Row → Option Request
+chart_of_rows rows = chart_of (first_of (codes "FILE") rows) (first_of (codes "SECOND") rows) (option_and_then number_of (first_of (codes "from") rows)) (option_and_then number_of (first_of (codes "to") rows))
+
 abbrev pub decode_of_rows : List Row → Option Request
-decode_of_rows rows = decode_of (first_of (codes "hex") rows) (first_of (codes "layout") rows)
+decode_of_rows rows = decode_of (first_of (codes "hex") rows) (first_of (codes "layout") rows) (first_of (codes "FILE") rows) (first_of (codes "SECOND") rows)
+
+abbrev pub capture_of_rows : List Row → Option Request
+capture_of_rows rows = capture_of (first_of (codes "FILE") rows) (first_of (codes "SECOND") rows) (first_of (codes "OUT") rows) (is_on (first_of (codes "force") rows))
 
 -- what a subcommand of this name asks for
 abbrev pub request_by : Text → List Row → Option Request
@@ -48,7 +54,9 @@ request_by name rows =
     (if bytes_eq name (codes "sim") then sim_of_rows rows else
     (if bytes_eq name (codes "run") then run_of_rows rows else
     (if bytes_eq name (codes "replay") then replay_of_rows rows else
-    (if bytes_eq name (codes "decode") then decode_of_rows rows else None))))))
+    (if bytes_eq name (codes "chart") then chart_of_rows rows else
+    (if bytes_eq name (codes "decode") then decode_of_rows rows else
+    (if bytes_eq name (codes "capture") then capture_of_rows rows else None))))))))
 
 abbrev pub request_of_rows : Option (Text × List Row) → Option Request
 request_of_rows None = None
