@@ -20,7 +20,7 @@ use std::fmt;
 const ADVICE_LENGTH: usize = 640;
 
 /// What is told in a second line.
-#[derive(Clone, Copy, Debug)]
+#[derive(Clone, Copy)]
 pub(crate) enum Advice {
     /// The text is no TOML from a place on.
     Broken(TextPlace),
@@ -47,7 +47,7 @@ pub(crate) enum Advice {
 }
 
 /// What two entries have that may stand in a layout once.
-#[derive(Clone, Copy, Debug)]
+#[derive(Clone, Copy)]
 pub(crate) enum Common {
     /// A name.
     Name(Name),
@@ -62,7 +62,7 @@ pub(crate) enum Common {
 }
 
 /// What an entry names that isn't there, or is of another kind, by what is wanted.
-#[derive(Clone, Copy, Debug)]
+#[derive(Clone, Copy)]
 pub(crate) enum Missed {
     /// A section.
     Section(Name),
@@ -81,7 +81,7 @@ pub(crate) enum Missed {
 }
 
 /// The text is no TOML from a place on.
-#[derive(Clone, Copy, Debug)]
+#[derive(Clone, Copy)]
 struct BrokenWords(TextPlace);
 
 impl fmt::Display for BrokenWords {

@@ -4,7 +4,7 @@ use control_table::sci_telegram::{Name, Side};
 use layout_text::PortName;
 
 /// What is wrong with a route.
-#[derive(Clone, Copy, Debug)]
+#[derive(Clone, Copy)]
 pub(crate) enum RouteDetail {
     /// Its path is empty.
     Empty,
@@ -35,7 +35,7 @@ pub(crate) enum RouteDetail {
 }
 
 /// What is wrong with the points of a route.
-#[derive(Clone, Copy, Debug)]
+#[derive(Clone, Copy)]
 pub(crate) enum SideDetail {
     /// This point stands under `points`, and its path doesn't lead over it.
     OffPath(Name),

@@ -12,7 +12,7 @@ use layout_text::PortName;
 use std::fmt;
 
 /// A path leads to a port to which nothing is joined.
-#[derive(Clone, Copy, Debug)]
+#[derive(Clone, Copy)]
 struct DeadEndWords(FaultyRoute, PortName);
 
 impl fmt::Display for DeadEndWords {
@@ -29,7 +29,7 @@ impl fmt::Display for DeadEndWords {
 }
 
 /// A path leads to a port that is joined to another, from where no train leaves by the third.
-#[derive(Clone, Copy, Debug)]
+#[derive(Clone, Copy)]
 struct AstrayWords(FaultyRoute, PortName, PortName, PortName);
 
 impl fmt::Display for AstrayWords {
@@ -48,7 +48,7 @@ impl fmt::Display for AstrayWords {
 }
 
 /// A path comes back to a section that it left.
-#[derive(Clone, Copy, Debug)]
+#[derive(Clone, Copy)]
 struct ComesBackWords(FaultyRoute, Name);
 
 impl fmt::Display for ComesBackWords {
@@ -65,7 +65,7 @@ impl fmt::Display for ComesBackWords {
 }
 
 /// A path leads over an element twice.
-#[derive(Clone, Copy, Debug)]
+#[derive(Clone, Copy)]
 struct TwiceWords(FaultyRoute, Name);
 
 impl fmt::Display for TwiceWords {
@@ -79,7 +79,7 @@ impl fmt::Display for TwiceWords {
 }
 
 /// A point of a path isn't written.
-#[derive(Clone, Copy, Debug)]
+#[derive(Clone, Copy)]
 struct UnwrittenWords(FaultyRoute, Name);
 
 impl fmt::Display for UnwrittenWords {
@@ -96,7 +96,7 @@ impl fmt::Display for UnwrittenWords {
 }
 
 /// A leg isn't used, and is joined to a port at which no signal stands.
-#[derive(Clone, Copy, Debug)]
+#[derive(Clone, Copy)]
 struct OpenLegWords(FaultyRoute, PortName, PortName);
 
 impl fmt::Display for OpenLegWords {
@@ -114,7 +114,7 @@ impl fmt::Display for OpenLegWords {
 }
 
 /// A path ends where the exit isn't.
-#[derive(Clone, Copy, Debug)]
+#[derive(Clone, Copy)]
 struct ElsewhereWords(FaultyRoute, PortName, Name);
 
 impl fmt::Display for ElsewhereWords {
@@ -132,7 +132,7 @@ impl fmt::Display for ElsewhereWords {
 }
 
 /// The exit of a route is its entry signal.
-#[derive(Clone, Copy, Debug)]
+#[derive(Clone, Copy)]
 struct AtEntryWords(FaultyRoute, Name);
 
 impl fmt::Display for AtEntryWords {
@@ -149,7 +149,7 @@ impl fmt::Display for AtEntryWords {
 }
 
 /// A signal stands in the way of a route.
-#[derive(Clone, Copy, Debug)]
+#[derive(Clone, Copy)]
 struct InWayWords(FaultyRoute, Name, PortName);
 
 impl fmt::Display for InWayWords {
@@ -167,7 +167,7 @@ impl fmt::Display for InWayWords {
 }
 
 /// A route lists another, which doesn't list it.
-#[derive(Clone, Copy, Debug)]
+#[derive(Clone, Copy)]
 struct UnansweredWords(FaultyRoute, Name);
 
 impl fmt::Display for UnansweredWords {
@@ -184,7 +184,7 @@ impl fmt::Display for UnansweredWords {
 }
 
 /// The words for what is wrong with a route.
-#[derive(Clone, Copy, Debug)]
+#[derive(Clone, Copy)]
 pub(crate) struct DetailWords(pub(crate) FaultyRoute, pub(crate) RouteDetail);
 
 impl fmt::Display for DetailWords {

@@ -11,7 +11,7 @@ use layout_text::{Place, TableName};
 use std::fmt;
 
 /// An entry of a layout, or the key of its entries.
-#[derive(Clone, Copy, Debug)]
+#[derive(Clone, Copy)]
 pub(crate) struct PlaceWords(pub(crate) Place);
 
 impl fmt::Display for PlaceWords {
@@ -31,7 +31,7 @@ impl fmt::Display for PlaceWords {
 }
 
 /// What an entry has to be.
-#[derive(Clone, Copy, Debug)]
+#[derive(Clone, Copy)]
 struct Wanted(TableName);
 
 impl fmt::Display for Wanted {
@@ -57,7 +57,7 @@ impl fmt::Display for Wanted {
 }
 
 /// What has to stand at a place.
-#[derive(Clone, Copy, Debug)]
+#[derive(Clone, Copy)]
 struct EntryWords(Place);
 
 impl fmt::Display for EntryWords {
@@ -76,7 +76,7 @@ impl fmt::Display for EntryWords {
 }
 
 /// What two entries have.
-#[derive(Clone, Copy, Debug)]
+#[derive(Clone, Copy)]
 struct CommonWords(Common);
 
 impl fmt::Display for CommonWords {
@@ -106,7 +106,7 @@ impl fmt::Display for CommonWords {
 }
 
 /// What an entry names, and what is wanted.
-#[derive(Clone, Copy, Debug)]
+#[derive(Clone, Copy)]
 struct MissedWords(Missed);
 
 impl fmt::Display for MissedWords {
@@ -150,7 +150,7 @@ impl fmt::Display for MissedWords {
 }
 
 /// An entry lacks a key.
-#[derive(Clone, Copy, Debug)]
+#[derive(Clone, Copy)]
 pub(crate) struct MissingWords(pub(crate) Place, pub(crate) FieldKey);
 
 impl fmt::Display for MissingWords {
@@ -165,7 +165,7 @@ impl fmt::Display for MissingWords {
 }
 
 /// Another value than is wanted stands under a key of an entry.
-#[derive(Clone, Copy, Debug)]
+#[derive(Clone, Copy)]
 pub(crate) struct WrongWords(pub(crate) Place, pub(crate) FieldKey, pub(crate) Kind);
 
 impl fmt::Display for WrongWords {
@@ -181,7 +181,7 @@ impl fmt::Display for WrongWords {
 }
 
 /// An entry is another value than is wanted, or what stands under its key.
-#[derive(Clone, Copy, Debug)]
+#[derive(Clone, Copy)]
 pub(crate) struct WrongEntryWords(pub(crate) Place, pub(crate) Kind);
 
 impl fmt::Display for WrongEntryWords {
@@ -196,7 +196,7 @@ impl fmt::Display for WrongEntryWords {
 }
 
 /// An entry has what the one at the second place has.
-#[derive(Clone, Copy, Debug)]
+#[derive(Clone, Copy)]
 pub(crate) struct SharedWords(pub(crate) Place, pub(crate) Common, pub(crate) Place);
 
 impl fmt::Display for SharedWords {
@@ -211,7 +211,7 @@ impl fmt::Display for SharedWords {
 }
 
 /// An entry names what isn't there.
-#[derive(Clone, Copy, Debug)]
+#[derive(Clone, Copy)]
 pub(crate) struct UnknownWords(pub(crate) Place, pub(crate) Missed);
 
 impl fmt::Display for UnknownWords {

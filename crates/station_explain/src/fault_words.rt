@@ -56,7 +56,7 @@ fn limit_words(place: Place) -> &'static str
 }
 
 /// The words for a fault of a layout.
-#[derive(Clone, Copy, Debug)]
+#[derive(Clone, Copy)]
 pub(crate) struct LayoutWords(pub(crate) LayoutFault);
 
 impl fmt::Display for LayoutWords {
@@ -148,7 +148,7 @@ fn route_words(fault: &TableFault) -> &'static str
 }
 
 /// The words for a fault of a table.
-#[derive(Clone, Copy, Debug)]
+#[derive(Clone, Copy)]
 pub(crate) struct TableWords(pub(crate) TableFault);
 
 impl fmt::Display for TableWords {

@@ -8,7 +8,7 @@ use std::fmt;
 use toml::Value;
 
 /// A key of an entry.
-#[derive(Clone, Copy, Debug)]
+#[derive(Clone, Copy)]
 pub(crate) enum FieldKey {
     Name,
     Id,
@@ -74,7 +74,7 @@ impl FieldKey {
 }
 
 /// What kind of value stands in a text.
-#[derive(Clone, Copy, Debug)]
+#[derive(Clone, Copy)]
 pub(crate) enum Kind {
     Text,
     /// This integer.

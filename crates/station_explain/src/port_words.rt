@@ -21,7 +21,7 @@ fn end_word(end: End) -> &'static str
 }
 
 /// A port as it is written.
-#[derive(Clone, Copy, Debug)]
+#[derive(Clone, Copy)]
 pub(crate) struct PortWords(pub(crate) PortName);
 
 impl fmt::Display for PortWords {

@@ -70,7 +70,7 @@ fn lies_in(layout: &Layout, element: Element, section: SectionId) -> bool
 }
 
 /// How far a path has come with a section.
-#[derive(Clone, Copy, Debug)]
+#[derive(Clone, Copy)]
 enum Visit {
     /// It wasn't there yet.
     Before,

@@ -67,7 +67,7 @@ pub(crate) fn used_behind(layout: &Layout, before: Port, left: Port) -> Option<(
 }
 
 /// What guards an unused leg.
-#[derive(Clone, Copy, Debug)]
+#[derive(Clone, Copy)]
 pub(crate) struct Guard {
     /// The leg that isn't used.
     pub(crate) leg: Port,

@@ -22,7 +22,7 @@ fn side_word(side: Side) -> &'static str
 }
 
 /// A point stands under `points` at a side at which it isn't required.
-#[derive(Clone, Copy, Debug)]
+#[derive(Clone, Copy)]
 struct PointAtWords(FaultyRoute, Name, Side);
 
 impl fmt::Display for PointAtWords {
@@ -41,7 +41,7 @@ impl fmt::Display for PointAtWords {
 }
 
 /// A point stands under `flank` at a side at which it isn't required.
-#[derive(Clone, Copy, Debug)]
+#[derive(Clone, Copy)]
 struct FlankAtWords(FaultyRoute, Name, Side);
 
 impl fmt::Display for FlankAtWords {
@@ -59,7 +59,7 @@ impl fmt::Display for FlankAtWords {
 }
 
 /// A leg isn't used, and is joined to the leg of a point that isn't written.
-#[derive(Clone, Copy, Debug)]
+#[derive(Clone, Copy)]
 struct LacksWords(FaultyRoute, PortName, PortName, Side);
 
 impl fmt::Display for LacksWords {
@@ -79,7 +79,7 @@ impl fmt::Display for LacksWords {
 }
 
 /// The words for what is wrong with the points of a route.
-#[derive(Clone, Copy, Debug)]
+#[derive(Clone, Copy)]
 pub(crate) struct SideWords(pub(crate) FaultyRoute, pub(crate) SideDetail);
 
 impl fmt::Display for SideWords {

@@ -4,7 +4,7 @@ ghost use Rattle.std.specs.Prelude.{◌≡◌};
 ghost use Rattle.station_explain.specs.Places.{behind, goes_on, place_behind};
 
 /// A place in a text. Lines and columns count from 1, and a column counts characters.
-#[derive(Clone, Copy, Debug)]
+#[derive(Clone, Copy)]
 pub(crate) struct TextPlace {
     pub(crate) line: usize,
     pub(crate) column: usize,

@@ -19,7 +19,7 @@ const ROUTE: &str = "route fault 2 Name\n";
 const LINE_LENGTH: usize = 80;
 
 /// Why no plan is written.
-#[derive(Debug, Drop)]
+#[derive(Drop)]
 pub(crate) enum Failure {
     /// The layout's text is faulty or its table isn't sound, memory is lacking, or the plan couldn't be written.
     Station(station_check::Failure),
@@ -95,7 +95,7 @@ pub(crate) fn tell_failure<E: Write>(failure: &Failure, err: &mut E)
 }
 
 /// The fault of a picture.
-#[derive(Clone, Copy, Debug)]
+#[derive(Clone, Copy)]
 struct PictureFault(SessionFault);
 
 impl fmt::Display for PictureFault {

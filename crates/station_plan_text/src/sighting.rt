@@ -10,7 +10,7 @@ use replay_lines::{point_named, section_named};
 use replay_words::{Fault, Words, decimal};
 
 /// What a line of a picture says.
-#[derive(Clone, Copy, Debug)]
+#[derive(Clone, Copy)]
 pub(crate) enum Sighting {
     /// What a signal shows.
     Signal(SignalId, Aspect),

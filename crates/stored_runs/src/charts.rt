@@ -1,15 +1,12 @@
 //! Charts of sessions.
 
 use crate::failure::Failure;
-use crate::files::{parts, read};
+use crate::files::{NOTHING, parts, read};
 use crate::status::write_told;
 use station_chart::{Cut, chart_text};
 use std::alloc::Global;
 use std::io;
 use std::io::Write;
-
-/// What stands in place of a time where none is asked for.
-const NOTHING: &str = "-";
 
 /// Draws the part of a session that a line asks for: with a layout, the session, and where the part begins and ends.
 pub(crate) fn draw<W: Write>(rt: &HostRuntime, words: &str, out: &mut W) -> Result<(), Failure> {

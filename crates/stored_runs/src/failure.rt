@@ -1,10 +1,11 @@
 //! Why the list of runs isn't carried out to its end.
 
+use crate::restarts::fault::Fault;
 use std::alloc::AllocError;
 use std::io;
 
 /// Why the list of runs isn't carried out to its end.
-#[derive(Clone, Copy, Debug)]
+#[derive(Clone, Copy)]
 pub(crate) enum Failure {
     /// A line of the list, or the beginning of a case, isn't of a known form.
     Words,
@@ -14,6 +15,8 @@ pub(crate) enum Failure {
     Change,
     /// A layout isn't sound, where a run needs one that is.
     Layout,
+    /// A node isn't made anew in all runs of a list.
+    Restarts(Fault),
     OutOfMemory,
     /// An answer can't be written.
     NotWritten,
@@ -27,6 +30,7 @@ impl Failure {
             Failure::File => "error: a file cannot be read",
             Failure::Change => "error: there is nothing to change",
             Failure::Layout => "error: a layout is not sound",
+            Failure::Restarts(fault) => fault.text(),
             Failure::OutOfMemory => "out of memory",
             Failure::NotWritten => "error: an answer cannot be written",
         }
@@ -36,6 +40,12 @@ impl Failure {
 impl From<AllocError> for Failure {
     fn from(_error: AllocError) -> Failure {
         Failure::OutOfMemory
+    }
+}
+
+impl From<Fault> for Failure {
+    fn from(fault: Fault) -> Failure {
+        Failure::Restarts(fault)
     }
 }
 

@@ -3,6 +3,9 @@
 use crate::failure::Failure;
 use std::fs;
 
+/// What stands in place of a word where nothing is asked for.
+pub(crate) const NOTHING: &str = "-";
+
 /// The text of a file.
 pub(crate) fn read(rt: &HostRuntime, file: &str) -> Result<String, Failure> {
     match fs::read_to_string(rt, file) {

@@ -8,7 +8,9 @@
 //! - `decode-session LAYOUT SESSION` and `capture LAYOUT SESSION`: what goes over the network in a session is told in words,
 //!   or captured;
 //! - `chart LAYOUT SESSION FROM TO`: a session is drawn, from one time in milliseconds to another, or a hyphen where none is
-//!   asked for.
+//!   asked for;
+//! - `restarts NAME LAYOUT EVENTS ROUNDS NUMBER: NODES`: each of these nodes is made anew behind every NUMBERth event that the
+//!   lines of EVENTS come to, ROUNDS follow behind them, and the station has to be safe after every event.
 //!
 //! Of layouts, most of them a small station with a change:
 //!
@@ -16,6 +18,8 @@
 //! - `commented CASES`: the same of the text behind many lines of comment;
 //! - `explain CASES`: what `station check --explain` writes, and its status;
 //! - `table LAYOUT` and `csv LAYOUT`: the control table of a layout, in either form;
+//! - `plan LAYOUT ROUTE PICTURE`: the track plan of a layout, with a route and with what is seen in a picture, or a hyphen where
+//!   none is asked for;
 //! - `contents CASES`: what the layout reads from the text, and what the control table says of each route.
 //!
 //! An empty line parts two cases. The first line of a case names a layout of the folder `layouts`, and says behind a colon
@@ -42,7 +46,9 @@ mod datagrams;
 mod failure;
 mod files;
 mod pairs;
+mod plans;
 mod report;
+mod restarts;
 mod runs;
 mod stations;
 mod status;

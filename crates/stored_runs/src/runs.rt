@@ -2,7 +2,8 @@
 
 use crate::failure::Failure;
 use crate::files::{parts, read};
-use crate::{cases, charts, datagrams, pairs, stations, tables};
+use crate::restarts::lists;
+use crate::{cases, charts, datagrams, pairs, plans, stations, tables};
 use station_table::Form;
 use std::io::{BufWriter, Write};
 
@@ -29,6 +30,8 @@ fn carry_out<W: Write>(rt: &HostRuntime, run: &str, out: &mut W) -> Result<(), F
         "table" => tables::print(rt, files, Form::Markdown, out),
         "csv" => tables::print(rt, files, Form::Csv, out),
         "chart" => charts::draw(rt, files, out),
+        "plan" => plans::draw(rt, files, out),
+        "restarts" => lists::carry_out(rt, files, out),
         "decode" => datagrams::decode_named(rt, files, out),
         "plain-decode" => datagrams::decode_plain(rt, files, out),
         "pair" => pairs::run_file(rt, files, out),

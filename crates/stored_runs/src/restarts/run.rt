@@ -1,14 +1,16 @@
 //! A run on a station that is looked at after every event.
 
-use crate::fault::Fault;
-use crate::known::Way;
-use crate::rounds::{POINTS, ROUND, Rounds, time};
-use crate::tally::{Tally, count};
-use crate::watch::Watch;
-use crate::worlds::{answer, delivery, is_open, new_world, nodes, sent};
+use crate::restarts::fault::Fault;
+use crate::restarts::known::Way;
+use crate::restarts::rounds::{POINTS, ROUND, Rounds, time};
+use crate::restarts::tally::{Tally, count};
+use crate::restarts::watch::Watch;
+use crate::restarts::worlds::{answer, delivery, is_open, new_world, nodes, sent};
 use control_table::Checked;
-use station_sim::replay::SimLine;
-use station_sim::replay::simulator::{Event, NodeId, World};
+use station_chart::station_traffic::station_run::station_sim::replay::SimLine;
+use station_chart::station_traffic::station_run::station_sim::replay::simulator::{
+    Event, NodeId, World,
+};
 use std::alloc::{AllocError, Global};
 
 /// After how many microseconds a node is made anew again.

@@ -1,14 +1,14 @@
 //! The runs of a list.
 
-use crate::fault::Fault;
-use crate::known::Way;
-use crate::run::Run;
-use crate::tally::Tally;
-use crate::watch::STATION;
+use crate::restarts::fault::Fault;
+use crate::restarts::known::Way;
+use crate::restarts::run::Run;
+use crate::restarts::tally::Tally;
+use crate::restarts::watch::STATION;
 use control_table::Checked;
-use station_sim::replay::SimLine;
-use station_sim::replay::simulator::simulator_run::ixl_rules::Command;
-use station_sim::replay::simulator::{Event, NodeId};
+use station_chart::station_traffic::station_run::station_sim::replay::SimLine;
+use station_chart::station_traffic::station_run::station_sim::replay::simulator::simulator_run::ixl_rules::Command;
+use station_chart::station_traffic::station_run::station_sim::replay::simulator::{Event, NodeId};
 use std::alloc::Global;
 
 /// How many more times the interlocking is made anew in every second run.

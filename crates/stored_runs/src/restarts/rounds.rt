@@ -1,10 +1,12 @@
 //! What rounds of 100 ms have come to: time goes on, what was sent before arrives, every node is called, and points come to
 //! lie.
 
-use crate::worlds::driven;
+use crate::restarts::worlds::driven;
 use control_table::layout::PointId;
 use control_table::sci_telegram::{Position, Side};
-use station_sim::replay::simulator::{ClockSteps, Event, World};
+use station_chart::station_traffic::station_run::station_sim::replay::simulator::{
+    ClockSteps, Event, World,
+};
 use std::alloc::{AllocError, Global};
 
 /// How many milliseconds a round has.

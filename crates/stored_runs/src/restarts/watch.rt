@@ -1,10 +1,12 @@
 //! What is known of a station, and what is asked of it after every event.
 
-use crate::fault::Fault;
-use crate::known::Known;
-use crate::tally::{Tally, count};
-use station_sim::replay::simulator::simulator_run::ixl_rules::Refusal;
-use station_sim::replay::simulator::{Answer, Event, NodeId, Refused};
+use crate::restarts::fault::Fault;
+use crate::restarts::known::Known;
+use crate::restarts::tally::{Tally, count};
+use station_chart::station_traffic::station_run::station_sim::replay::simulator::simulator_run::ixl_rules::Refusal;
+use station_chart::station_traffic::station_run::station_sim::replay::simulator::{
+    Answer, Event, NodeId, Refused,
+};
 
 /// For how many microseconds an interlocking that was made holds.
 const HOLD: u64 = 6_000_000;

@@ -1,0 +1,110 @@
+//! A line of the list of runs that asks for restarts.
+
+use crate::failure::Failure;
+use crate::files::read;
+use crate::restarts::trials::{List, events_of};
+use control_table::Checked;
+use replay_words::{Words, decimal};
+use station_chart::station_traffic::station_run::station_sim::replay::{
+    SimLine, node_named, read_lines,
+};
+use station_chart::station_traffic::station_run::station_sim::station_check::table_of;
+use std::io::Write;
+
+/// What a line asks for: a list has a name, a layout, lines, what follows behind them, a number, and nodes.
+#[derive(Clone, Copy)]
+struct Asked<'a> {
+    name: &'a str,
+    layout: &'a str,
+    events: &'a str,
+    rounds: &'a str,
+    step: usize,
+    nodes: &'a str,
+}
+
+/// Makes each node anew that a line names, in all runs of its list, and writes what happened. It fails where a station isn't
+/// safe, or refuses what it may not refuse.
+pub(crate) fn carry_out<W: Write>(
+    rt: &HostRuntime,
+    words: &str,
+    out: &mut W,
+) -> Result<(), Failure> {
+    let Some(asked) = asked(words) else {
+        return Err(Failure::Words);
+    };
+    let table = table_in(rt, asked.layout)?;
+    try_list(rt, &table, asked, out)
+}
+
+/// What the words of a line ask for.
+fn asked(words: &str) -> Option<Asked<'_>> {
+    let (files, nodes) = words.split_once(": ")?;
+    let mut words = Words::of(files);
+    Some(Asked {
+        name: words.next()?,
+        layout: words.next()?,
+        events: words.next()?,
+        rounds: words.next()?,
+        step: decimal(words.next()?).ok()? as usize,
+        nodes,
+    })
+}
+
+/// The same over its table.
+fn try_list<W: Write>(
+    rt: &HostRuntime,
+    table: &Checked,
+    asked: Asked<'_>,
+    out: &mut W,
+) -> Result<(), Failure> {
+    let lines = lines_in(rt, table, asked.events)?;
+    let events = events_of(rt.alloc(), table, lines)?;
+    let rounds = lines_in(rt, table, asked.rounds)?;
+    let list = List {
+        name: asked.name,
+        table,
+        events: &events,
+        rounds: &rounds,
+        step: asked.step,
+    };
+    let (name, events) = (list.name, list.events.len());
+    writeln!(out, "{name}: {events} events")?;
+    for word in Words::of(asked.nodes) {
+        try_word(rt, &list, word, out)?;
+    }
+    Ok(())
+}
+
+/// Makes the node of a name anew, and writes what happened.
+fn try_word<W: Write>(
+    rt: &HostRuntime,
+    list: &List<'_>,
+    word: &str,
+    out: &mut W,
+) -> Result<(), Failure> {
+    let Ok(node) = node_named(list.table.layout(), word) else {
+        return Err(Failure::Words);
+    };
+    let tally = list.try_node(rt, node)?;
+    let name = list.name;
+    writeln!(out, "{name} {word}: {tally}")?;
+    Ok(())
+}
+
+/// The table of a file with a layout.
+fn table_in(rt: &HostRuntime, file: &str) -> Result<Checked, Failure> {
+    let text = read(rt, file)?;
+    match table_of(rt.alloc(), text.as_str()) {
+        Ok(table) => Ok(table),
+        Err(_) => Err(Failure::Layout),
+    }
+}
+
+/// The lines of a file.
+fn lines_in(rt: &HostRuntime, table: &Checked, file: &str) -> Result<Vec<SimLine>, Failure> {
+    let text = read(rt, file)?;
+    match read_lines(rt.alloc(), table, text.as_str()) {
+        Ok(lines) => Ok(lines),
+        Err(_) => Err(Failure::Words),
+    }
+}
