@@ -1,5 +1,5 @@
 #!/usr/bin/env python3
-"""Makes each node of a station anew after every event of every list of the crate station_restarts, with the crate's program:
+"""Makes each node of a station anew after every event of every list of restarts of the program stored_runs:
 the gate takes each 3rd event of the small station's lists, each 20th of those in which stamps wrap, and each 60th of the
 junction's. The station is looked at after each single event from its beginning on. The lists are shared out to the
 processors, node by node.
@@ -9,7 +9,7 @@ usage: python3 bench/every_restart.py [EVERY]. After every EVERYth event, 1 wher
 import os, subprocess, sys, tempfile
 from concurrent.futures import ThreadPoolExecutor
 
-CRATE = os.path.join(os.path.dirname(os.path.dirname(os.path.abspath(__file__))), "crates", "station_restarts")
+CRATE = os.path.join(os.path.dirname(os.path.dirname(os.path.abspath(__file__))), "crates", "stored_runs")
 
 
 def tried(files, node):
@@ -19,8 +19,8 @@ def tried(files, node):
             if name != "runs":
                 os.symlink(f"{CRATE}/data/{name}", f"{room}/{name}")
         with open(f"{room}/runs", "w") as runs:
-            runs.write(f"{files}: {node}\n")
-        ran = subprocess.run([f"{CRATE}/out/station_restarts"], cwd=room, capture_output=True, text=True)
+            runs.write(f"restarts {files}: {node}\n")
+        ran = subprocess.run([f"{CRATE}/out/stored_runs"], cwd=room, capture_output=True, text=True)
     if ran.returncode:
         raise SystemExit(f"{files}: {node}: status {ran.returncode}: {ran.stderr}")
     return ran.stdout.splitlines()[-1]
@@ -31,7 +31,10 @@ def main():
     jobs = []
     with open(f"{CRATE}/data/runs") as runs:
         for line in runs.read().splitlines():
-            files, nodes = line.split(": ")
+            kind, _, words = line.partition(" ")
+            if kind != "restarts":
+                continue
+            files, nodes = words.split(": ")
             files = files.rsplit(" ", 1)[0]
             jobs += [(f"{files} {every}", node) for node in nodes.split()]
     with ThreadPoolExecutor(os.cpu_count()) as pool:

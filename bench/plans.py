@@ -1,7 +1,7 @@
 #!/usr/bin/env python3
 """Judges plans of layouts, written as SVG.
 
-    plans.py              those that the program stored_plans prints, as they stand in its file `stdout`; and tells where a
+    plans.py              those that the program stored_runs prints, as they stand in its file `stdout`; and tells where a
                           plan of the folder examples is another one than is printed
     plans.py --to FOLDER  the same, and writes them into a folder, each with a PNG beside it
     plans.py --examples   writes those anew that stand in the folder examples
@@ -19,7 +19,7 @@ import sys
 import xml.etree.ElementTree as tree
 
 TOP = pathlib.Path(__file__).resolve().parent.parent
-STORED = TOP / 'crates/stored_plans/stdout'
+STORED = TOP / 'crates/stored_runs/stdout'
 NAMESPACE = '{http://www.w3.org/2000/svg}'
 ADVANCE, ABOVE, BELOW = 6, 8, 2
 # What may lie under a text: the tint of a section.
@@ -152,13 +152,14 @@ def stored():
     """The names and the texts of the plans that are printed: each stands behind the line that asks for it."""
     asked, lines = None, []
     for line in STORED.read_text().splitlines(keepends=True):
-        if line.startswith('<') or lines:
+        if lines or (asked and line.startswith('<svg')):
             lines.append(line)
             if line == '</svg>\n':
                 yield asked, ''.join(lines)
-                lines = []
+                asked, lines = None, []
         else:
-            asked = '-'.join(word.removesuffix('.toml').removesuffix('.picture') for word in line.split() if word != '-')
+            kind, *words = line.split() or ['']
+            asked = '-'.join(pathlib.Path(word).stem for word in words if word != '-') if kind == 'plan' else None
 
 
 def is_same(name, text):
