@@ -1,12 +1,13 @@
 //! One end with the identity 2, whose partner's PDUs are made by hand, and scripts of what comes to it and what it does. What
 //! takes memory is done again where it is lacking, so the tests also hold with any one allocation refused.
 
+use crate::wire::{item, read_pdu, written};
 use rasta_core_link::{Inbox, Link, Millis, Outbox, Reason, SendFault, State, Verdict};
-use rasta_pdu::{Body, Item, Items, Key, Opening, Pdu, read, write};
+use rasta_pdu::{Body, Datagram, Items, Key, Opening, Pdu};
 use std::alloc::Global;
 use std::process::Abort;
 
-pub(crate) const KEY: Key = Key([1, 2, 3, 4]);
+const KEY: Key = Key([1, 2, 3, 4]);
 
 /// The first sequence number of the end under test.
 pub(crate) const FIRST: u32 = 100;
@@ -26,15 +27,6 @@ pub(crate) enum Content {
 
 /// A request of this version of the protocol.
 pub(crate) const REQUEST: Content = Content::Request(*b"0303");
-
-/// A PDU to the end: its receiver and its sender, its sequence number and the one that it confirms, and both stamps.
-#[derive(Clone, Copy)]
-pub(crate) struct Sent {
-    pub(crate) ends: (u32, u32),
-    pub(crate) numbers: (u32, u32),
-    pub(crate) stamps: (u32, u32),
-    pub(crate) content: Content,
-}
 
 /// The numbers of the last PDU that was looked at, and how many bytes it takes.
 #[derive(Clone, Copy)]
@@ -67,8 +59,12 @@ pub(crate) enum Figure {
 /// What happens to an end at a clock reading, or what is so there.
 #[derive(Clone, Copy)]
 pub(crate) enum Step {
-    /// A PDU of the partner, told by its numbers and stamps, comes, and this becomes of it.
+    /// A PDU of the partner comes, and this becomes of it. It is told by its sequence number and the one that it confirms, and by
+    /// both stamps.
     Hears((u32, u32), (u32, u32), Content, Verdict),
+    /// The same of a PDU with this receiver and this sender.
+    HearsOf((u32, u32), (u32, u32), (u32, u32), Content, Verdict),
+    HearsBytes(&'static [u8], Verdict),
     /// It opens, or doesn't.
     Opens(bool),
     Ticks,
@@ -126,81 +122,86 @@ const UP: &[Row] = &[
 /// An end, what it hands out and what it took last.
 #[derive(Drop)]
 pub(crate) struct Bench {
-    pub(crate) link: Link,
+    link: Link,
     outbox: Outbox,
     inbox: Inbox,
     told: Told,
 }
 
-/// What a connection begins with.
-fn opening(version: [u8; 4]) -> Opening {
-    Opening {
-        version,
-        window: 20,
-        reserved: [0; 8],
-    }
-}
+/// What a connection begins with, and nothing is wrong with.
+const OPENING: Opening = Opening {
+    version: *b"0303",
+    window: 20,
+    reserved: [0; 8],
+};
 
-fn items(rt: &impl Abort, byte: u8) -> Items {
-    Items::one(Item::of(&[byte]).expect(rt, "one byte is an item"))
+/// An item of one byte.
+fn one(rt: &impl Abort, byte: u8) -> Items {
+    Items::one(item(rt, &[byte]))
 }
 
 fn body(rt: &impl Abort, content: Content) -> Body {
     match content {
-        Content::Request(version) => Body::ConnectionRequest(opening(version)),
-        Content::Response => Body::ConnectionResponse(opening(*b"0303")),
+        Content::Request(version) => Body::ConnectionRequest(Opening { version, ..OPENING }),
+        Content::Response => Body::ConnectionResponse(OPENING),
         Content::Ask => Body::RetransmissionRequest,
         Content::Answer => Body::RetransmissionResponse,
         Content::Disconnection(reason) => Body::DisconnectionRequest { detail: 0, reason },
         Content::Heartbeat => Body::Heartbeat,
-        Content::Data(byte) => Body::Data(items(rt, byte)),
-        Content::Again(byte) => Body::RetransmittedData(items(rt, byte)),
+        Content::Data(byte) => Body::Data(one(rt, byte)),
+        Content::Again(byte) => Body::RetransmittedData(one(rt, byte)),
     }
 }
 
-fn outbox(rt: &impl Abort, alloc: Global) -> Outbox {
-    match Outbox::for_links(alloc, 1) {
-        Ok(outbox) => outbox,
-        Err(_) => Outbox::for_links(alloc, 1).expect(rt, "there is memory"),
-    }
-}
-
-fn made(rt: &impl Abort, alloc: Global, link: Link) -> Bench {
-    Bench {
-        link,
-        outbox: outbox(rt, alloc),
-        inbox: Inbox::new(),
-        told: Told {
-            number: 0,
-            confirms: 0,
-            stamp: 0,
-            returns: 0,
-            length: 0,
-        },
-    }
-}
-
-fn server(rt: &impl Abort, alloc: Global) -> Bench {
-    let server = match Link::server(alloc, 2, 1, KEY, FIRST, 0) {
-        Ok(server) => server,
-        Err(_) => Link::server(alloc, 2, 1, KEY, FIRST, 0).expect(rt, "there is memory"),
+/// A PDU with this receiver and this sender, these numbers and these stamps.
+fn datagram(
+    rt: &impl Abort,
+    ends: (u32, u32),
+    numbers: (u32, u32),
+    stamps: (u32, u32),
+    content: Content,
+) -> Datagram {
+    let pdu = Pdu {
+        receiver: ends.0,
+        sender: ends.1,
+        sequence_number: numbers.0,
+        confirmed_sequence_number: numbers.1,
+        time_stamp: stamps.0,
+        confirmed_time_stamp: stamps.1,
+        body: body(rt, content),
     };
-    made(rt, alloc, server)
+    written(&KEY, &pdu)
 }
 
-fn client(rt: &impl Abort, alloc: Global, first: u32) -> Bench {
-    let client = match Link::client(alloc, 2, 1, KEY, first, 0) {
-        Ok(client) => client,
-        Err(_) => Link::client(alloc, 2, 1, KEY, first, 0).expect(rt, "there is memory"),
+/// An end that was made at 0, if there is memory for it.
+fn made(alloc: Global, start: Start) -> Option<Bench> {
+    let link = match start {
+        Start::Client(first) => Link::client(alloc, 2, 1, KEY, first, 0),
+        _ => Link::server(alloc, 2, 1, KEY, FIRST, 0),
     };
-    made(rt, alloc, client)
+    let told = Told {
+        number: 0,
+        confirms: 0,
+        stamp: 0,
+        returns: 0,
+        length: 0,
+    };
+    match (link, Outbox::for_links(alloc, 1)) {
+        (Ok(link), Ok(outbox)) => Some(Bench {
+            link,
+            outbox,
+            inbox: Inbox::new(),
+            told,
+        }),
+        _ => None,
+    }
 }
 
 /// An end, led to where a script begins.
-pub(crate) fn begun(rt: &impl Abort, alloc: Global, start: Start) -> Bench {
-    let mut bench = match start {
-        Start::Client(first) => client(rt, alloc, first),
-        _ => server(rt, alloc),
+fn begun(rt: &impl Abort, alloc: Global, start: Start) -> Bench {
+    let mut bench = match made(alloc, start) {
+        Some(bench) => bench,
+        None => made(alloc, start).expect(rt, "there is memory"),
     };
     if matches!(start, Start::Starting | Start::Up) {
         bench.plays(rt, "a server starts", STARTING);
@@ -220,79 +221,49 @@ pub(crate) fn play(rt: &impl Abort, alloc: Global, scripts: &[Script]) {
 }
 
 impl Bench {
-    pub(crate) fn receives(&mut self, rt: &impl Abort, now: Millis, bytes: &[u8]) -> Verdict {
+    fn hears(&mut self, rt: &impl Abort, now: Millis, bytes: &[u8]) -> Verdict {
         assert!(rt; self.link.may_step(now));
         assert!(rt; self.outbox.has_room());
         self.link
             .receive(now, bytes, &mut self.outbox, &mut self.inbox)
     }
 
-    pub(crate) fn hears(&mut self, rt: &impl Abort, now: Millis, sent: Sent) -> Verdict {
-        let (receiver, sender) = sent.ends;
-        let (sequence_number, confirmed_sequence_number) = sent.numbers;
-        let (time_stamp, confirmed_time_stamp) = sent.stamps;
-        let pdu = Pdu {
-            receiver,
-            sender,
-            sequence_number,
-            confirmed_sequence_number,
-            time_stamp,
-            confirmed_time_stamp,
-            body: body(rt, sent.content),
-        };
-        self.receives(rt, now, &write(&KEY, &pdu))
-    }
-
-    fn opens(&mut self, rt: &impl Abort, now: Millis) -> bool {
+    /// Does what a step says that is no PDU, and answers whether it came out so.
+    fn acts(&mut self, rt: &impl Abort, now: Millis, step: Step) -> bool {
         assert!(rt; self.link.may_step(now));
         assert!(rt; self.outbox.has_room());
-        self.link.open(now, &mut self.outbox)
-    }
-
-    fn ticks(&mut self, rt: &impl Abort, now: Millis) -> bool {
-        assert!(rt; self.link.may_step(now));
-        assert!(rt; self.outbox.has_room());
-        self.link.tick(now, &mut self.outbox);
+        match step {
+            Step::Opens(opens) => return self.link.open(now, &mut self.outbox) == opens,
+            Step::Sends(byte, fault) => {
+                let sent = self.link.send(now, &item(rt, &[byte]), &mut self.outbox);
+                return sent.err() == fault;
+            }
+            Step::Closes(why) => self.link.close(now, why, &mut self.outbox),
+            _ => self.link.tick(now, &mut self.outbox),
+        }
         true
     }
 
-    fn sends(&mut self, rt: &impl Abort, now: Millis, byte: u8) -> Option<SendFault> {
-        let item = Item::of(&[byte]).expect(rt, "one byte is an item");
-        assert!(rt; self.link.may_step(now));
-        assert!(rt; self.outbox.has_room());
-        self.link.send(now, &item, &mut self.outbox).err()
-    }
-
-    fn closes(&mut self, rt: &impl Abort, now: Millis, why: Reason) -> bool {
-        assert!(rt; self.link.may_step(now));
-        assert!(rt; self.outbox.has_room());
-        self.link.close(now, why, &mut self.outbox);
-        true
-    }
-
-    /// The oldest datagram that it handed out and that wasn't looked at yet.
-    fn first(&mut self, rt: &impl Abort) -> Pdu {
-        let datagram = self
-            .outbox
-            .take_first()
-            .expect(rt, "it hands out a datagram");
-        self.told.length = datagram.len();
-        read(&KEY, &datagram).expect(rt, "it can be read")
-    }
-
+    /// Whether the oldest datagram that it handed out and that wasn't looked at yet has this content.
     fn tells(&mut self, rt: &impl Abort, content: Content) -> bool {
-        let pdu = self.first(rt);
-        self.told.number = pdu.sequence_number;
-        self.told.confirms = pdu.confirmed_sequence_number;
-        self.told.stamp = pdu.time_stamp;
-        self.told.returns = pdu.confirmed_time_stamp;
+        let first = self.outbox.take_first();
+        let datagram = first.expect(rt, "it hands out a datagram");
+        let pdu = read_pdu(&KEY, &datagram).expect(rt, "it can be read");
+        self.told = Told {
+            number: pdu.sequence_number,
+            confirms: pdu.confirmed_sequence_number,
+            stamp: pdu.time_stamp,
+            returns: pdu.confirmed_time_stamp,
+            length: datagram.len(),
+        };
         pdu.body == body(rt, content)
     }
 
     fn brought(&self, byte: u8) -> bool {
-        match self.inbox.as_slice() {
-            [item] => item.bytes() == [byte].as_slice(),
-            _ => false,
+        let items = self.inbox.as_slice();
+        match items.first() {
+            Some(item) => items.len() == 1 && item.bytes() == [byte].as_slice(),
+            None => false,
         }
     }
 
@@ -316,18 +287,17 @@ impl Bench {
     fn is_so(&mut self, rt: &impl Abort, now: Millis, step: Step) -> bool {
         match step {
             Step::Hears(numbers, stamps, content, verdict) => {
-                let sent = Sent {
-                    ends: (2, 1),
-                    numbers,
-                    stamps,
-                    content,
-                };
-                self.hears(rt, now, sent) == verdict
+                let bytes = datagram(rt, (2, 1), numbers, stamps, content);
+                self.hears(rt, now, &bytes) == verdict
             }
-            Step::Opens(opens) => self.opens(rt, now) == opens,
-            Step::Ticks => self.ticks(rt, now),
-            Step::Sends(byte, fault) => self.sends(rt, now, byte) == fault,
-            Step::Closes(why) => self.closes(rt, now, why),
+            Step::HearsOf(ends, numbers, stamps, content, verdict) => {
+                let bytes = datagram(rt, ends, numbers, stamps, content);
+                self.hears(rt, now, &bytes) == verdict
+            }
+            Step::HearsBytes(bytes, verdict) => self.hears(rt, now, bytes) == verdict,
+            Step::Opens(_) | Step::Ticks | Step::Sends(..) | Step::Closes(_) => {
+                self.acts(rt, now, step)
+            }
             Step::Tells(content) => self.tells(rt, content),
             Step::TellsNoMore => self.outbox.is_empty(),
             Step::Brought(byte) => self.brought(byte),
@@ -338,7 +308,7 @@ impl Bench {
     }
 
     /// Each row of a script is so.
-    pub(crate) fn plays(&mut self, rt: &impl Abort, name: &str, rows: &[Row]) {
+    fn plays(&mut self, rt: &impl Abort, name: &str, rows: &[Row]) {
         for (place, row) in rows.iter().enumerate() {
             let (now, step) = *row;
             assert!(rt; self.is_so(rt, now, step), "{name}: row {place}, at {now}");

@@ -3,11 +3,11 @@
 use crate::bench::Content::{Disconnection, Heartbeat, Response};
 use crate::bench::Figure::{AliveUntil, QuietUntil, Returns, Stamp};
 use crate::bench::Step::{Closes, Has, Hears, IsIn, IsUp, Opens, Tells, TellsNoMore, Ticks};
-use crate::bench::{REQUEST, Script, Start, begun, play};
+use crate::bench::{REQUEST, Script, Start, play};
 use rasta_core_link::Verdict::{Quiet, Stale, Taken};
 use rasta_core_link::{Reason, State};
 
-const BY_THE_CLOCK: [Script; 7] = [
+const BY_THE_CLOCK: &[Script] = &[
     (
         "a silent partner is lost after 1800 ms, and met again 6000 ms later",
         Start::Up,
@@ -94,29 +94,73 @@ const BY_THE_CLOCK: [Script; 7] = [
 
 #[test]
 fn what_an_end_does_by_its_clock(rt: HostRuntime) {
-    play(&rt, rt.alloc(), &BY_THE_CLOCK)
+    play(&rt, rt.alloc(), BY_THE_CLOCK)
 }
+
+/// Each reason is told by its number; a partner that is silent for too long is told nothing.
+const CLOSES: &[Script] = &[
+    (
+        "a close for the user tells 0",
+        Start::Up,
+        &[
+            (10020, Closes(Reason::User)),
+            (10020, Tells(Disconnection(0))),
+            (10020, TellsNoMore),
+            (10020, Has(QuietUntil, 16020)),
+        ],
+    ),
+    (
+        "a close for a wrong state tells 1",
+        Start::Up,
+        &[
+            (10020, Closes(Reason::State)),
+            (10020, Tells(Disconnection(1))),
+            (10020, TellsNoMore),
+            (10020, Has(QuietUntil, 16020)),
+        ],
+    ),
+    (
+        "a close for used up numbers tells 2",
+        Start::Up,
+        &[
+            (10020, Closes(Reason::Sequence)),
+            (10020, Tells(Disconnection(2))),
+            (10020, TellsNoMore),
+            (10020, Has(QuietUntil, 16020)),
+        ],
+    ),
+    (
+        "a close for a silent partner tells nothing",
+        Start::Up,
+        &[
+            (10020, Closes(Reason::Time)),
+            (10020, TellsNoMore),
+            (10020, Has(QuietUntil, 16020)),
+        ],
+    ),
+    (
+        "a close for another version tells 4",
+        Start::Up,
+        &[
+            (10020, Closes(Reason::Version)),
+            (10020, Tells(Disconnection(4))),
+            (10020, TellsNoMore),
+            (10020, Has(QuietUntil, 16020)),
+        ],
+    ),
+    (
+        "a close for another window tells 5",
+        Start::Up,
+        &[
+            (10020, Closes(Reason::Window)),
+            (10020, Tells(Disconnection(5))),
+            (10020, TellsNoMore),
+            (10020, Has(QuietUntil, 16020)),
+        ],
+    ),
+];
 
 #[test]
 fn a_close_tells_its_reason_where_there_is_one_to_tell(rt: HostRuntime) {
-    for (why, number, is_told) in [
-        (Reason::User, 0, true),
-        (Reason::State, 1, true),
-        (Reason::Sequence, 2, true),
-        (Reason::Time, 3, false),
-        (Reason::Version, 4, true),
-        (Reason::Window, 5, true),
-    ] {
-        assert!(rt; why.number() == number);
-        let mut bench = begun(&rt, rt.alloc(), Start::Up);
-        bench.plays(&rt, "a close", &[(10020, Closes(why))]);
-        if is_told {
-            bench.plays(&rt, "its reason", &[(10020, Tells(Disconnection(number)))]);
-        }
-        bench.plays(
-            &rt,
-            "its end",
-            &[(10020, TellsNoMore), (10020, Has(QuietUntil, 16020))],
-        );
-    }
+    play(&rt, rt.alloc(), CLOSES)
 }

@@ -3,13 +3,13 @@
 use crate::bench::Content::{Ask, Disconnection, Heartbeat, Request, Response};
 use crate::bench::Figure::{Confirms, Length, Number, Waiting};
 use crate::bench::Step::{Has, Hears, IsIn, Opens, Tells, TellsNoMore};
-use crate::bench::{REQUEST, Script, Start, begun, play};
+use crate::bench::{REQUEST, Script, Start, play};
 use rasta_core_link::State;
 use rasta_core_link::Verdict::{BadConfirm, Discarded, Taken, WrongState};
 
 const GREATEST: u32 = 4294967295;
 
-const OPENINGS: [Script; 7] = [
+const OPENINGS: &[Script] = &[
     (
         "a request of another version closes with reason 4",
         Start::Server,
@@ -96,23 +96,5 @@ const OPENINGS: [Script; 7] = [
 
 #[test]
 fn connections_open_and_are_refused(rt: HostRuntime) {
-    play(&rt, rt.alloc(), &OPENINGS)
-}
-
-#[test]
-fn a_link_made_anew_is_quiet_and_keeps_its_identity(rt: HostRuntime) {
-    let bench = begun(&rt, rt.alloc(), Start::Up);
-    let anew = match bench.link.anew(rt.alloc(), 7, 10020) {
-        Ok(anew) => anew,
-        Err(_) => bench
-            .link
-            .anew(rt.alloc(), 7, 10020)
-            .expect(&rt, "there is memory"),
-    };
-    assert!(rt; anew.identity().own == 2);
-    assert!(rt; anew.identity().partner == 1);
-    assert!(rt; anew.state(10020) == State::Quiet);
-    assert!(rt; anew.state(16019) == State::Quiet);
-    assert!(rt; anew.state(16020) == State::Down);
-    assert!(rt; anew.given() == 0);
+    play(&rt, rt.alloc(), OPENINGS)
 }

@@ -4,8 +4,6 @@
 #[cfg(test)]
 mod bench;
 #[cfg(test)]
-mod changes;
-#[cfg(test)]
 mod clock;
 #[cfg(test)]
 mod digests;
@@ -14,17 +12,11 @@ mod establishment;
 #[cfg(test)]
 mod faults;
 #[cfg(test)]
-mod one_byte;
-#[cfg(test)]
 mod pdu_rows;
-#[cfg(test)]
-mod pdus;
 #[cfg(test)]
 mod retransmission;
 #[cfg(test)]
 mod telegram_rows;
-#[cfg(test)]
-mod telegrams;
 #[cfg(test)]
 mod verdicts;
 #[cfg(test)]

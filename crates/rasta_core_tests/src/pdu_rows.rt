@@ -1,10 +1,13 @@
 //! Bytes from outside: the codes are those of another program's MD4.
 
 use crate::telegram_rows::PROCEED as ASPECT;
-use crate::wire::{KEY, fault_of, items, pdu, read_pdu, written};
+use crate::wire::{item, read_pdu, written};
 use arrayvec::ArrayVec;
-use rasta_pdu::{Body, Item, Items, Key, Opening, PduFault, is_intact, write};
+use rasta_pdu::{Body, Item, Items, Key, Opening, Pdu, PduFault};
 use std::process::Abort;
+
+/// The key of the network.
+const KEY: Key = Key(md4::STANDARD);
 
 /// The fields of the PDUs below that all have: to 2 from 1, with the numbers 7 and 5 and the stamps 10000 and 9900.
 const FIELDS: [u8; 24] = [
@@ -99,21 +102,38 @@ const TWO_AGAIN: Spelling = Spelling {
     code: [0xFB, 0xE2, 0x26, 0xA8, 0x73, 0x26, 0x62, 0xB5],
 };
 
-fn is_whole(bytes: &[u8]) -> bool {
-    is_intact(&KEY, bytes)
+/// Items of these bytes.
+fn items(rt: &impl Abort, parts: &[&[u8]]) -> Items {
+    let mut items: ArrayVec<Item, 3> = ArrayVec::new();
+    for part in parts {
+        assert!(rt; items.try_push(item(rt, part)).is_ok());
+    }
+    Items::of(&items).expect(rt, "1 to 3 items")
 }
 
-/// A PDU with this body is written so, has so many bytes, and is read again.
-fn check(rt: &impl Abort, body: Body, spelling: Spelling, length: usize) {
+/// A PDU from the interlocking to the signal.
+fn pdu(body: Body) -> Pdu {
+    Pdu {
+        receiver: 2,
+        sender: 1,
+        sequence_number: 7,
+        confirmed_sequence_number: 5,
+        time_stamp: 10000,
+        confirmed_time_stamp: 9900,
+        body,
+    }
+}
+
+fn fault_of(bytes: &[u8]) -> Option<PduFault> {
+    read_pdu(&KEY, bytes).err()
+}
+
+/// A PDU with this body is written so, and is read again.
+fn check(rt: &impl Abort, body: Body, spelling: Spelling) {
     let bytes = bytes_of(spelling);
-    assert!(rt; bytes.len() == length);
-    assert!(rt; is_whole(&bytes));
     let sent = pdu(body);
-    assert!(rt;
-        written(&sent).as_slice() == bytes.as_slice(),
-        "{length} bytes are written"
-    );
-    assert!(rt; read_pdu(&bytes) == Ok(sent), "{length} bytes are read");
+    assert!(rt; written(&KEY, &sent).as_slice() == bytes.as_slice());
+    assert!(rt; read_pdu(&KEY, &bytes) == Ok(sent));
 }
 
 #[test]
@@ -132,27 +152,22 @@ fn pdus_are_spelled_as_elsewhere(rt: HostRuntime) {
         detail: 0,
         reason: 4,
     };
-    check(rt, Body::ConnectionRequest(request), REQUEST, 50);
-    check(rt, Body::ConnectionResponse(response), RESPONSE, 50);
-    check(rt, Body::RetransmissionRequest, RETRANSMISSION_REQUEST, 36);
-    check(
-        rt,
-        Body::RetransmissionResponse,
-        RETRANSMISSION_RESPONSE,
-        36,
-    );
-    check(rt, disconnection, DISCONNECTION, 40);
-    check(rt, Body::Heartbeat, HEARTBEAT, 36);
-    check(rt, Body::Data(items(rt, &[&ASPECT])), ONE_ASPECT, 99);
+    check(rt, Body::ConnectionRequest(request), REQUEST);
+    check(rt, Body::ConnectionResponse(response), RESPONSE);
+    check(rt, Body::RetransmissionRequest, RETRANSMISSION_REQUEST);
+    check(rt, Body::RetransmissionResponse, RETRANSMISSION_RESPONSE);
+    check(rt, disconnection, DISCONNECTION);
+    check(rt, Body::Heartbeat, HEARTBEAT);
+    check(rt, Body::Data(items(rt, &[&ASPECT])), ONE_ASPECT);
     let three = items(rt, &[&ASPECT, &ASPECT, &ASPECT]);
-    check(rt, Body::Data(three), THREE_ASPECTS, 225);
+    check(rt, Body::Data(three), THREE_ASPECTS);
     let two = items(rt, &[&[4], &[1, 2]]);
-    check(rt, Body::RetransmittedData(two), TWO_AGAIN, 43);
+    check(rt, Body::RetransmittedData(two), TWO_AGAIN);
 }
 
 #[test]
 fn under_another_key_the_code_is_another(rt: HostRuntime) {
-    let bytes = write(&Key([1, 2, 3, 4]), &pdu(Body::Heartbeat));
+    let bytes = written(&Key([1, 2, 3, 4]), &pdu(Body::Heartbeat));
     let wanted = bytes_of(Spelling {
         code: [0x6A, 0xED, 0x72, 0x4B, 0xA9, 0x1E, 0x86, 0x86],
         ..HEARTBEAT
@@ -161,15 +176,14 @@ fn under_another_key_the_code_is_another(rt: HostRuntime) {
     assert!(rt; fault_of(&bytes) == Some(PduFault::Code));
 }
 
-/// Bytes that are refused, of which some are intact.
-const REFUSED: [(Spelling, bool, PduFault); 5] = [
+/// Bytes that are refused: all but the first have a right length and a right code.
+const REFUSED: &[(Spelling, PduFault)] = &[
     // A heartbeat of another code, one of an unknown type, and one with a payload.
     (
         Spelling {
             code: [0x55, 0x9D, 0xC0, 0x85, 0x3F, 0x7B, 0x6D, 0x0C],
             ..HEARTBEAT
         },
-        false,
         PduFault::Code,
     ),
     (
@@ -178,7 +192,6 @@ const REFUSED: [(Spelling, bool, PduFault); 5] = [
             payload: &[],
             code: [0xAE, 0xC5, 0x40, 0x1B, 0xB8, 0xA8, 0x10, 0xCC],
         },
-        true,
         PduFault::BadType,
     ),
     (
@@ -187,7 +200,6 @@ const REFUSED: [(Spelling, bool, PduFault); 5] = [
             payload: &[&[0]],
             code: [0xEA, 0x00, 0x27, 0x4B, 0x0B, 0x09, 0x76, 0x0B],
         },
-        true,
         PduFault::Body,
     ),
     // An item without bytes, and four items.
@@ -197,7 +209,6 @@ const REFUSED: [(Spelling, bool, PduFault); 5] = [
             payload: &[&[0, 0]],
             code: [0xFA, 0xBB, 0x88, 0xCC, 0xCF, 0x03, 0x8B, 0x7D],
         },
-        true,
         PduFault::Items,
     ),
     (
@@ -215,17 +226,14 @@ const REFUSED: [(Spelling, bool, PduFault); 5] = [
             ],
             code: [0x36, 0x62, 0x01, 0x58, 0x17, 0x5C, 0x5D, 0x2F],
         },
-        true,
         PduFault::Items,
     ),
 ];
 
 #[test]
 fn bytes_that_are_no_pdu_are_refused(rt: HostRuntime) {
-    for (spelling, intact, fault) in REFUSED {
-        let bytes = bytes_of(spelling);
-        assert!(rt; is_whole(&bytes) == intact, "{fault:?}");
-        assert!(rt; fault_of(&bytes) == Some(fault), "{fault:?}");
+    for (spelling, fault) in REFUSED {
+        assert!(rt; fault_of(&bytes_of(*spelling)) == Some(*fault), "{fault:?}");
     }
 }
 
@@ -238,25 +246,27 @@ fn a_heartbeat_with_a_byte_more_or_less_is_refused(rt: HostRuntime) {
     assert!(rt; fault_of(&longer) == Some(PduFault::TooShort));
 }
 
-#[test]
-fn an_item_has_1_to_61_bytes(rt: HostRuntime) {
-    let bytes = [7; 62];
-    for (length, wanted) in [(0, false), (1, true), (61, true), (62, false)] {
-        let (part, _) = bytes.split_at(length);
-        assert!(rt; Item::of(part).is_some() == wanted, "{length} bytes");
+/// Whether each of the 255 changes of the byte at a place has this fault.
+fn are_refused(place: usize, fault: PduFault) -> bool {
+    let mut are_refused = true;
+    for change in 1..=255u8 {
+        let mut bytes = bytes_of(ONE_ASPECT);
+        if let Some(byte) = bytes.get_mut(place) {
+            *byte ^= change;
+        }
+        are_refused &= fault_of(&bytes) == Some(fault);
     }
+    are_refused
 }
 
 #[test]
-fn a_pdu_has_1_to_3_items(rt: HostRuntime) {
-    let items = [
-        Item::default(),
-        Item::default(),
-        Item::default(),
-        Item::default(),
-    ];
-    for (length, wanted) in [(0, false), (1, true), (3, true), (4, false)] {
-        let (part, _) = items.split_at(length);
-        assert!(rt; Items::of(part).is_some() == wanted, "{length} items");
+fn changes_of_one_byte_are_refused(rt: HostRuntime) {
+    for place in 0..99 {
+        let fault = if place < 2 {
+            PduFault::Length
+        } else {
+            PduFault::Code
+        };
+        assert!(rt; are_refused(place, fault), "at {place}");
     }
 }

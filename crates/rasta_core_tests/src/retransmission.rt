@@ -3,11 +3,11 @@
 use crate::bench::Content::{Again, Answer, Ask, Data, Disconnection, Heartbeat};
 use crate::bench::Figure::{Confirmed, Confirms, Given, Number, Waiting};
 use crate::bench::Step::{Brought, Has, Hears, IsIn, Sends, Tells, TellsNoMore, Ticks};
-use crate::bench::{Figure, Row, Script, Start, begun, play};
+use crate::bench::{Figure, Script, Start, play};
 use rasta_core_link::Verdict::{Asked, BadConfirm, Discarded, Taken, WrongState};
 use rasta_core_link::{SendFault, State};
 
-const MISSED_AND_REPEATED: [Script; 5] = [
+const MISSED_AND_REPEATED: &[Script] = &[
     (
         "a later PDU is asked for again, and nothing of it is used",
         Start::Up,
@@ -81,25 +81,41 @@ const MISSED_AND_REPEATED: [Script; 5] = [
             (10020, Has(Figure::Taken, 0)),
         ],
     ),
+    (
+        "the window is full at 20 items",
+        Start::Up,
+        &[
+            (10020, Sends(1, None)),
+            (10020, Sends(1, None)),
+            (10020, Sends(1, None)),
+            (10020, Sends(1, None)),
+            (10020, Sends(1, None)),
+            (10020, Sends(1, None)),
+            (10020, Sends(1, None)),
+            (10020, Sends(1, None)),
+            (10020, Sends(1, None)),
+            (10020, Sends(1, None)),
+            (10020, Sends(1, None)),
+            (10020, Sends(1, None)),
+            (10020, Sends(1, None)),
+            (10020, Sends(1, None)),
+            (10020, Sends(1, None)),
+            (10020, Sends(1, None)),
+            (10020, Sends(1, None)),
+            (10020, Sends(1, None)),
+            (10020, Sends(1, None)),
+            (10020, Sends(1, None)),
+            (10020, Sends(1, Some(SendFault::WindowFull))),
+            (10020, Has(Waiting, 20)),
+            (10030, Hears((7, 101), (530, 10020), Heartbeat, Taken)),
+            (10030, Has(Confirmed, 1)),
+            (10030, Sends(1, None)),
+            (10030, Has(Given, 21)),
+        ],
+    ),
 ];
 
 #[test]
 fn what_is_missed_and_repeated(rt: HostRuntime) {
-    play(&rt, rt.alloc(), &MISSED_AND_REPEATED)
-}
-
-const FULL: [Row; 6] = [
-    (10020, Sends(1, Some(SendFault::WindowFull))),
-    (10020, Has(Waiting, 20)),
-    (10030, Hears((7, 101), (530, 10020), Heartbeat, Taken)),
-    (10030, Has(Confirmed, 1)),
-    (10030, Sends(1, None)),
-    (10030, Has(Given, 21)),
-];
-
-#[test]
-fn the_window_is_full_at_20_items(rt: HostRuntime) {
-    let mut bench = begun(&rt, rt.alloc(), Start::Up);
-    bench.plays(&rt, "until it is full", &[(10020, Sends(1, None)); 20]);
-    bench.plays(&rt, "then", &FULL);
+    play(&rt, rt.alloc(), MISSED_AND_REPEATED)
 }

@@ -63,26 +63,13 @@ fn telegram(rt: &impl Abort, nodes: Nodes, message: Message) -> Telegram {
     }
 }
 
-/// The telegram by which an interlocking has a signal show proceed.
-pub(crate) fn proceed(rt: &impl Abort) -> Telegram {
-    telegram(rt, TO_SIGNAL, INDICATE_PROCEED)
-}
-
-pub(crate) fn written(telegram: &Telegram) -> Item {
-    write(telegram)
-}
-
-pub(crate) fn read_telegram(bytes: &[u8]) -> Result<Telegram, SciFault> {
-    read(bytes)
-}
-
 fn fault_of(bytes: &[u8]) -> Option<SciFault> {
-    read_telegram(bytes).err()
+    read(bytes).err()
 }
 
 /// Whether a telegram is written as these bytes, and read from them.
 fn is_spelled(telegram: &Telegram, bytes: &[u8]) -> bool {
-    written(telegram).bytes() == bytes && read_telegram(bytes) == Ok(*telegram)
+    write(telegram).bytes() == bytes && read(bytes) == Ok(*telegram)
 }
 
 /// One row of the table of telegrams: how it begins, and its payload.
@@ -99,7 +86,7 @@ fn check_row(rt: &impl Abort, nodes: Nodes, message: Message, front: [u8; 3], pa
 }
 
 /// What is said in an initialisation, in each protocol.
-const INITIALISATIONS: [(Initialisation, u8, &[u8]); 5] = [
+const INITIALISATIONS: &[(Initialisation, u8, &[u8])] = &[
     (Initialisation::InitialisationRequest, 0x21, &[]),
     (Initialisation::StartInitialisation, 0x22, &[]),
     (Initialisation::InitialisationCompleted, 0x23, &[]),
@@ -115,7 +102,7 @@ const INITIALISATIONS: [(Initialisation, u8, &[u8]); 5] = [
 ];
 
 /// What stands in one protocol alone.
-const MESSAGES: [(Nodes, Message, [u8; 3], &[u8]); 15] = [
+const MESSAGES: &[(Nodes, Message, [u8; 3], &[u8])] = &[
     (
         LONG,
         Message::Point(PointMessage::MovePoint(Side::Right)),
@@ -212,7 +199,7 @@ const MESSAGES: [(Nodes, Message, [u8; 3], &[u8]); 15] = [
 
 #[test]
 fn the_example_is_read_and_written(rt: HostRuntime) {
-    assert!(rt; is_spelled(&proceed(&rt), &PROCEED));
+    assert!(rt; is_spelled(&telegram(&rt, TO_SIGNAL, INDICATE_PROCEED), &PROCEED));
 }
 
 #[test]
@@ -222,7 +209,8 @@ fn rows_of_every_protocol(rt: HostRuntime) {
         (Protocol::LightSignal, 0x30),
         (Protocol::Point, 0x40),
     ] {
-        for (message, number, payload) in INITIALISATIONS {
+        for row in INITIALISATIONS {
+            let (message, number, payload) = *row;
             let message = Message::Initialisation(protocol, message);
             check_row(&rt, LONG, message, [first, number, 0], payload);
         }
@@ -231,7 +219,8 @@ fn rows_of_every_protocol(rt: HostRuntime) {
 
 #[test]
 fn rows_of_one_protocol(rt: HostRuntime) {
-    for (nodes, message, front, payload) in MESSAGES {
+    for row in MESSAGES {
+        let (nodes, message, front, payload) = *row;
         check_row(&rt, nodes, message, front, payload);
     }
 }
@@ -245,68 +234,29 @@ fn changed(place: usize, bytes: &[u8]) -> Option<SciFault> {
     fault_of(&whole)
 }
 
-/// A name comes before a value.
+/// Bytes in place of those from a place on. A name comes before a value.
+const CHANGES: &[(usize, &[u8], SciFault)] = &[
+    (0, &[0x31], SciFault::Protocol),
+    (0, &[0x40], SciFault::Length),
+    (0, &[0x20], SciFault::BadType),
+    (2, &[0x01], SciFault::BadType),
+    (3, &[0x5F], SciFault::Name),
+    (9, &[0x41], SciFault::Name),
+    (22, &[0x20], SciFault::Name),
+    (42, &[0x00], SciFault::Name),
+    (42, b"x\x05", SciFault::Name),
+    (43, &[0x05], SciFault::Value),
+    (43, &[0x07], SciFault::Value),
+    (60, &[0xFE], SciFault::Value),
+];
+
 #[test]
 fn faults_of_changed_bytes(rt: HostRuntime) {
-    let rows: [(usize, &[u8], SciFault); 12] = [
-        (0, &[0x31], SciFault::Protocol),
-        (0, &[0x40], SciFault::Length),
-        (0, &[0x20], SciFault::BadType),
-        (2, &[0x01], SciFault::BadType),
-        (3, &[0x5F], SciFault::Name),
-        (9, &[0x41], SciFault::Name),
-        (22, &[0x20], SciFault::Name),
-        (42, &[0x00], SciFault::Name),
-        (42, b"x\x05", SciFault::Name),
-        (43, &[0x05], SciFault::Value),
-        (43, &[0x07], SciFault::Value),
-        (60, &[0xFE], SciFault::Value),
-    ];
-    for (place, bytes, fault) in rows {
+    for row in CHANGES {
+        let (place, bytes, fault) = *row;
         assert!(rt;
             changed(place, bytes) == Some(fault),
             "{bytes:?} at {place}"
         );
-    }
-}
-
-#[test]
-fn faults_of_shorter_bytes(rt: HostRuntime) {
-    for (length, fault) in [
-        (0, SciFault::Short),
-        (42, SciFault::Short),
-        (43, SciFault::Length),
-        (60, SciFault::Length),
-    ] {
-        let (beginning, _) = PROCEED.split_at(length);
-        assert!(rt; fault_of(beginning) == Some(fault), "{length} bytes");
-    }
-}
-
-/// Whether a text is a name; where it is one it stands in it as it is.
-fn is_name(rt: &impl Abort, text: &str) -> bool {
-    let Some(name) = Name::of(text.as_bytes()) else {
-        return false;
-    };
-    assert!(rt; name.as_str() == text);
-    assert!(rt; name.bytes() == text.as_bytes());
-    true
-}
-
-#[test]
-fn which_bytes_are_names(rt: HostRuntime) {
-    for (text, wanted) in [
-        ("", false),
-        ("a_b", false),
-        ("S 1", false),
-        ("\u{e4}", false),
-        ("abcdefghijklmnopqrstu", false),
-        ("S", true),
-        ("IXL1", true),
-        ("-", true),
-        ("abcdefghijklmnopqrst", true),
-        ("ABCXYZabcxyz0189-", true),
-    ] {
-        assert!(rt; is_name(&rt, text) == wanted, "{text}");
     }
 }
