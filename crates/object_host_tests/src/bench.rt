@@ -3,8 +3,8 @@
 use crate::output::{Observed, Output};
 use object_host::{Hosted, Input, Sense};
 use rasta_core::{Inbox, Link, Millis, Outbox};
-use rasta_pdu::{Body, Datagram, Item, Key, Pdu, read};
-use sci_telegram::{Agreement, Initialisation, Message, Name, Protocol, Telegram, write};
+use rasta_pdu::{Body, Datagram, Item, Items, Key};
+use sci_telegram::{Initialisation, Message, Name, Telegram, read, write};
 use std::alloc::Global;
 use std::process::Abort;
 
@@ -22,9 +22,6 @@ pub(crate) const OPENED_AT: Millis = 100000;
 
 /// How many datagrams a step hands out at most in these tests.
 const MANY: usize = 64;
-
-/// The bytes of a PDU in front of its one item.
-const BEFORE_ITEM: usize = 30;
 
 /// How far a script's ends have come where it begins. A controller has a version of the telegrams.
 #[derive(Clone, Copy)]
@@ -44,6 +41,8 @@ pub(crate) enum Step {
     Says(Message),
     /// It sends one in these names of a sender and a receiver.
     SaysAs(&'static str, &'static str, Message),
+    /// It sends these bytes as an item.
+    SaysBytes(&'static [u8]),
     /// What the station said reaches the controller.
     ToController,
     /// What the controller said reaches the station.
@@ -59,20 +58,18 @@ pub(crate) enum Step {
     KeepsUp(u64),
     /// The oldest telegram that the station heard and that wasn't looked at yet is this one of this sender.
     Hears(&'static str, Message),
-    /// It tells that both ends have this version.
-    HearsOfOneVersion(u8),
     HearsNoMore,
     /// What the station heard so far isn't looked at.
     Forgets,
     /// What the station said reaches the controller, which hands out one datagram: it closes the link with this reason.
     Refuses(u16),
+    /// The controller handed out one datagram that the station hasn't received. It carries this item alone.
+    Answers(&'static [u8]),
     /// How many items the controller has given in its connection, how many of them it knows as taken, and how many datagrams
     /// it handed out that the station hasn't received.
     HasGiven(u64),
     KnowsTaken(u64),
     HandsOut(usize),
-    /// The first of these carries this item alone.
-    Answers(&'static [u8]),
     Has(Output),
 }
 
@@ -85,7 +82,6 @@ pub(crate) type Script = (&'static str, Start, &'static [Row]);
 /// Both ends, and what each has said.
 #[derive(Drop)]
 pub(crate) struct Bench<C: Observed> {
-    protocol: Protocol,
     station: Link,
     outbox: Outbox,
     inbox: Inbox,
@@ -96,16 +92,21 @@ pub(crate) struct Bench<C: Observed> {
     heard: Vec<Telegram>,
 }
 
-fn name(rt: &impl Abort, text: &str) -> Name {
+pub(crate) fn name(rt: &impl Abort, text: &str) -> Name {
     Name::of(text.as_bytes()).expect(rt, "a name")
 }
 
-fn item(rt: &impl Abort, sender: &str, receiver: &str, message: Message) -> Item {
-    write(&Telegram {
+/// The item of 1 to 61 bytes.
+fn item(rt: &impl Abort, bytes: &[u8]) -> Item {
+    Item::of(bytes).expect(rt, "1 to 61 bytes")
+}
+
+fn telegram(rt: &impl Abort, sender: &str, receiver: &str, message: Message) -> Telegram {
+    Telegram {
         sender: name(rt, sender),
         receiver: name(rt, receiver),
         message,
-    })
+    }
 }
 
 fn hosted<C: Observed>(rt: &impl Abort, alloc: Global, object: C, version: u8) -> Hosted<C> {
@@ -122,18 +123,20 @@ fn station(rt: &impl Abort, alloc: Global) -> Link {
     made.expect(rt, "there is memory")
 }
 
-fn read_pdu(rt: &impl Abort, datagram: &[u8]) -> Pdu {
-    read(&KEY, datagram).expect(rt, "a PDU")
+fn read_telegram(rt: &impl Abort, item: &Item) -> Telegram {
+    read(item.bytes()).expect(rt, "a telegram")
 }
 
-fn read_telegram(rt: &impl Abort, item: &Item) -> Telegram {
-    sci_telegram::read(item.bytes()).expect(rt, "a telegram")
+/// A script that begins with this object comes out as it says.
+pub(crate) fn play<C: Observed>(rt: &impl Abort, alloc: Global, object: C, script: &Script) {
+    let (name, start, rows) = *script;
+    let mut bench = Bench::begun(rt, alloc, object, start);
+    bench.plays(rt, name, rows)
 }
 
 impl<C: Observed> Bench<C> {
     fn made(rt: &impl Abort, alloc: Global, object: C, version: u8) -> Bench<C> {
         Bench {
-            protocol: object.protocol(),
             station: station(rt, alloc),
             outbox: Outbox::for_links(alloc, 1).expect(rt, "there is memory"),
             inbox: Inbox::new(),
@@ -144,7 +147,7 @@ impl<C: Observed> Bench<C> {
     }
 
     /// Both ends, as a script begins with them.
-    pub(crate) fn begun(rt: &impl Abort, alloc: Global, object: C, start: Start) -> Bench<C> {
+    fn begun(rt: &impl Abort, alloc: Global, object: C, start: Start) -> Bench<C> {
         let (Start::Made(version) | Start::Connected(version) | Start::Ready(version)) = start;
         let mut bench = Bench::made(rt, alloc, object, version);
         if !matches!(start, Start::Made(_)) {
@@ -157,7 +160,7 @@ impl<C: Observed> Bench<C> {
     }
 
     /// Each row of a script is so.
-    pub(crate) fn plays(&mut self, rt: &impl Abort, name: &str, rows: &[Row]) {
+    fn plays(&mut self, rt: &impl Abort, name: &str, rows: &[Row]) {
         for (place, row) in rows.iter().enumerate() {
             let (now, step) = *row;
             self.happens(rt, now, step);
@@ -168,10 +171,11 @@ impl<C: Observed> Bench<C> {
     fn happens(&mut self, rt: &impl Abort, now: Millis, step: Step) {
         match step {
             Step::Connects => self.connects(rt),
-            Step::Says(message) => self.says(rt, now, &item(rt, "IXL1", "OC1", message)),
+            Step::Says(message) => self.tells(rt, now, "IXL1", "OC1", message),
             Step::SaysAs(sender, receiver, message) => {
-                self.says(rt, now, &item(rt, sender, receiver, message))
+                self.tells(rt, now, sender, receiver, message)
             }
+            Step::SaysBytes(bytes) => self.says(rt, now, &item(rt, bytes)),
             Step::ToController | Step::Refuses(_) => self.to_controller(rt, now),
             Step::ToStation => self.to_station(rt, now),
             Step::Exchanges => self.exchanges(rt, now),
@@ -188,13 +192,15 @@ impl<C: Observed> Bench<C> {
     fn is_so(&mut self, rt: &impl Abort, now: Millis, step: Step) -> bool {
         match step {
             Step::Hears(sender, message) => self.hears(rt, sender, message),
-            Step::HearsOfOneVersion(version) => self.hears_of_one_version(rt, version),
             Step::HearsNoMore => self.heard.is_empty(),
             Step::Refuses(reason) => self.closes(rt, now, reason),
+            Step::Answers(bytes) => {
+                let items = Items::one(item(rt, bytes));
+                self.hands_out(rt, Body::Data(items))
+            }
             Step::HasGiven(items) => self.hosted.link().given() == items,
             Step::KnowsTaken(items) => self.hosted.link().confirmed() == items,
             Step::HandsOut(datagrams) => self.sent.len() == datagrams,
-            Step::Answers(item) => self.answers(item),
             Step::Has(output) => self.hosted.object().has(now, output),
             _ => true,
         }
@@ -209,31 +215,41 @@ impl<C: Observed> Bench<C> {
     }
 
     fn initialises(&mut self, rt: &impl Abort, version: u8) {
+        let protocol = self.hosted.object().protocol();
         for what in [
             Initialisation::VersionCheck { version },
             Initialisation::InitialisationRequest,
         ] {
-            let message = Message::Initialisation(self.protocol, what);
-            self.says(rt, OPENED_AT, &item(rt, "IXL1", "OC1", message));
+            let message = Message::Initialisation(protocol, what);
+            self.tells(rt, OPENED_AT, "IXL1", "OC1", message);
             self.exchanges(rt, OPENED_AT);
         }
         self.heard.clear();
     }
 
-    pub(crate) fn says(&mut self, rt: &impl Abort, now: Millis, item: &Item) {
+    /// The station sends a telegram.
+    fn tells(
+        &mut self,
+        rt: &impl Abort,
+        now: Millis,
+        sender: &str,
+        receiver: &str,
+        message: Message,
+    ) {
+        let item = write(&telegram(rt, sender, receiver, message));
+        self.says(rt, now, &item)
+    }
+
+    fn says(&mut self, rt: &impl Abort, now: Millis, item: &Item) {
         assert!(rt; self.station.may_step(now));
         assert!(rt; self.outbox.has_room());
         assert!(rt; self.station.send(now, item, &mut self.outbox).is_ok());
     }
 
-    fn station_ticks(&mut self, rt: &impl Abort, now: Millis) {
+    fn confirms(&mut self, rt: &impl Abort, now: Millis) {
         assert!(rt; self.station.may_step(now));
         assert!(rt; self.outbox.has_room());
-        self.station.tick(now, &mut self.outbox)
-    }
-
-    fn confirms(&mut self, rt: &impl Abort, now: Millis) {
-        self.station_ticks(rt, now);
+        self.station.tick(now, &mut self.outbox);
         self.to_controller(rt, now)
     }
 
@@ -241,16 +257,21 @@ impl<C: Observed> Bench<C> {
     fn steps(&mut self, rt: &impl Abort, now: Millis, input: Input) {
         assert!(rt; self.hosted.may_step(now));
         self.hosted.step(now, input);
-        self.collects(rt)
+        for _ in 0..MANY {
+            if !self.collects(rt) {
+                break;
+            }
+        }
     }
 
-    /// What the last step of the controller handed out is on its way.
-    fn collects(&mut self, rt: &impl Abort) {
-        for _ in 0..MANY {
-            let Some(datagram) = self.hosted.take_first() else {
-                break;
-            };
-            assert!(rt; self.sent.push(datagram).is_ok());
+    /// Whether the last step of the controller handed out one more datagram, which is on its way then.
+    fn collects(&mut self, rt: &impl Abort) -> bool {
+        match self.hosted.take_first() {
+            Some(datagram) => {
+                assert!(rt; self.sent.push(datagram).is_ok());
+                true
+            }
+            None => false,
         }
     }
 
@@ -306,34 +327,19 @@ impl<C: Observed> Bench<C> {
 
     fn hears(&mut self, rt: &impl Abort, sender: &str, message: Message) -> bool {
         assert!(rt; !self.heard.is_empty(), "it heard a telegram");
-        let telegram = self.heard.remove(0);
-        let (sender, receiver) = (name(rt, sender), name(rt, "IXL1"));
-        telegram.sender == sender && telegram.receiver == receiver && telegram.message == message
+        self.heard.remove(0) == telegram(rt, sender, "IXL1", message)
     }
 
-    fn hears_of_one_version(&mut self, rt: &impl Abort, version: u8) -> bool {
-        let answer = Initialisation::VersionAnswer {
-            agreement: Agreement::Match,
-            version,
-        };
-        self.hears(rt, "OC1", Message::Initialisation(self.protocol, answer))
-    }
-
-    /// The last step handed out one datagram, and it closes the link with this reason.
-    fn closes(&mut self, rt: &impl Abort, now: Millis, reason: u16) -> bool {
+    /// The last step handed out one datagram, which has this body.
+    fn hands_out(&mut self, rt: &impl Abort, body: Body) -> bool {
         assert!(rt; self.sent.len() == 1);
-        let pdu = read_pdu(rt, &self.sent.remove(0));
-        let is_down = !self.hosted.link().is_up(now);
-        is_down && pdu.body == Body::DisconnectionRequest { detail: 0, reason }
+        let pdu = rasta_pdu::read(&KEY, &self.sent.remove(0));
+        pdu.expect(rt, "a PDU").body == body
     }
 
-    /// The first datagram that the station hasn't received carries this item alone.
-    fn answers(&self, item: &[u8]) -> bool {
-        let Some(datagram) = self.sent.first() else {
-            return false;
-        };
-        let (_, rest) = datagram.split_at(BEFORE_ITEM.min(datagram.len()));
-        let (carried, code) = rest.split_at(item.len().min(rest.len()));
-        carried == item && code.len() == 8
+    /// The last step closed the link with this reason.
+    fn closes(&mut self, rt: &impl Abort, now: Millis, reason: u16) -> bool {
+        let request = Body::DisconnectionRequest { detail: 0, reason };
+        !self.hosted.link().is_up(now) && self.hands_out(rt, request)
     }
 }

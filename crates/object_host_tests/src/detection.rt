@@ -1,26 +1,41 @@
 //! A detector of sixteen sections, which are clear, through the link that commands it.
 
-use crate::alone::name;
+use crate::bench::Start::{Connected, Made, Ready};
 use crate::bench::Step::{
-    Confirms, Connects, Forgets, HandsOut, HasGiven, Hears, HearsNoMore, HearsOfOneVersion,
-    KeepsUp, KnowsTaken, Refuses, Says, Senses, ToController, ToStation,
+    Confirms, Connects, Forgets, HandsOut, HasGiven, Hears, HearsNoMore, KeepsUp, KnowsTaken,
+    Refuses, Says, Senses, ToController, ToStation,
 };
-use crate::bench::{Bench, OPENED_AT, Script, Start};
+use crate::bench::{OPENED_AT, Script, name, play};
 use object_host::Sense;
-use sci_telegram::{DetectionMessage, Initialisation, Message, Occupancy, Protocol};
+use sci_telegram::{
+    Agreement, DetectionMessage, Initialisation, Message, Name, Occupancy, Position, Protocol,
+};
 use std::process::Abort;
 use tds_ctl::Detection;
 
-const NAMES: [&str; 16] = [
-    "GA", "GB", "GC", "GD", "GE", "GF", "GG", "GH", "GI", "GJ", "GK", "GL", "GM", "GN", "GO", "GP",
-];
+fn clear(rt: &impl Abort, text: &str) -> (Name, Occupancy) {
+    (name(rt, text), Occupancy::Clear)
+}
 
 fn sixteen(rt: &impl Abort) -> Detection {
-    let mut sections = [(name(rt, "GA"), Occupancy::Clear); 16];
-    for (section, text) in sections.iter_mut().zip(NAMES) {
-        section.0 = name(rt, text);
-    }
-    Detection::new(&sections)
+    Detection::new(&[
+        clear(rt, "GA"),
+        clear(rt, "GB"),
+        clear(rt, "GC"),
+        clear(rt, "GD"),
+        clear(rt, "GE"),
+        clear(rt, "GF"),
+        clear(rt, "GG"),
+        clear(rt, "GH"),
+        clear(rt, "GI"),
+        clear(rt, "GJ"),
+        clear(rt, "GK"),
+        clear(rt, "GL"),
+        clear(rt, "GM"),
+        clear(rt, "GN"),
+        clear(rt, "GO"),
+        clear(rt, "GP"),
+    ])
 }
 
 const CHECK: Message = Message::Initialisation(
@@ -31,6 +46,14 @@ const CHECK: Message = Message::Initialisation(
 const REQUEST: Message = Message::Initialisation(
     Protocol::TrainDetection,
     Initialisation::InitialisationRequest,
+);
+
+const HAS_ONE: Message = Message::Initialisation(
+    Protocol::TrainDetection,
+    Initialisation::VersionAnswer {
+        agreement: Agreement::Match,
+        version: 1,
+    },
 );
 
 const STARTED: Message = Message::Initialisation(
@@ -53,7 +76,7 @@ const OCCUPIED: Message = Message::Detection(DetectionMessage::OccupancyStatus(
 const SCRIPTS: &[Script] = &[
     (
         "sixteen sections are initialised in nineteen items, with none confirmed",
-        Start::Connected(1),
+        Connected(1),
         &[
             (OPENED_AT, Says(CHECK)),
             (OPENED_AT, Says(REQUEST)),
@@ -61,7 +84,7 @@ const SCRIPTS: &[Script] = &[
             (OPENED_AT, HasGiven(19)),
             (OPENED_AT, KnowsTaken(0)),
             (OPENED_AT, ToStation),
-            (OPENED_AT, HearsOfOneVersion(1)),
+            (OPENED_AT, Hears("OC1", HAS_ONE)),
             (OPENED_AT, Hears("OC1", STARTED)),
             (OPENED_AT, Hears("GA", CLEAR)),
             (OPENED_AT, Hears("GB", CLEAR)),
@@ -86,7 +109,7 @@ const SCRIPTS: &[Script] = &[
     // One more change fills the window of 20.
     (
         "a section that changes twice while the window is full sends one status, the later",
-        Start::Connected(1),
+        Connected(1),
         &[
             (OPENED_AT, Says(CHECK)),
             (OPENED_AT, Says(REQUEST)),
@@ -106,7 +129,7 @@ const SCRIPTS: &[Script] = &[
     // Three reports wait for the window. Once the station has confirmed, one step sends all of them, in the order of the list.
     (
         "a step sends every report that it owes",
-        Start::Connected(1),
+        Connected(1),
         &[
             (OPENED_AT, Says(CHECK)),
             (OPENED_AT, Says(REQUEST)),
@@ -129,7 +152,7 @@ const SCRIPTS: &[Script] = &[
     ),
     (
         "a change before the initialisation is told by the initial status alone",
-        Start::Made(1),
+        Made(1),
         &[
             (95000, Senses(Sense::Section(1, Occupancy::Occupied))),
             (OPENED_AT, Connects),
@@ -137,7 +160,7 @@ const SCRIPTS: &[Script] = &[
             (OPENED_AT, Says(REQUEST)),
             (OPENED_AT, ToController),
             (OPENED_AT, ToStation),
-            (OPENED_AT, HearsOfOneVersion(1)),
+            (OPENED_AT, Hears("OC1", HAS_ONE)),
             (OPENED_AT, Hears("OC1", STARTED)),
             (OPENED_AT, Hears("GA", CLEAR)),
             (OPENED_AT, Hears("GB", OCCUPIED)),
@@ -147,8 +170,18 @@ const SCRIPTS: &[Script] = &[
         ],
     ),
     (
+        "nothing is told where nothing changed",
+        Ready(1),
+        &[
+            (OPENED_AT, Senses(Sense::Section(1, Occupancy::Clear))),
+            (OPENED_AT, Senses(Sense::Section(16, Occupancy::Occupied))),
+            (OPENED_AT, Senses(Sense::Position(Position::Right))),
+            (OPENED_AT, HandsOut(0)),
+        ],
+    ),
+    (
         "a telegram that a detector does not take closes the link",
-        Start::Ready(1),
+        Ready(1),
         &[(OPENED_AT, Says(CLEAR)), (OPENED_AT, Refuses(1))],
     ),
 ];
@@ -156,8 +189,6 @@ const SCRIPTS: &[Script] = &[
 #[test]
 fn what_a_commanded_detector_does(rt: HostRuntime) {
     for script in SCRIPTS {
-        let (name, start, rows) = *script;
-        let mut bench = Bench::begun(&rt, rt.alloc(), sixteen(&rt), start);
-        bench.plays(&rt, name, rows);
+        play(&rt, rt.alloc(), sixteen(&rt), script);
     }
 }

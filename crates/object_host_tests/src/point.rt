@@ -1,14 +1,15 @@
 //! A point through the link that commands it. Each lies left.
 
+use crate::bench::Start::{Connected, Ready};
 use crate::bench::Step::{
-    Exchanges, HandsOut, Has, Hears, HearsNoMore, HearsOfOneVersion, KeepsUp, Refuses, Says,
-    Senses, Ticks, ToController, ToStation,
+    Exchanges, HandsOut, Has, Hears, HearsNoMore, KeepsUp, Refuses, Says, Senses, Ticks,
+    ToController, ToStation,
 };
-use crate::bench::{Bench, OPENED_AT, Script, Start};
+use crate::bench::{OPENED_AT, Script, play};
 use crate::output::Output::Driven;
 use object_host::Sense;
 use point_ctl::Point;
-use sci_telegram::{Initialisation, Message, PointMessage, Position, Protocol, Side};
+use sci_telegram::{Agreement, Initialisation, Message, PointMessage, Position, Protocol, Side};
 
 const CHECK: Message = Message::Initialisation(
     Protocol::Point,
@@ -18,6 +19,14 @@ const CHECK: Message = Message::Initialisation(
 const REQUEST: Message = Message::Initialisation(
     Protocol::Point,
     Initialisation::InitialisationRequest,
+);
+
+const HAS_ONE: Message = Message::Initialisation(
+    Protocol::Point,
+    Initialisation::VersionAnswer {
+        agreement: Agreement::Match,
+        version: 1,
+    },
 );
 
 const STARTED: Message = Message::Initialisation(
@@ -43,11 +52,11 @@ const TIMEOUT: Message = Message::Point(PointMessage::Timeout);
 const SCRIPTS: &[Script] = &[
     (
         "its initial status is the sensed position",
-        Start::Connected(1),
+        Connected(1),
         &[
             (OPENED_AT, Says(CHECK)),
             (OPENED_AT, Exchanges),
-            (OPENED_AT, HearsOfOneVersion(1)),
+            (OPENED_AT, Hears("OC1", HAS_ONE)),
             (OPENED_AT, Says(REQUEST)),
             (OPENED_AT, Exchanges),
             (OPENED_AT, Hears("OC1", STARTED)),
@@ -59,7 +68,7 @@ const SCRIPTS: &[Script] = &[
     // The last step before the limit is at 109900, and the first after it at 110100.
     (
         "a drive ends at its limit with no step between, and the next step sends one timeout",
-        Start::Ready(1),
+        Ready(1),
         &[
             (OPENED_AT, Says(RIGHT)),
             (OPENED_AT, Exchanges),
@@ -77,7 +86,7 @@ const SCRIPTS: &[Script] = &[
     ),
     (
         "a move to the sensed side is answered in its step",
-        Start::Ready(1),
+        Ready(1),
         &[
             (OPENED_AT, Says(LEFT)),
             (OPENED_AT, ToController),
@@ -90,7 +99,7 @@ const SCRIPTS: &[Script] = &[
     ),
     (
         "a second move before an answer closes the link, and nothing is reported",
-        Start::Ready(1),
+        Ready(1),
         &[
             (OPENED_AT, Says(RIGHT)),
             (OPENED_AT, ToController),
@@ -102,7 +111,7 @@ const SCRIPTS: &[Script] = &[
     ),
     (
         "a drive ends where it was commanded, and the position is reported once",
-        Start::Ready(1),
+        Ready(1),
         &[
             (OPENED_AT, Says(RIGHT)),
             (OPENED_AT, Exchanges),
@@ -116,12 +125,33 @@ const SCRIPTS: &[Script] = &[
             (100300, Senses(Sense::Position(Position::Right))),
             (100300, KeepsUp(3)),
             (101200, HearsNoMore),
+            (101200, Says(LEFT)),
+            (101200, Exchanges),
+            (101200, Has(Driven(Some(Side::Left)))),
         ],
+    ),
+    (
+        "a position that is sensed at the limit is told as a timeout",
+        Ready(1),
+        &[
+            (OPENED_AT, Says(RIGHT)),
+            (OPENED_AT, Exchanges),
+            (OPENED_AT, KeepsUp(33)),
+            (110000, Senses(Sense::Position(Position::Right))),
+            (110000, HandsOut(1)),
+            (110000, ToStation),
+            (110000, Hears("OC1", TIMEOUT)),
+        ],
+    ),
+    (
+        "a telegram that a point does not take closes the link",
+        Ready(1),
+        &[(OPENED_AT, Says(LIES_RIGHT)), (OPENED_AT, Refuses(1))],
     ),
     // The last stamp that came back is 100000, so the link dies at 101800.
     (
         "a drive ends with its link with no step between, and nothing is reported",
-        Start::Ready(1),
+        Ready(1),
         &[
             (OPENED_AT, Says(RIGHT)),
             (OPENED_AT, Exchanges),
@@ -137,8 +167,6 @@ const SCRIPTS: &[Script] = &[
 #[test]
 fn what_a_commanded_point_does(rt: HostRuntime) {
     for script in SCRIPTS {
-        let (name, start, rows) = *script;
-        let mut bench = Bench::begun(&rt, rt.alloc(), Point::new(Position::Left), start);
-        bench.plays(&rt, name, rows);
+        play(&rt, rt.alloc(), Point::new(Position::Left), script);
     }
 }

@@ -1,13 +1,13 @@
 //! A signal through the link that commands it.
 
+use crate::bench::Start::{Connected, Ready};
 use crate::bench::Step::{
-    Answers, Confirms, Exchanges, Forgets, HandsOut, Has, Hears, HearsNoMore, HearsOfOneVersion,
-    Refuses, Says, SaysAs, Senses, ToController, ToStation,
+    Answers, Confirms, Exchanges, Forgets, HandsOut, Has, Hears, HearsNoMore, Refuses, Says,
+    SaysAs, SaysBytes, Senses, ToController, ToStation,
 };
-use crate::bench::{Bench, OPENED_AT, Row, Script, Start};
+use crate::bench::{OPENED_AT, Script, play};
 use crate::output::Output::Shown;
 use object_host::Sense;
-use rasta_pdu::Item;
 use sci_telegram::{
     Agreement, Aspect, Initialisation, Message, Occupancy, PointMessage, Protocol, Side,
     SignalMessage,
@@ -21,6 +21,16 @@ const EXAMPLE: [u8; 61] = [
     0x5F, 0x5F, 0x5F, 0x5F, 0x5F, 0x5F, 0x5F, 0x5F, 0x5F, 0x5F, 0x5F, 0x04, 0xFF, 0xFF, 0xFF, 0xFF,
     0xFF, 0xFF, 0xFF, 0xFF, 0xFF, 0xFF, 0xFF, 0xFF, 0xFF, 0xFF, 0xFF, 0xFF, 0xFF,
 ];
+
+/// The same with another last byte, with another first one, and without the last.
+const OTHER_LAST: &[u8] =
+    b"\x30\x01\x00IXL1________________OC1_________________\x04\xFF\xFF\xFF\xFF\xFF\xFF\xFF\xFF\xFF\xFF\xFF\xFF\xFF\xFF\xFF\xFF\xFE";
+
+const OTHER_FIRST: &[u8] =
+    b"\x31\x01\x00IXL1________________OC1_________________\x04\xFF\xFF\xFF\xFF\xFF\xFF\xFF\xFF\xFF\xFF\xFF\xFF\xFF\xFF\xFF\xFF\xFF";
+
+const SHORTER: &[u8] =
+    b"\x30\x01\x00IXL1________________OC1_________________\x04\xFF\xFF\xFF\xFF\xFF\xFF\xFF\xFF\xFF\xFF\xFF\xFF\xFF\xFF\xFF\xFF";
 
 /// No match, and version 1, from OC1 to IXL1.
 const NO_MATCH: &[u8] = b"\x30\x25\x00OC1_________________IXL1________________\x01\x01";
@@ -46,6 +56,14 @@ const CHECK_OF_TWO: Message = Message::Initialisation(
     Initialisation::VersionCheck { version: 2 },
 );
 
+const HAS_ONE: Message = Message::Initialisation(
+    Protocol::LightSignal,
+    Initialisation::VersionAnswer {
+        agreement: Agreement::Match,
+        version: 1,
+    },
+);
+
 const REQUEST: Message = Message::Initialisation(
     Protocol::LightSignal,
     Initialisation::InitialisationRequest,
@@ -63,7 +81,7 @@ const SCRIPTS: &[Script] = &[
     // The station checks version 1. Then nothing more is taken: the right check comes out of the order.
     (
         "version two answers a check for version one with its own",
-        Start::Connected(2),
+        Connected(2),
         &[
             (OPENED_AT, Says(CHECK)),
             (OPENED_AT, Exchanges),
@@ -75,7 +93,7 @@ const SCRIPTS: &[Script] = &[
     ),
     (
         "version one takes no slow",
-        Start::Ready(1),
+        Ready(1),
         &[
             (OPENED_AT, Says(INDICATE_PROCEED)),
             (OPENED_AT, Exchanges),
@@ -87,7 +105,7 @@ const SCRIPTS: &[Script] = &[
     ),
     (
         "version two shows the aspect taken last",
-        Start::Ready(2),
+        Ready(2),
         &[
             (OPENED_AT, Says(INDICATE_SLOW)),
             (OPENED_AT, Exchanges),
@@ -111,7 +129,7 @@ const SCRIPTS: &[Script] = &[
     // 45 bytes in a PDU of 83.
     (
         "another version is answered byte for byte",
-        Start::Connected(1),
+        Connected(1),
         &[
             (OPENED_AT, Says(CHECK_OF_TWO)),
             (OPENED_AT, ToController),
@@ -121,7 +139,7 @@ const SCRIPTS: &[Script] = &[
     // What the controller isn't to act on closes the link, and the lamp is at stop.
     (
         "an aspect in the name IXL2 closes",
-        Start::Ready(1),
+        Ready(1),
         &[
             (OPENED_AT, SaysAs("IXL2", "OC1", INDICATE_PROCEED)),
             (OPENED_AT, Refuses(1)),
@@ -130,7 +148,7 @@ const SCRIPTS: &[Script] = &[
     ),
     (
         "an aspect in the name IXL closes",
-        Start::Ready(1),
+        Ready(1),
         &[
             (OPENED_AT, SaysAs("IXL", "OC1", INDICATE_PROCEED)),
             (OPENED_AT, Refuses(1)),
@@ -139,7 +157,7 @@ const SCRIPTS: &[Script] = &[
     ),
     (
         "an aspect in the name IXL10 closes",
-        Start::Ready(1),
+        Ready(1),
         &[
             (OPENED_AT, SaysAs("IXL10", "OC1", INDICATE_PROCEED)),
             (OPENED_AT, Refuses(1)),
@@ -148,7 +166,7 @@ const SCRIPTS: &[Script] = &[
     ),
     (
         "an aspect in the name OC1 closes",
-        Start::Ready(1),
+        Ready(1),
         &[
             (OPENED_AT, SaysAs("OC1", "OC1", INDICATE_PROCEED)),
             (OPENED_AT, Refuses(1)),
@@ -157,7 +175,7 @@ const SCRIPTS: &[Script] = &[
     ),
     (
         "an aspect for another receiver closes",
-        Start::Ready(1),
+        Ready(1),
         &[
             (OPENED_AT, SaysAs("IXL1", "OC2", INDICATE_PROCEED)),
             (OPENED_AT, Refuses(1)),
@@ -166,7 +184,7 @@ const SCRIPTS: &[Script] = &[
     ),
     (
         "a version check in another name closes",
-        Start::Connected(1),
+        Connected(1),
         &[
             (OPENED_AT, SaysAs("IXL2", "OC1", CHECK)),
             (OPENED_AT, Refuses(1)),
@@ -176,7 +194,7 @@ const SCRIPTS: &[Script] = &[
     // The telegrams of the initialisation are in each protocol; a signal takes those of its own alone.
     (
         "a version check in the protocol of points closes",
-        Start::Connected(1),
+        Connected(1),
         &[
             (
                 OPENED_AT,
@@ -188,7 +206,7 @@ const SCRIPTS: &[Script] = &[
     ),
     (
         "a version check in the protocol of detectors closes",
-        Start::Connected(1),
+        Connected(1),
         &[
             (
                 OPENED_AT,
@@ -200,7 +218,7 @@ const SCRIPTS: &[Script] = &[
     ),
     (
         "a telegram of another protocol closes",
-        Start::Ready(1),
+        Ready(1),
         &[
             (
                 OPENED_AT,
@@ -213,11 +231,11 @@ const SCRIPTS: &[Script] = &[
     // The second check comes where the request is awaited: it is answered no more.
     (
         "a second version check closes",
-        Start::Connected(1),
+        Connected(1),
         &[
             (OPENED_AT, Says(CHECK)),
             (OPENED_AT, Exchanges),
-            (OPENED_AT, HearsOfOneVersion(1)),
+            (OPENED_AT, Hears("OC1", HAS_ONE)),
             (OPENED_AT, Says(CHECK)),
             (OPENED_AT, Refuses(1)),
             (OPENED_AT, Has(Shown(Aspect::Stop))),
@@ -225,7 +243,7 @@ const SCRIPTS: &[Script] = &[
     ),
     (
         "an aspect before the initialisation closes",
-        Start::Connected(1),
+        Connected(1),
         &[
             (OPENED_AT, Says(CHECK)),
             (OPENED_AT, Exchanges),
@@ -238,7 +256,7 @@ const SCRIPTS: &[Script] = &[
     // anything else: nothing is left of proceed.
     (
         "proceed is reported once, and falls by the clock",
-        Start::Ready(1),
+        Ready(1),
         &[
             (100100, Senses(Sense::Section(0, Occupancy::Clear))),
             (100100, Says(INDICATE_STOP)),
@@ -254,77 +272,99 @@ const SCRIPTS: &[Script] = &[
             (0, Has(Shown(Aspect::Stop))),
         ],
     ),
+    (
+        "the example shows proceed, and another last byte closes",
+        Ready(1),
+        &[
+            (OPENED_AT, SaysBytes(&EXAMPLE)),
+            (OPENED_AT, Exchanges),
+            (OPENED_AT, Has(Shown(Aspect::Proceed))),
+            (OPENED_AT, SaysBytes(OTHER_LAST)),
+            (OPENED_AT, Refuses(1)),
+            (OPENED_AT, Has(Shown(Aspect::Stop))),
+        ],
+    ),
+    (
+        "the example shows proceed, and another first byte closes",
+        Ready(1),
+        &[
+            (OPENED_AT, SaysBytes(&EXAMPLE)),
+            (OPENED_AT, Exchanges),
+            (OPENED_AT, Has(Shown(Aspect::Proceed))),
+            (OPENED_AT, SaysBytes(OTHER_FIRST)),
+            (OPENED_AT, Refuses(1)),
+            (OPENED_AT, Has(Shown(Aspect::Stop))),
+        ],
+    ),
+    (
+        "the example shows proceed, and one byte less closes",
+        Ready(1),
+        &[
+            (OPENED_AT, SaysBytes(&EXAMPLE)),
+            (OPENED_AT, Exchanges),
+            (OPENED_AT, Has(Shown(Aspect::Proceed))),
+            (OPENED_AT, SaysBytes(SHORTER)),
+            (OPENED_AT, Refuses(1)),
+            (OPENED_AT, Has(Shown(Aspect::Stop))),
+        ],
+    ),
+    (
+        "the example shows proceed, and its first byte alone closes",
+        Ready(1),
+        &[
+            (OPENED_AT, SaysBytes(&EXAMPLE)),
+            (OPENED_AT, Exchanges),
+            (OPENED_AT, Has(Shown(Aspect::Proceed))),
+            (OPENED_AT, SaysBytes(&[0x30])),
+            (OPENED_AT, Refuses(1)),
+            (OPENED_AT, Has(Shown(Aspect::Stop))),
+        ],
+    ),
+    // Four items of the initialisation and sixteen reports fill the window. The next report stays owed, a later one takes its
+    // place, and it is sent once the station has confirmed.
+    (
+        "a report waits for the window",
+        Connected(1),
+        &[
+            (OPENED_AT, Says(CHECK)),
+            (OPENED_AT, Says(REQUEST)),
+            (OPENED_AT, Says(INDICATE_STOP)),
+            (OPENED_AT, Says(INDICATE_STOP)),
+            (OPENED_AT, Says(INDICATE_STOP)),
+            (OPENED_AT, Says(INDICATE_STOP)),
+            (OPENED_AT, Says(INDICATE_STOP)),
+            (OPENED_AT, Says(INDICATE_STOP)),
+            (OPENED_AT, Says(INDICATE_STOP)),
+            (OPENED_AT, Says(INDICATE_STOP)),
+            (OPENED_AT, Says(INDICATE_STOP)),
+            (OPENED_AT, Says(INDICATE_STOP)),
+            (OPENED_AT, Says(INDICATE_STOP)),
+            (OPENED_AT, Says(INDICATE_STOP)),
+            (OPENED_AT, Says(INDICATE_STOP)),
+            (OPENED_AT, Says(INDICATE_STOP)),
+            (OPENED_AT, Says(INDICATE_STOP)),
+            (OPENED_AT, Says(INDICATE_STOP)),
+            (OPENED_AT, ToController),
+            (OPENED_AT, HandsOut(20)),
+            (OPENED_AT, Says(INDICATE_STOP)),
+            (OPENED_AT, Says(INDICATE_PROCEED)),
+            (OPENED_AT, ToController),
+            (OPENED_AT, HandsOut(20)),
+            (OPENED_AT, Has(Shown(Aspect::Proceed))),
+            (OPENED_AT, ToStation),
+            (OPENED_AT, Forgets),
+            (100400, Confirms),
+            (100400, HandsOut(1)),
+            (100400, ToStation),
+            (100400, Hears("OC1", PROCEED)),
+            (100400, HearsNoMore),
+        ],
+    ),
 ];
 
 #[test]
 fn what_a_commanded_signal_does(rt: HostRuntime) {
     for script in SCRIPTS {
-        let (name, start, rows) = *script;
-        let mut bench = Bench::begun(&rt, rt.alloc(), Signal::new(), start);
-        bench.plays(&rt, name, rows);
+        play(&rt, rt.alloc(), Signal::new(), script);
     }
-}
-
-/// The example is taken.
-const TAKEN: &[Row] = &[
-    (OPENED_AT, Exchanges),
-    (OPENED_AT, Has(Shown(Aspect::Proceed))),
-];
-
-const REFUSED: &[Row] = &[
-    (OPENED_AT, Refuses(1)),
-    (OPENED_AT, Has(Shown(Aspect::Stop))),
-];
-
-#[test]
-fn the_example_shows_proceed_and_each_damaged_form_of_it_closes(rt: HostRuntime) {
-    let rt = &rt;
-    let example = Item::of(&EXAMPLE).expect(rt, "an item");
-    // How many of its bytes are left, and another byte at a place.
-    for (length, place, byte) in [(61, 60, 0xFE), (61, 0, 0x31), (60, 0, 0x30), (1, 0, 0x30)] {
-        let mut bytes = EXAMPLE;
-        bytes[place] = byte;
-        let (damaged, _) = bytes.split_at(length);
-        let damaged = Item::of(damaged).expect(rt, "an item");
-        let mut bench = Bench::begun(rt, rt.alloc(), Signal::new(), Start::Ready(1));
-        bench.says(rt, OPENED_AT, &example);
-        bench.plays(rt, "the example", TAKEN);
-        bench.says(rt, OPENED_AT, &damaged);
-        bench.plays(rt, "a damaged form", REFUSED);
-    }
-}
-
-/// Four items of the initialisation and sixteen reports fill the window. The next report stays owed, a later one takes
-/// its place, and it is sent once the station has confirmed.
-const FULL: &[Row] = &[
-    (OPENED_AT, ToController),
-    (OPENED_AT, HandsOut(20)),
-    (OPENED_AT, Says(INDICATE_STOP)),
-    (OPENED_AT, Says(INDICATE_PROCEED)),
-    (OPENED_AT, ToController),
-    (OPENED_AT, HandsOut(20)),
-    (OPENED_AT, Has(Shown(Aspect::Proceed))),
-    (OPENED_AT, ToStation),
-    (OPENED_AT, Forgets),
-    (100400, Confirms),
-    (100400, HandsOut(1)),
-    (100400, ToStation),
-];
-
-#[test]
-fn a_report_waits_for_the_window(rt: HostRuntime) {
-    let rt = &rt;
-    let mut bench = Bench::begun(rt, rt.alloc(), Signal::new(), Start::Connected(1));
-    bench.plays(
-        rt,
-        "asked",
-        &[(OPENED_AT, Says(CHECK)), (OPENED_AT, Says(REQUEST))],
-    );
-    bench.plays(rt, "sixteen", &[(OPENED_AT, Says(INDICATE_STOP)); 16]);
-    bench.plays(rt, "full", FULL);
-    bench.plays(
-        rt,
-        "confirmed",
-        &[(100400, Hears("OC1", PROCEED)), (100400, HearsNoMore)],
-    );
 }
