@@ -30,6 +30,11 @@ pub(crate) fn partner(end: Role) -> Role {
     }
 }
 
+/// Whether a datagram can be delivered: it isn't lost, and not too old.
+pub(crate) fn can_arrive(pair: &Pair, sent: &Sent) -> bool {
+    !sent.is_lost() && pair.time().saturating_sub(sent.at()) <= LIFETIME
+}
+
 fn copied(bytes: &[u8]) -> Bytes {
     let mut copy = Bytes::new();
     let _ = copy.try_extend_from_slice(bytes);
@@ -70,7 +75,7 @@ impl Hostile {
         let length = 1 + self.chance.below(61);
         let mut bytes = Bytes::new();
         for _ in 0..length {
-            let _ = bytes.try_push(self.byte());
+            let _ = bytes.try_push(self.chance.byte());
         }
         let aspect: &[u8] = match self.chance.below(3) {
             0 => &[0x04],
@@ -79,11 +84,6 @@ impl Hostile {
         };
         let item = Item::of(aspect).unwrap_or_default();
         PairEvent::Give(self.end(), item)
-    }
-
-    fn byte(&mut self) -> u8 {
-        let [byte, _, _, _] = self.chance.word().to_le_bytes();
-        byte
     }
 
     /// Time goes on, in long steps where an end is down; and sometimes a clock leaves it.
@@ -139,7 +139,7 @@ impl Hostile {
         let count = pair.sent().len();
         let mut found = count;
         for (index, sent) in pair.sent().iter().enumerate().skip(self.delivered) {
-            if !sent.is_lost() && pair.time().saturating_sub(sent.at()) <= LIFETIME {
+            if can_arrive(pair, sent) {
                 found = index;
                 break;
             }
@@ -164,7 +164,7 @@ impl Hostile {
     fn noise(&mut self) -> Bytes {
         let mut bytes = Bytes::new();
         for _ in 0..self.chance.below(60) {
-            let _ = bytes.try_push(self.byte());
+            let _ = bytes.try_push(self.chance.byte());
         }
         bytes
     }
@@ -176,7 +176,7 @@ impl Hostile {
         match self.chance.below(24) {
             0 => bytes.truncate(place),
             1 => {
-                let other = self.byte();
+                let other = self.chance.byte();
                 if let Some(byte) = bytes.get_mut(place) {
                     *byte = other;
                 }

@@ -1,7 +1,7 @@
 //! Hostile runs, each from its own seed.
 
 use crate::events::Hostile;
-use crate::watch::{Tally, Watch};
+use crate::watch::{Count, Tally, Watch};
 use simulator_pair::Pair;
 use std::alloc::Global;
 use std::process::Abort;
@@ -31,28 +31,33 @@ fn hostile_run(rt: &impl Abort, alloc: Global, seed: u64, tally: &mut Tally) {
     }
 }
 
+/// How often what has to happen in all runs, that they show something.
+const LEAST: &[(Count, usize)] = &[
+    (Count::TakenByClient, 3000),
+    (Count::TakenByServer, 3000),
+    (Count::Confirmed, 3000),
+    (Count::Connections, 300),
+    (Count::Answers, 300),
+    (Count::Restarts, 200),
+    (Count::Closes, 200),
+    (Count::WindowFull, 300),
+    (Count::ProceedShown, 500),
+    (Count::ProceedFell, 500),
+    (Count::NeverSent, 10_000),
+    (Count::Drift, 1000),
+    (Count::ClockLimit, 30),
+    (Count::Turns, 5),
+];
+
 #[test]
 fn the_sentences_hold_of_hostile_runs(rt: HostRuntime) {
     let mut tally = Tally::new();
     for seed in 1..=RUNS {
         hostile_run(&rt, rt.alloc(), seed, &mut tally);
     }
-    for (count, least) in [
-        (tally.taken_by_client, 3000),
-        (tally.taken_by_server, 3000),
-        (tally.confirmed, 3000),
-        (tally.connections, 300),
-        (tally.answers, 300),
-        (tally.restarts, 200),
-        (tally.closes, 200),
-        (tally.window_full, 300),
-        (tally.proceed_shown, 500),
-        (tally.proceed_fell, 500),
-        (tally.never_sent, 10_000),
-        (tally.drift, 1000),
-        (tally.clock_limit, 30),
-        (tally.turns, 5),
-    ] {
-        assert!(rt; count >= least, "{tally:?}");
+    for (place, row) in LEAST.iter().enumerate() {
+        let (what, least) = *row;
+        let count = tally.of(what);
+        assert!(rt; count >= least, "row {place}: {count} of {least}");
     }
 }

@@ -1,13 +1,10 @@
 //! The sentences of the theorem, evaluated on what a pair stores.
 
-use crate::events::{TURN, partner};
+use crate::events::{TURN, can_arrive, partner};
 use simulator_pair::{
     Aspect, Item, Pair, PairAnswer, PairEvent, PairReply, Refused, Role, SendFault, Sent,
 };
 use std::process::Abort;
-
-/// How long a datagram can be delivered, in microseconds.
-const LIFETIME: u64 = 2_000_000;
 
 /// How fresh an item is that is taken, in microseconds.
 const FRESHNESS: u64 = 1_802_000;
@@ -15,9 +12,9 @@ const FRESHNESS: u64 = 1_802_000;
 /// How many microseconds a millisecond has.
 const MICROS: u64 = 1000;
 
-const PROCEED: [u8; 1] = [0x04];
+const PROCEED: u8 = 0x04;
 
-const STOP: [u8; 1] = [0x01];
+const STOP: u8 = 0x01;
 
 /// The types of a connection request, 6200, and of a retransmission response, 6213, as their bytes stand in a datagram.
 const REQUEST: [u8; 2] = [0x38, 0x18];
@@ -41,7 +38,6 @@ pub(crate) struct Watch {
     client: EndSeen,
     server: EndSeen,
     sent: usize,
-    time: u64,
     lamp: Aspect,
     /// The clocks of the client and of the server, in microseconds.
     clocks: [u64; 2],
@@ -83,99 +79,90 @@ fn look_at(pair: &Pair, end: Role) -> EndSeen {
     }
 }
 
-/// The copy that a delivery of these bytes delivers: the newest that isn't lost and not too old.
+/// The copy that a delivery of these bytes delivers: the newest that can be delivered.
 fn delivered<'a>(pair: &'a Pair, bytes: &[u8]) -> Option<&'a Sent> {
     for sent in pair.sent().iter().rev() {
-        if sent.bytes() == bytes
-            && !sent.is_lost()
-            && pair.time().saturating_sub(sent.at()) <= LIFETIME
-        {
+        if can_arrive(pair, sent) && sent.bytes() == bytes {
             return Some(sent);
         }
     }
     None
 }
 
+/// Whether an item is this byte alone.
+fn is_byte(item: &Item, byte: u8) -> bool {
+    item.bytes() == [byte].as_slice()
+}
+
 /// The last aspect among some items, stop where there is none.
 fn last_aspect(items: &[Item]) -> Aspect {
     for item in items.iter().rev() {
-        if item.bytes() == PROCEED.as_slice() {
+        if is_byte(item, PROCEED) {
             return Aspect::Proceed;
         }
-        if item.bytes() == STOP.as_slice() {
+        if is_byte(item, STOP) {
             return Aspect::Stop;
         }
     }
     Aspect::Stop
 }
 
-/// What an end took is a beginning of what its partner was given.
-fn is_beginning(taken: &[Item], given: &[Item]) -> bool {
-    if given.len() < taken.len() {
-        return false;
-    }
-    for (one, other) in taken.iter().zip(given) {
-        if one.bytes() != other.bytes() {
-            return false;
-        }
-    }
-    true
-}
-
 /// Whether an item proceed was taken behind the last stop among the first of these.
 fn has_later_proceed(given: &[Item], taken: &[Item], confirmed: usize) -> bool {
     let mut behind = 0;
     for (index, item) in given.iter().enumerate() {
-        if index < confirmed && item.bytes() == STOP.as_slice() {
+        if index < confirmed && is_byte(item, STOP) {
             behind = index + 1;
         }
     }
     for item in taken.iter().skip(behind) {
-        if item.bytes() == PROCEED.as_slice() {
+        if is_byte(item, PROCEED) {
             return true;
         }
     }
     behind == 0
 }
 
-/// How often what happened in a run.
-#[derive(Clone, Copy, Debug)]
-pub(crate) struct Tally {
-    pub(crate) taken_by_client: usize,
-    pub(crate) taken_by_server: usize,
-    pub(crate) connections: usize,
-    pub(crate) restarts: usize,
-    pub(crate) closes: usize,
-    pub(crate) window_full: usize,
-    pub(crate) answers: usize,
-    pub(crate) proceed_shown: usize,
-    pub(crate) proceed_fell: usize,
-    pub(crate) confirmed: usize,
-    pub(crate) never_sent: usize,
-    pub(crate) drift: usize,
-    pub(crate) clock_limit: usize,
+/// What is counted of all runs.
+#[derive(Clone, Copy)]
+pub(crate) enum Count {
+    TakenByClient,
+    TakenByServer,
+    Confirmed,
+    Connections,
+    Answers,
+    Restarts,
+    Closes,
+    WindowFull,
+    ProceedShown,
+    ProceedFell,
+    NeverSent,
+    Drift,
+    ClockLimit,
     /// How often the stamp of an end wrapped while both were up.
-    pub(crate) turns: usize,
+    Turns,
+}
+
+/// How often what happened in all runs.
+#[derive(Clone, Copy)]
+pub(crate) struct Tally {
+    counts: [usize; 14],
 }
 
 impl Tally {
     pub(crate) fn new() -> Tally {
-        Tally {
-            taken_by_client: 0,
-            taken_by_server: 0,
-            connections: 0,
-            restarts: 0,
-            closes: 0,
-            window_full: 0,
-            answers: 0,
-            proceed_shown: 0,
-            proceed_fell: 0,
-            confirmed: 0,
-            never_sent: 0,
-            drift: 0,
-            clock_limit: 0,
-            turns: 0,
+        Tally { counts: [0; 14] }
+    }
+
+    /// It happened so many times more.
+    fn add(&mut self, what: Count, times: usize) {
+        if let Some(count) = self.counts.get_mut(what as usize) {
+            *count = count.saturating_add(times);
         }
+    }
+
+    pub(crate) fn of(&self, what: Count) -> usize {
+        self.counts.get(what as usize).copied().unwrap_or(0)
     }
 }
 
@@ -185,7 +172,6 @@ impl Watch {
             client: look_at(pair, Role::Client),
             server: look_at(pair, Role::Server),
             sent: pair.sent().len(),
-            time: pair.time(),
             lamp: pair.shown(),
             clocks: [0, 0],
             left: 0,
@@ -193,10 +179,9 @@ impl Watch {
     }
 
     fn of(&self, end: Role) -> EndSeen {
-        if is_client(end) {
-            self.client
-        } else {
-            self.server
+        match end {
+            Role::Client => self.client,
+            Role::Server => self.server,
         }
     }
 
@@ -230,26 +215,11 @@ impl Watch {
                 self.happened(rt, &now, pair, event, reply);
                 self.count(&now, pair, event, reply, tally);
             }
-            Err(why) => {
-                self.is_unchanged(rt, &now);
-                count_refusal(why, tally);
-            }
+            Err(why) => count_refusal(why, tally),
         }
         connection_is_safe(rt, &now, pair);
         lamp_is_due(rt, &now, pair);
         *self = now;
-    }
-
-    fn is_unchanged(&self, rt: &impl Abort, now: &Watch) {
-        for (one, other) in [(self.client, now.client), (self.server, now.server)] {
-            assert!(rt; one.connection == other.connection);
-            assert!(rt; one.is_up == other.is_up);
-            assert!(rt;
-                (one.given, one.taken, one.confirmed) == (other.given, other.taken, other.confirmed)
-            );
-        }
-        assert!(rt; (self.sent, self.time) == (now.sent, now.time));
-        assert!(rt; self.lamp == now.lamp);
     }
 
     fn happened(
@@ -317,13 +287,10 @@ impl Watch {
 
     /// Counts the stamps that wrapped while both ends were up.
     fn count_turns(&self, now: &Watch, tally: &mut Tally) {
-        if !self.client.is_up || !self.server.is_up {
-            return;
-        }
-        for (old, new) in self.clocks.iter().zip(now.clocks.as_slice()) {
-            if has_turned(*old, *new) {
-                once_more(&mut tally.turns);
-            }
+        let ([old_client, old_server], [client, server]) = (self.clocks, now.clocks);
+        if self.client.is_up && self.server.is_up {
+            tally.add(Count::Turns, turns(old_client, client));
+            tally.add(Count::Turns, turns(old_server, server));
         }
     }
 
@@ -337,37 +304,28 @@ impl Watch {
     ) {
         for sent in pair.sent().iter().skip(self.sent) {
             if is_of_type(sent, ANSWER) {
-                once_more(&mut tally.answers);
+                tally.add(Count::Answers, 1);
             }
         }
         if self.server.connection != now.server.connection {
-            once_more(&mut tally.connections);
+            tally.add(Count::Connections, 1);
         }
-        more(
-            &mut tally.taken_by_client,
-            self.client.taken,
-            now.client.taken,
-        );
-        more(
-            &mut tally.taken_by_server,
-            self.server.taken,
-            now.server.taken,
-        );
-        more(
-            &mut tally.confirmed,
-            self.client.confirmed as usize,
-            now.client.confirmed as usize,
-        );
+        let client = now.client.taken.saturating_sub(self.client.taken);
+        tally.add(Count::TakenByClient, client);
+        let server = now.server.taken.saturating_sub(self.server.taken);
+        tally.add(Count::TakenByServer, server);
+        let (old, new) = (self.client.confirmed, now.client.confirmed);
+        tally.add(Count::Confirmed, new.saturating_sub(old) as usize);
         match (self.lamp, now.lamp) {
-            (Aspect::Stop, Aspect::Proceed) => once_more(&mut tally.proceed_shown),
-            (Aspect::Proceed, Aspect::Stop) => once_more(&mut tally.proceed_fell),
+            (Aspect::Stop, Aspect::Proceed) => tally.add(Count::ProceedShown, 1),
+            (Aspect::Proceed, Aspect::Stop) => tally.add(Count::ProceedFell, 1),
             _ => {}
         }
         match (event, reply.answer) {
-            (PairEvent::Restart { .. }, _) => once_more(&mut tally.restarts),
+            (PairEvent::Restart { .. }, _) => tally.add(Count::Restarts, 1),
             (PairEvent::Time { .. }, _) => self.count_turns(now, tally),
-            (PairEvent::Close(..), _) => once_more(&mut tally.closes),
-            (_, PairAnswer::Given(Err(SendFault::WindowFull))) => once_more(&mut tally.window_full),
+            (PairEvent::Close(..), _) => tally.add(Count::Closes, 1),
+            (_, PairAnswer::Given(Err(SendFault::WindowFull))) => tally.add(Count::WindowFull, 1),
             _ => {}
         }
     }
@@ -399,25 +357,17 @@ fn clocks_after(clocks: [u64; 2], event: &PairEvent) -> [u64; 2] {
     }
 }
 
-/// Whether time took a clock past a turn of the stamps.
-fn has_turned(old: u64, new: u64) -> bool {
-    old / (TURN * MICROS) < new / (TURN * MICROS)
-}
-
-fn once_more(count: &mut usize) {
-    *count = count.saturating_add(1);
-}
-
-/// A number rose, or began anew.
-fn more(count: &mut usize, old: usize, new: usize) {
-    *count = count.saturating_add(new.saturating_sub(old));
+/// How often the stamps of a clock began anew as time passed.
+fn turns(old: u64, new: u64) -> usize {
+    let turn = TURN * MICROS;
+    (new / turn).saturating_sub(old / turn) as usize
 }
 
 fn count_refusal(why: Refused, tally: &mut Tally) {
     match why {
-        Refused::NeverSent => once_more(&mut tally.never_sent),
-        Refused::Drift => once_more(&mut tally.drift),
-        Refused::ClockLimit => once_more(&mut tally.clock_limit),
+        Refused::NeverSent => tally.add(Count::NeverSent, 1),
+        Refused::Drift => tally.add(Count::Drift, 1),
+        Refused::ClockLimit => tally.add(Count::ClockLimit, 1),
         Refused::NoSuchNode | Refused::NotDriven | Refused::OutOfMemory => {}
     }
 }
@@ -430,7 +380,7 @@ fn connection_is_safe(rt: &impl Abort, now: &Watch, pair: &Pair) {
     }
     for end in [Role::Client, Role::Server] {
         let (given, taken) = (pair.given(end), pair.taken(partner(end)));
-        assert!(rt; is_beginning(taken, given));
+        assert!(rt; given.starts_with(taken));
         assert!(rt; now.of(end).confirmed <= taken.len() as u64);
     }
     let confirmed = now.client.confirmed as usize;
