@@ -1,15 +1,13 @@
 //! What an interlocking tells of the aspect that a signal indicates.
 
-use crate::bench::name;
-use crate::interlockings_made::{MADE_AT, OPENED_AT};
-use crate::layouts::checked;
+use crate::bench::{MADE_AT, MANY, OPENED_AT, answer, hosted, name};
 use ixl::{Command, Input, Interlocking};
-use ixl_state::ixl_rules::control_table::layout::{RouteId, SignalId};
+use ixl_state::ixl_rules::control_table::check;
+use ixl_state::ixl_rules::control_table::layout::{Layout, RouteId, SignalId};
 use ixl_state::ixl_rules::control_table::sci_telegram::{Aspect, Occupancy};
 use ixl_state::ixl_rules::rasta_core::Millis;
-use ixl_state::ixl_rules::rasta_pdu::{Datagram, Key};
-use md4::STANDARD;
-use object_host::{Controller, Hosted, Input as Heard};
+use ixl_state::ixl_rules::rasta_pdu::Datagram;
+use object_host::Hosted;
 use signal_ctl::Signal;
 use std::alloc::Global;
 use std::mem;
@@ -40,52 +38,18 @@ struct Station {
     said: Vec<Datagram>,
 }
 
-fn hosted<C: Controller>(
-    rt: &impl Abort,
-    alloc: Global,
-    named: (&str, u32),
-    object: C,
-) -> Hosted<C> {
-    let (own, peer) = (name(rt, named.0), name(rt, "IXL1"));
-    let made = Hosted::new(
-        alloc,
-        named.1,
-        1,
-        own,
-        peer,
-        Key(STANDARD),
-        0,
-        MADE_AT,
-        object,
-        1,
-    );
-    made.expect(rt, "there is memory")
-}
-
-/// A controller hears a datagram, and what it answers is added.
-fn hears<C: Controller>(
-    rt: &impl Abort,
-    controller: &mut Hosted<C>,
-    now: Millis,
-    datagram: &[u8],
-    answers: &mut Vec<Datagram>,
-) {
-    assert!(rt; controller.may_step(now));
-    controller.step(now, Heard::Datagram(datagram));
-    for _ in 0..controller.outbox().len() {
-        if let Some(answer) = controller.take_first() {
-            assert!(rt; answers.push(answer).is_ok());
-        }
-    }
+fn interlocking(rt: &impl Abort, alloc: Global) -> Interlocking {
+    let layout = Layout::read(alloc, LAYOUT).expect(rt, "a layout");
+    let table = check(alloc, layout).expect(rt, "a table");
+    Interlocking::new(alloc, table, 0, MADE_AT).expect(rt, "there is memory")
 }
 
 impl Station {
     fn new(rt: &impl Abort, alloc: Global) -> Station {
-        let made = Interlocking::new(alloc, checked(rt, alloc, LAYOUT), 0, MADE_AT);
         let sections = [(name(rt, "GA"), Occupancy::Clear)];
         Station {
             alloc,
-            ixl: made.expect(rt, "there is memory"),
+            ixl: interlocking(rt, alloc),
             signal: hosted(rt, alloc, ("S1", 2), Signal::new()),
             detector: hosted(rt, alloc, ("D1", 3), Detection::new(&sections)),
             said: Vec::new(alloc),
@@ -96,10 +60,11 @@ impl Station {
     fn steps(&mut self, rt: &impl Abort, now: Millis, input: Input<'_>) {
         assert!(rt; self.ixl.may_step(now));
         let _ = self.ixl.step(now, input);
-        for _ in 0..self.ixl.outbox().len() {
-            if let Some(datagram) = self.ixl.take_first() {
-                assert!(rt; self.said.push(datagram).is_ok());
-            }
+        for _ in 0..MANY {
+            let Some(datagram) = self.ixl.take_first() else {
+                break;
+            };
+            assert!(rt; self.said.push(datagram).is_ok());
         }
     }
 
@@ -111,20 +76,12 @@ impl Station {
         }
     }
 
-    /// What the interlocking said reaches its controllers, of which the one that it is for answers.
-    fn answers(&mut self, rt: &impl Abort, now: Millis) -> Vec<Datagram> {
+    /// What the interlocking said reaches its controllers, and what they answer reaches the interlocking.
+    fn exchanges(&mut self, rt: &impl Abort, now: Millis) {
         let said = mem::replace(&mut self.said, Vec::new(self.alloc));
         let mut answers = Vec::new(self.alloc);
-        for datagram in &said {
-            hears(rt, &mut self.signal, now, datagram, &mut answers);
-            hears(rt, &mut self.detector, now, datagram, &mut answers);
-        }
-        answers
-    }
-
-    /// What they answer reaches the interlocking.
-    fn exchanges(&mut self, rt: &impl Abort, now: Millis) {
-        let answers = self.answers(rt, now);
+        answer(rt, &mut self.signal, now, &said, &mut answers);
+        answer(rt, &mut self.detector, now, &said, &mut answers);
         for datagram in &answers {
             self.steps(rt, now, Input::Datagram(datagram));
         }

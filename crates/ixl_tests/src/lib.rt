@@ -1,29 +1,9 @@
-//! Tests of the interlocking's parts, of the client through the controllers that answer it, and of changed layouts.
+//! Tests of the interlocking over the controllers that answer it: links that close, and aspects that signals indicate.
 #![tactic(auto)]
 
 #[cfg(test)]
 mod bench;
 #[cfg(test)]
-mod bits;
-#[cfg(test)]
-mod changes;
-#[cfg(test)]
-mod commands;
+mod closings;
 #[cfg(test)]
 mod indications;
-#[cfg(test)]
-mod initialisation;
-#[cfg(test)]
-mod interlockings_made;
-#[cfg(test)]
-mod layouts;
-#[cfg(test)]
-mod locks;
-#[cfg(test)]
-mod releases;
-#[cfg(test)]
-mod rows;
-#[cfg(test)]
-mod texts;
-#[cfg(test)]
-mod verdicts;
