@@ -1,9 +1,10 @@
 //! The command line of `station`: its commands, each with its files, options and switches.
 
 ghost use Rattle.std.specs.Prelude.{◌≡◌, IfOk, false};
-ghost use Rattle.clap.specs.Words.{app_of, rule_of};
+ghost use Rattle.clap.specs.Words.{app_of, new_app, rule_of};
 ghost use Rattle.clap.specs.declared.builder.command.Command.TheViews.{out-Command};
-ghost use Rattle.station_command.specs.Line.{alone_line, capture_line, chart_line, check_line, datagram_line, decode_line, doing_line, layout_line, moment_rule, needed_rule, option_rule, optional_rule, plan_line, reading_line, replay_line, run_line, session_line, sim_line, station_line, switch_rule, table_line, time_rule};
+ghost use Rattle.station_command.specs.Line.{alone_line, capture_line, chart_line, check_line, datagram_line, decode_line, doing_line, layout_line, moment_rule, needed_rule, option_rule, optional_rule, plan_line, reading_line, replay_line, run_line, second_rule, session_line, sim_line, station_line, switch_rule, table_line, time_rule};
+ghost use Rattle.station_command.specs.inside.Lines.{file_line, needed_file_rule};
 
 use crate::texts;
 use clap::builder::ValueParser;
@@ -118,23 +119,20 @@ pub(crate) fn station<'a>(alloc: Global) -> Result<Command<'a>, AllocError>
     line.subcommand(capture(alloc)?)
 }
 
+/// An argument whose value has a name of its own in the help. It is known by its place, and may be left out.
+fn valued<'a>(alloc: Global, name: &'a str, value: &'a str, help: &'a str) -> Arg<'a>
+    ensures rule { rule_of result ≡ optional_rule name.entry.now }
+    ensures local { result.global ≡ false }
+{
+    Arg::new(alloc, name).value_name(value).help(help)
+}
+
 /// An option with its value.
 fn option<'a>(alloc: Global, name: &'a str, value: &'a str, help: &'a str) -> Arg<'a>
     ensures rule { rule_of result ≡ option_rule name.entry.now }
     ensures local { result.global ≡ false }
 {
-    Arg::new(alloc, name)
-        .long(name)
-        .value_name(value)
-        .help(help)
-}
-
-/// A file that may be left out.
-fn optional<'a>(alloc: Global, name: &'a str, value: &'a str, help: &'a str) -> Arg<'a>
-    ensures rule { rule_of result ≡ optional_rule name.entry.now }
-    ensures local { result.global ≡ false }
-{
-    Arg::new(alloc, name).value_name(value).help(help)
+    valued(alloc, name, value, help).long(name)
 }
 
 /// A required option with its value.
@@ -142,11 +140,7 @@ fn needed<'a>(alloc: Global, name: &'a str, value: &'a str, help: &'a str) -> Ar
     ensures rule { rule_of result ≡ needed_rule name.entry.now }
     ensures local { result.global ≡ false }
 {
-    Arg::new(alloc, name)
-        .long(name)
-        .value_name(value)
-        .required(true)
-        .help(help)
+    option(alloc, name, value, help).required(true)
 }
 
 /// A switch.
@@ -160,17 +154,66 @@ fn switch<'a>(alloc: Global, name: &'a str, help: &'a str) -> Arg<'a>
         .help(help)
 }
 
+/// A file that is needed.
+fn file<'a>(alloc: Global, name: &'a str, help: &'a str) -> Arg<'a>
+    ensures rule { rule_of result ≡ needed_file_rule name.entry.now }
+    ensures local { result.global ≡ false }
+{
+    Arg::new(alloc, name).required(true).help(help)
+}
+
+/// The file that is applied to a layout.
+fn second<'a>(alloc: Global, value: &'a str, help: &'a str) -> Arg<'a>
+    ensures rule { rule_of result ≡ second_rule }
+    ensures local { result.global ≡ false }
+{
+    valued(alloc, SECOND, value, help).required(true)
+}
+
+/// A command by its word, with its help.
+fn command<'a>(alloc: Global, name: &'a str, about: &'a str, details: &'a str) -> Command<'a>
+    ensures line { app_of result ≡ new_app name.entry.now }
+    ensures local { (out-Command result).has_globals ≡ false }
+{
+    Command::new(alloc, name).about(about).long_about(details)
+}
+
+/// A command with a layout.
+#[tactic(auto, using(crate::proofs::Lines::on_layout_is))]
+fn on_layout<'a>(
+    alloc: Global,
+    name: &'a str,
+    about: &'a str,
+    details: &'a str,
+) -> Result<Command<'a>, AllocError>
+    ensures { IfOk result (λ line. (app_of line ≡ file_line name.entry.now) × ((out-Command line).has_globals ≡ false)) }
+{
+    command(alloc, name, about, details).arg(file(alloc, FILE, texts::FILE))
+}
+
+/// A command with a layout and a session.
+#[tactic(auto, using(crate::proofs::Lines::session_is))]
+fn on_session<'a>(
+    alloc: Global,
+    name: &'a str,
+    about: &'a str,
+    details: &'a str,
+) -> Result<Command<'a>, AllocError>
+    ensures { IfOk result (λ line. (app_of line ≡ session_line name.entry.now) × ((out-Command line).has_globals ≡ false)) }
+{
+    on_layout(alloc, name, about, details)?.arg(second(alloc, "RECORD", texts::RECORD))
+}
+
 /// `check FILE [--explain]`.
 #[tactic(auto, using(crate::proofs::Lines::check_is))]
 fn check<'a>(alloc: Global) -> Result<Command<'a>, AllocError>
     ensures { IfOk result (λ line. (app_of line ≡ check_line) × ((out-Command line).has_globals ≡ false)) }
 {
-    let file = Arg::new(alloc, FILE).required(true).help(texts::FILE);
-    Command::new(alloc, CHECK)
-        .about(texts::CHECK)
-        .long_about(texts::CHECK_DETAILS)
-        .arg(file)?
-        .arg(switch(alloc, EXPLAIN, texts::EXPLAIN))
+    on_layout(alloc, CHECK, texts::CHECK, texts::CHECK_DETAILS)?.arg(switch(
+        alloc,
+        EXPLAIN,
+        texts::EXPLAIN,
+    ))
 }
 
 /// `plan FILE [--route R] [--picture PICTURE]`.
@@ -178,11 +221,7 @@ fn check<'a>(alloc: Global) -> Result<Command<'a>, AllocError>
 fn plan<'a>(alloc: Global) -> Result<Command<'a>, AllocError>
     ensures { IfOk result (λ line. (app_of line ≡ plan_line) × ((out-Command line).has_globals ≡ false)) }
 {
-    let file = Arg::new(alloc, FILE).required(true).help(texts::FILE);
-    Command::new(alloc, PLAN)
-        .about(texts::PLAN)
-        .long_about(texts::PLAN_DETAILS)
-        .arg(file)?
+    on_layout(alloc, PLAN, texts::PLAN, texts::PLAN_DETAILS)?
         .arg(option(alloc, ROUTE, "R", texts::ROUTE))?
         .arg(option(alloc, PICTURE, "PICTURE", texts::PICTURE))
 }
@@ -192,28 +231,19 @@ fn plan<'a>(alloc: Global) -> Result<Command<'a>, AllocError>
 fn table<'a>(alloc: Global) -> Result<Command<'a>, AllocError>
     ensures { IfOk result (λ line. (app_of line ≡ table_line) × ((out-Command line).has_globals ≡ false)) }
 {
-    let file = Arg::new(alloc, FILE).required(true).help(texts::FILE);
-    Command::new(alloc, TABLE)
-        .about(texts::TABLE)
-        .long_about(texts::TABLE_DETAILS)
-        .arg(file)?
-        .arg(switch(alloc, CSV, texts::CSV))
+    on_layout(alloc, TABLE, texts::TABLE, texts::TABLE_DETAILS)?.arg(switch(alloc, CSV, texts::CSV))
 }
 
 /// `sim FILE EVENTS`.
+#[tactic(auto, using(crate::proofs::Lines::sim_is))]
 fn sim<'a>(alloc: Global) -> Result<Command<'a>, AllocError>
     ensures { IfOk result (λ line. (app_of line ≡ sim_line) × ((out-Command line).has_globals ≡ false)) }
 {
-    let file = Arg::new(alloc, FILE).required(true).help(texts::FILE);
-    let events = Arg::new(alloc, SECOND)
-        .value_name("EVENTS")
-        .required(true)
-        .help(texts::EVENTS);
-    Command::new(alloc, SIM)
-        .about(texts::SIM)
-        .long_about(texts::SIM_DETAILS)
-        .arg(file)?
-        .arg(events)
+    on_layout(alloc, SIM, texts::SIM, texts::SIM_DETAILS)?.arg(second(
+        alloc,
+        "EVENTS",
+        texts::EVENTS,
+    ))
 }
 
 /// The option for how long a run takes.
@@ -229,12 +259,12 @@ fn time<'a>(alloc: Global) -> Arg<'a>
 fn run_alone<'a>(alloc: Global) -> Result<Command<'a>, AllocError>
     ensures { IfOk result (λ line. (app_of line ≡ reading_line) × ((out-Command line).has_globals ≡ false)) }
 {
-    let file = Arg::new(alloc, FILE).required(true).help(texts::FILE);
-    Command::new(alloc, RUN)
-        .about(texts::RUN)
-        .long_about(texts::RUN_DETAILS)
-        .arg(file)?
-        .arg(needed(alloc, SCRIPT, "S", texts::SCRIPT))
+    on_layout(alloc, RUN, texts::RUN, texts::RUN_DETAILS)?.arg(needed(
+        alloc,
+        SCRIPT,
+        "S",
+        texts::SCRIPT,
+    ))
 }
 
 /// `run FILE --script S --record R --for MS`.
@@ -242,24 +272,16 @@ fn run_alone<'a>(alloc: Global) -> Result<Command<'a>, AllocError>
 fn run<'a>(alloc: Global) -> Result<Command<'a>, AllocError>
     ensures { IfOk result (λ line. (app_of line ≡ run_line) × ((out-Command line).has_globals ≡ false)) }
 {
-    let record = needed(alloc, RECORD, "R", texts::RECORD_OF_RUN);
-    run_alone(alloc)?.arg(record)?.arg(time(alloc))
+    run_alone(alloc)?
+        .arg(needed(alloc, RECORD, "R", texts::RECORD_OF_RUN))?
+        .arg(time(alloc))
 }
 
 /// `replay FILE RECORD`.
 fn replay<'a>(alloc: Global) -> Result<Command<'a>, AllocError>
     ensures { IfOk result (λ line. (app_of line ≡ replay_line) × ((out-Command line).has_globals ≡ false)) }
 {
-    let file = Arg::new(alloc, FILE).required(true).help(texts::FILE);
-    let record = Arg::new(alloc, SECOND)
-        .value_name("RECORD")
-        .required(true)
-        .help(texts::RECORD);
-    Command::new(alloc, REPLAY)
-        .about(texts::REPLAY)
-        .long_about(texts::REPLAY_DETAILS)
-        .arg(file)?
-        .arg(record)
+    on_session(alloc, REPLAY, texts::REPLAY, texts::REPLAY_DETAILS)
 }
 
 /// `decode`, with the options for a datagram.
@@ -267,9 +289,7 @@ fn replay<'a>(alloc: Global) -> Result<Command<'a>, AllocError>
 fn decode_alone<'a>(alloc: Global) -> Result<Command<'a>, AllocError>
     ensures { IfOk result (λ line. (app_of line ≡ datagram_line) × ((out-Command line).has_globals ≡ false)) }
 {
-    Command::new(alloc, DECODE)
-        .about(texts::DECODE)
-        .long_about(texts::DECODE_DETAILS)
+    command(alloc, DECODE, texts::DECODE, texts::DECODE_DETAILS)
         .arg(option(alloc, HEX, "HEX", texts::HEX))?
         .arg(option(alloc, LAYOUT, "FILE", texts::LAYOUT))
 }
@@ -279,32 +299,9 @@ fn decode_alone<'a>(alloc: Global) -> Result<Command<'a>, AllocError>
 fn decode<'a>(alloc: Global) -> Result<Command<'a>, AllocError>
     ensures { IfOk result (λ line. (app_of line ≡ decode_line) × ((out-Command line).has_globals ≡ false)) }
 {
-    let record = optional(alloc, SECOND, "RECORD", texts::RECORD);
     decode_alone(alloc)?
-        .arg(optional(alloc, FILE, "FILE", texts::FILE))?
-        .arg(record)
-}
-
-/// A command with a layout and a session.
-#[tactic(auto, using(crate::proofs::Lines::session_is))]
-fn on_session<'a>(
-    alloc: Global,
-    name: &'a str,
-    about: &'a str,
-    details: &'a str,
-) -> Result<Command<'a>, AllocError>
-    ensures { IfOk result (λ line. (app_of line ≡ session_line name.entry.now) × ((out-Command line).has_globals ≡ false)) }
-{
-    let file = Arg::new(alloc, FILE).required(true).help(texts::FILE);
-    let record = Arg::new(alloc, SECOND)
-        .value_name("RECORD")
-        .required(true)
-        .help(texts::RECORD);
-    Command::new(alloc, name)
-        .about(about)
-        .long_about(details)
-        .arg(file)?
-        .arg(record)
+        .arg(valued(alloc, FILE, "FILE", texts::FILE))?
+        .arg(valued(alloc, SECOND, "RECORD", texts::RECORD))
 }
 
 /// A moment of a chart.
@@ -320,9 +317,8 @@ fn moment<'a>(alloc: Global, name: &'a str, help: &'a str) -> Arg<'a>
 fn chart<'a>(alloc: Global) -> Result<Command<'a>, AllocError>
     ensures { IfOk result (λ line. (app_of line ≡ chart_line) × ((out-Command line).has_globals ≡ false)) }
 {
-    let from = moment(alloc, FROM, texts::FROM);
     on_session(alloc, CHART, texts::CHART, texts::CHART_DETAILS)?
-        .arg(from)?
+        .arg(moment(alloc, FROM, texts::FROM))?
         .arg(moment(alloc, TO, texts::TO))
 }
 
@@ -331,8 +327,7 @@ fn chart<'a>(alloc: Global) -> Result<Command<'a>, AllocError>
 fn capture<'a>(alloc: Global) -> Result<Command<'a>, AllocError>
     ensures { IfOk result (λ line. (app_of line ≡ capture_line) × ((out-Command line).has_globals ≡ false)) }
 {
-    let out = Arg::new(alloc, OUT).required(true).help(texts::OUT);
     on_session(alloc, CAPTURE, texts::CAPTURE, texts::CAPTURE_DETAILS)?
-        .arg(out)?
+        .arg(file(alloc, OUT, texts::OUT))?
         .arg(switch(alloc, FORCE, texts::FORCE))
 }
