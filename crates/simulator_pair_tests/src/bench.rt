@@ -1,8 +1,8 @@
-//! A pair under test. Every event is given again where memory is lacking, so that the runs also hold with any one allocation
-//! refused.
+//! A pair under test, and scripts of what happens to it and what is so then. Every event is given again where memory is lacking,
+//! so that the scripts also hold with any one allocation refused.
 
 use rasta_pdu::{Body, Key, read};
-use simulator_pair::{Aspect, Bytes, Pair, PairAnswer, PairEvent, Refused, Role};
+use simulator_pair::{Aspect, Bytes, Pair, PairAnswer, PairEvent, Refused, Role, Sent};
 use simulator_pair_text::{PairLine, read_line};
 use std::alloc::Global;
 use std::process::Abort;
@@ -10,30 +10,75 @@ use std::process::Abort;
 /// How many milliseconds a round of a flow has.
 const ROUND_MILLIS: u64 = 10;
 
+/// An event. A datagram is named by its place among all that were sent.
+#[derive(Clone, Copy)]
+pub(crate) enum What {
+    /// The event of a line.
+    Line(&'static str),
+    /// A datagram reaches an end.
+    Delivery(Role, usize),
+    /// All of a datagram but its last byte reaches an end.
+    CutDelivery(Role, usize),
+    /// These bytes reach an end.
+    Noise(Role, &'static [u8]),
+    /// A datagram is lost.
+    Loss(usize),
+    /// An end is made anew with this clock, in milliseconds.
+    Restart(Role, u64),
+}
+
+/// What happens to a pair, or what is so then.
+#[derive(Clone, Copy)]
+pub(crate) enum Step {
+    /// An event happens; an item is taken.
+    Does(What),
+    Refuses(What, Refused),
+    /// It goes on by so many milliseconds in rounds of ten: what stood in the bag is delivered, then both timers run.
+    Flows(u64),
+    HasSent(usize),
+    IsLost(usize, bool),
+    /// A datagram has this type, sequence number and confirmed sequence number.
+    IsPdu(usize, (u16, u32, u32)),
+    /// True time, in microseconds.
+    IsTime(u64),
+    Shows(Aspect),
+    /// Whether an end is up, and how many items it was given and took.
+    EndIs(Role, bool, usize, usize),
+    /// How many items of an end are known as taken.
+    IsConfirmed(Role, u64),
+}
+
+/// How a pair stands where a script begins.
+#[derive(Clone, Copy)]
+pub(crate) enum Start {
+    New,
+    /// Both ends are up: the client opened at 6000 ms and was up at 6020, the server at 6030.
+    Up,
+}
+
+/// What is shown, from where on, and how.
+pub(crate) type Script = (&'static str, Start, &'static [Step]);
+
 /// A pair, and how many of its datagrams were tried by a flow.
 #[derive(Drop)]
 pub(crate) struct Bench {
-    pub(crate) pair: Pair,
+    pair: Pair,
     tried: usize,
 }
 
-pub(crate) fn bytes_of(bytes: &[u8]) -> Bytes {
+fn bytes_of(bytes: &[u8]) -> Bytes {
     let mut copy = Bytes::new();
     let _ = copy.try_extend_from_slice(bytes);
     copy
 }
 
-/// The event of a line, if it says one.
-fn event_of(line: &str) -> Option<PairEvent> {
-    match read_line(line) {
-        Ok(PairLine::Event(event)) => Some(event),
-        _ => None,
-    }
-}
-
 /// The event that a line says.
 pub(crate) fn event(rt: &impl Abort, line: &str) -> PairEvent {
-    event_of(line).expect(rt, "it says an event")
+    let event = match read_line(line) {
+        Ok(PairLine::Event(event)) => Some(event),
+        _ => None,
+    };
+    event.expect(rt, "it says an event")
 }
 
 /// The number of a type of PDU; 0 of one that no test asks for.
@@ -58,173 +103,148 @@ impl Bench {
         Bench { pair, tried: 0 }
     }
 
-    /// A pair of which both ends are up: the client opened at 6000 and was up at 6020, the server at 6030.
-    pub(crate) fn up(rt: &impl Abort, alloc: Global) -> Bench {
-        let mut bench = Bench::new(rt, alloc);
-        bench.flow(rt, 6030);
-        bench
-    }
-
-    /// Applies an event; where memory is lacking nothing has changed, and the same event is given once more. A
-    /// refused event changes nothing, and the others tell how many datagrams they sent.
-    pub(crate) fn apply(
-        &mut self,
-        rt: &impl Abort,
-        event: &PairEvent,
-    ) -> Result<PairAnswer, Refused> {
-        match self.apply_once(rt, event) {
-            Err(Refused::OutOfMemory) => {
-                let again = self.apply_once(rt, event);
-                let is_lacking = matches!(again, Err(Refused::OutOfMemory));
-                assert!(rt; !is_lacking, "there is memory");
-                again
-            }
-            answer => answer,
-        }
-    }
-
-    fn apply_once(&mut self, rt: &impl Abort, event: &PairEvent) -> Result<PairAnswer, Refused> {
-        let before = self.stored();
-        let sent = self.pair.sent().len();
+    fn apply_once(&mut self, event: &PairEvent) -> Result<PairAnswer, Refused> {
         match self.pair.apply(event) {
-            Ok(reply) => {
-                assert!(rt; Some(self.pair.sent().len()) == sent.checked_add(reply.added));
-                Ok(reply.answer)
-            }
-            Err(why) => {
-                assert!(rt; self.stored() == before);
-                Err(why)
-            }
+            Ok(reply) => Ok(reply.answer),
+            Err(why) => Err(why),
         }
     }
 
-    /// Makes room for so many events; where memory is lacking nothing has changed, and room is asked for once more.
-    pub(crate) fn reserve(&mut self, rt: &impl Abort, events: usize) {
-        if self.pair.reserve(events).is_ok() {
-            return;
+    /// Applies an event; where memory is lacking nothing has changed, and the same event is given once more.
+    fn apply(&mut self, rt: &impl Abort, event: &PairEvent) -> Result<PairAnswer, Refused> {
+        let first = self.apply_once(event);
+        if !matches!(first, Err(Refused::OutOfMemory)) {
+            return first;
         }
-        assert!(rt; self.pair.room() == 0);
-        assert!(rt; self.pair.reserve(events).is_ok(), "there is memory");
+        let again = self.apply_once(event);
+        assert!(rt;
+            !matches!(again, Err(Refused::OutOfMemory)),
+            "there is memory"
+        );
+        again
     }
 
-    /// How much the pair stores: true time, how many datagrams, how many items of each list, who is up, and whether the
-    /// lamp shows proceed.
-    fn stored(&self) -> [u64; 9] {
-        let pair = &self.pair;
-        let (client, server) = (Role::Client, Role::Server);
-        [
-            pair.time(),
-            pair.sent().len() as u64,
-            pair.given(client).len() as u64,
-            pair.taken(client).len() as u64,
-            pair.given(server).len() as u64,
-            pair.taken(server).len() as u64,
-            u64::from(pair.is_up(client)),
-            u64::from(pair.is_up(server)),
-            u64::from(pair.shown() == Aspect::Proceed),
-        ]
+    /// Whether an event happens; an item has to be taken.
+    pub(crate) fn does(&mut self, rt: &impl Abort, event: &PairEvent) -> bool {
+        matches!(
+            self.apply(rt, event),
+            Ok(PairAnswer::Done | PairAnswer::Given(Ok(())))
+        )
     }
 
-    /// An event happens; an item is taken.
-    pub(crate) fn performs(&mut self, rt: &impl Abort, event: &PairEvent) {
-        let answer = self.apply(rt, event);
-        assert!(rt; matches!(answer, Ok(PairAnswer::Done | PairAnswer::Given(Ok(())))));
+    /// Applies events one after the other, and answers how many were accepted.
+    pub(crate) fn runs(&mut self, events: &[PairEvent]) -> usize {
+        self.pair.run(events)
     }
 
-    /// What a line says happens.
-    pub(crate) fn does(&mut self, rt: &impl Abort, line: &str) {
-        self.performs(rt, &event(rt, line));
+    pub(crate) fn time(&self) -> u64 {
+        self.pair.time()
     }
 
-    pub(crate) fn refuses(&mut self, rt: &impl Abort, event: &PairEvent, why: Refused) {
-        let answer = self.apply(rt, event);
-        assert!(rt; answer.err() == Some(why));
+    fn sent(&self, rt: &impl Abort, index: usize) -> &Sent {
+        self.pair.sent().get(index).expect(rt, "it was sent")
     }
 
     /// The bytes of what was sent as this datagram.
-    pub(crate) fn datagram(&self, rt: &impl Abort, index: usize) -> Bytes {
-        let sent = self.pair.sent().get(index).expect(rt, "it was sent");
-        bytes_of(sent.bytes())
+    fn datagram(&self, rt: &impl Abort, index: usize) -> Bytes {
+        bytes_of(self.sent(rt, index).bytes())
     }
 
-    pub(crate) fn deliver(&mut self, rt: &impl Abort, end: Role, index: usize) {
-        let bytes = self.datagram(rt, index);
-        self.performs(rt, &PairEvent::Deliver(end, bytes));
-    }
-
-    pub(crate) fn lose(&mut self, rt: &impl Abort, index: usize) {
-        let bytes = self.datagram(rt, index);
-        self.performs(rt, &PairEvent::Lose(bytes));
-    }
-
-    /// The network refuses to deliver a datagram, or to lose it.
-    pub(crate) fn never_sent(&mut self, rt: &impl Abort, index: usize) {
-        let bytes = self.datagram(rt, index);
-        self.refuses(
-            rt,
-            &PairEvent::Deliver(Role::Server, bytes),
-            Refused::NeverSent,
-        );
-    }
-
-    /// A datagram has this type, sequence number and confirmed sequence number.
-    pub(crate) fn is_pdu(&self, rt: &impl Abort, index: usize, of: (u16, u32, u32)) {
-        let bytes = self.datagram(rt, index);
-        let pdu = read(&Key(md4::STANDARD), &bytes).expect(rt, "it can be read");
-        let numbers = (pdu.sequence_number, pdu.confirmed_sequence_number);
-        assert!(rt;
-            (type_of(&pdu.body), numbers.0, numbers.1) == of,
-            "datagram {index}"
-        );
-    }
-
-    /// Datagrams that no flow has tried reach their receivers, unless they are lost or too old.
-    fn deliver_up_to(&mut self, rt: &impl Abort, end: usize) {
-        for index in self.tried..end {
-            let sent = self.pair.sent().get(index).expect(rt, "it was sent");
-            if sent.is_lost() {
-                continue;
+    fn event(&self, rt: &impl Abort, what: What) -> PairEvent {
+        match what {
+            What::Line(line) => event(rt, line),
+            What::Delivery(end, index) => PairEvent::Deliver(end, self.datagram(rt, index)),
+            What::CutDelivery(end, index) => {
+                let mut bytes = self.datagram(rt, index);
+                let _ = bytes.pop();
+                PairEvent::Deliver(end, bytes)
             }
-            let receiver = match sent.sender() {
-                Role::Server => Role::Client,
-                Role::Client => Role::Server,
-            };
-            let bytes = bytes_of(sent.bytes());
-            let _ = self.apply(rt, &PairEvent::Deliver(receiver, bytes));
+            What::Noise(end, bytes) => PairEvent::Deliver(end, bytes_of(bytes)),
+            What::Loss(index) => PairEvent::Lose(self.datagram(rt, index)),
+            What::Restart(end, clock) => PairEvent::Restart {
+                end,
+                clock,
+                first_sequence_number: 0,
+            },
+        }
+    }
+
+    fn is_pdu(&self, rt: &impl Abort, index: usize, of: (u16, u32, u32)) -> bool {
+        let key = Key(md4::STANDARD);
+        let pdu = read(&key, self.sent(rt, index).bytes()).expect(rt, "it can be read");
+        let (sequence_number, confirmed) = (pdu.sequence_number, pdu.confirmed_sequence_number);
+        (type_of(&pdu.body), sequence_number, confirmed) == of
+    }
+
+    fn end_is(&self, end: Role, is_up: bool, given: usize, taken: usize) -> bool {
+        self.pair.is_up(end) == is_up
+            && self.pair.given(end).len() == given
+            && self.pair.taken(end).len() == taken
+    }
+
+    /// A datagram reaches its receiver, unless it is lost or too old.
+    fn passes_on(&mut self, rt: &impl Abort, index: usize) {
+        let sent = self.sent(rt, index);
+        if sent.is_lost() {
+            return;
+        }
+        let receiver = match sent.sender() {
+            Role::Server => Role::Client,
+            Role::Client => Role::Server,
+        };
+        let event = PairEvent::Deliver(receiver, bytes_of(sent.bytes()));
+        let _ = self.apply(rt, &event);
+    }
+
+    /// A round of a flow: what no flow has tried yet is passed on.
+    fn round(&mut self, rt: &impl Abort) {
+        let end = self.pair.sent().len();
+        assert!(rt; self.does(rt, &event(rt, "time 10000")));
+        for index in self.tried..end {
+            self.passes_on(rt, index);
         }
         self.tried = end;
+        assert!(rt; self.does(rt, &event(rt, "tick C")));
+        assert!(rt; self.does(rt, &event(rt, "tick S")));
     }
 
-    /// Goes on by so many milliseconds in rounds of ten: what stood in the bag is delivered, then both timers run.
-    pub(crate) fn flow(&mut self, rt: &impl Abort, millis: u64) {
+    fn flows(&mut self, rt: &impl Abort, millis: u64) -> bool {
         for _ in 0..millis / ROUND_MILLIS {
-            let end = self.pair.sent().len();
-            self.does(rt, "time 10000");
-            self.deliver_up_to(rt, end);
-            self.does(rt, "tick C");
-            self.does(rt, "tick S");
+            self.round(rt);
+        }
+        true
+    }
+
+    /// Does what a step says, and answers whether it came out so.
+    fn is_so(&mut self, rt: &impl Abort, step: Step) -> bool {
+        match step {
+            Step::Does(what) => {
+                let event = self.event(rt, what);
+                self.does(rt, &event)
+            }
+            Step::Refuses(what, why) => {
+                let event = self.event(rt, what);
+                self.apply(rt, &event).err() == Some(why)
+            }
+            Step::Flows(millis) => self.flows(rt, millis),
+            Step::HasSent(count) => self.pair.sent().len() == count,
+            Step::IsLost(index, is_lost) => self.sent(rt, index).is_lost() == is_lost,
+            Step::IsPdu(index, of) => self.is_pdu(rt, index, of),
+            Step::IsTime(micros) => self.time() == micros,
+            Step::Shows(lamp) => self.pair.shown() == lamp,
+            Step::EndIs(end, is_up, given, taken) => self.end_is(end, is_up, given, taken),
+            Step::IsConfirmed(end, items) => self.pair.confirmed(end) == items,
         }
     }
 
-    pub(crate) fn has_sent(&self, rt: &impl Abort, count: usize) {
-        assert!(rt; self.pair.sent().len() == count);
-    }
-
-    /// The picture at this true time in milliseconds.
-    pub(crate) fn shows(&self, rt: &impl Abort, millis: u64, lamp: Aspect) {
-        assert!(rt; self.pair.time() == millis.saturating_mul(1000));
-        assert!(rt; self.pair.shown() == lamp);
-    }
-
-    pub(crate) fn end_is(
-        &self,
-        rt: &impl Abort,
-        end: Role,
-        is_up: bool,
-        given: usize,
-        taken: usize,
-    ) {
-        assert!(rt; self.pair.is_up(end) == is_up);
-        assert!(rt; (self.pair.given(end).len(), self.pair.taken(end).len()) == (given, taken));
+    /// A script comes out as it says.
+    pub(crate) fn plays(&mut self, rt: &impl Abort, script: &Script) {
+        let (name, start, steps) = *script;
+        if matches!(start, Start::Up) {
+            self.flows(rt, 6030);
+        }
+        for (place, step) in steps.iter().enumerate() {
+            assert!(rt; self.is_so(rt, *step), "{name}: step {place}");
+        }
     }
 }

