@@ -11,9 +11,9 @@ use station_chart::station_traffic::station_run::station_sim::replay::{
 use station_chart::station_traffic::station_run::station_sim::station_check::table_of;
 use std::io::Write;
 
-/// What a line asks for: a list has a name, a layout, lines, what follows behind them, a number, and nodes.
+/// A line: a list has a name, a layout, lines, what follows behind them, a number, and nodes.
 #[derive(Clone, Copy)]
-struct Asked<'a> {
+struct RestartsLine<'a> {
     name: &'a str,
     layout: &'a str,
     events: &'a str,
@@ -29,18 +29,18 @@ pub(crate) fn carry_out<W: Write>(
     words: &str,
     out: &mut W,
 ) -> Result<(), Failure> {
-    let Some(asked) = asked(words) else {
+    let Some(line) = line_of(words) else {
         return Err(Failure::Words);
     };
-    let table = table_in(rt, asked.layout)?;
-    try_list(rt, &table, asked, out)
+    let table = table_in(rt, line.layout)?;
+    try_list(rt, &table, line, out)
 }
 
-/// What the words of a line ask for.
-fn asked(words: &str) -> Option<Asked<'_>> {
+/// A line, as it is read.
+fn line_of(words: &str) -> Option<RestartsLine<'_>> {
     let (files, nodes) = words.split_once(": ")?;
     let mut words = Words::of(files);
-    Some(Asked {
+    Some(RestartsLine {
         name: words.next()?,
         layout: words.next()?,
         events: words.next()?,
@@ -54,22 +54,22 @@ fn asked(words: &str) -> Option<Asked<'_>> {
 fn try_list<W: Write>(
     rt: &HostRuntime,
     table: &Checked,
-    asked: Asked<'_>,
+    line: RestartsLine<'_>,
     out: &mut W,
 ) -> Result<(), Failure> {
-    let lines = lines_in(rt, table, asked.events)?;
+    let lines = lines_in(rt, table, line.events)?;
     let events = events_of(rt.alloc(), table, lines)?;
-    let rounds = lines_in(rt, table, asked.rounds)?;
+    let rounds = lines_in(rt, table, line.rounds)?;
     let list = List {
-        name: asked.name,
+        name: line.name,
         table,
         events: &events,
         rounds: &rounds,
-        step: asked.step,
+        step: line.step,
     };
     let (name, events) = (list.name, list.events.len());
     writeln!(out, "{name}: {events} events")?;
-    for word in Words::of(asked.nodes) {
+    for word in Words::of(line.nodes) {
         try_word(rt, &list, word, out)?;
     }
     Ok(())
