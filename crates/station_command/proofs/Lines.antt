@@ -1,13 +1,15 @@
 -- The command line, made of its commands, and a command of its arguments, one after another.
-use Rattle.std.proofs.Common.{◌≡◌, Some, true, ap, ◌∙◌, codes}
-use Rattle.clap.specs.Words.{new_app, with_rule, with_subcommand}
+use Rattle.std.proofs.Common.{◌≡◌, ◌||◌, Err, IfOk, Ok, Result, Some, false, true, ap, ◌∙◌, codes}
+use Rattle.clap.specs.Words.{AddsArg, AddsSubcommand, new_app, with_rule, with_subcommand}
 use Rattle.clap.specs.declared.builder.arg.Arg.{Arg}
+use Rattle.clap.specs.declared.builder.command.Command.{Command}
+use Rattle.clap.specs.declared.builder.command.Command.TheViews.{out-Command}
 use Rattle.clap.specs.declared.builder.value_parser.ValueParser.{ValueParser}
 use Rattle.clap.specs.declared.builder.value_parser.ValueParser.TheVariants as parsers
-use Rattle.clap.specs.Simple.{App, on_top}
+use Rattle.clap.specs.Simple.{App, app_of, on_top}
 use Rattle.clap.specs.Walk.{Rule, Text, rule_of}
 use Rattle.station_command.specs.Line.{alone_line, capture_line, chart_line, check_line, datagram_line, decode_line, doing_line, layout_line, moment_rule, needed_rule, option_rule, optional_rule, plan_line, reading_line, replay_line, run_line, second_rule, session_line, sim_line, station_line, switch_rule, table_line, time_rule}
-use Rattle.station_command.specs.inside.Lines.{file_line, needed_file_rule}
+use Rattle.station_command.specs.inside.Lines.{Joins, Takes, file_line, needed_file_rule}
 
 -- ---- the commands
 
@@ -17,22 +19,50 @@ pub alone_is : (named versioned told demanding whole : App) → named ≡ new_ap
 alone_is named versioned told demanding whole new first second third last =
     last ∙ ap (on_top (λ s. record s { arg_required_else_help = true })) (third ∙ ap (on_top (λ s. record s { subcommand_required = true })) (second ∙ (first ∙ ap (on_top (λ s. record s { has_version = true })) new)))
 
-pub layout_is : (a b c d check plan table : App) → a ≡ alone_line → check ≡ check_line → plan ≡ plan_line → table ≡ table_line
-    → b ≡ with_subcommand a check.top → c ≡ with_subcommand b plan.top → d ≡ with_subcommand c table.top → d ≡ layout_line
-layout_is a b c d check plan table alone e f g first second last =
-    last ∙ (λ i. with_subcommand ((second ∙ (λ j. with_subcommand ((first ∙ (λ k. with_subcommand (alone k) (e k).top)) j) (f j).top)) i) (g i).top)
+-- one more command
+pub with_is : {E : Type 0} (l k : Command) (line command both : Result Command E) → line ≡ Ok l → command ≡ Ok k → IfOk both (AddsSubcommand l k) → IfOk both (Joins line command)
+with_is l k line command (Err e) is_line is_command adds = tt
+with_is l k line command (Ok b) is_line is_command adds = rw (is_line, is_command) adds.shape
 
-pub doing_is : (a b c d sim run replay : App) → a ≡ layout_line → sim ≡ sim_line → run ≡ run_line → replay ≡ replay_line
-    → b ≡ with_subcommand a sim.top → c ≡ with_subcommand b run.top → d ≡ with_subcommand c replay.top → d ≡ doing_line
-doing_is a b c d sim run replay layouts e f g first second last =
-    last ∙ (λ i. with_subcommand ((second ∙ (λ j. with_subcommand ((first ∙ (λ k. with_subcommand (layouts k) (e k).top)) j) (f j).top)) i) (g i).top)
+-- what it is as it is read
+pub joined : {E : Type 0} (a s : App) (line command both : Result Command E) → IfOk both (Joins line command) → IfOk line (λ l. app_of l ≡ a)
+    → IfOk command (λ k. (app_of k ≡ s) × ((out-Command k).has_globals ≡ false)) → IfOk both (λ b. app_of b ≡ with_subcommand a s.top)
+joined a s line command (Err e) joins is_a is_s = tt
+joined a s (Ok l) (Ok k) (Ok b) joins is_a is_s = joins is_s.1 ∙ (λ i. with_subcommand (is_a i) (is_s.0 i).top)
+joined a s (Ok l) (Err e) (Ok b) joins is_a is_s = absurd joins
+joined a s (Err e) command (Ok b) joins is_a is_s = absurd joins
 
-pub station_is : (a b c d chart decode capture : App) → a ≡ doing_line → chart ≡ chart_line → decode ≡ decode_line → capture ≡ capture_line
-    → b ≡ with_subcommand a chart.top → c ≡ with_subcommand b decode.top → d ≡ with_subcommand c capture.top → d ≡ station_line
-station_is a b c d chart decode capture doing e f g first second last =
-    last ∙ (λ i. with_subcommand ((second ∙ (λ j. with_subcommand ((first ∙ (λ k. with_subcommand (doing k) (e k).top)) j) (f j).top)) i) (g i).top)
+-- three more commands
+pub all_joined : {E : Type 0} (a s t u : App) (line first second third one two three : Result Command E) → IfOk line (λ l. app_of l ≡ a)
+    → IfOk first (λ k. (app_of k ≡ s) × ((out-Command k).has_globals ≡ false)) → IfOk second (λ k. (app_of k ≡ t) × ((out-Command k).has_globals ≡ false))
+    → IfOk third (λ k. (app_of k ≡ u) × ((out-Command k).has_globals ≡ false)) → IfOk one (Joins line first) → IfOk two (Joins one second) → IfOk three (Joins two third)
+    → IfOk three (λ b. app_of b ≡ with_subcommand (with_subcommand (with_subcommand a s.top) t.top) u.top)
+all_joined a s t u line first second third one two three is_a is_s is_t is_u with_s with_t with_u =
+    let one_is = joined a s line first one with_s is_a is_s in
+    let two_is = joined (with_subcommand a s.top) t one second two with_t one_is is_t in
+    joined (with_subcommand (with_subcommand a s.top) t.top) u two third three with_u two_is is_u
 
 -- ---- the arguments
+
+-- one more argument
+pub taking_is : {E : Type 0} (k : Command) (arg : Arg) (command more : Result Command E) → command ≡ Ok k → IfOk more (AddsArg k arg) → IfOk more (Takes command arg)
+taking_is k arg command (Err e) is adds = tt
+taking_is k arg command (Ok b) is adds = rw is adds
+
+-- what it is as it is read
+pub taken : {E : Type 0} (a : App) (r : Rule) (command more : Result Command E) (arg : Arg) → IfOk more (Takes command arg)
+    → IfOk command (λ k. (app_of k ≡ a) × ((out-Command k).has_globals ≡ false)) → rule_of arg ≡ r → arg.global ≡ false
+    → IfOk more (λ b. (app_of b ≡ with_rule a r) × ((out-Command b).has_globals ≡ false))
+taken a r command (Err e) arg takes is_a is_r local = tt
+taken a r (Ok k) (Ok b) arg takes is_a is_r local = (takes.shape local ∙ (λ i. with_rule (is_a.0 i) (is_r i)), takes.globals ∙ (λ i. is_a.1 i || local i))
+taken a r (Err e) (Ok b) arg takes is_a is_r local = absurd takes
+
+-- two more arguments
+pub both_taken : {E : Type 0} (a : App) (r s : Rule) (command one two : Result Command E) (first second : Arg) → IfOk command (λ k. (app_of k ≡ a) × ((out-Command k).has_globals ≡ false))
+    → rule_of first ≡ r → first.global ≡ false → rule_of second ≡ s → second.global ≡ false → IfOk one (Takes command first) → IfOk two (Takes one second)
+    → IfOk two (λ b. (app_of b ≡ with_rule (with_rule a r) s) × ((out-Command b).has_globals ≡ false))
+both_taken a r s command one two first second is_a is_r local is_s also_local with_r with_s =
+    taken (with_rule a r) s one two second with_s (taken a r command one first with_r is_a is_r local) is_s also_local
 
 -- a command with a layout
 pub on_layout_is : (name : Text) (a b : App) (file : Rule) → a ≡ new_app name → file ≡ needed_file_rule (codes "FILE") → b ≡ with_rule a file → b ≡ file_line name
@@ -46,11 +76,6 @@ session_is name a b recording layout r first = first ∙ (λ i. with_rule (layou
 pub check_is : (a b : App) (explain : Rule) → a ≡ file_line (codes "check") → explain ≡ switch_rule (codes "explain") → b ≡ with_rule a explain → b ≡ check_line
 check_is a b explain layout s first = first ∙ (λ i. with_rule (layout i) (s i))
 
--- `plan`
-pub plan_is : (a b c : App) (route picture : Rule) → a ≡ file_line (codes "plan") → route ≡ option_rule (codes "route") → picture ≡ option_rule (codes "picture")
-    → b ≡ with_rule a route → c ≡ with_rule b picture → c ≡ plan_line
-plan_is a b c route picture layout r p first last = last ∙ (λ i. with_rule ((first ∙ (λ j. with_rule (layout j) (r j))) i) (p i))
-
 -- `table`
 pub table_is : (a b : App) (csv : Rule) → a ≡ file_line (codes "table") → csv ≡ switch_rule (codes "csv") → b ≡ with_rule a csv → b ≡ table_line
 table_is a b csv layout s first = first ∙ (λ i. with_rule (layout i) (s i))
@@ -63,10 +88,6 @@ sim_is a b events layout e first = first ∙ (λ i. with_rule (layout i) (e i))
 pub reading_is : (a b : App) (script : Rule) → a ≡ file_line (codes "run") → script ≡ needed_rule (codes "script") → b ≡ with_rule a script → b ≡ reading_line
 reading_is a b script layout s first = first ∙ (λ i. with_rule (layout i) (s i))
 
-pub run_is : (a b c : App) (recording time : Rule) → a ≡ reading_line → recording ≡ needed_rule (codes "record") → time ≡ time_rule
-    → b ≡ with_rule a recording → c ≡ with_rule b time → c ≡ run_line
-run_is a b c recording time reads r t first last = last ∙ (λ i. with_rule ((first ∙ (λ j. with_rule (reads j) (r j))) i) (t i))
-
 -- the time among the options, by the parser of its value
 pub time_is : (before after : Arg) (parser : ValueParser) → after ≡ record before { value_parser = after.value_parser } → after.value_parser ≡ Some parser
     → parser ≡ parsers.Unsigned 1000 600000 → rule_of before ≡ needed_rule (codes "for") → rule_of after ≡ time_rule
@@ -77,20 +98,7 @@ pub datagram_is : (a b c : App) (hex layout : Rule) → a ≡ new_app (codes "de
     → b ≡ with_rule a hex → c ≡ with_rule b layout → c ≡ datagram_line
 datagram_is a b c hex layout new h l first last = last ∙ (λ i. with_rule ((first ∙ (λ j. with_rule (new j) (h j))) i) (l i))
 
-pub decode_is : (a b c : App) (file recording : Rule) → a ≡ datagram_line → file ≡ optional_rule (codes "FILE") → recording ≡ optional_rule (codes "SECOND")
-    → b ≡ with_rule a file → c ≡ with_rule b recording → c ≡ decode_line
-decode_is a b c file recording datagram f r first last = last ∙ (λ i. with_rule ((first ∙ (λ j. with_rule (datagram j) (f j))) i) (r i))
-
 -- `chart`
 pub moment_is : (name : Text) (before after : Arg) (parser : ValueParser) → after ≡ record before { value_parser = after.value_parser } → after.value_parser ≡ Some parser
     → parser ≡ parsers.Unsigned 0 18446744073709551 → rule_of before ≡ option_rule name → rule_of after ≡ moment_rule name
 moment_is name before after parser others given is rule = ap rule_of others ∙ (λ i. record (rule i) { parser = (given ∙ ap Some is) i })
-
-pub chart_is : (a b c : App) (from to : Rule) → a ≡ session_line (codes "chart") → from ≡ moment_rule (codes "from") → to ≡ moment_rule (codes "to")
-    → b ≡ with_rule a from → c ≡ with_rule b to → c ≡ chart_line
-chart_is a b c from to session f t first last = last ∙ (λ i. with_rule ((first ∙ (λ j. with_rule (session j) (f j))) i) (t i))
-
--- `capture`
-pub capture_is : (a b c : App) (out force : Rule) → a ≡ session_line (codes "capture") → out ≡ needed_file_rule (codes "OUT") → force ≡ switch_rule (codes "force")
-    → b ≡ with_rule a out → c ≡ with_rule b force → c ≡ capture_line
-capture_is a b c out force session o s first last = last ∙ (λ i. with_rule ((first ∙ (λ j. with_rule (session j) (o j))) i) (s i))

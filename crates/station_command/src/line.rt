@@ -4,7 +4,7 @@ ghost use Rattle.std.specs.Prelude.{◌≡◌, IfOk, false};
 ghost use Rattle.clap.specs.Words.{app_of, new_app, rule_of};
 ghost use Rattle.clap.specs.declared.builder.command.Command.TheViews.{out-Command};
 ghost use Rattle.station_command.specs.Line.{alone_line, capture_line, chart_line, check_line, datagram_line, decode_line, doing_line, layout_line, moment_rule, needed_rule, option_rule, optional_rule, plan_line, reading_line, replay_line, run_line, second_rule, session_line, sim_line, station_line, switch_rule, table_line, time_rule};
-ghost use Rattle.station_command.specs.inside.Lines.{file_line, needed_file_rule};
+ghost use Rattle.station_command.specs.inside.Lines.{Joins, Takes, file_line, needed_file_rule};
 
 use crate::texts;
 use clap::builder::ValueParser;
@@ -89,34 +89,41 @@ fn alone<'a>(alloc: Global) -> Result<Command<'a>, AllocError>
     Ok(line)
 }
 
+/// A command line with one more command. Either may lack for want of memory, and then so does the answer.
+fn with<'a>(
+    line: Result<Command<'a>, AllocError>,
+    command: Result<Command<'a>, AllocError>,
+) -> Result<Command<'a>, AllocError>
+    ensures { IfOk result (Joins line.entry command.entry) }
+{
+    line?.subcommand(command?)
+}
+
 /// The command line of `station`, with the commands that tell of a layout.
-#[tactic(auto, using(crate::proofs::Lines::layout_is))]
 fn about_layouts<'a>(alloc: Global) -> Result<Command<'a>, AllocError>
     ensures { IfOk result (λ line. app_of line ≡ layout_line) }
 {
-    let line = alone(alloc)?.subcommand(check(alloc)?)?;
-    let line = line.subcommand(plan(alloc)?)?;
-    line.subcommand(table(alloc)?)
+    let line = with(alone(alloc), check(alloc));
+    let line = with(line, plan(alloc));
+    with(line, table(alloc))
 }
 
 /// The command line of `station`, also with the commands that have a station do something.
-#[tactic(auto, using(crate::proofs::Lines::doing_is))]
 fn about_stations<'a>(alloc: Global) -> Result<Command<'a>, AllocError>
     ensures { IfOk result (λ line. app_of line ≡ doing_line) }
 {
-    let line = about_layouts(alloc)?.subcommand(sim(alloc)?)?;
-    let line = line.subcommand(run(alloc)?)?;
-    line.subcommand(replay(alloc)?)
+    let line = with(about_layouts(alloc), sim(alloc));
+    let line = with(line, run(alloc));
+    with(line, replay(alloc))
 }
 
 /// The command line of `station`.
-#[tactic(auto, using(crate::proofs::Lines::station_is))]
 pub(crate) fn station<'a>(alloc: Global) -> Result<Command<'a>, AllocError>
     ensures { IfOk result (λ line. app_of line ≡ station_line) }
 {
-    let line = about_stations(alloc)?.subcommand(chart(alloc)?)?;
-    let line = line.subcommand(decode(alloc)?)?;
-    line.subcommand(capture(alloc)?)
+    let line = with(about_stations(alloc), chart(alloc));
+    let line = with(line, decode(alloc));
+    with(line, capture(alloc))
 }
 
 /// An argument whose value has a name of its own in the help. It is known by its place, and may be left out.
@@ -204,6 +211,16 @@ fn on_session<'a>(
     on_layout(alloc, name, about, details)?.arg(second(alloc, "RECORD", texts::RECORD))
 }
 
+/// A command with one more argument. It may lack for want of memory, and then so does the answer.
+fn taking<'a>(
+    command: Result<Command<'a>, AllocError>,
+    arg: Arg<'a>,
+) -> Result<Command<'a>, AllocError>
+    ensures { IfOk result (Takes command.entry arg.entry) }
+{
+    command?.arg(arg)
+}
+
 /// `check FILE [--explain]`.
 #[tactic(auto, using(crate::proofs::Lines::check_is))]
 fn check<'a>(alloc: Global) -> Result<Command<'a>, AllocError>
@@ -217,13 +234,12 @@ fn check<'a>(alloc: Global) -> Result<Command<'a>, AllocError>
 }
 
 /// `plan FILE [--route R] [--picture PICTURE]`.
-#[tactic(auto, using(crate::proofs::Lines::plan_is))]
 fn plan<'a>(alloc: Global) -> Result<Command<'a>, AllocError>
     ensures { IfOk result (λ line. (app_of line ≡ plan_line) × ((out-Command line).has_globals ≡ false)) }
 {
-    on_layout(alloc, PLAN, texts::PLAN, texts::PLAN_DETAILS)?
-        .arg(option(alloc, ROUTE, "R", texts::ROUTE))?
-        .arg(option(alloc, PICTURE, "PICTURE", texts::PICTURE))
+    let line = on_layout(alloc, PLAN, texts::PLAN, texts::PLAN_DETAILS);
+    let line = taking(line, option(alloc, ROUTE, "R", texts::ROUTE));
+    taking(line, option(alloc, PICTURE, "PICTURE", texts::PICTURE))
 }
 
 /// `table FILE [--csv]`.
@@ -268,13 +284,14 @@ fn run_alone<'a>(alloc: Global) -> Result<Command<'a>, AllocError>
 }
 
 /// `run FILE --script S --record R --for MS`.
-#[tactic(auto, using(crate::proofs::Lines::run_is))]
 fn run<'a>(alloc: Global) -> Result<Command<'a>, AllocError>
     ensures { IfOk result (λ line. (app_of line ≡ run_line) × ((out-Command line).has_globals ≡ false)) }
 {
-    run_alone(alloc)?
-        .arg(needed(alloc, RECORD, "R", texts::RECORD_OF_RUN))?
-        .arg(time(alloc))
+    let line = taking(
+        run_alone(alloc),
+        needed(alloc, RECORD, "R", texts::RECORD_OF_RUN),
+    );
+    taking(line, time(alloc))
 }
 
 /// `replay FILE RECORD`.
@@ -295,13 +312,14 @@ fn decode_alone<'a>(alloc: Global) -> Result<Command<'a>, AllocError>
 }
 
 /// `decode --hex HEX [--layout FILE]`, or `decode FILE RECORD`.
-#[tactic(auto, using(crate::proofs::Lines::decode_is))]
 fn decode<'a>(alloc: Global) -> Result<Command<'a>, AllocError>
     ensures { IfOk result (λ line. (app_of line ≡ decode_line) × ((out-Command line).has_globals ≡ false)) }
 {
-    decode_alone(alloc)?
-        .arg(valued(alloc, FILE, "FILE", texts::FILE))?
-        .arg(valued(alloc, SECOND, "RECORD", texts::RECORD))
+    let line = taking(
+        decode_alone(alloc),
+        valued(alloc, FILE, "FILE", texts::FILE),
+    );
+    taking(line, valued(alloc, SECOND, "RECORD", texts::RECORD))
 }
 
 /// A moment of a chart.
@@ -313,21 +331,19 @@ fn moment<'a>(alloc: Global, name: &'a str, help: &'a str) -> Arg<'a>
 }
 
 /// `chart FILE RECORD [--from MS] [--to MS]`.
-#[tactic(auto, using(crate::proofs::Lines::chart_is))]
 fn chart<'a>(alloc: Global) -> Result<Command<'a>, AllocError>
     ensures { IfOk result (λ line. (app_of line ≡ chart_line) × ((out-Command line).has_globals ≡ false)) }
 {
-    on_session(alloc, CHART, texts::CHART, texts::CHART_DETAILS)?
-        .arg(moment(alloc, FROM, texts::FROM))?
-        .arg(moment(alloc, TO, texts::TO))
+    let line = on_session(alloc, CHART, texts::CHART, texts::CHART_DETAILS);
+    let line = taking(line, moment(alloc, FROM, texts::FROM));
+    taking(line, moment(alloc, TO, texts::TO))
 }
 
 /// `capture FILE RECORD OUT [--force]`.
-#[tactic(auto, using(crate::proofs::Lines::capture_is))]
 fn capture<'a>(alloc: Global) -> Result<Command<'a>, AllocError>
     ensures { IfOk result (λ line. (app_of line ≡ capture_line) × ((out-Command line).has_globals ≡ false)) }
 {
-    on_session(alloc, CAPTURE, texts::CAPTURE, texts::CAPTURE_DETAILS)?
-        .arg(file(alloc, OUT, texts::OUT))?
-        .arg(switch(alloc, FORCE, texts::FORCE))
+    let line = on_session(alloc, CAPTURE, texts::CAPTURE, texts::CAPTURE_DETAILS);
+    let line = taking(line, file(alloc, OUT, texts::OUT));
+    taking(line, switch(alloc, FORCE, texts::FORCE))
 }
