@@ -8,7 +8,7 @@ use Rattle.clap.specs.declared.builder.value_parser.ValueParser.{ValueParser}
 use Rattle.clap.specs.declared.builder.value_parser.ValueParser.TheVariants as parsers
 use Rattle.clap.specs.Simple.{App, app_of, on_top}
 use Rattle.clap.specs.Walk.{Rule, Text, rule_of}
-use Rattle.station_command.specs.Line.{alone_line, capture_line, chart_line, check_line, datagram_line, decode_line, doing_line, layout_line, moment_rule, needed_rule, option_rule, optional_rule, plan_line, reading_line, replay_line, run_line, second_rule, session_line, sim_line, station_line, switch_rule, table_line, time_rule}
+use Rattle.station_command.specs.Line.{alone_line, check_line, moment_rule, needed_rule, option_rule, reading_line, second_rule, session_line, sim_line, switch_rule, table_line, time_rule}
 use Rattle.station_command.specs.inside.Lines.{Joins, Takes, file_line, needed_file_rule}
 
 -- ---- the commands
@@ -43,6 +43,12 @@ all_joined a s t u line first second third one two three is_a is_s is_t is_u wit
     joined (with_subcommand (with_subcommand a s.top) t.top) u two third three with_u two_is is_u
 
 -- ---- the arguments
+
+-- a first argument
+pub added : {E : Type 0} (a : App) (r : Rule) (k : Command) (more : Result Command E) (arg : Arg) → IfOk more (AddsArg k arg) → app_of k ≡ a → (out-Command k).has_globals ≡ false
+    → rule_of arg ≡ r → arg.global ≡ false → IfOk more (λ b. (app_of b ≡ with_rule a r) × ((out-Command b).has_globals ≡ false))
+added a r k (Err e) arg adds is_a none is_r local = tt
+added a r k (Ok b) arg adds is_a none is_r local = (adds.shape local ∙ (λ i. with_rule (is_a i) (is_r i)), adds.globals ∙ (λ i. none i || local i))
 
 -- one more argument
 pub taking_is : {E : Type 0} (k : Command) (arg : Arg) (command more : Result Command E) → command ≡ Ok k → IfOk more (AddsArg k arg) → IfOk more (Takes command arg)
@@ -92,11 +98,6 @@ reading_is a b script layout s first = first ∙ (λ i. with_rule (layout i) (s 
 pub time_is : (before after : Arg) (parser : ValueParser) → after ≡ record before { value_parser = after.value_parser } → after.value_parser ≡ Some parser
     → parser ≡ parsers.Unsigned 1000 600000 → rule_of before ≡ needed_rule (codes "for") → rule_of after ≡ time_rule
 time_is before after parser others given is rule = ap rule_of others ∙ (λ i. record (rule i) { parser = (given ∙ ap Some is) i })
-
--- `decode`
-pub datagram_is : (a b c : App) (hex layout : Rule) → a ≡ new_app (codes "decode") → hex ≡ option_rule (codes "hex") → layout ≡ option_rule (codes "layout")
-    → b ≡ with_rule a hex → c ≡ with_rule b layout → c ≡ datagram_line
-datagram_is a b c hex layout new h l first last = last ∙ (λ i. with_rule ((first ∙ (λ j. with_rule (new j) (h j))) i) (l i))
 
 -- `chart`
 pub moment_is : (name : Text) (before after : Arg) (parser : ValueParser) → after ≡ record before { value_parser = after.value_parser } → after.value_parser ≡ Some parser

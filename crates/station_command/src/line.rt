@@ -302,13 +302,12 @@ fn replay<'a>(alloc: Global) -> Result<Command<'a>, AllocError>
 }
 
 /// `decode`, with the options for a datagram.
-#[tactic(auto, using(crate::proofs::Lines::datagram_is))]
 fn decode_alone<'a>(alloc: Global) -> Result<Command<'a>, AllocError>
     ensures { IfOk result (λ line. (app_of line ≡ datagram_line) × ((out-Command line).has_globals ≡ false)) }
 {
-    command(alloc, DECODE, texts::DECODE, texts::DECODE_DETAILS)
-        .arg(option(alloc, HEX, "HEX", texts::HEX))?
-        .arg(option(alloc, LAYOUT, "FILE", texts::LAYOUT))
+    let line = command(alloc, DECODE, texts::DECODE, texts::DECODE_DETAILS);
+    let line = line.arg(option(alloc, HEX, "HEX", texts::HEX));
+    taking(line, option(alloc, LAYOUT, "FILE", texts::LAYOUT))
 }
 
 /// `decode --hex HEX [--layout FILE]`, or `decode FILE RECORD`.
