@@ -1,10 +1,17 @@
 //! Memory for events that are still to come.
 
-use crate::events::{HOLD, in_bag, pass};
+use crate::layouts::SMALL;
 use crate::station::station;
 use simulator::World;
-use simulator::simulator_run::simulator_event::{Event, NodeId};
+use simulator::simulator_run::simulator_event::{ClockSteps, Event, NodeId};
+use std::alloc::Global;
 use std::process::Abort;
+
+/// How many nodes the station has: the interlocking, three signals, a point and a detector.
+const NODES: usize = 6;
+
+/// For so long after it was made an interlocking opens no link, in microseconds.
+const HOLD: u64 = 6_000_000;
 
 /// Makes room for steps; where memory is lacking it is asked for once more.
 fn reserve(rt: &impl Abort, world: &mut World, steps: usize) {
@@ -14,42 +21,53 @@ fn reserve(rt: &impl Abort, world: &mut World, steps: usize) {
     assert!(rt; world.room() >= steps);
 }
 
-/// The interlocking is called by its timer, which sends so many datagrams.
-fn tick(rt: &impl Abort, world: &mut World, sent: usize) {
-    assert!(rt; world.room() >= 1);
-    let answer = world.apply(&Event::Tick(NodeId(0)));
-    assert!(rt; matches!(answer, Ok(reply) if reply.added == sent));
-}
-
-// The first step opens the links to five controllers.
-#[test]
-fn steps_that_have_room_happen(rt: HostRuntime) {
-    let alloc = rt.alloc();
-    let mut world = station(&rt, alloc);
-    pass(&rt, alloc, &mut world, HOLD);
-    reserve(&rt, &mut world, 3);
-    for sent in [5, 0, 0] {
-        tick(&rt, &mut world, sent);
+/// The hold of the interlocking passes on all clocks.
+fn hold_passes(rt: &impl Abort, alloc: Global) -> Event {
+    let clocks = match Vec::from_slice(alloc, &[HOLD; NODES]) {
+        Ok(clocks) => clocks,
+        Err(_) => Vec::from_slice(alloc, &[HOLD; NODES]).expect(rt, "there is memory"),
+    };
+    Event::Time {
+        elapsed: HOLD,
+        clocks: ClockSteps::of(clocks),
     }
-    assert!(rt; in_bag(&world) == 5);
 }
 
-#[test]
-fn memory_that_no_machine_has_is_refused(rt: HostRuntime) {
-    let mut world = station(&rt, rt.alloc());
+/// How many datagrams the network still has.
+fn in_bag(world: &World) -> usize {
+    let mut count: usize = 0;
+    for _ in world.bag() {
+        count = count.saturating_add(1);
+    }
+    count
+}
+
+/// Steps that have room happen, and those that happen are counted. The first tick of the interlocking opens the links to five
+/// controllers. There is no node 6.
+fn happen(rt: &impl Abort, world: &mut World, hold_passes: Event) {
+    let events = [
+        hold_passes,
+        Event::Tick(NodeId(0)),
+        Event::Tick(NodeId(6)),
+        Event::Tick(NodeId(0)),
+        Event::Tick(NodeId(5)),
+    ];
+    reserve(rt, world, 4);
+    assert!(rt; world.run(&events) == 4);
+    assert!(rt; world.network().len() == 5);
+    assert!(rt; in_bag(world) == 5);
+}
+
+/// Memory that no machine has is refused, and nothing changes.
+fn refuses(rt: &impl Abort, world: &mut World) {
     let room = world.room();
     assert!(rt; world.reserve(usize::MAX).is_err());
     assert!(rt; world.room() == room);
 }
 
 #[test]
-fn a_list_of_events_counts_those_that_happen(rt: HostRuntime) {
-    let mut world = station(&rt, rt.alloc());
-    reserve(&rt, &mut world, 2);
-    let events = [
-        Event::Tick(NodeId(0)),
-        Event::Tick(NodeId(6)),
-        Event::Tick(NodeId(5)),
-    ];
-    assert!(rt; world.run(&events) == 2);
+fn steps_that_have_room_happen_and_room_that_no_machine_has_is_refused(rt: HostRuntime) {
+    let mut world = station(&rt, rt.alloc(), SMALL);
+    refuses(&rt, &mut world);
+    happen(&rt, &mut world, hold_passes(&rt, rt.alloc()));
 }

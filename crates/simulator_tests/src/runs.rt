@@ -2,11 +2,11 @@
 
 use crate::events::{Hostile, node_count};
 use crate::layouts::{JUNCTION, LOOP, SMALL};
+use crate::station::station;
 use crate::tally::{Count, Tally};
 use crate::watch::Watch;
 use simulator::World;
-use simulator::simulator_run::ixl_rules::control_table::check;
-use simulator::simulator_run::ixl_rules::control_table::layout::Layout;
+use simulator::simulator_run::simulator_event::Event;
 use std::alloc::Global;
 use std::process::Abort;
 
@@ -19,11 +19,10 @@ const RUNS: u64 = 42;
 /// After so many microseconds of true time every clock that began near a turn has gone past it.
 const PAST_THE_TURN: u64 = 21_000_000;
 
-/// A new station of a layout.
-fn station(rt: &impl Abort, alloc: Global, text: &str) -> World {
-    let layout = Layout::read(alloc, text).expect(rt, "it is a layout");
-    let table = check(alloc, layout).expect(rt, "its table is sound");
-    World::new(alloc, table).expect(rt, "there is memory")
+/// An event happens to a station, or is refused, and what it leaves is looked at.
+fn apply(rt: &impl Abort, world: &mut World, event: &Event, watch: &mut Watch, tally: &mut Tally) {
+    let answer = world.apply(event);
+    watch.look(rt, world, event, answer, tally);
 }
 
 /// Every node is made anew with a clock whose stamp soon wraps.
@@ -35,31 +34,44 @@ fn begin_near_a_turn(
     tally: &mut Tally,
 ) {
     for node in 0..node_count(world.table().layout()) {
-        let event = hostile.begin(node);
-        let answer = world.apply(&event);
-        watch.look(rt, world, &event, answer, tally);
+        apply(rt, world, &hostile.begin(node), watch, tally);
     }
 }
 
-/// Runs a station through events drawn from a seed, and looks at it after each one. In every second run all clocks begin
-/// just below a turn of the stamps.
-fn hostile_run(rt: &impl Abort, alloc: Global, text: &str, seed: u64, tally: &mut Tally) {
-    let mut world = station(rt, alloc, text);
+/// The next event of a run happens to its station.
+fn go_on(
+    rt: &impl Abort,
+    alloc: Global,
+    world: &mut World,
+    hostile: &mut Hostile,
+    watch: &mut Watch,
+    tally: &mut Tally,
+) {
+    let event = hostile.next(alloc, world, &watch.seen, tally);
+    let event = event.expect(rt, "there is memory");
+    apply(rt, world, &event, watch, tally);
+}
+
+/// All events of a run, which are drawn from its seed, happen to a station, and after each one it is looked at. In every second
+/// run all clocks begin just below a turn of the stamps.
+fn go_through(rt: &impl Abort, alloc: Global, world: &mut World, seed: u64, tally: &mut Tally) {
     let mut hostile = Hostile::seeded(seed);
-    let mut watch = Watch::new(&world);
+    let mut watch = Watch::new(world);
     if seed % 2 == 0 {
-        begin_near_a_turn(rt, &mut world, &mut hostile, &mut watch, tally);
+        begin_near_a_turn(rt, world, &mut hostile, &mut watch, tally);
     }
     for _ in 0..EVENTS {
-        let event = hostile
-            .next(alloc, &world, &watch.seen, tally)
-            .expect(rt, "there is memory");
-        let answer = world.apply(&event);
-        watch.look(rt, &world, &event, answer, tally);
+        go_on(rt, alloc, world, &mut hostile, &mut watch, tally);
     }
     if seed % 2 == 0 && world.time() > PAST_THE_TURN {
         tally.once_more(Count::Turned);
     }
+}
+
+/// A run of a new station.
+fn hostile_run(rt: &impl Abort, alloc: Global, text: &str, seed: u64, tally: &mut Tally) {
+    let mut world = station(rt, alloc, text);
+    go_through(rt, alloc, &mut world, seed, tally);
 }
 
 /// Runs of a station, and how often what happened in them.
