@@ -1,5 +1,6 @@
 -- The lines of a session, event by event.
-use Rattle.std.proofs.Common.{◌≡◌, ◌∙◌, ℕ, ◌+◌, ◌<◌, ◌≤◌, List, [], ◌∷◌, ◌++◌, length, drop, get_or, Option, Some, None, refl, ap, sym, subst, append_assoc, append-nil}
+use Rattle.std.proofs.Common.{◌≡◌, ◌∙◌, ℕ, ◌+◌, ◌<◌, ◌≤◌, List, [], ◌∷◌, ◌++◌, length, drop, get_or, Option, Some, None, Result, Ok, Err, refl, ap, sym, subst, append_assoc, append-nil}
+use Rattle.std.specs.Prelude.{OnOk}
 use Rattle.std.proofs.KnownBytes.{Appends-nil, Appends-trans, Appends-kept}
 use Rattle.std.proofs.lemmas.Grind.{flat_map-append}
 use Rattle.std.proofs.lemmas.List.{drop_more, drop_all}
@@ -23,8 +24,8 @@ pub record GoesOn (site : Site) (first : Played) (all : List Entry) (place : ℕ
   pub site_is : now.sited.site ≡ site
   pub on : written ++ lines_text site (traffic now (drop place all)) ≡ lines_text site (traffic first all)
 
-pub goes_on_begins : (site : Site) (first : Played) → IsFirst site first → (all : List Entry) (known : Option (List ℕ)) → GoesOn site first all 0 first known known
-goes_on_begins site first begins all known = record { written = []; appended = Appends-nil known; site_is = begins.site_is; on = refl }
+pub goes_on_begins : (site : Site) (first : Played) → first.sited.site ≡ site → (all : List Entry) (known : Option (List ℕ)) → GoesOn site first all 0 first known known
+goes_on_begins site first site_is all known = record { written = []; appended = Appends-nil known; site_is = site_is; on = refl }
 
 -- the line of what was done stands before those of what was sent
 done_first : (site : Site) (done : Option OnWire) (sent : List OnWire) → line_if site done ++ lines_text site sent ≡ lines_text site (with_done done sent)
@@ -70,13 +71,16 @@ goes_on_next site first all place this now next old was new text within at said 
       on = append_assoc before.written text (lines_text site (traffic next left)) ∙ (ap (λ t. before.written ++ t) later ∙ before.on);
     }
 
-pub goes_on_ends : (site : Site) (first : Played) → IsFirst site first → (all : List Entry) (place : ℕ) (now : Played) (old was new : Option (List ℕ)) → length all ≤ place
-    → GoesOn site first all place now old was → Keeps was new → IsTold site all old new
-goes_on_ends site first begins all place now old was new past before kept =
+pub goes_on_ends : (site : Site) (first : Played) (all : List Entry) (place : ℕ) (now : Played) (old was new : Option (List ℕ)) → length all ≤ place
+    → GoesOn site first all place now old was → Keeps was new → Appends old new (lines_text site (traffic first all))
+goes_on_ends site first all place now old was new past before kept =
     let whole : before.written ≡ lines_text site (traffic first all) =
     sym (append-nil before.written) ∙ (ap (λ l. before.written ++ lines_text site (traffic now l)) (sym (drop_all place all past)) ∙ before.on) in
-    record {
-      first = first;
-      begins = begins;
-      appended = subst (Appends old new) whole (Appends-kept old was new before.written before.appended kept);
-    }
+    subst (Appends old new) whole (Appends-kept old was new before.written before.appended kept)
+
+-- what was told of a first world's events is told of the session
+pub told_of_first : {E : Type 0} (site : Site) (first : Played) (all : List Entry) (old new : Option (List ℕ)) (tried : Result Unit E) → IsFirst site first
+    → OnOk tried (Appends old new (lines_text first.sited.site (traffic first all))) → OnOk tried (IsTold site all old new)
+told_of_first site first all old new (Ok done) begins appended =
+    record { first = first; begins = begins; appended = subst (λ (s : Site). Appends old new (lines_text s (traffic first all))) begins.site_is appended }
+told_of_first site first all old new (Err why) begins appended = appended

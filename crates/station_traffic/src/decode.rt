@@ -3,7 +3,11 @@
 ghost use Rattle.std.specs.Prelude.{◌≡◌, ◌≤◌, IsErr, IfErr, OnOk};
 ghost use Rattle.station_run.specs.station_sim.ReplayedSession.{CanReplay, Explained, Explains};
 ghost use Rattle.station_run.specs.station_sim.station_check.Failures.{Leaves};
+ghost use Rattle.std.specs.Io.KnownBytes.{Appends};
+ghost use Rattle.station_run.specs.station_sim.World.{played};
 ghost use Rattle.station_traffic.specs.DecodedSession.{IsDecoded, IsTold};
+ghost use Rattle.station_traffic.specs.Lines.{lines_text};
+ghost use Rattle.station_traffic.specs.Traffic.{traffic};
 ghost use Rattle.station_traffic.specs.inside.Late.{IsLate};
 
 use crate::event_lines::event_lines;
@@ -11,6 +15,7 @@ use crate::replayed::first_world;
 use crate::texts::{Texts, read_texts};
 use control_table::Checked;
 use station_run::station_sim::replay::Entry;
+use station_run::station_sim::replay::simulator::World;
 use station_run::station_sim::station_check::{Failure, tell};
 use std::alloc::Global;
 use std::io::Write;
@@ -60,6 +65,7 @@ fn decode<W: Write>(
 }
 
 /// Writes what goes over the network of a new world of this table as a session is applied to it.
+#[tactic(auto, using(crate::proofs::Lines::told_of_first))]
 fn write_traffic<W: Write>(
     alloc: Global,
     table: Checked,
@@ -70,8 +76,21 @@ fn write_traffic<W: Write>(
     ensures failed { IfErr result IsLate }
 {
     let mut world = first_world(alloc, table)?;
+    write_events(alloc, &mut world, entries, out)
+}
+
+/// Applies a session to a world, and writes what goes over its network by that.
+fn write_events<W: Write>(
+    alloc: Global,
+    world: &mut World,
+    entries: &[Entry],
+    out: &mut W,
+) -> Result<(), Failure>
+    ensures done { OnOk result (Appends (W.contents out.old) (W.contents out.new) (lines_text (played world.old).sited.site (traffic (played world.old) entries.now))) }
+    ensures failed { IfErr result IsLate }
+{
     for entry in entries {
-        let text = event_lines(alloc, &mut world, &entry.event)?;
+        let text = event_lines(alloc, world, &entry.event)?;
         out.write_all(text.as_str().as_bytes())?;
     }
     out.flush()?;

@@ -50,8 +50,16 @@ pub(crate) fn world_behind(
     ensures { IfOk result (λ world. (first : Played) × IsFirst table first × (played world ≡ left_by first entries.now)) }
 {
     let mut world = first_world(alloc, table)?;
-    for entry in entries {
-        try_event(&mut world, &entry.event)?;
-    }
+    apply_all(&mut world, entries)?;
     Ok(world)
+}
+
+/// Applies the events of a session to a world.
+fn apply_all(world: &mut World, entries: &[Entry]) -> Result<(), AllocError>
+    ensures { OnOk result (played world.new ≡ left_by (played world.old) entries.now) }
+{
+    for entry in entries {
+        try_event(world, &entry.event)?;
+    }
+    Ok(())
 }
