@@ -10,7 +10,7 @@ use std::fs;
 /// The file of the tests' capture.
 const OUT: &str = "capture";
 
-/// The interlocking asks each of its controllers for a connection.
+/// The interlocking asks each of its five controllers for a connection.
 const SESSION: &str = "time 6000000 = ok\ntick IXL1 = ok\n";
 
 /// A session with a line that isn't one, of which a capture is to be written over another.
@@ -43,10 +43,10 @@ fn ends(rt: &HostRuntime, asked: &Asked<'_>, status: u8, text: &str) -> bool {
     ended == status && err.as_slice() == text.as_bytes()
 }
 
-/// The bytes of the session's capture, which has five datagrams.
-fn whole(alloc: Global) -> Vec<u8> {
+/// The bytes of a session's capture.
+fn capture(alloc: Global, layout: &str, session: &str) -> Vec<u8> {
     let (mut out, mut err) = (Vec::new(alloc), Vec::new(alloc));
-    capture_session(alloc, SMALL, SESSION, &mut out, &mut err);
+    capture_session(alloc, layout, session, &mut out, &mut err);
     out
 }
 
@@ -58,7 +58,7 @@ fn holds(rt: &HostRuntime, bytes: &[u8]) -> bool {
 
 #[test]
 fn a_capture_is_written_over_where_that_is_wanted(rt: HostRuntime) {
-    let capture = whole(rt.alloc());
+    let capture = capture(rt.alloc(), SMALL, SESSION);
     assert!(rt; ends(&rt, &asked(OUT, false), 0, ""));
     assert!(rt; capture.len() == 608 && holds(&rt, &capture));
     assert!(rt; fs::write(&rt, OUT, b"kept").is_ok());

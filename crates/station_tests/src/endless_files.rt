@@ -1,34 +1,20 @@
-//! Files and readers that don't end, or are too long.
+//! Devices that don't end, and readers that are too long, are interrupted or fail.
 
 use limited_text::{TextFault, text_up_to};
 use station_command::{Failure, text_of};
 use std::alloc::Global;
 use std::io;
 use std::io::{Error, ErrorKind, Read};
-use std::test::Fail;
 
-/// The text of a reader. Its clauses aren't known to the tests, which so are proved quickly.
-fn read<R: Read>(alloc: Global, reader: &mut R, limit: u32) -> Result<String, TextFault> {
-    text_up_to(alloc, reader, u64::from(limit))
+#[test]
+fn a_device_that_does_not_end_cannot_be_read(rt: HostRuntime) {
+    assert!(rt; matches!(text_of(&rt, "/dev/zero"), Err(Failure::File(_))));
 }
 
-/// A reader that never ends, and counts what was taken from it.
-#[derive(Drop)]
-struct Endless {
-    taken: usize,
-}
-
-impl Read for Endless {
-    fn read(&mut self, buf: &mut [u8]) -> io::Result<usize> {
-        self.taken = self.taken.saturating_add(buf.len());
-        Ok(buf.len())
-    }
-}
-
-/// A reader that gives a byte at each second call: each other one is interrupted. After so many it fails, or ends.
+/// A reader that gives bytes at each second call: each other one is interrupted. After so many it fails, or ends.
 #[derive(Drop)]
 struct Halting {
-    left: u32,
+    left: usize,
     fails: bool,
     halts: bool,
 }
@@ -42,61 +28,39 @@ impl Read for Halting {
         if self.left == 0 && self.fails {
             return Err(Error::from(ErrorKind::PermissionDenied));
         }
-        match buf.first_mut() {
-            Some(byte) if self.left > 0 => {
-                self.left -= 1;
-                *byte = b'a';
-                Ok(1)
-            }
-            _ => Ok(0),
-        }
+        let taken = buf.len().min(self.left);
+        let (front, _) = buf.split_at_mut(taken);
+        front.fill(b'a');
+        self.left -= taken;
+        Ok(taken)
     }
 }
 
-#[test]
-fn a_device_that_does_not_end_cannot_be_read(rt: HostRuntime) -> Result<(), Fail> {
-    let Err(failure) = text_of(&rt, "/dev/zero") else {
-        return Err(Fail::from("a text"));
-    };
-    assert!(rt; matches!(failure, Failure::File(_)));
-    Ok(())
-}
-
-#[test]
-fn no_more_is_taken_than_shows_that_it_is_too_long(rt: HostRuntime) -> Result<(), Fail> {
-    let mut endless = Endless { taken: 0 };
-    let answer = read(rt.alloc(), &mut endless, 10_000);
-    assert!(rt; matches!(answer, Err(TextFault::TooLong)));
-    assert!(rt; endless.taken == 10_001);
-    Ok(())
-}
-
-#[test]
-fn a_text_at_the_limit_is_read(rt: HostRuntime) -> Result<(), Fail> {
-    let mut reader: &[u8] = b"abc";
-    let text = read(rt.alloc(), &mut reader, 3).map_err(|_| "no text")?;
-    assert!(rt; text.as_str() == "abc");
-    let mut reader: &[u8] = b"abc";
-    assert!(rt; matches!(read(rt.alloc(), &mut reader, 2), Err(TextFault::TooLong)));
-    let mut reader: &[u8] = b"a\xff";
-    assert!(rt; matches!(read(rt.alloc(), &mut reader, 3), Err(TextFault::NotUtf8)));
-    Ok(())
-}
-
-#[test]
-fn a_reader_that_was_interrupted_is_asked_again(rt: HostRuntime) -> Result<(), Fail> {
+/// The text of a reader of so many bytes, and how many it still has then.
+fn read(alloc: Global, left: usize, fails: bool, limit: u32) -> (Result<String, TextFault>, usize) {
     let mut reader = Halting {
-        left: 3,
-        fails: false,
+        left,
+        fails,
         halts: false,
     };
-    let text = read(rt.alloc(), &mut reader, 3).map_err(|_| "no text")?;
-    assert!(rt; text.as_str() == "aaa");
-    let mut reader = Halting {
-        left: 2,
-        fails: true,
-        halts: false,
-    };
-    assert!(rt; matches!(read(rt.alloc(), &mut reader, 3), Err(TextFault::Unreadable)));
-    Ok(())
+    let text = text_up_to(alloc, &mut reader, u64::from(limit));
+    (text, reader.left)
+}
+
+#[test]
+fn a_reader_is_asked_again_where_it_was_interrupted(rt: HostRuntime) {
+    assert!(rt; matches!(read(rt.alloc(), 3, false, 3), (Ok(text), 0) if text.as_str() == "aaa"));
+    assert!(rt;
+        matches!(
+            read(rt.alloc(), 2, true, 3),
+            (Err(TextFault::Unreadable), 0)
+        )
+    );
+}
+
+#[test]
+fn no_more_is_taken_than_shows_that_it_is_too_long(rt: HostRuntime) {
+    let (text, left) = read(rt.alloc(), 20_000, false, 10_000);
+    assert!(rt; matches!(text, Err(TextFault::TooLong)));
+    assert!(rt; left == 9_999);
 }

@@ -1,13 +1,15 @@
-//! Tests of what the programs `station` and `pair` do: reports, files, want of memory, runs over memory and sockets, captures, and
-//! command lines.
+//! Tests of what the programs `station` and `pair` do: reports, files, want of memory, runs over memory and sockets, captures,
+//! command lines, and links that a client closes.
 #![tactic(auto)]
 
 #[cfg(test)]
-mod bell;
-#[cfg(test)]
 mod captures;
 #[cfg(test)]
+mod closings;
+#[cfg(test)]
 mod command_bench;
+#[cfg(test)]
+mod controllers;
 #[cfg(test)]
 mod endless_files;
 #[cfg(test)]
@@ -22,8 +24,6 @@ mod pair;
 mod run_bench;
 #[cfg(test)]
 mod runs;
-#[cfg(test)]
-mod script_order;
 #[cfg(test)]
 mod sockets;
 #[cfg(test)]

@@ -1,8 +1,6 @@
 //! One round of a run over memory in which all comes that a round can have.
 
-use station_network::{MemoryNetwork, SteppingClock};
-use station_traffic::station_run::prepare;
-use std::alloc::Global;
+use crate::run_bench::{Drive, run_over_memory};
 
 /// A point behind a signal, with a route over its right leg.
 const STATION: &str = r#"section = ["GA", "GP"]
@@ -38,28 +36,18 @@ tick P1 = ok
 tick D1 = ok
 ";
 
-/// The record of the station's first 6560 ms in rounds of 10 ms, or nothing where the run fails.
-fn record(alloc: Global) -> Vec<u8> {
-    let mut record = Vec::new(alloc);
-    let (mut out, mut err) = (Vec::new(alloc), Vec::new(alloc));
-    let mut net = MemoryNetwork::new(alloc, 0);
-    let mut clock = SteppingClock::new(alloc, 0, 10_000);
-    if let Ok(prepared) = prepare(alloc, STATION, SCRIPT) {
-        prepared.run(
-            alloc,
-            &mut net,
-            &mut clock,
-            6560,
-            &mut record,
-            &mut out,
-            &mut err,
-        );
-    }
-    record
-}
+/// The first 6560 ms of the station, in rounds of 10 ms.
+const DRIVE: Drive<'static> = Drive {
+    layout: STATION,
+    script: SCRIPT,
+    begins: 10_000,
+    for_ms: 6560,
+    room: usize::MAX,
+    failing: 0,
+};
 
 #[test]
 fn a_round_is_time_deliveries_lines_points_and_ticks(rt: HostRuntime) {
-    let record = record(rt.alloc());
-    assert!(rt; record.ends_with(ROUND.as_bytes()));
+    let left = run_over_memory(&rt, rt.alloc(), DRIVE);
+    assert!(rt; left.record.ends_with(ROUND.as_bytes()));
 }

@@ -1,9 +1,9 @@
-//! A small station that is driven over memory, and what comes of it.
+//! Stations that are driven over memory and over sockets, and what comes of it.
 
 use station_drive::{Clock, Datagrams};
 use station_network::{MemoryNetwork, NetCall};
 use station_traffic::station_run::station_sim::replay_text;
-use station_traffic::station_run::{Asked, Prepared, prepare, run};
+use station_traffic::station_run::{Asked, prepare, run};
 use std::alloc::Global;
 use std::io;
 use std::io::Write;
@@ -65,6 +65,7 @@ impl Clock for HastyClock {
 /// How a station is driven over memory.
 #[derive(Clone, Copy)]
 pub(crate) struct Drive<'a> {
+    pub(crate) layout: &'a str,
     pub(crate) script: &'a str,
     /// When its first round is, in microseconds. The others are 10 ms apart.
     pub(crate) begins: u64,
@@ -101,7 +102,11 @@ fn first_sent(net: &MemoryNetwork) -> u64 {
 }
 
 /// Runs a station over memory.
-fn run_prepared(alloc: Global, prepared: Prepared, drive: Drive<'_>) -> Left {
+pub(crate) fn run_over_memory(rt: &impl Abort, alloc: Global, drive: Drive<'_>) -> Left {
+    let prepared = prepare(alloc, drive.layout, drive.script).expect(
+        rt,
+        "a station and its script",
+    );
     let mut net = MemoryNetwork::new(alloc, drive.failing);
     let mut clock = HastyClock {
         latest: 0,
@@ -126,12 +131,6 @@ fn run_prepared(alloc: Global, prepared: Prepared, drive: Drive<'_>) -> Left {
     }
 }
 
-/// Runs the small station over memory.
-pub(crate) fn run_small(rt: &impl Abort, alloc: Global, drive: Drive<'_>) -> Left {
-    let prepared = prepare(alloc, SMALL, drive.script).expect(rt, "a station and its script");
-    run_prepared(alloc, prepared, drive)
-}
-
 /// What a run of the small station told.
 #[derive(Drop)]
 pub(crate) struct Told {
@@ -149,9 +148,13 @@ pub(crate) fn run_over_sockets(rt: &HostRuntime, asked: &Asked<'_>) -> Told {
 
 /// Whether the record of the small station answers the same again.
 pub(crate) fn is_same(alloc: Global, record: &[u8]) -> bool {
+    replays(alloc, SMALL, str::from_utf8(record).unwrap_or("="))
+}
+
+/// Whether a record answers the same again on a station of a layout.
+fn replays(alloc: Global, layout: &str, record: &str) -> bool {
     let (mut out, mut err) = (Vec::new(alloc), Vec::new(alloc));
-    let text = str::from_utf8(record).unwrap_or("=");
-    let status = replay_text(alloc, SMALL, text, &mut out, &mut err);
+    let status = replay_text(alloc, layout, record, &mut out, &mut err);
     status == 0 && out.as_slice() == b"same\n".as_slice()
 }
 

@@ -2,7 +2,8 @@
 
 use crate::command_bench::expect_of;
 use crate::run_bench::{
-    Drive, SMALL, Told, is_same, lacks_delivery, run_over_sockets, run_small, whole_lines,
+    Drive, Left, SMALL, Told, is_same, lacks_delivery, run_over_memory, run_over_sockets,
+    whole_lines,
 };
 use station_traffic::station_run::Asked;
 use std::alloc::{AllocError, Global};
@@ -32,6 +33,7 @@ safe
 const SCRIPT: &str = "at 8000 resume\nat 8010 set R1\n";
 
 const WHOLE: Drive<'static> = Drive {
+    layout: SMALL,
     script: SCRIPT,
     begins: 10_000,
     for_ms: 12_000,
@@ -39,13 +41,14 @@ const WHOLE: Drive<'static> = Drive {
     failing: 0,
 };
 
-/// Expects that a run whose record has no more room fails, and leaves a beginning of the whole record, which answers the same again.
-fn expect_cut(rt: &impl Abort, alloc: Global, whole: &[u8], room: usize) {
-    let left = run_small(rt, alloc, Drive { room, ..WHOLE });
-    assert!(rt; left.status == 1 && left.out.is_empty());
-    assert!(rt; left.err.as_slice() == b"cannot run\n".as_slice());
-    assert!(rt; left.record.len() == room && whole.starts_with(&left.record));
-    assert!(rt; is_same(alloc, whole_lines(&left.record)));
+/// Whether a run whose record has no more room failed, and left a beginning of the whole record, which answers the same again.
+fn is_cut(alloc: Global, left: &Left, whole: &[u8], room: usize) -> bool {
+    left.status == 1
+        && left.out.is_empty()
+        && left.err.as_slice() == b"cannot run\n".as_slice()
+        && left.record.len() == room
+        && whole.starts_with(&left.record)
+        && is_same(alloc, whole_lines(&left.record))
 }
 
 /// For how many bytes of a record there is room.
@@ -54,12 +57,18 @@ const ROOMS: [usize; 4] = [0, 1, 3000, 100_007];
 // A route is set and its record answers the same again.
 #[test]
 fn a_run_over_memory_is_recorded(rt: HostRuntime) {
-    let whole = run_small(&rt, rt.alloc(), WHOLE);
+    let whole = run_over_memory(&rt, rt.alloc(), WHOLE);
     assert!(rt; whole.status == 0 && whole.err.is_empty());
     assert!(rt; whole.out.as_slice() == PICTURE.as_bytes());
     assert!(rt; is_same(rt.alloc(), &whole.record));
     for room in &ROOMS {
-        expect_cut(&rt, rt.alloc(), &whole.record, *room);
+        let drive = Drive {
+            room: *room,
+            ..WHOLE
+        };
+        let left = run_over_memory(&rt, rt.alloc(), drive);
+        let is_cut = is_cut(rt.alloc(), &left, &whole.record, *room);
+        assert!(rt; is_cut, "room for {room} bytes");
     }
 }
 
@@ -71,21 +80,30 @@ const OPENING: Drive<'static> = Drive {
     ..WHOLE
 };
 
-/// Runs the station while one call of its network fails. The record replays as the same session. Where it isn't that of a run in which
-/// none fails, it differs first by a delivery that isn't there. It answers whether it differs.
+/// Whether one call of a network failed and the record replays as the same session. Where it isn't that of a run in which none fails,
+/// it differs first by a delivery that isn't there.
+fn lacks_at_most_a_delivery(alloc: Global, left: &Left, whole: &[u8]) -> bool {
+    left.status == 0
+        && left.faults == 1
+        && left.err.is_empty()
+        && is_same(alloc, &left.record)
+        && (left.record.as_slice() == whole || lacks_delivery(&left.record, whole))
+}
+
+/// Runs the station while one call of its network fails, and answers whether its record differs from that of a run in which none fails.
 fn fail_one(rt: &impl Abort, alloc: Global, whole: &[u8], failing: u64) -> bool {
-    let left = run_small(rt, alloc, Drive { failing, ..OPENING });
-    assert!(rt; (left.status, left.faults) == (0, 1) && left.err.is_empty());
-    assert!(rt; is_same(alloc, &left.record));
-    let differs = left.record.as_slice() != whole;
-    assert!(rt; !differs || lacks_delivery(&left.record, whole));
-    differs
+    let left = run_over_memory(rt, alloc, Drive { failing, ..OPENING });
+    assert!(rt;
+        lacks_at_most_a_delivery(alloc, &left, whole),
+        "where call {failing} fails"
+    );
+    left.record.as_slice() != whole
 }
 
 /// Runs the station once for each call of some that fails, counted from 0 at the first that sends. It answers how many records differ
 /// from that of a run in which none fails.
 fn fail_each(rt: &impl Abort, alloc: Global, calls: Range<u64>) -> u64 {
-    let whole = run_small(rt, alloc, OPENING);
+    let whole = run_over_memory(rt, alloc, OPENING);
     assert!(rt; (whole.status, whole.faults) == (0, 0));
     assert!(rt; whole.out.starts_with(b"time 7000\nsignal S1 proceed R1\n"));
     let mut differing: u64 = 0;
@@ -126,11 +144,14 @@ fn so_does_one_from_the_241st_to_the_300th(rt: HostRuntime) {
 /// A record that is never written, since nothing is opened.
 const UNWRITTEN: &str = "unwritten";
 
+/// R1 is set a while after the hold.
+const LATE_SCRIPT: &str = "at 8000 resume\nat 8100 set R1\n";
+
 /// What is asked of the small station, with a record.
 const fn asked(record: &str) -> Asked<'_> {
     Asked {
         layout: SMALL,
-        script: "at 8000 resume\nat 8100 set R1\n",
+        script: LATE_SCRIPT,
         record,
         for_ms: 12_000,
     }
@@ -150,45 +171,46 @@ name = "IXL1"
 id = 1
 "#;
 
-/// Layouts and scripts that are faulty, with what is told.
-const FAULTY: [(&str, &str, &str); 5] = [
-    ("section = ", "at", "layout fault 1 Toml\n"),
-    (BROKEN, "at", "table fault 1 PathBroken at route R1\n"),
-    (SMALL, "at 0 tick S1", "session fault 1 at line 1\n"),
+/// A layout, a script and a record, and what is told.
+type Failed = (&'static str, &'static str, &'static str, &'static str);
+
+/// Layouts, scripts and records of runs that fail, with what is told. The layout is judged before the script, and the script before
+/// anything is opened. No record is written in a folder that isn't there, in place of a folder, or on a disk without room.
+const FAILED: &[Failed] = &[
+    ("section = ", "at", UNWRITTEN, "layout fault 1 Toml\n"),
+    (
+        BROKEN,
+        "at",
+        UNWRITTEN,
+        "table fault 1 PathBroken at route R1\n",
+    ),
+    (
+        SMALL,
+        "at 0 tick S1",
+        UNWRITTEN,
+        "session fault 1 at line 1\n",
+    ),
     (
         SMALL,
         "at 0 resume\nat 0 occupy R1",
+        UNWRITTEN,
         "session fault 2 at line 2\n",
     ),
     (
         SMALL,
         "at 500 resume\nat 400 set R1\n",
+        UNWRITTEN,
         "session fault 6 at line 2\n",
     ),
+    (SMALL, LATE_SCRIPT, "no/such/folder/record", "cannot run\n"),
+    (SMALL, LATE_SCRIPT, ".", "cannot run\n"),
+    (SMALL, LATE_SCRIPT, "/dev/full", "cannot run\n"),
 ];
-
-/// Paths of which none can be written: in a folder that isn't there, a folder, and a disk without room.
-const NO_RECORDS: [&str; 3] = ["no/such/folder/record", ".", "/dev/full"];
 
 /// Whether a run fails, and tells just this text.
 fn is_told(rt: &HostRuntime, asked: &Asked<'_>, text: &str) -> bool {
     let told = run_over_sockets(rt, asked);
     told.status == 1 && told.out.is_empty() && told.err.as_slice() == text.as_bytes()
-}
-
-// The layout is judged before the script, and the script before anything is opened.
-#[test]
-fn faulty_texts_are_told(rt: HostRuntime) {
-    for (layout, script, text) in &FAULTY {
-        let asked = Asked {
-            layout: *layout,
-            script: *script,
-            ..asked(UNWRITTEN)
-        };
-        let is_so = is_told(&rt, &asked, *text);
-        expect_of(&rt, is_so, &[*script, *text]);
-    }
-    assert!(rt; fs::read_to_string(&rt, UNWRITTEN).is_err());
 }
 
 /// Takes every file that the system gives to a program.
@@ -210,12 +232,25 @@ fn needs_sockets(rt: &HostRuntime) -> bool {
     files.is_ok() && is_told
 }
 
-#[test]
-fn what_cannot_run_is_told(rt: HostRuntime) {
-    for record in &NO_RECORDS {
-        let is_so = is_told(&rt, &asked(*record), "cannot run\n");
-        expect_of(&rt, is_so, &[*record]);
+/// The first of these texts that isn't told, if one isn't.
+fn first_untold(rt: &HostRuntime, failed: &[Failed]) -> Option<&'static str> {
+    for (layout, script, record, text) in failed {
+        let asked = Asked {
+            layout: *layout,
+            script: *script,
+            ..asked(*record)
+        };
+        if !is_told(rt, &asked, *text) {
+            return Some(*text);
+        }
     }
+    None
+}
+
+#[test]
+fn why_a_run_fails_is_told(rt: HostRuntime) {
+    let untold = first_untold(&rt, FAILED);
+    expect_of(&rt, untold.is_none(), &[untold.unwrap_or("")]);
     assert!(rt; needs_sockets(&rt));
     assert!(rt; fs::read_to_string(&rt, UNWRITTEN).is_err());
 }

@@ -1,8 +1,9 @@
 //! The texts for command lines, which no contract says. What takes memory is done again where it is lacking, so that
 //! the answers also hold with any one allocation refused.
 
-use crate::command_bench::{expect_of, expect_printed};
-use station_command::{Asked, Error, is_memory, read_words};
+use crate::command_bench::expect_printed;
+use arrayvec::ArrayVec;
+use station_command::{is_memory, read_words};
 use std::alloc::Global;
 use std::process::Abort;
 
@@ -389,267 +390,86 @@ Usage: station <COMMAND>
 For more information, try '--help'.
 ";
 
-/// Command lines that ask for help or for the version, with what is printed.
-const HELPED: [(&[&str], &str); 14] = [
-    (&["station", "--help"], HELP),
-    (&["station", "help"], HELP),
-    (&["station", "check", "--help"], CHECK_HELP),
-    (&["station", "check", "-h"], SHORT_CHECK_HELP),
-    (&["station", "plan", "--help"], PLAN_HELP),
-    (&["station", "table", "--help"], TABLE_HELP),
-    (&["station", "sim", "--help"], SIM_HELP),
-    (&["station", "help", "replay"], REPLAY_HELP),
-    (&["station", "run", "--help"], RUN_HELP),
-    (&["station", "chart", "--help"], CHART_HELP),
-    (&["station", "decode", "-h"], SHORT_DECODE_HELP),
-    (&["station", "capture", "--help"], CAPTURE_HELP),
-    (&["station", "--version"], "station 1.0.0\n"),
-    (&["station", "-V"], "station 1.0.0\n"),
+/// No command line here has more words.
+const MOST_WORDS: usize = 8;
+
+/// A command line, its status, and what is printed.
+type Printed = (&'static str, i32, &'static str);
+
+/// Command lines that ask for help or for the version.
+const HELPED: &[Printed] = &[
+    ("station --help", 0, HELP),
+    ("station help", 0, HELP),
+    ("station check --help", 0, CHECK_HELP),
+    ("station check -h", 0, SHORT_CHECK_HELP),
+    ("station plan --help", 0, PLAN_HELP),
+    ("station table --help", 0, TABLE_HELP),
+    ("station sim --help", 0, SIM_HELP),
+    ("station help replay", 0, REPLAY_HELP),
+    ("station run --help", 0, RUN_HELP),
+    ("station chart --help", 0, CHART_HELP),
+    ("station decode -h", 0, SHORT_DECODE_HELP),
+    ("station capture --help", 0, CAPTURE_HELP),
+    ("station --version", 0, "station 1.0.0\n"),
+    ("station -V", 0, "station 1.0.0\n"),
 ];
 
-/// Command lines that ask for nothing, with what is printed.
-const REFUSED: [(&[&str], &str); 18] = [
-    (&["station", "chart", "a", "b", "--to=-1"], NO_MOMENT),
-    (&["station", "capture", "a", "b"], NO_OUT),
-    (&["station"], HELP),
-    (&["station", "check"], NO_FILE),
-    (&["station", "frobnicate"], NO_SUCH_COMMAND),
-    (&["station", "check", "a.toml", "b.toml"], A_WORD_TOO_MANY),
-    (&["station", "sim", "a.toml"], NO_EVENTS),
-    (&["station", "replay", "a", "b", "c"], A_RECORD_TOO_MANY),
-    (
-        &["station", "run", "f", "--script", "s"],
-        NO_RECORD_AND_NO_TIME,
-    ),
-    (
-        &["station", "run", "f", "--script", "s", "--for", "999"],
-        TOO_SHORT,
-    ),
-    (&["station", "run", "--for=600001"], TOO_LONG),
-    (&["station", "run", "--for=1s"], NO_TIME),
-    (
-        &["station", "run", "--script=a", "--script=b"],
-        A_SECOND_SCRIPT,
-    ),
-    (&["station", "table", "f", "--csv=yes"], A_VALUE_OF_A_SWITCH),
-    (&["station", "table", "--csv", "--csv"], A_SECOND_SWITCH),
-    (&["station", "decode", "--layout", "f"], NOTHING_TO_DECODE),
-    (&["station", "decode", "f"], NOTHING_TO_DECODE),
-    (
-        &["station", "decode", "--hex", "-", "f", "r"],
-        NOTHING_TO_DECODE,
-    ),
+/// Command lines that are wrong.
+const REFUSED: &[Printed] = &[
+    ("station chart a b --to=-1", 2, NO_MOMENT),
+    ("station capture a b", 2, NO_OUT),
+    ("station", 2, HELP),
+    ("station check", 2, NO_FILE),
+    ("station frobnicate", 2, NO_SUCH_COMMAND),
+    ("station check a.toml b.toml", 2, A_WORD_TOO_MANY),
+    ("station sim a.toml", 2, NO_EVENTS),
+    ("station replay a b c", 2, A_RECORD_TOO_MANY),
+    ("station run f --script s", 2, NO_RECORD_AND_NO_TIME),
+    ("station run f --script s --for 999", 2, TOO_SHORT),
+    ("station run --for=600001", 2, TOO_LONG),
+    ("station run --for=1s", 2, NO_TIME),
+    ("station run --script=a --script=b", 2, A_SECOND_SCRIPT),
+    ("station table f --csv=yes", 2, A_VALUE_OF_A_SWITCH),
+    ("station table --csv --csv", 2, A_SECOND_SWITCH),
+    ("station decode --layout f", 2, NOTHING_TO_DECODE),
+    ("station decode f", 2, NOTHING_TO_DECODE),
+    ("station decode --hex - f r", 2, NOTHING_TO_DECODE),
 ];
 
-const CHECK: Asked<'static> = Asked::Check {
-    layout: "a b/c",
-    explained: false,
-};
-
-const EXPLAINED: Asked<'static> = Asked::Check {
-    layout: "--help",
-    explained: true,
-};
-
-const PLAN: Asked<'static> = Asked::Plan {
-    layout: "a b",
-    route: None,
-    picture: None,
-};
-
-const PLAN_OF_ROUTE: Asked<'static> = Asked::Plan {
-    layout: "a b",
-    route: Some("--"),
-    picture: Some("p"),
-};
-
-const TABLE: Asked<'static> = Asked::Table {
-    layout: "a b",
-    csv: false,
-};
-
-const CSV: Asked<'static> = Asked::Table {
-    layout: "--csv",
-    csv: true,
-};
-
-const SIM: Asked<'static> = Asked::Sim {
-    layout: "a b",
-    events: "-",
-};
-
-const REPLAY: Asked<'static> = Asked::Replay {
-    layout: "a b",
-    recording: "--help",
-};
-
-const SHORT_RUN: Asked<'static> = Asked::Run {
-    layout: "a b",
-    script: "s",
-    record: "-",
-    for_ms: 1000,
-};
-
-const LONG_RUN: Asked<'static> = Asked::Run {
-    layout: "a b",
-    script: "s",
-    record: "-",
-    for_ms: 600_000,
-};
-
-const CHART: Asked<'static> = Asked::Chart {
-    layout: "a b",
-    recording: "-",
-    from: None,
-    to: None,
-};
-
-const CUT_CHART: Asked<'static> = Asked::Chart {
-    layout: "a b",
-    recording: "-",
-    from: Some(0),
-    to: Some(18_446_744_073_709_551),
-};
-
-const DECODE: Asked<'static> = Asked::Decode {
-    word: "-",
-    layout: None,
-};
-
-const NAMED_DECODE: Asked<'static> = Asked::Decode {
-    word: "00",
-    layout: Some("a b"),
-};
-
-const DECODED_SESSION: Asked<'static> = Asked::DecodeSession {
-    layout: "a b",
-    recording: "-",
-};
-
-const CAPTURE: Asked<'static> = Asked::Capture {
-    layout: "a b",
-    recording: "-",
-    out: "o",
-    force: false,
-};
-
-const FORCED_CAPTURE: Asked<'static> = Asked::Capture {
-    layout: "a b",
-    recording: "-",
-    out: "--force",
-    force: true,
-};
-
-/// Command lines with what they ask for.
-const ASKED: [(&[&str], Asked<'static>); 22] = [
-    (&["station", "check", "a b/c"], CHECK),
-    (&["/usr/bin/other", "check", "--", "a b/c"], CHECK),
-    (
-        &["station", "check", "--explain", "--", "--help"],
-        EXPLAINED,
-    ),
-    (&["station", "plan", "a b"], PLAN),
-    (
-        &["station", "plan", "--picture", "p", "a b", "--route=--"],
-        PLAN_OF_ROUTE,
-    ),
-    (&["station", "table", "a b"], TABLE),
-    (&["station", "table", "--csv", "--", "--csv"], CSV),
-    (&["station", "sim", "a b", "-"], SIM),
-    (&["station", "sim", "--", "a b", "-"], SIM),
-    (&["station", "sim", "a b", "--", "-"], SIM),
-    (&["station", "sim", "a b", "-", "--"], SIM),
-    (&["station", "replay", "--", "a b", "--help"], REPLAY),
-    (&["station", "replay", "a b", "--", "--help"], REPLAY),
-    (
-        &[
-            "station", "run", "a b", "--script", "s", "--record", "-", "--for", "1000",
-        ],
-        SHORT_RUN,
-    ),
-    (
-        &[
-            "station",
-            "run",
-            "--for=+600000",
-            "--record=-",
-            "--script",
-            "s",
-            "--",
-            "a b",
-        ],
-        LONG_RUN,
-    ),
-    (&["station", "chart", "a b", "-"], CHART),
-    (
-        &[
-            "station",
-            "chart",
-            "--from=+0",
-            "a b",
-            "--to",
-            "18446744073709551",
-            "-",
-        ],
-        CUT_CHART,
-    ),
-    (&["station", "decode", "--hex", "-"], DECODE),
-    (
-        &["station", "decode", "--layout=a b", "--hex=00"],
-        NAMED_DECODE,
-    ),
-    (&["station", "decode", "a b", "-"], DECODED_SESSION),
-    (&["station", "capture", "a b", "-", "o"], CAPTURE),
-    (
-        &["station", "capture", "a b", "--force", "-", "--", "--force"],
-        FORCED_CAPTURE,
-    ),
-];
-
-/// Reads the words of a command line; where memory is lacking they are read once more.
-fn read<'a>(rt: &impl Abort, alloc: Global, words: &'a [&str]) -> Result<Asked<'a>, Error> {
-    match read_words(alloc, words) {
-        Err(error) if is_memory(&error) => {}
-        answer => return answer,
+/// The words of a command line, which spaces part.
+fn words_of<'a>(rt: &impl Abort, line: &'a str) -> ArrayVec<&'a str, MOST_WORDS> {
+    let mut words = ArrayVec::new();
+    for word in line.split(' ') {
+        assert!(rt; words.try_push(word).is_ok(), "{line}");
     }
-    let answer = read_words(alloc, words);
-    assert!(rt;
-        !matches!(&answer, Err(error) if is_memory(error)),
-        "there is memory"
-    );
-    answer
+    words
 }
 
-/// Expects that a command line prints this text and ends with this status.
+/// Expects that a command line prints this text and ends with this status. Where memory is lacking it is read once more.
 fn expect_text(rt: &impl Abort, alloc: Global, words: &[&str], status: i32, text: &str) {
-    let error = read(rt, alloc, words).expect_err(rt, "nothing is asked");
+    let mut answer = read_words(alloc, words);
+    if matches!(&answer, Err(error) if is_memory(error)) {
+        answer = read_words(alloc, words);
+    }
+    let error = answer.expect_err(rt, "nothing is asked");
     assert!(rt; error.exit_code() == status);
     expect_printed(rt, alloc, &error, status == 2, text);
 }
 
-/// Whether a command line asks for this.
-fn asks(rt: &impl Abort, alloc: Global, words: &[&str], wanted: Asked<'_>) -> bool {
-    matches!(read(rt, alloc, words), Ok(asked) if asked == wanted)
+/// Expects that each command line prints its text and ends with its status.
+fn expect_texts(rt: &impl Abort, alloc: Global, printed: &[Printed]) {
+    for (line, status, text) in printed {
+        let words = words_of(rt, *line);
+        expect_text(rt, alloc, &words, *status, *text);
+    }
 }
 
 #[test]
 fn help_and_the_version_are_printed(rt: HostRuntime) {
-    for (words, text) in &HELPED {
-        expect_text(&rt, rt.alloc(), *words, 0, *text);
-    }
+    expect_texts(&rt, rt.alloc(), HELPED);
 }
 
 #[test]
 fn what_is_wrong_is_printed(rt: HostRuntime) {
-    for (words, text) in &REFUSED {
-        expect_text(&rt, rt.alloc(), *words, 2, *text);
-    }
-}
-
-#[test]
-fn words_are_read(rt: HostRuntime) {
-    for (words, asked) in &ASKED {
-        let is_asked = asks(&rt, rt.alloc(), *words, *asked);
-        expect_of(&rt, is_asked, *words);
-    }
+    expect_texts(&rt, rt.alloc(), REFUSED);
 }

@@ -65,22 +65,10 @@ const SOUND: Line = Line(&[b"station", b"check", b"caf\xc3\xa9.toml"]);
 
 const NO_TEXT: Line = Line(&[b"station", b"check", b"caf\xe9.toml", b"\xff"]);
 
-/// Whether the last of three words is this one.
-fn ends_with(words: &[String], wanted: &str) -> bool {
-    match words {
-        [_, _, last] => last.as_str() == wanted,
-        _ => false,
-    }
-}
-
 #[test]
-fn all_words_are_read(rt: HostRuntime) {
+fn words_are_read_up_to_the_first_that_is_no_text(rt: HostRuntime) {
     let words = words_of(rt.alloc(), &SOUND).expect(&rt, "words");
-    assert!(rt; ends_with(&words, "caf\u{e9}.toml"));
-}
-
-#[test]
-fn the_first_word_that_is_no_text_is_told(rt: HostRuntime) {
+    assert!(rt; words.len() == 3 && words[2].as_str() == "caf\u{e9}.toml");
     let failure = words_of(rt.alloc(), &NO_TEXT).expect_err(&rt, "no text");
     let line = line_of(&rt, rt.alloc(), &failure);
     assert!(rt; line.as_str() == "argument 2 is not UTF-8", "{line}");

@@ -76,15 +76,27 @@ fn may_come(answers: &[(u8, &str)], status: u8, out: &[u8], err: &[u8]) -> bool 
     false
 }
 
-/// Whether the lines are answered as they may be.
-fn are_lines_answered(alloc: Global, out: &mut Vec<u8>, err: &mut Vec<u8>) -> bool {
-    let status = sim_text(alloc, LAYOUT, LINES, out, err);
+/// Whether lines are answered as they may be.
+fn are_lines_answered(
+    alloc: Global,
+    lines: &str,
+    layout: &str,
+    out: &mut Vec<u8>,
+    err: &mut Vec<u8>,
+) -> bool {
+    let status = sim_text(alloc, layout, lines, out, err);
     may_come(&ANSWERS, status, out.as_slice(), err.as_slice())
 }
 
-/// Whether the session is answered as it may be.
-fn is_session_answered(alloc: Global, out: &mut Vec<u8>, err: &mut Vec<u8>) -> bool {
-    let status = replay_text(alloc, LAYOUT, SESSION, out, err);
+/// Whether a session is answered as it may be.
+fn is_session_answered(
+    alloc: Global,
+    session: &str,
+    layout: &str,
+    out: &mut Vec<u8>,
+    err: &mut Vec<u8>,
+) -> bool {
+    let status = replay_text(alloc, layout, session, out, err);
     may_come(&VERDICTS, status, out.as_slice(), err.as_slice())
 }
 
@@ -95,8 +107,8 @@ fn texts_are_answered_or_want_of_memory_is_told(rt: HostRuntime) {
     let (Ok(mut out), Ok(mut err)) = (out, err) else {
         return;
     };
-    assert!(rt; are_lines_answered(rt.alloc(), &mut out, &mut err));
+    assert!(rt; are_lines_answered(rt.alloc(), LINES, LAYOUT, &mut out, &mut err));
     out.clear();
     err.clear();
-    assert!(rt; is_session_answered(rt.alloc(), &mut out, &mut err));
+    assert!(rt; is_session_answered(rt.alloc(), SESSION, LAYOUT, &mut out, &mut err));
 }

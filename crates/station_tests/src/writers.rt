@@ -30,10 +30,10 @@ const REPORT_LENGTH: usize =
 /// A text that is no TOML.
 const NO_LAYOUT: &str = "section =";
 
-/// The status of the station on this writer, if nothing else is told than want of memory.
-fn status_on<W: Write>(alloc: Global, out: &mut W) -> Option<u8> {
+/// The status of a layout on this writer, if nothing else is told than want of memory.
+fn status_on<W: Write>(alloc: Global, layout: &str, out: &mut W) -> Option<u8> {
     let mut err: ArrayVec<u8, 40> = ArrayVec::new();
-    let status = check_text(alloc, STATION, out, &mut err);
+    let status = check_text(alloc, layout, out, &mut err);
     if err.is_empty() || was_lacking(err.as_slice()) {
         Some(status)
     } else {
@@ -88,10 +88,10 @@ const TAKEN: [usize; 5] = [0, 1, 40, 50, REPORT_LENGTH - 1];
 #[test]
 fn a_report_that_is_not_written_ends_with_status_1(rt: HostRuntime) {
     for left in &TAKEN {
-        let status = status_on(rt.alloc(), &mut Failing { left: *left });
+        let status = status_on(rt.alloc(), STATION, &mut Failing { left: *left });
         assert!(rt; status == Some(1), "after {left} bytes");
     }
-    assert!(rt; status_on(rt.alloc(), &mut Withholding) == Some(1));
+    assert!(rt; status_on(rt.alloc(), STATION, &mut Withholding) == Some(1));
 }
 
 /// A writer that takes a byte at a time, and is interrupted before each.
@@ -118,19 +118,19 @@ impl Write for Slow {
     }
 }
 
-/// Whether what is wrong with a text that is no TOML is told to a writer with status 1; nothing is reported on it.
-fn tells<E: Write>(alloc: Global, err: &mut E) -> bool {
+/// Whether what is wrong with a text is told to a writer with status 1, and nothing is reported on it.
+fn tells<E: Write>(alloc: Global, text: &str, err: &mut E) -> bool {
     let mut out: ArrayVec<u8, 40> = ArrayVec::new();
-    check_text(alloc, NO_LAYOUT, &mut out, err) == 1 && out.is_empty()
+    check_text(alloc, text, &mut out, err) == 1 && out.is_empty()
 }
 
 /// Whether the first bytes of the fault are told to a writer that has no room for more.
 fn is_cut(alloc: Global) -> bool {
     let mut room: ArrayVec<u8, 14> = ArrayVec::new();
-    let mut is_told = tells(alloc, &mut room);
+    let mut is_told = tells(alloc, NO_LAYOUT, &mut room);
     if room.as_slice() == b"layout fault 8".as_slice() {
         room.clear();
-        is_told = is_told && tells(alloc, &mut room);
+        is_told = is_told && tells(alloc, NO_LAYOUT, &mut room);
     }
     is_told && room.as_slice() == b"layout fault 1".as_slice()
 }
@@ -141,17 +141,17 @@ fn is_whole(alloc: Global) -> bool {
         told: ArrayVec::new(),
         is_interrupted: false,
     };
-    let mut is_told = tells(alloc, &mut slow);
+    let mut is_told = tells(alloc, NO_LAYOUT, &mut slow);
     if was_lacking(slow.told.as_slice()) {
         slow.told.clear();
-        is_told = is_told && tells(alloc, &mut slow);
+        is_told = is_told && tells(alloc, NO_LAYOUT, &mut slow);
     }
     is_told && slow.told.as_slice() == b"layout fault 1 Toml\n".as_slice()
 }
 
 #[test]
 fn a_fault_is_told_as_far_as_it_is_taken(rt: HostRuntime) {
-    assert!(rt; tells(rt.alloc(), &mut Failing { left: 3 }));
+    assert!(rt; tells(rt.alloc(), NO_LAYOUT, &mut Failing { left: 3 }));
     assert!(rt; is_cut(rt.alloc()));
     assert!(rt; is_whole(rt.alloc()));
 }

@@ -1,10 +1,14 @@
 //! Controllers that answer an interlocking or a client.
 
-use ixl_state::ixl_rules::control_table::sci_telegram::Name;
-use ixl_state::ixl_rules::rasta_core::Millis;
-use ixl_state::ixl_rules::rasta_pdu::{Datagram, Key};
+use control_table::sci_telegram::Name;
 use md4::STANDARD;
-use object_host::{Controller, Hosted, Input};
+use station_traffic::station_run::station_sim::replay::simulator::simulator_run::ixl_rules::rasta_core::Millis;
+use station_traffic::station_run::station_sim::replay::simulator::simulator_run::ixl_rules::rasta_pdu::{
+    Datagram, Key,
+};
+use station_traffic::station_run::station_sim::replay::simulator::simulator_run::object_host::{
+    Controller, Hosted, Input,
+};
 use std::alloc::Global;
 use std::process::Abort;
 

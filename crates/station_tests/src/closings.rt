@@ -1,16 +1,20 @@
 //! What closes a client's link behind the handshake, and by which reason.
 
-use crate::bench::{KEY, MADE_AT, MANY, OPENED_AT, STATION, answer, hosted, name};
-use ixl_state::ixl_rules::control_table::sci_telegram::{Aspect, Occupancy, Protocol};
-use ixl_state::ixl_rules::ixl_client::{Client, Command, Indications, Peer};
-use ixl_state::ixl_rules::rasta_core::Outbox;
-use ixl_state::ixl_rules::rasta_pdu::Datagram;
-use object_host::{Controller, Hosted};
-use signal_ctl::Signal;
+use crate::controllers::{KEY, MADE_AT, MANY, OPENED_AT, STATION, answer, hosted, name};
+use control_table::sci_telegram::{Aspect, Occupancy, Protocol};
+use station_traffic::station_run::station_sim::replay::simulator::simulator_run::ixl_rules::ixl_client::{
+    Client, Command, Indications, Peer,
+};
+use station_traffic::station_run::station_sim::replay::simulator::simulator_run::ixl_rules::rasta_core::Outbox;
+use station_traffic::station_run::station_sim::replay::simulator::simulator_run::ixl_rules::rasta_pdu::Datagram;
+use station_traffic::station_run::station_sim::replay::simulator::simulator_run::object_host::{
+    Controller, Hosted,
+};
+use station_traffic::station_run::station_sim::replay::simulator::simulator_run::signal_ctl::Signal;
+use station_traffic::station_run::station_sim::replay::simulator::simulator_run::tds_ctl::Detection;
 use std::alloc::Global;
 use std::mem;
 use std::process::Abort;
-use tds_ctl::Detection;
 
 /// The identity of the controller.
 const CONTROLLER: u32 = 2;
