@@ -12,7 +12,7 @@ import pathlib
 import sys
 import xml.etree.ElementTree as tree
 
-from plans import NAMESPACE, TOP, box, outside, overlap, pieces, render
+from plans import NAMESPACE, TOP, box, outside, overlap, pieces, render, tell
 
 STORED = TOP / 'crates/stored_runs/stdout'
 # Where the bands of a row begin and end. One that begins at the end is a unit long.
@@ -73,21 +73,13 @@ def stored():
                 asked, lines = None, []
 
 
-def tell(name, text):
-    faults = judge(tree.fromstring(text))
-    print(f'{name}: {len(faults)} faults')
-    for fault in faults:
-        print(f'  {fault}')
-    return len(faults)
-
-
 def main(words):
     folder = pathlib.Path(words[1]) if words[:1] == ['--to'] else None
     files = [] if folder else list(map(pathlib.Path, words))
     charts = [(file, file.read_text()) for file in files] or list(stored())
     found = 0 if charts else 1
     for name, text in charts:
-        found += tell(name, text)
+        found += tell(name, judge(tree.fromstring(text)))
         if folder:
             (folder / f'{name}.svg').write_text(text)
             render(folder / f'{name}.svg')

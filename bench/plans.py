@@ -168,8 +168,7 @@ def is_same(name, text):
     return not example.exists() or example.read_text() == text
 
 
-def tell(name, text):
-    faults = judge(tree.fromstring(text))
+def tell(name, faults):
     print(f'{name}: {len(faults)} faults')
     for fault in faults:
         print(f'  {fault}')
@@ -179,7 +178,7 @@ def tell(name, text):
 def tell_stored(folder):
     found = 0
     for name, text in stored():
-        found += tell(name, text)
+        found += tell(name, judge(tree.fromstring(text)))
         if not is_same(name, text):
             found += 1
             print(f'  examples/{name}.svg is another plan')
@@ -201,7 +200,7 @@ def write_examples():
 def tell_files(files):
     found = 0
     for file in files:
-        found += tell(file, file.read_text())
+        found += tell(file, judge(tree.fromstring(file.read_text())))
         render(file)
     return found
 
