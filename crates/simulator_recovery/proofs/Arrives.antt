@@ -162,12 +162,12 @@ pub record ArrivalLaws : Type 0 where
   pub time : (count : ℕ) (names : ℕ → Names) (events : List LinksEvent) (links : Links) → AreLinks count names → AreTimely count names links
       → MayRunLinks count names events links → AreTimely count names (run_links events links)
 
-each_behind : (P : OnLink → Type 0) (one other : List OnLink) → Each P (one ++ other) → Each P other
+pub each_behind : (P : OnLink → Type 0) (one other : List OnLink) → Each P (one ++ other) → Each P other
 each_behind P [] other each = each
 each_behind P (head ∷ one) other each = each_behind P one other each.1
 
 module _ (laws : ArrivalLaws) where
-  numbered : (site : Site) (table : Table) (world : WorldState) → IsStation site → Once site → IsReached site table world → Each (λ (one : OnLink). one.link < links site) world.sent
+  pub numbered : (site : Site) (table : Table) (world : WorldState) → IsStation site → Once site → IsReached site table world → Each (λ (one : OnLink). one.link < links site) world.sent
   numbered site table world station once is =
       let standing : IsStanding site world = subst (IsStanding site) (sym is.after) (laws.standing site table is.outset is.events station once is.lies is.can)
       in let are_links = laws.are_links site station once

@@ -34,7 +34,7 @@ use Rattle.simulator_run.specs.Refusals.{all_within, are_within, clock_limit, ke
 use Rattle.simulator_run.specs.Controllers.{controller_after, controller_later}
 use Rattle.simulator_run.specs.State.{ClockedControllerState, WorldState}
 use Rattle.simulator_recovery.specs.Rounds.{clock_of, clocks_of}
-use Rattle.simulator_recovery.proofs.Created.{step_keeps}
+use Rattle.simulator_recovery.proofs.Steps.{step_stays}
 
 -- an event in which no clock goes on, no node is made anew and no datagram is lost
 abbrev pub IsCalm : Event → Type 0
@@ -103,7 +103,7 @@ station_still : (site : Site) (table : Table) (input : ixl.Input) (world : World
 unfolding interlocking_stepped
 station_still site table input world = record {
   clocks = refl;
-  created = step_keeps (reading_of world.station.clock) table (key_of site) input (begun_with world.station.ixl empty_outbox);
+  created = (step_stays (reading_of world.station.clock) table (key_of site) (begun_with world.station.ixl empty_outbox) input).created;
   clock = refl;
 }
 

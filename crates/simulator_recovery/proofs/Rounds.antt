@@ -1,5 +1,5 @@
 -- Rounds of a flow, one after another, with requests and occupancies between them.
-use Rattle.std.proofs.Common.{◌≡◌, ℕ, zero, suc, ◌+◌, ◌-◌, ◌*◌, ◌≤◌, Bool, true, false, nat_lt, List, [], ◌∷◌, ◌++◌, length, map, replicate, Option, Some, None, refl, sym, ap, subst, ◌∙◌, arith, if◌then◌else◌}
+use Rattle.std.proofs.Common.{◌≡◌, ℕ, zero, suc, ◌+◌, ◌*◌, ◌≤◌, Bool, true, false, nat_lt, List, [], ◌∷◌, ◌++◌, length, map, replicate, Option, Some, None, refl, sym, ap, subst, ◌∙◌, arith, if◌then◌else◌}
 use Rattle.std.specs.Prelude.{slice_index_or}
 use Rattle.std.proofs.lemmas.Bool.Decides.{nat_tests}
 use Rattle.simulator_run.specs.layout.Entries.{Site}
@@ -26,6 +26,7 @@ use Rattle.simulator_run.specs.State.{WorldState}
 use Rattle.simulator_run.specs.Tried.{Played, after, world_where}
 use Rattle.simulator_run_links.specs.HasLinks.{IsStanding}
 use Rattle.simulator_headline.specs.Reached.{IsReached}
+use Rattle.simulator_recovery.specs.LinkRounds.{behind_time}
 use Rattle.simulator_recovery.specs.Rounds.{HasTime, IsWork, all_tried, clocks_of, good_rounds, rounds_later}
 use Rattle.simulator_recovery.proofs.Clocks.{AreStill, CanGoOn, HasAll, IsCalm, WasMade, calm_still, event_made, later, still, still_then, time_clocks, time_may_pass}
 
@@ -39,7 +40,7 @@ tried_keeps P world one before then_so = cases (refusal world.sited.site one wor
     cases None e = then_so e
     cases (Some why) e = before
 
-tried_happens : (world : Played) (one : Event) → refusal world.sited.site one world.run ≡ None → after world one ≡ record world { run = happens world.sited.site world.sited.table one world.run }
+pub tried_happens : (world : Played) (one : Event) → refusal world.sited.site one world.run ≡ None → after world one ≡ record world { run = happens world.sited.site world.sited.table one world.run }
 tried_happens world one none = ap (λ (o : Option Refused). world_where o world (record world { run = happens world.sited.site world.sited.table one world.run })) none
 
 -- ---- the events of a round but the first
@@ -79,12 +80,6 @@ unfolding reaches
 reaches_calm passed point [] = tt
 reaches_calm passed point (drive ∷ drives) = calm_joined (reach passed point drive) (reaches passed (suc point) drives) (reach_calm passed point drive) (reaches_calm passed (suc point) drives)
 
--- those behind the time of a round
-abbrev pub behind_time : Flowing Played → List RoundEvent
-behind_time flowing =
-    deliveries (stations.arrival flowing.state) flowing.passed (length flowing.state.run.sent - flowing.passed)
-    ++ (ticks (length flowing.state.run.sent) 0 (nodes flowing.state.sited.site) ++ reaches (length flowing.state.run.sent) 0 flowing.drives)
-
 pub behind_calm : (flowing : Flowing Played) → AreCalm (behind_time flowing)
 behind_calm flowing = calm_joined (deliveries _ flowing.passed _) _ (deliveries_calm _ flowing.passed _) (calm_joined (ticks _ 0 _) _ (ticks_calm _ 0 _) (reaches_calm _ 0 flowing.drives))
 
@@ -116,9 +111,9 @@ pub record ReachLaws : Type 0 where
   pub on : (site : Site) (table : Table) (happening : Event) (world : WorldState) → IsReached site table world → refusal site happening world ≡ None → IsReached site table (happens site table happening world)
 
 -- this station is of this data, and is reached
-record IsAt (sited : SitedTable) (world : Played) : Type 0 where
-  same : world.sited ≡ sited
-  reached : IsReached sited.site sited.table world.run
+pub record IsAt (sited : SitedTable) (world : Played) : Type 0 where
+  pub same : world.sited ≡ sited
+  pub reached : IsReached sited.site sited.table world.run
 
 module _ (laws : ReachLaws) (sited : SitedTable) where
   tried_reached : (world : Played) (one : Event) → IsAt sited world → IsAt sited (after world one)
@@ -128,10 +123,10 @@ module _ (laws : ReachLaws) (sited : SitedTable) where
         (λ still_none. laws.on sited.site sited.table one world.run is.reached still_none) none;
   })
 
-  round_reached : (flowing : Flowing Played) → IsAt sited flowing.state → IsAt sited (round stations flowing).state
+  pub round_reached : (flowing : Flowing Played) → IsAt sited flowing.state → IsAt sited (round stations flowing).state
   round_reached flowing is = all_keeps (IsAt sited) tried_reached (due stations flowing) flowing is
 
-  work_reached : (between : List Event) (flowing : Flowing Played) → IsAt sited flowing.state → IsAt sited (all_tried between flowing).state
+  pub work_reached : (between : List Event) (flowing : Flowing Played) → IsAt sited flowing.state → IsAt sited (all_tried between flowing).state
   work_reached [] flowing is = is
   work_reached (first ∷ others) flowing is = work_reached others (record flowing { state = after flowing.state first }) (tried_reached flowing.state first is)
 
@@ -165,11 +160,11 @@ work_still sited old (first ∷ others) flowing work is =
 
 -- ---- clocks
 
-each_can : (n : ℕ) (list : List ℕ) → Each (λ clock. clock + 10000 * suc n ≤ 9000000000000000) list → Each CanGoOn list
+pub each_can : (n : ℕ) (list : List ℕ) → Each (λ clock. clock + 10000 * suc n ≤ 9000000000000000) list → Each CanGoOn list
 each_can n [] each = tt
 each_can n (first ∷ others) each = let one = each.0 in (omega (arith, one), each_can n others each.1)
 
-each_later : (n : ℕ) (list : List ℕ) → Each (λ clock. clock + 10000 * suc n ≤ 9000000000000000) list → Each (λ clock. clock + 10000 * n ≤ 9000000000000000) (map later list)
+pub each_later : (n : ℕ) (list : List ℕ) → Each (λ clock. clock + 10000 * suc n ≤ 9000000000000000) list → Each (λ clock. clock + 10000 * n ≤ 9000000000000000) (map later list)
 each_later n [] each = tt
 each_later n (first ∷ others) each = let one = each.0 in (omega (arith, one), each_later n others each.1)
 
@@ -212,12 +207,12 @@ time_goes world has can = subst (IsStill world.sited (passed 10000 (replicate (n
     })
 
 -- a round and what comes behind it: each clock is 10 ms later
-record GoesOn (old new : Played) : Type 0 where
-  same : new.sited ≡ old.sited
-  clocks : clocks_of new.run ≡ map later (clocks_of old.run)
-  created : new.run.station.ixl.created ≡ old.run.station.ixl.created
+pub record GoesOn (old new : Played) : Type 0 where
+  pub same : new.sited ≡ old.sited
+  pub clocks : clocks_of new.run ≡ map later (clocks_of old.run)
+  pub created : new.run.station.ixl.created ≡ old.run.station.ixl.created
 
-one_round : (between : List Event) (flowing : Flowing Played) → Each IsWork between → HasAll flowing.state.sited.site flowing.state.run → Each CanGoOn (clocks_of flowing.state.run)
+pub one_round : (between : List Event) (flowing : Flowing Played) → Each IsWork between → HasAll flowing.state.sited.site flowing.state.run → Each CanGoOn (clocks_of flowing.state.run)
     → GoesOn flowing.state (all_tried between (round stations flowing)).state
 one_round between flowing work has can = record {
   same = all.same;
@@ -240,7 +235,7 @@ one_round between flowing work has can = record {
     all = work_still flowing.state.sited then_world between (round stations flowing) work behind
 
 module _ (laws : TimeLaws) where
-  has_all : (sited : SitedTable) (world : WorldState) → IsStation sited.site → Once sited.site → IsReached sited.site sited.table world → HasAll sited.site world
+  pub has_all : (sited : SitedTable) (world : WorldState) → IsStation sited.site → Once sited.site → IsReached sited.site sited.table world → HasAll sited.site world
   has_all sited world station once is =
       let whole = (laws.standing sited.site sited.table is.outset is.events station once is.lies is.can).whole
       in subst (HasAll sited.site) (sym is.after) (record { signals = whole.signals; points = whole.points; detectors = whole.detectors })

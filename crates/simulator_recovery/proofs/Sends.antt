@@ -31,9 +31,10 @@ use Rattle.simulator_run.specs.Controllers.{controller_after, sent_by_controller
 use Rattle.simulator_run.specs.State.{ClockedControllerState, WorldState}
 use Rattle.simulator_run.specs.Interlocking.{Sending, begun_by, interlocking_step, link_of, sending_all, sending_one}
 use Rattle.simulator_run.specs.Tried.{Played, after}
+use Rattle.simulator_recovery.specs.LinkRounds.{behind_time}
 use Rattle.simulator_recovery.specs.Rounds.{IsFresh, IsWork, LeavesFresh, all_tried}
 use Rattle.simulator_recovery.proofs.Clocks.{IsCalm}
-use Rattle.simulator_recovery.proofs.Rounds.{behind_calm, behind_time, calm_keeps, round_state, time_happens, tried_keeps, work_calm}
+use Rattle.simulator_recovery.proofs.Rounds.{behind_calm, calm_keeps, round_state, time_happens, tried_keeps, work_calm}
 
 -- Datagrams were sent now, behind those that were sent before.
 pub record Adds (old new : WorldState) : Type 0 where

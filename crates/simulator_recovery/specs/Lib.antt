@@ -1,1 +1,4 @@
 pub mod Rounds
+pub mod LinkRounds
+pub mod Conversation
+pub mod Silence

@@ -1,20 +1,33 @@
 //! What good rounds come to.
 
-ghost use Rattle.std.specs.Prelude.{◌≡◌, ◌≤◌, ℕ, false, List, length};
+ghost use Rattle.std.specs.Prelude.{◌≡◌, ◌≤◌, ◌<◌, ℕ, suc, false, List, ◌∷◌, length};
+ghost use Rattle.ixl_table.specs.Table.{IsTableOf};
+ghost use Rattle.simulator_run.specs.layout.Entries.{Site};
 ghost use Rattle.simulator_run.specs.layout.Once.{Once};
 ghost use Rattle.simulator_run.specs.layout.Station.{IsStation};
 ghost use Rattle.simulator_run.specs.ixl_rules.View.{is_holding};
 ghost use Rattle.simulator_run.specs.rasta_core.Each.{Each};
+ghost use Rattle.simulator_run.specs.rasta_core.EachLink.{AreTimely};
 ghost use Rattle.simulator_run.specs.rasta_core.Ends.{reading_of};
+ghost use Rattle.simulator_run.specs.rasta_core.Links.{Links};
 ghost use Rattle.simulator_run.specs.simulator_event.declared.event.Event.{Event};
 ghost use Rattle.simulator_run.specs.Flow.{Flowing, round, stations};
+ghost use Rattle.simulator_run.specs.Links.{AreLinksOf, names_at};
+ghost use Rattle.simulator_run.specs.Nodes.{links};
+ghost use Rattle.simulator_run.specs.State.{WorldState};
 ghost use Rattle.simulator_run.specs.Tried.{Played};
 ghost use Rattle.simulator_headline.specs.Reached.{IsReached};
+ghost use Rattle.simulator_recovery.specs.LinkRounds.{AreInOne, IsAtWorkOn, IsUpOn, LeavesOpenOn, StaysBelowLimit, calls_of_rounds, link_rounds};
 ghost use Rattle.simulator_recovery.specs.Rounds.{AllCome, HasTime, IsWork, LeavesFresh, all_tried, clocks_of, good_rounds, hold_rounds, rounds_later};
 
+use rasta_core_recovery::two_ends_at_work_come_up;
 use simulator_headline::reached_worlds_are_safe;
-use simulator_run::ixl_rules::rasta_core::links_keep_time;
-use simulator_run_links::{layouts_name_their_links, stations_have_links};
+use simulator_run::ixl_rules::rasta_core::{
+    each_link_is_a_run, each_link_sees_its_events, links_keep_time, one_connection,
+};
+use simulator_run_links::{
+    events_are_those_of_the_links, layouts_name_their_links, stations_have_links,
+};
 
 /// Good rounds, and what comes between them, are events that can happen: they lead from a world that is reached to one that is.
 /// So whatever is true after every list of events is true behind good rounds.
@@ -64,4 +77,51 @@ pub fn the_hold_ends()
 {
     reached_worlds_are_safe();
     stations_have_links();
+}
+
+/// A good round is a round at work on each link of a station: 10 ms pass at both its ends. Then all that was sent on it since the
+/// round before began comes to the end that it is for, in the order of sending, each end ticks, and the client opens. In
+/// between an end may be given items, and be closed. No datagram is lost, and no end is made anew.
+pub fn good_rounds_are_at_work_on_links()
+    ensures { (old new : Flowing Played) (leaves : LeavesFresh old new) (between : List Event) (before : Links) (link : ℕ) → Once new.state.sited.site → IsStation new.state.sited.site
+        → IsTableOf new.state.sited.site new.state.sited.table → IsReached new.state.sited.site new.state.sited.table new.state.run → Each IsWork between → HasTime 1 new.state.run
+        → AreTimely (links new.state.sited.site) (names_at new.state.sited.site) before → AreLinksOf new.state.sited.site new.state.run before → link < links new.state.sited.site
+        → IsAtWorkOn new.state.sited.site link between old new before }
+{
+    reached_worlds_are_safe();
+    stations_have_links();
+    layouts_name_their_links();
+    events_are_those_of_the_links();
+    each_link_sees_its_events();
+    links_keep_time();
+}
+
+/// The links of a station come up: after any list of events, and behind each good round from the 1602nd on, the link between the
+/// interlocking and each controller is up at both ends, whatever requests and occupancies come between the rounds. So it is
+/// where neither of its ends closes it behind the first of these rounds, and none comes to the limit of PDUs in a connection.
+pub fn links_come_up()
+    ensures { (between : List Event) (later : List (List Event)) (flowing : Flowing Played) (link : ℕ) → Once flowing.state.sited.site → IsStation flowing.state.sited.site
+        → IsTableOf flowing.state.sited.site flowing.state.sited.table → IsReached flowing.state.sited.site flowing.state.sited.table flowing.state.run
+        → Each IsWork between → Each (Each IsWork) later → HasTime (suc (length later)) flowing.state.run → link < links flowing.state.sited.site → link_rounds ≤ suc (length later)
+        → Each (Each (LeavesOpenOn link)) (calls_of_rounds later (all_tried between (round stations flowing)))
+        → StaysBelowLimit flowing.state.sited.site link later (all_tried between (round stations flowing))
+        → IsUpOn link (good_rounds (between ∷ later) flowing).state.run }
+{
+    reached_worlds_are_safe();
+    stations_have_links();
+    layouts_name_their_links();
+    events_are_those_of_the_links();
+    each_link_sees_its_events();
+    each_link_is_a_run();
+    links_keep_time();
+    two_ends_at_work_come_up();
+}
+
+/// The two ends of a link that is up at both ends are in one connection. So what each took in it is a beginning of what the other
+/// gave (`each_link_of_a_station_is_safe`).
+pub fn links_that_are_up_are_in_one_connection()
+    ensures { (site : Site) (link : ℕ) (world : WorldState) (these : Links) → link < links site → AreTimely (links site) (names_at site) these → AreLinksOf site world these
+        → IsUpOn link world → AreInOne link these }
+{
+    one_connection();
 }

@@ -1,10 +1,21 @@
-//! Recovery of a station: what good rounds come to, whatever requests and occupancies come between them. There is no code here
-//! but laws.
+//! Recovery of a station: what good rounds come to, whatever requests and occupancies come between them, and what the two ends of a
+//! link say and expect. And silence: what a lamp and a drive come to where nothing new comes to their controller, on any network. There
+//! is no code here but laws.
 #![tactic(auto)]
 
+mod conversation;
 mod laws;
+mod silence;
 
-pub use laws::{
-    each_round_delivers_what_the_last_one_left, good_rounds_are_events,
-    good_rounds_leave_fresh_datagrams, good_rounds_take_their_time, the_hold_ends,
+pub use conversation::{
+    clients_act_on_what_they_expect, clients_count_what_they_act_on, clients_expect_what_hosts_say,
+    commands_are_expected, hosts_act_on_what_they_expect, hosts_count_what_they_act_on,
+    hosts_expect_what_clients_say, hosts_say_their_whole_initialisation,
+    hosts_stand_at_their_stage,
 };
+pub use laws::{
+    each_round_delivers_what_the_last_one_left, good_rounds_are_at_work_on_links,
+    good_rounds_are_events, good_rounds_leave_fresh_datagrams, good_rounds_take_their_time,
+    links_come_up, links_that_are_up_are_in_one_connection, the_hold_ends,
+};
+pub use silence::{connections_end_in_silence, lamps_fall_in_silence, points_rest_in_silence};

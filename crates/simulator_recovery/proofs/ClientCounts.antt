@@ -1,0 +1,288 @@
+-- The stage of a client tells how many items it has acted on in its connection.
+use Rattle.std.proofs.Common.{◌≡◌, ℕ, ◌+◌, ◌-◌, ◌<◌, Bool, true, false, List, [], ◌∷◌, ◌++◌, length, Option, Some, None, Result, Ok, Err, refl, sym, ap, subst, ◌∙◌, if◌then◌else◌, arith}
+use Rattle.std.specs.Prelude.{◌==◌, ◌&&◌}
+use Rattle.std.specs.Str.{bytes_eq}
+use Rattle.std.proofs.lemmas.Bool.{false≢true}
+use Rattle.std.proofs.lemmas.Bool.Decides.{nat_tests}
+use Rattle.std.proofs.lemmas.Option.{slice_get_within}
+use Rattle.simulator_run.specs.rasta_core.Calls.{answer_to_send, receiving}
+use Rattle.simulator_run.specs.rasta_core.State.{is_open, is_up}
+use Rattle.simulator_run.specs.rasta_core.reason.Reason.TheVariants as reason
+use Rattle.simulator_run.specs.sci_telegram.TelegramRead.{reading}
+use Rattle.simulator_run.specs.sci_telegram.Telegrams.{writing}
+use Rattle.simulator_run.specs.sci_telegram.declared.fault.SciFault.{SciFault}
+use Rattle.simulator_run.specs.sci_telegram.declared.message.Initialisation.{Initialisation}
+use Rattle.simulator_run.specs.sci_telegram.declared.message.Initialisation.TheVariants.{InitialisationCompleted, InitialisationRequest, StartInitialisation, VersionAnswer, VersionCheck}
+use Rattle.simulator_run.specs.sci_telegram.declared.message.Message.{Message}
+use Rattle.simulator_run.specs.sci_telegram.declared.message.Message.TheVariants as message
+use Rattle.simulator_run.specs.sci_telegram.declared.telegram.Telegram.{Telegram}
+use Rattle.simulator_run.specs.ixl_client.Client.{PeerState, is_outside}
+use Rattle.simulator_run.specs.ixl_client.ClientSoFar.{ClientSoFar, Closes, Opens, Receives, Sends, Ticks, calling}
+use Rattle.simulator_run.specs.ixl_client.Meaning.{initial_meaning, is_for_client, is_in_turn, is_in_version, is_match, is_status, meaning, meaning_of, place_of, report_meaning, state_in}
+use Rattle.simulator_run.specs.ixl_client.Step.{acted_on, acting, acting_all, at_stage, commanding, ending, fallen, following, hearing, is_refused_by_window, meaning_of_item, message_of, posting, rising, saying, stage_after_command, stage_after_report, telegram_to, ticking}
+use Rattle.simulator_run.specs.ixl_client.declared.command.Command.{Command}
+use Rattle.simulator_run.specs.ixl_client.declared.command.Command.TheVariants as commands
+use Rattle.simulator_run.specs.ixl_client.declared.indication.ObjectState.{ObjectState}
+use Rattle.simulator_run.specs.ixl_client.declared.stage.Stage.{Stage}
+use Rattle.simulator_run.specs.ixl_client.declared.stage.Stage.TheVariants as stage
+use Rattle.simulator_recovery.specs.Conversation.{ClientHasActedOn, KeepsCount}
+use Rattle.simulator_recovery.proofs.Addressed.{found_at}
+
+-- how many items more were acted on, with the same peer
+record Counts (before after : ClientSoFar) : Type 0 where
+  peer : after.client.peer ≡ before.client.peer
+  more : ℕ
+  acted : length after.acted ≡ length before.acted + more
+  on : (count : ℕ) → ClientHasActedOn before.client.peer before.client.stage count → ClientHasActedOn before.client.peer after.client.stage (count + more)
+
+none_more : (count : ℕ) → count + 0 ≡ count
+none_more count = omega arith
+
+counts_then : (one two three : ClientSoFar) → Counts one two → Counts two three → Counts one three
+counts_then one two three first second = record {
+  peer = second.peer ∙ first.peer;
+  more = first.more + second.more;
+  acted = let a = first.acted in let b = second.acted in omega (arith, a, b);
+  on = λ count has. let sum : (count + first.more) + second.more ≡ count + (first.more + second.more) = omega arith in
+      subst (ClientHasActedOn one.client.peer three.client.stage) sum
+      (subst (λ (peer : PeerState). ClientHasActedOn peer three.client.stage ((count + first.more) + second.more)) first.peer
+      (second.on (count + first.more) (subst (λ (peer : PeerState). ClientHasActedOn peer two.client.stage (count + first.more)) (sym first.peer) (first.on count has))));
+}
+
+-- a part that acts on nothing and leaves the stage
+counts_none : (before after : ClientSoFar) → after.client.peer ≡ before.client.peer → after.client.stage ≡ before.client.stage → after.acted ≡ before.acted → Counts before after
+counts_none before after peer stage_is acted = record {
+  peer = peer;
+  more = 0;
+  acted = ap length acted ∙ sym (none_more (length before.acted));
+  on = λ count has. subst (ClientHasActedOn before.client.peer after.client.stage) (sym (none_more count)) (subst (λ (s : Stage). ClientHasActedOn before.client.peer s count) (sym stage_is) has);
+}
+
+posting_none : (now : ℕ) (told : Message) (part : ClientSoFar) → Counts part (posting now told part)
+unfolding posting calling
+posting_none now told part = choose (is_refused_by_window (answer_to_send now part.client.link))
+  where
+    sent : ClientSoFar
+    sent = calling now (Sends (writing (telegram_to part.client.peer told))) part
+
+    choose : (b : Bool) → Counts part (if b then calling now (Closes reason.Window) sent else sent)
+    choose true = counts_none part (calling now (Closes reason.Window) sent) refl refl refl
+    choose false = counts_none part sent refl refl refl
+
+-- where a posted telegram comes with a stage
+posted_at : (now : ℕ) (told : Message) (how_far : Stage) (part : ClientSoFar) → (at_stage how_far (posting now told part)).client.peer ≡ part.client.peer
+unfolding posting calling
+posted_at now told how_far part = choose (is_refused_by_window (answer_to_send now part.client.link))
+  where
+    sent : ClientSoFar
+    sent = calling now (Sends (writing (telegram_to part.client.peer told))) part
+
+    choose : (b : Bool) → (at_stage how_far (if b then calling now (Closes reason.Window) sent else sent)).client.peer ≡ part.client.peer
+    choose true = refl
+    choose false = refl
+
+posted_acted : (now : ℕ) (told : Message) (part : ClientSoFar) → (posting now told part).acted ≡ part.acted
+unfolding posting calling
+posted_acted now told part = choose (is_refused_by_window (answer_to_send now part.client.link))
+  where
+    sent : ClientSoFar
+    sent = calling now (Sends (writing (telegram_to part.client.peer told))) part
+
+    choose : (b : Bool) → (if b then calling now (Closes reason.Window) sent else sent).acted ≡ part.acted
+    choose true = refl
+    choose false = refl
+
+count_one : (acted : List (List ℕ)) (item : List ℕ) → length (acted ++ item ∷ []) ≡ length acted + 1
+count_one [] item = refl
+count_one (first ∷ acted) item = let e = count_one acted item in omega (arith, e)
+
+either : {M : Type 0} (P : M → Type 0) (b : Bool) (x y : M) → (b ≡ true → P x) → P y → P (if b then x else y)
+either P true x y one other = one refl
+either P false x y one other = other
+
+both_true : (a b : Bool) → (a && b) ≡ true → a ≡ true
+both_true true b e = refl
+both_true false b e = absurd (false≢true e)
+
+same_number : (a b : ℕ) → (a == b) ≡ true → a ≡ b
+same_number a b e = grind (arith, nat_tests)
+
+module _ (now : ℕ) (item : List ℕ) (part : ClientSoFar) where
+  abbrev On : ClientSoFar → Type 0
+  On after = Counts part after
+
+  closes_none : (why : _) → On (calling now (Closes why) part)
+  unfolding calling
+  closes_none why = counts_none part (calling now (Closes why) part) refl refl refl
+
+  -- one item, which leads to this stage
+  one_more : (after : ClientSoFar) → after.client.peer ≡ part.client.peer → length after.acted ≡ length part.acted + 1
+      → ((count : ℕ) → ClientHasActedOn part.client.peer part.client.stage count → ClientHasActedOn part.client.peer after.client.stage (count + 1)) → On after
+  one_more after peer acted on = record { peer = peer; more = 1; acted = acted; on = on }
+
+  -- at this stage
+  abbrev At : Stage → ClientSoFar → Type 0
+  At how_far after = part.client.stage ≡ how_far → On after
+
+  from : (how_far : Stage) → part.client.stage ≡ how_far → (count : ℕ) → ClientHasActedOn part.client.peer part.client.stage count → ClientHasActedOn part.client.peer how_far count
+  from how_far is count has = subst (λ (s : Stage). ClientHasActedOn part.client.peer s count) is has
+
+  initial : (told : Initialisation) (how_far : Stage) → At how_far (following now item (initial_meaning part.client.peer told how_far) part)
+  unfolding following
+  initial (VersionAnswer agreement version) stage.AwaitsAnswer is = either (λ what. On (following now item what part)) (is_match agreement && version == part.client.peer.version) _ _
+      (λ e. one_more _ (posted_at now _ stage.AwaitsStart (acted_on item part)) (ap length (posted_acted now _ (acted_on item part)) ∙ count_one part.acted item)
+      (λ count has. let none = from stage.AwaitsAnswer is count has in omega (arith, none)))
+      (closes_none reason.Version)
+  initial (VersionAnswer agreement version) stage.Outside is = closes_none reason.State
+  initial (VersionAnswer agreement version) stage.AwaitsStart is = closes_none reason.State
+  initial (VersionAnswer agreement version) (stage.AwaitsStatus left) is = closes_none reason.State
+  initial (VersionAnswer agreement version) stage.Completed is = closes_none reason.State
+  initial (VersionAnswer agreement version) stage.AwaitsReport is = closes_none reason.State
+  initial StartInitialisation stage.AwaitsStart is = one_more _ refl (count_one part.acted item) (λ count has. let one = from stage.AwaitsStart is count has in omega (arith, one))
+  initial StartInitialisation stage.Outside is = closes_none reason.State
+  initial StartInitialisation stage.AwaitsAnswer is = closes_none reason.State
+  initial StartInitialisation (stage.AwaitsStatus left) is = closes_none reason.State
+  initial StartInitialisation stage.Completed is = closes_none reason.State
+  initial StartInitialisation stage.AwaitsReport is = closes_none reason.State
+  initial InitialisationCompleted (stage.AwaitsStatus left) is = either (λ what. On (following now item what part)) (left == 0) _ _
+      (λ e. one_more _ refl (count_one part.acted item) (λ count has. let some = from (stage.AwaitsStatus left) is count has in let none = same_number left 0 e in omega (arith, some, none)))
+      (closes_none reason.State)
+  initial InitialisationCompleted stage.Outside is = closes_none reason.State
+  initial InitialisationCompleted stage.AwaitsAnswer is = closes_none reason.State
+  initial InitialisationCompleted stage.AwaitsStart is = closes_none reason.State
+  initial InitialisationCompleted stage.Completed is = closes_none reason.State
+  initial InitialisationCompleted stage.AwaitsReport is = closes_none reason.State
+  initial InitialisationRequest how_far is = closes_none reason.State
+  initial (VersionCheck version) how_far is = closes_none reason.State
+
+  -- a state in its turn, of an object that the client knows
+  in_turn : (place : ℕ) (state : ObjectState) (how_far : Stage) → place < length part.client.peer.objects → is_in_turn part.client.peer place state how_far ≡ true
+      → (count : ℕ) → ClientHasActedOn part.client.peer how_far count → ClientHasActedOn part.client.peer (stage_after_report how_far) (count + 1)
+  in_turn place state stage.Outside known turn count has = absurd (false≢true turn)
+  in_turn place state stage.AwaitsAnswer known turn count has = absurd (false≢true turn)
+  in_turn place state stage.AwaitsStart known turn count has = absurd (false≢true turn)
+  in_turn place state (stage.AwaitsStatus left) known turn count has =
+      let here = same_number place (length part.client.peer.objects - left) (both_true (place == length part.client.peer.objects - left) (is_status state) turn)
+      in omega (arith, here, known, has)
+  in_turn place state stage.Completed known turn count has = omega (arith, has)
+  in_turn place state stage.AwaitsReport known turn count has = omega (arith, has)
+
+  report : (sender : List ℕ) (found : Option ℕ) → place_of part.client.peer sender ≡ found → (state : Option ObjectState) (how_far : Stage) → At how_far (following now item (report_meaning part.client.peer found state how_far) part)
+  unfolding following
+  report sender (Some place) at (Some state) how_far is = either (λ what. On (following now item what part)) (is_in_turn part.client.peer place state how_far && is_in_version part.client.peer.version state) _ _
+      (λ e. one_more _ refl (count_one part.acted item) (λ count has. subst (λ (s : Stage). ClientHasActedOn part.client.peer (stage_after_report s) (count + 1)) (sym is)
+      (in_turn place state how_far known (both_true (is_in_turn part.client.peer place state how_far) (is_in_version part.client.peer.version state) e) count (from how_far is count has))))
+      (closes_none reason.State)
+    where
+      known : place < length part.client.peer.objects
+      known = let there = found_at (λ name. bytes_eq name sender) part.client.peer.objects place at in slice_get_within part.client.peer.objects place there.0 there.1
+  report sender (Some place) at None how_far is = closes_none reason.State
+  report sender None at (Some state) how_far is = closes_none reason.State
+  report sender None at None how_far is = closes_none reason.State
+
+  told_by : (sender : List ℕ) (told : Message) (how_far : Stage) → At how_far (following now item (meaning_of part.client.peer sender told how_far) part)
+  unfolding following
+  told_by sender (message.Initialisation protocol told) how_far is = either (λ what. On (following now item what part)) (bytes_eq sender part.client.peer.name) _ _ (λ e. initial told how_far is) (closes_none reason.State)
+  told_by sender (message.Point told) how_far is = report sender (place_of part.client.peer sender) refl (state_in (message.Point told)) how_far is
+  told_by sender (message.Signal told) how_far is = report sender (place_of part.client.peer sender) refl (state_in (message.Signal told)) how_far is
+  told_by sender (message.Detection told) how_far is = report sender (place_of part.client.peer sender) refl (state_in (message.Detection told)) how_far is
+
+  read : (how_far : Stage) (what : Result Telegram SciFault) → At how_far (following now item (meaning_of_item part.client.peer how_far what) part)
+  unfolding following meaning
+  read how_far (Ok telegram) is = either (λ what. On (following now item what part)) (is_for_client part.client.peer telegram) _ _ (λ e. told_by telegram.sender telegram.message how_far is) (closes_none reason.State)
+  read how_far (Err fault) is = closes_none reason.State
+
+  acts : On (acting now item part)
+  unfolding acting
+  acts = read part.client.stage (reading item) refl
+
+all_act : (now : ℕ) (items : List (List ℕ)) (part : ClientSoFar) → Counts part (acting_all now items part)
+unfolding acting_all
+all_act now [] part = counts_none part part refl refl refl
+all_act now (item ∷ others) part = choose (is_open part.client.link.phase) (counts_then part (acting now item part) (acting_all now others (acting now item part)) (acts now item part) (all_act now others (acting now item part)))
+  where
+    choose : (b : Bool) → Counts part (acting_all now others (acting now item part)) → Counts part (if b then acting_all now others (acting now item part) else part)
+    choose true so = so
+    choose false so = counts_none part part refl refl refl
+
+-- a connection that comes up
+rises : (now : ℕ) (part : ClientSoFar) → Counts part (rising now part)
+unfolding rising
+rises now part = choose part.client.stage refl (is_up part.client.link.phase)
+  where
+    up : ClientSoFar
+    up = at_stage stage.AwaitsAnswer (saying now (VersionCheck part.client.peer.version) part)
+
+    choose : (s : Stage) → part.client.stage ≡ s → (b : Bool) → Counts part (if is_outside s && b then up else part)
+    choose stage.Outside e true = record {
+      peer = posted_at now (message.Initialisation part.client.peer.protocol (VersionCheck part.client.peer.version)) stage.AwaitsAnswer part;
+      more = 0;
+      acted = ap length (posted_acted now (message.Initialisation part.client.peer.protocol (VersionCheck part.client.peer.version)) part) ∙ sym (none_more (length part.acted));
+      on = λ count has. none_more count ∙ subst (λ (s : Stage). ClientHasActedOn part.client.peer s count) e has;
+    }
+    choose stage.Outside e false = counts_none part part refl refl refl
+    choose stage.AwaitsAnswer e b = counts_none part part refl refl refl
+    choose stage.AwaitsStart e b = counts_none part part refl refl refl
+    choose (stage.AwaitsStatus left) e b = counts_none part part refl refl refl
+    choose stage.Completed e b = counts_none part part refl refl refl
+    choose stage.AwaitsReport e b = counts_none part part refl refl refl
+
+-- ---- the ends of a step
+
+-- as before but for a link that isn't up
+record Inside (before after : ClientSoFar) : Type 0 where
+  acted : after.acted ≡ before.acted
+  stage_is : is_outside after.client.stage ≡ false → after.client.stage ≡ before.client.stage
+
+ends : (part : ClientSoFar) → Inside part (ending part)
+unfolding fallen
+ends part = choose (is_up part.client.link.phase)
+  where
+    choose : (b : Bool) → Inside part (record part { client = if b then part.client else record part.client { stage = stage.Outside } })
+    choose true = record { acted = refl; stage_is = λ f. refl }
+    choose false = record { acted = refl; stage_is = λ f. absurd (false≢true (sym f)) }
+
+ended : (before part : ClientSoFar) → Counts before part → KeepsCount before (ending part)
+ended before part counts count has inside =
+    let behind = ends part
+    in let sum : (count + length before.acted) + counts.more ≡ count + length part.acted = let a = counts.acted in omega (arith, a)
+    in subst (λ (l : List (List ℕ)). ClientHasActedOn before.client.peer (ending part).client.stage (count + length l)) (sym behind.acted)
+    (subst (λ (s : Stage). ClientHasActedOn before.client.peer s (count + length part.acted)) (sym (behind.stage_is inside))
+    (subst (ClientHasActedOn before.client.peer part.client.stage) sum (counts.on (count + length before.acted) has)))
+
+pub hearing_counts : (now : ℕ) (bytes : List ℕ) (part : ClientSoFar) → KeepsCount part (hearing now bytes part)
+unfolding hearing calling
+hearing_counts now bytes part = ended part (acting_all now items (rising now received))
+    (counts_then part received (acting_all now items (rising now received)) (came now bytes part)
+    (counts_then received (rising now received) (acting_all now items (rising now received)) (rises now received) (all_act now items (rising now received))))
+  where
+    came : (now : ℕ) (bytes : List ℕ) (part : ClientSoFar) → Counts part (calling now (Receives bytes) part)
+    came now bytes part = counts_none part (calling now (Receives bytes) part) refl refl refl
+
+    received : ClientSoFar
+    received = calling now (Receives bytes) part
+
+    items : List (List ℕ)
+    items = (receiving now bytes part.client.link).items
+
+pub commanding_counts : (now : ℕ) (command : Command) (part : ClientSoFar) → KeepsCount part (commanding now command part)
+unfolding commanding
+commanding_counts now command part = ended part (at_stage (stage_after_command command part.client.stage) (posting now (message_of command) part)) (record {
+  peer = posted_at now (message_of command) (stage_after_command command part.client.stage) part;
+  more = 0;
+  acted = ap length (posted_acted now (message_of command) part) ∙ sym (none_more (length part.acted));
+  on = λ count has. subst (ClientHasActedOn part.client.peer (stage_after_command command part.client.stage)) (sym (none_more count)) (commanded command part.client.stage count has);
+})
+  where
+    commanded : (c : Command) (s : Stage) (count : ℕ) → ClientHasActedOn part.client.peer s count → ClientHasActedOn part.client.peer (stage_after_command c s) count
+    commanded (commands.Indicate aspect) s count has = has
+    commanded (commands.Move side) stage.Outside count has = has
+    commanded (commands.Move side) stage.AwaitsAnswer count has = has
+    commanded (commands.Move side) stage.AwaitsStart count has = has
+    commanded (commands.Move side) (stage.AwaitsStatus left) count has = has
+    commanded (commands.Move side) stage.Completed count has = has
+    commanded (commands.Move side) stage.AwaitsReport count has = has
+
+pub ticking_counts : (now : ℕ) (part : ClientSoFar) → KeepsCount part (ticking now part)
+unfolding ticking calling
+ticking_counts now part = ended part (calling now Opens (calling now Ticks part)) (counts_none part (calling now Opens (calling now Ticks part)) refl refl refl)
