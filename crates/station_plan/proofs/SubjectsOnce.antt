@@ -12,7 +12,6 @@ use Rattle.control_table.specs.layout.declared.port.Element.TheVariants as eleme
 use Rattle.control_table.specs.layout.declared.port.Port.{Port}
 use Rattle.control_table.specs.layout.declared.entries.Joint.{Joint}
 use Rattle.control_table.specs.layout.declared.entries.Point.{Point}
-use Rattle.control_table.specs.layout.declared.entries.Signal.{Signal}
 use Rattle.control_table.specs.layout.declared.entries.Track.{Track}
 use Rattle.layout_text.specs.declared.entries.End.{End}
 use Rattle.layout_text.specs.declared.entries.End.TheVariants as end

@@ -15,8 +15,10 @@ use control_table::sci_telegram::Name;
 use drawing::{Anchor, Spot};
 use std::alloc::{AllocError, Global};
 
-/// How many tints there are.
-const TINTS: usize = 8;
+/// The words of a class for the tints.
+const TINTS: [&str; 8] = [
+    " tint-0", " tint-1", " tint-2", " tint-3", " tint-4", " tint-5", " tint-6", " tint-7",
+];
 
 /// The detection controller that reports a section.
 pub(crate) fn detector_of(layout: &Layout, section: SectionId) -> usize {
@@ -29,9 +31,8 @@ pub(crate) fn detector_of(layout: &Layout, section: SectionId) -> usize {
 }
 
 /// The word of a class for a detection controller, by which its bands have a tint.
-pub(crate) fn tint(alloc: Global, detector: usize) -> Result<String, AllocError> {
-    let number = detector % TINTS;
-    format!(in alloc; " tint-{number}")
+pub(crate) fn tint(detector: usize) -> &'static str {
+    TINTS[detector % TINTS.len()]
 }
 
 /// Whether a section has a name.

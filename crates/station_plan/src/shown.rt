@@ -1,8 +1,9 @@
 //! What a plan shows beside the layout: a route, and what is seen of a station.
 
 use crate::section_marks::{detector_of, tint};
+use crate::thing::Subject;
 use control_table::layout::{
-    BorderId, Element, Exit, Layout, PointId, Route, RouteId, SectionId, SignalId,
+    BorderId, Element, Exit, Layout, PointId, Route, RouteId, SectionId, SignalId, TrackId,
 };
 use control_table::sci_telegram::{Aspect, Occupancy, Position, Side};
 use std::alloc::{AllocError, Global};
@@ -98,37 +99,6 @@ fn is_set_by(layout: &Layout, seen: &Seen, point: PointId, side: Side) -> bool {
     false
 }
 
-/// How a track, or the tip of a point, is marked.
-pub(crate) fn element_marked(
-    alloc: Global,
-    layout: &Layout,
-    shown: &Shown,
-    element: Element,
-) -> Result<String, AllocError> {
-    let mut marked = String::new(alloc);
-    if let Some(route) = shown.route(layout) {
-        add(&mut marked, passes(route, element), " path")?;
-    }
-    if let Some(seen) = &shown.seen {
-        add(&mut marked, is_set_over(layout, seen, element), " set")?;
-    }
-    Ok(marked)
-}
-
-/// How a point as a whole is marked.
-pub(crate) fn point_marked(
-    alloc: Global,
-    layout: &Layout,
-    shown: &Shown,
-    point: PointId,
-) -> Result<String, AllocError> {
-    let mut marked = String::new(alloc);
-    if let Some(route) = shown.route(layout) {
-        add(&mut marked, guards(route, point), " flank")?;
-    }
-    Ok(marked)
-}
-
 /// Whether a point protects the flank of the route that is shown.
 pub(crate) fn is_flank(layout: &Layout, shown: &Shown, point: PointId) -> bool {
     match shown.route(layout) {
@@ -137,70 +107,110 @@ pub(crate) fn is_flank(layout: &Layout, shown: &Shown, point: PointId) -> bool {
     }
 }
 
-/// How a leg is marked.
-pub(crate) fn leg_marked(
-    alloc: Global,
+/// Marks a track, or the tip of a point.
+fn mark_element(
+    class: &mut String,
+    layout: &Layout,
+    shown: &Shown,
+    element: Element,
+) -> Result<(), AllocError> {
+    if let Some(route) = shown.route(layout) {
+        add(class, passes(route, element), " path")?;
+    }
+    match &shown.seen {
+        Some(seen) => add(class, is_set_over(layout, seen, element), " set"),
+        None => Ok(()),
+    }
+}
+
+/// Marks a leg.
+fn mark_leg(
+    class: &mut String,
     layout: &Layout,
     shown: &Shown,
     point: PointId,
     side: Side,
-) -> Result<String, AllocError> {
-    let mut marked = String::new(alloc);
+) -> Result<(), AllocError> {
     if let Some(route) = shown.route(layout) {
-        add(&mut marked, takes(route, point, side), " path")?;
-        add(&mut marked, has_side(route.flank(), point, side), " flank")?;
+        add(class, takes(route, point, side), " path")?;
+        add(class, has_side(route.flank(), point, side), " flank")?;
     }
-    if let Some(seen) = &shown.seen {
-        add(&mut marked, is_set_by(layout, seen, point, side), " set")?;
+    match &shown.seen {
+        Some(seen) => add(class, is_set_by(layout, seen, point, side), " set"),
+        None => Ok(()),
     }
-    Ok(marked)
 }
 
-/// How a section is marked: by the tint of its detection controller, and as an approach.
-pub(crate) fn section_marked(
-    alloc: Global,
+/// Marks a section: by the tint of its detection controller, and as an approach.
+fn mark_section(
+    class: &mut String,
     layout: &Layout,
     shown: &Shown,
     section: SectionId,
-) -> Result<String, AllocError> {
-    let mut marked = tint(alloc, detector_of(layout, section))?;
-    if let Some(route) = shown.route(layout) {
-        add(
-            &mut marked,
-            route.approach().contains(&section),
-            " approach",
-        )?;
+) -> Result<(), AllocError> {
+    class.push_str(tint(detector_of(layout, section)))?;
+    match shown.route(layout) {
+        Some(route) => add(class, route.approach().contains(&section), " approach"),
+        None => Ok(()),
     }
-    Ok(marked)
 }
 
-/// How a signal is marked.
-pub(crate) fn signal_marked(
-    alloc: Global,
+/// Marks a signal.
+fn mark_signal(
+    class: &mut String,
     layout: &Layout,
     shown: &Shown,
     signal: SignalId,
-) -> Result<String, AllocError> {
-    let mut marked = String::new(alloc);
-    if let Some(route) = shown.route(layout) {
-        add(&mut marked, route.entry() == signal, " entry")?;
-        add(&mut marked, route.exit() == Exit::Signal(signal), " exit")?;
-    }
-    Ok(marked)
+) -> Result<(), AllocError> {
+    let Some(route) = shown.route(layout) else {
+        return Ok(());
+    };
+    add(class, route.entry() == signal, " entry")?;
+    add(class, route.exit() == Exit::Signal(signal), " exit")
 }
 
-/// How a border is marked.
-pub(crate) fn border_marked(
+/// Whether the route that is shown ends at a border.
+fn is_exit(layout: &Layout, shown: &Shown, border: BorderId) -> bool {
+    match shown.route(layout) {
+        Some(route) => route.exit() == Exit::Border(border),
+        None => false,
+    }
+}
+
+/// Marks a subject of this number in its table.
+fn mark(
+    class: &mut String,
+    layout: &Layout,
+    shown: &Shown,
+    subject: &Subject,
+    number: usize,
+) -> Result<(), AllocError> {
+    let point = PointId(number);
+    match subject {
+        Subject::Section(_) => mark_section(class, layout, shown, SectionId(number)),
+        Subject::Track(_) => mark_element(class, layout, shown, Element::Track(TrackId(number))),
+        Subject::Point(_) => add(class, is_flank(layout, shown, point), " flank"),
+        Subject::Tip(_) => mark_element(class, layout, shown, Element::Point(point)),
+        Subject::Left(_) => mark_leg(class, layout, shown, point, Side::Left),
+        Subject::Right(_) => mark_leg(class, layout, shown, point, Side::Right),
+        Subject::Border(_) => add(class, is_exit(layout, shown, BorderId(number)), " exit"),
+        Subject::Joint(..) => Ok(()),
+        Subject::Signal(_) => mark_signal(class, layout, shown, SignalId(number)),
+        Subject::Detector(_) => class.push_str(tint(number)),
+    }
+}
+
+/// How a subject of this number in its table is marked.
+pub(crate) fn marked(
     alloc: Global,
     layout: &Layout,
     shown: &Shown,
-    border: BorderId,
+    subject: &Subject,
+    number: usize,
 ) -> Result<String, AllocError> {
-    let mut marked = String::new(alloc);
-    if let Some(route) = shown.route(layout) {
-        add(&mut marked, route.exit() == Exit::Border(border), " exit")?;
-    }
-    Ok(marked)
+    let mut class = String::new(alloc);
+    mark(&mut class, layout, shown, subject, number)?;
+    Ok(class)
 }
 
 /// What is said of the route that is shown.

@@ -2,8 +2,9 @@
 
 ghost use Rattle.std.specs.Prelude.{◌≡◌, ◌++◌, ◌∷◌, [], map, OnOk, IfOk};
 ghost use Rattle.std.specs.List.{flat_map};
-ghost use Rattle.station_plan.specs.Subjects.{subjects_of, subjects, section_subject, track_subject, point_subject, point_subjects, tip_subject, border_subject, joint_subject, joint_subjects, signal_subject, detector_subject};
-ghost use Rattle.station_plan.specs.Faces.{AreDrawn, IsDrawn};
+ghost use Rattle.station_plan.specs.Subjects.{subjects_of, subjects, section_subject, track_subject, point_subjects, border_subject, joint_subjects, signal_subject, detector_subject};
+ghost use Rattle.station_plan.specs.Faces.{AreDrawn, IsDrawn, state_for, strokes_for, words_for};
+ghost use Rattle.station_plan.specs.Strokes.{strokes, written};
 ghost use Rattle.station_plan.specs.declared.thing.Subject.TheVariants as subject;
 
 use crate::element_marks::{
@@ -12,12 +13,9 @@ use crate::element_marks::{
 use crate::extent::{Extent, reach_of_things};
 use crate::marks::Marks;
 use crate::notes::LINES;
-use crate::section_marks::{draw_detector, draw_list, draw_section, tint};
+use crate::section_marks::{draw_detector, draw_list, draw_section};
 use crate::seen_words::{branch_state, section_state, signal_state};
-use crate::shown::{
-    Shown, border_marked, element_marked, is_flank, leg_marked, point_marked, section_marked,
-    signal_marked,
-};
+use crate::shown::{Shown, is_flank, marked};
 use crate::signal_marks::draw_signal;
 use crate::sketch::{Sketch, spot};
 use crate::subjects::{element_name, same_section, section_of};
@@ -25,10 +23,7 @@ use crate::thing::{Subject, Thing};
 use crate::units::Units;
 use crate::yard::Place;
 use control_table::Checked;
-use control_table::layout::{
-    BorderId, Detector, Element, End, Joint, Layout, Point, PointId, SectionId, Signal, SignalId,
-    Track, TrackId,
-};
+use control_table::layout::{Detector, End, Joint, Layout, Point, PointId, Signal, Track};
 use control_table::sci_telegram::{Name, Side};
 use drawing::Spot;
 use std::alloc::{AllocError, Global};
@@ -39,7 +34,15 @@ struct Scene<'a> {
     layout: &'a Layout,
     sketch: &'a Sketch,
     shown: &'a Shown,
+    /// Where the next detection controller stands, below the plan.
+    below: Spot,
 }
+
+/// The place of what has no port.
+const NO_PORT: Place = Place {
+    element: 0,
+    end: End::A,
+};
 
 /// Adds a thing.
 #[tactic(auto, using(crate::proofs::ThingsDrawn::one_more))]
@@ -53,237 +56,88 @@ fn add(things: &mut Vec<Thing>, scene: Scene<'_>, thing: Thing) -> Result<(), Al
     Ok(())
 }
 
-fn section_thing(
-    alloc: Global,
+/// Draws a point as a whole, with a ring round it where it protects the flank of the route that is shown.
+fn draw_whole_point(
+    marks: &mut Marks,
+    more: &mut Marks,
     scene: Scene<'_>,
-    number: usize,
+    element: usize,
     name: Name,
-) -> Result<Thing, AllocError>
-    ensures stands { IfOk result (λ thing. thing.subject ≡ section_subject name) }
-    ensures drawn { IfOk result (IsDrawn scene.entry.layout.now scene.entry.shown.now.seen) }
+) -> Result<(), AllocError>
+    ensures drawn { OnOk result (strokes marks.new.marks.items ≡ strokes marks.old.marks.items) }
+    ensures named { OnOk result (written marks.new.marks.items ≡ written marks.old.marks.items ++ name) }
 {
-    let mut marks = Marks::new(alloc);
-    let mut more = Marks::new(alloc);
-    let section = SectionId(number);
-    draw_section(&mut marks, &mut more, scene.layout, scene.sketch, &name)?;
-    let marked = section_marked(alloc, scene.layout, scene.shown, section)?;
-    let seen = section_state(scene.layout, scene.shown, &name);
-    let state = String::from_str(alloc, seen)?;
-    Ok(Thing {
-        subject: Subject::Section(name),
-        marked,
-        state,
-        marks: marks.marks,
-        more: more.marks,
-    })
-}
-
-fn track_thing(
-    alloc: Global,
-    scene: Scene<'_>,
-    number: usize,
-    track: &Track,
-) -> Result<Thing, AllocError>
-    ensures stands { IfOk result (λ thing. thing.subject ≡ track_subject track.now) }
-    ensures drawn { IfOk result (IsDrawn scene.entry.layout.now scene.entry.shown.now.seen) }
-{
-    let mut marks = Marks::new(alloc);
-    let mut more = Marks::new(alloc);
-    let element = Element::Track(TrackId(number));
-    draw_track(&mut marks, &mut more, scene.sketch, number, track.name)?;
-    let marked = element_marked(alloc, scene.layout, scene.shown, element)?;
-    Ok(Thing {
-        subject: Subject::Track(track.name),
-        marked,
-        state: String::new(alloc),
-        marks: marks.marks,
-        more: more.marks,
-    })
-}
-
-fn point_thing(
-    alloc: Global,
-    scene: Scene<'_>,
-    number: usize,
-    point: &Point,
-) -> Result<Thing, AllocError>
-    ensures stands { IfOk result (λ thing. thing.subject ≡ point_subject point.now) }
-    ensures drawn { IfOk result (IsDrawn scene.entry.layout.now scene.entry.shown.now.seen) }
-{
-    let mut marks = Marks::new(alloc);
-    let mut more = Marks::new(alloc);
-    let element = scene.sketch.grid.yard.point(number);
-    let name = point.name;
-    draw_point(&mut marks, &mut more, scene.sketch, element, name)?;
-    if is_flank(scene.layout, scene.shown, PointId(number)) {
-        draw_guard(&mut more, scene.sketch, element)?;
+    draw_point(marks, more, scene.sketch, element, name)?;
+    let point = PointId(scene.sketch.grid.yard.entry(element));
+    if !is_flank(scene.layout, scene.shown, point) {
+        return Ok(());
     }
-    let marked = point_marked(alloc, scene.layout, scene.shown, PointId(number))?;
-    Ok(Thing {
-        subject: Subject::Point(name),
-        marked,
-        state: String::new(alloc),
-        marks: marks.marks,
-        more: more.marks,
-    })
+    draw_guard(more, scene.sketch, element)
 }
 
-/// The tip of a point.
-fn tip_thing(
+/// Draws what stands at a place for a subject: its symbol and its name, and what its place adds.
+fn draw(
+    marks: &mut Marks,
+    more: &mut Marks,
+    scene: Scene<'_>,
+    subject: &Subject,
+    at: Place,
+) -> Result<(), AllocError>
+    ensures drawn { OnOk result (strokes marks.new.marks.items ≡ strokes marks.old.marks.items ++ strokes_for scene.entry.layout.now subject.now) }
+    ensures named { OnOk result (written marks.new.marks.items ≡ written marks.old.marks.items ++ words_for subject.now) }
+{
+    let sketch = scene.sketch;
+    match subject {
+        Subject::Section(name) => draw_section(marks, more, scene.layout, sketch, name),
+        Subject::Track(name) => draw_track(marks, more, sketch, at.element, *name),
+        Subject::Point(name) => draw_whole_point(marks, more, scene, at.element, *name),
+        Subject::Tip(_) | Subject::Left(_) | Subject::Right(_) => {
+            draw_branch(marks, more, sketch, at)
+        }
+        Subject::Border(name) => draw_border(marks, more, sketch, at.element, *name),
+        Subject::Joint(..) => draw_joint(marks, sketch, at),
+        Subject::Signal(name) => draw_signal(marks, sketch, at, *name),
+        Subject::Detector(name) => draw_detector(marks, name, scene.below),
+    }
+}
+
+/// The word for what is seen of a subject.
+fn state_word(scene: Scene<'_>, subject: &Subject) -> &'static str
+    ensures { result.now ≡ state_for scene.entry.layout.now scene.entry.shown.now.seen subject.now }
+{
+    let (layout, shown) = (scene.layout, scene.shown);
+    match subject {
+        Subject::Section(name) => section_state(layout, shown, name),
+        Subject::Left(name) => branch_state(layout, shown, name, Side::Left),
+        Subject::Right(name) => branch_state(layout, shown, name, Side::Right),
+        Subject::Signal(name) => signal_state(layout, shown, name),
+        Subject::Track(_)
+        | Subject::Point(_)
+        | Subject::Tip(_)
+        | Subject::Border(_)
+        | Subject::Joint(..)
+        | Subject::Detector(_) => "",
+    }
+}
+
+/// The thing of a subject, which is that of this number in its table and stands at this place.
+fn thing_of(
     alloc: Global,
     scene: Scene<'_>,
+    subject: Subject,
     number: usize,
-    name: Name,
+    at: Place,
 ) -> Result<Thing, AllocError>
-    ensures stands { IfOk result (λ thing. thing.subject ≡ tip_subject name) }
+    ensures stands { IfOk result (λ thing. thing.subject ≡ subject) }
     ensures drawn { IfOk result (IsDrawn scene.entry.layout.now scene.entry.shown.now.seen) }
 {
     let mut marks = Marks::new(alloc);
     let mut more = Marks::new(alloc);
-    let element = scene.sketch.grid.yard.point(number);
-    let end = End::Tip;
-    draw_branch(&mut marks, &mut more, scene.sketch, Place { element, end })?;
-    let element = Element::Point(PointId(number));
-    let marked = element_marked(alloc, scene.layout, scene.shown, element)?;
+    draw(&mut marks, &mut more, scene, &subject, at)?;
+    let marked = marked(alloc, scene.layout, scene.shown, &subject, number)?;
+    let state = String::from_str(alloc, state_word(scene, &subject))?;
     Ok(Thing {
-        subject: Subject::Tip(name),
-        marked,
-        state: String::new(alloc),
-        marks: marks.marks,
-        more: more.marks,
-    })
-}
-
-/// The left leg of a point.
-fn left_thing(
-    alloc: Global,
-    scene: Scene<'_>,
-    number: usize,
-    name: Name,
-) -> Result<Thing, AllocError>
-    ensures stands { IfOk result (λ thing. thing.subject ≡ subject.Left name) }
-    ensures drawn { IfOk result (IsDrawn scene.entry.layout.now scene.entry.shown.now.seen) }
-{
-    let mut marks = Marks::new(alloc);
-    let mut more = Marks::new(alloc);
-    let element = scene.sketch.grid.yard.point(number);
-    let end = End::Left;
-    draw_branch(&mut marks, &mut more, scene.sketch, Place { element, end })?;
-    let marked = leg_marked(
-        alloc,
-        scene.layout,
-        scene.shown,
-        PointId(number),
-        Side::Left,
-    )?;
-    let seen = branch_state(scene.layout, scene.shown, &name, Side::Left);
-    let state = String::from_str(alloc, seen)?;
-    Ok(Thing {
-        subject: Subject::Left(name),
-        marked,
-        state,
-        marks: marks.marks,
-        more: more.marks,
-    })
-}
-
-/// The right leg of a point.
-fn right_thing(
-    alloc: Global,
-    scene: Scene<'_>,
-    number: usize,
-    name: Name,
-) -> Result<Thing, AllocError>
-    ensures stands { IfOk result (λ thing. thing.subject ≡ subject.Right name) }
-    ensures drawn { IfOk result (IsDrawn scene.entry.layout.now scene.entry.shown.now.seen) }
-{
-    let mut marks = Marks::new(alloc);
-    let mut more = Marks::new(alloc);
-    let element = scene.sketch.grid.yard.point(number);
-    let end = End::Right;
-    draw_branch(&mut marks, &mut more, scene.sketch, Place { element, end })?;
-    let marked = leg_marked(
-        alloc,
-        scene.layout,
-        scene.shown,
-        PointId(number),
-        Side::Right,
-    )?;
-    let seen = branch_state(scene.layout, scene.shown, &name, Side::Right);
-    let state = String::from_str(alloc, seen)?;
-    Ok(Thing {
-        subject: Subject::Right(name),
-        marked,
-        state,
-        marks: marks.marks,
-        more: more.marks,
-    })
-}
-
-fn border_thing(
-    alloc: Global,
-    scene: Scene<'_>,
-    number: usize,
-    name: Name,
-) -> Result<Thing, AllocError>
-    ensures stands { IfOk result (λ thing. thing.subject ≡ border_subject name) }
-    ensures drawn { IfOk result (IsDrawn scene.entry.layout.now scene.entry.shown.now.seen) }
-{
-    let mut marks = Marks::new(alloc);
-    let mut more = Marks::new(alloc);
-    let element = scene.sketch.grid.yard.border(number);
-    draw_border(&mut marks, &mut more, scene.sketch, element, name)?;
-    let marked = border_marked(alloc, scene.layout, scene.shown, BorderId(number))?;
-    Ok(Thing {
-        subject: Subject::Border(name),
-        marked,
-        state: String::new(alloc),
-        marks: marks.marks,
-        more: more.marks,
-    })
-}
-
-fn joint_thing(
-    alloc: Global,
-    scene: Scene<'_>,
-    joint: Joint,
-    name: Name,
-) -> Result<Thing, AllocError>
-    ensures stands { IfOk result (λ thing. thing.subject ≡ joint_subject name joint.first.end) }
-    ensures drawn { IfOk result (IsDrawn scene.entry.layout.now scene.entry.shown.now.seen) }
-{
-    let mut marks = Marks::new(alloc);
-    let more = Marks::new(alloc);
-    let place = scene.sketch.grid.yard.place(joint.first);
-    draw_joint(&mut marks, scene.sketch, place)?;
-    Ok(Thing {
-        subject: Subject::Joint(name, joint.first.end),
-        marked: String::new(alloc),
-        state: String::new(alloc),
-        marks: marks.marks,
-        more: more.marks,
-    })
-}
-
-fn signal_thing(
-    alloc: Global,
-    scene: Scene<'_>,
-    number: usize,
-    signal: &Signal,
-) -> Result<Thing, AllocError>
-    ensures stands { IfOk result (λ thing. thing.subject ≡ signal_subject signal.now) }
-    ensures drawn { IfOk result (IsDrawn scene.entry.layout.now scene.entry.shown.now.seen) }
-{
-    let mut marks = Marks::new(alloc);
-    let more = Marks::new(alloc);
-    let name = signal.name;
-    let place = scene.sketch.grid.yard.place(signal.at);
-    draw_signal(&mut marks, scene.sketch, place, name)?;
-    let marked = signal_marked(alloc, scene.layout, scene.shown, SignalId(number))?;
-    let seen = signal_state(scene.layout, scene.shown, &name);
-    let state = String::from_str(alloc, seen)?;
-    Ok(Thing {
-        subject: Subject::Signal(name),
+        subject,
         marked,
         state,
         marks: marks.marks,
@@ -302,7 +156,12 @@ fn add_sections(
     ensures drawn { OnOk result (AreDrawn scene.entry.layout.now scene.entry.shown.now.seen things.new.items) }
 {
     for (number, name) in sections.iter().enumerate() {
-        add(things, scene, section_thing(alloc, scene, number, *name)?)?;
+        let subject = Subject::Section(*name);
+        add(
+            things,
+            scene,
+            thing_of(alloc, scene, subject, number, NO_PORT)?,
+        )?;
     }
     Ok(())
 }
@@ -318,9 +177,32 @@ fn add_tracks(
     ensures drawn { OnOk result (AreDrawn scene.entry.layout.now scene.entry.shown.now.seen things.new.items) }
 {
     for (number, track) in tracks.iter().enumerate() {
-        add(things, scene, track_thing(alloc, scene, number, track)?)?;
+        let at = Place {
+            element: number,
+            end: End::A,
+        };
+        let subject = Subject::Track(track.name);
+        add(things, scene, thing_of(alloc, scene, subject, number, at)?)?;
     }
     Ok(())
+}
+
+/// Adds a part of a point, at one of its ports.
+fn add_part(
+    things: &mut Vec<Thing>,
+    alloc: Global,
+    scene: Scene<'_>,
+    part: Subject,
+    number: usize,
+    end: End,
+) -> Result<(), AllocError>
+    requires { AreDrawn scene.layout.now scene.shown.now.seen things.old.items }
+    ensures listed { OnOk result (subjects_of things.new.items ≡ subjects_of things.old.items ++ part ∷ []) }
+    ensures drawn { OnOk result (AreDrawn scene.entry.layout.now scene.entry.shown.now.seen things.new.items) }
+{
+    let element = scene.sketch.grid.yard.point(number);
+    let at = Place { element, end };
+    add(things, scene, thing_of(alloc, scene, part, number, at)?)
 }
 
 /// Adds a point: its name, its tip and its two legs.
@@ -336,10 +218,17 @@ fn add_point(
     ensures drawn { OnOk result (AreDrawn scene.entry.layout.now scene.entry.shown.now.seen things.new.items) }
 {
     let name = point.name;
-    add(things, scene, point_thing(alloc, scene, number, point)?)?;
-    add(things, scene, tip_thing(alloc, scene, number, name)?)?;
-    add(things, scene, left_thing(alloc, scene, number, name)?)?;
-    add(things, scene, right_thing(alloc, scene, number, name)?)
+    add_part(things, alloc, scene, Subject::Point(name), number, End::Tip)?;
+    add_part(things, alloc, scene, Subject::Tip(name), number, End::Tip)?;
+    add_part(things, alloc, scene, Subject::Left(name), number, End::Left)?;
+    add_part(
+        things,
+        alloc,
+        scene,
+        Subject::Right(name),
+        number,
+        End::Right,
+    )
 }
 
 fn add_points(
@@ -369,7 +258,13 @@ fn add_borders(
     ensures drawn { OnOk result (AreDrawn scene.entry.layout.now scene.entry.shown.now.seen things.new.items) }
 {
     for (number, name) in borders.iter().enumerate() {
-        add(things, scene, border_thing(alloc, scene, number, *name)?)?;
+        let element = scene.sketch.grid.yard.border(number);
+        let at = Place {
+            element,
+            end: End::End,
+        };
+        let subject = Subject::Border(*name);
+        add(things, scene, thing_of(alloc, scene, subject, number, at)?)?;
     }
     Ok(())
 }
@@ -393,8 +288,9 @@ fn add_joint(
     }
     match element_name(layout, joint.first.element) {
         Some(name) => {
-            add(things, scene, joint_thing(alloc, scene, joint, name)?)?;
-            Ok(())
+            let at = scene.sketch.grid.yard.place(joint.first);
+            let subject = Subject::Joint(name, joint.first.end);
+            add(things, scene, thing_of(alloc, scene, subject, 0, at)?)
         }
         None => Ok(()),
     }
@@ -428,7 +324,9 @@ fn add_signals(
     ensures drawn { OnOk result (AreDrawn scene.entry.layout.now scene.entry.shown.now.seen things.new.items) }
 {
     for (number, signal) in signals.iter().enumerate() {
-        add(things, scene, signal_thing(alloc, scene, number, signal)?)?;
+        let at = scene.sketch.grid.yard.place(signal.at);
+        let subject = Subject::Signal(signal.name);
+        add(things, scene, thing_of(alloc, scene, subject, number, at)?)?;
     }
     Ok(())
 }
@@ -441,27 +339,20 @@ fn letters(extent: Extent) -> usize {
         .saturating_sub(6)
 }
 
+/// A detection controller with the names of its sections.
 fn detector_thing(
     alloc: Global,
     scene: Scene<'_>,
     number: usize,
     name: Name,
-    at: Spot,
-    more: Marks,
+    names: Marks,
 ) -> Result<Thing, AllocError>
     ensures stands { IfOk result (λ thing. thing.subject ≡ subject.Detector name) }
     ensures drawn { IfOk result (IsDrawn scene.entry.layout.now scene.entry.shown.now.seen) }
 {
-    let mut marks = Marks::new(alloc);
-    draw_detector(&mut marks, &name, at)?;
-    let marked = tint(alloc, number)?;
-    Ok(Thing {
-        subject: Subject::Detector(name),
-        marked,
-        state: String::new(alloc),
-        marks: marks.marks,
-        more: more.marks,
-    })
+    let mut thing = thing_of(alloc, scene, Subject::Detector(name), number, NO_PORT)?;
+    thing.more = names.marks;
+    Ok(thing)
 }
 
 /// Adds the detection controllers, one below the other.
@@ -483,15 +374,12 @@ fn add_detectors(
     let letters = letters(extent);
     let mut down = extent.bottom + Units(32) + LINES;
     for (number, detector) in detectors.iter().enumerate() {
-        let mut more = Marks::new(alloc);
-        let at = spot(extent.left, down);
-        down = draw_list(&mut more, alloc, scene.layout, detector, at, letters)?;
-        let name = *detector.name();
-        add(
-            things,
-            scene,
-            detector_thing(alloc, scene, number, name, at, more)?,
-        )?;
+        let below = spot(extent.left, down);
+        let scene = Scene { below, ..scene };
+        let mut names = Marks::new(alloc);
+        down = draw_list(&mut names, alloc, scene.layout, detector, below, letters)?;
+        let thing = detector_thing(alloc, scene, number, *detector.name(), names)?;
+        add(things, scene, thing)?;
     }
     Ok(())
 }
@@ -539,6 +427,7 @@ pub fn things(alloc: Global, table: &Checked, shown: &Shown) -> Result<Vec<Thing
         layout,
         sketch: &sketch,
         shown,
+        below: spot(Units(0), Units(0)),
     };
     let mut things = Vec::new(alloc);
     add_ways(&mut things, alloc, scene, layout)?;
