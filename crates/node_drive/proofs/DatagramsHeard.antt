@@ -1,7 +1,7 @@
 -- The datagrams of a round, one after another.
 use Rattle.std.proofs.Common.{◌≡◌, ◌<◌, ◌≤◌, ◌-◌, ℕ, nat_lt, Bool, true, false, List, [], ◌∷◌, ◌++◌, map, Option, Some, None, refl, sym, subst, append-nil, arith}
 use Rattle.std.proofs.lemmas.Bool.Decides.{nat_tests}
-use Rattle.simulator_event.specs.declared.event.NodeId.{NodeId}
+use Rattle.node_lines.specs.simulator_event.declared.event.NodeId.{NodeId}
 use Rattle.node_drive.specs.Calls.{Arrival, AsksDatagram, Calls, CallsCut, Reads, ThrowsAway, Told}
 use Rattle.node_drive.specs.Drives.{EndsDatagrams, full, silent, Performs, Stops, datagram_in}
 use Rattle.node_drive.specs.Inside.{OneDatagram}

@@ -1,7 +1,7 @@
 -- An order that is in force.
 use Rattle.std.proofs.Common.{◌≡◌, ◌<◌, ◌≤◌, ℕ, nat_le, Bool, true, false, cond, [], ◌∷◌, ap, sym, ◌∙◌, refl, arith}
 use Rattle.std.proofs.lemmas.Bool.Decides.{nat_tests}
-use Rattle.replay_words.specs.declared.fault.Fault.TheVariants.{Number}
+use Rattle.node_lines.specs.replay_words.declared.fault.Fault.TheVariants.{Number}
 use Rattle.node_drive.specs.Calls.{Calls, Complains, Told}
 use Rattle.node_drive.specs.Rounds.{CourseState, later, put_in_force, released}
 use Rattle.node_drive.proofs.Calls.{calls_same}

@@ -1,15 +1,15 @@
 -- The last order that was written is what the equipment has to do.
 use Rattle.std.proofs.Common.{◌≡◌, ◌∙◌, ◌&&◌, ◌==◌, ℕ, nat_le, Bool, true, false, cond, List, [], ◌∷◌, Option, Some, None, IsSome, refl, ap, arith}
 use Rattle.std.proofs.lemmas.Bool.Decides.{nat_tests}
-use Rattle.ixl_rules.specs.sci_telegram.declared.message.Side.{Side}
-use Rattle.ixl_rules.specs.sci_telegram.declared.message.Side.TheVariants as side
+use Rattle.node_lines.specs.sci_telegram.declared.message.Side.{Side}
+use Rattle.node_lines.specs.sci_telegram.declared.message.Side.TheVariants as side
 use Rattle.node_lines.specs.declared.order.Order.{Order}
 use Rattle.node_lines.specs.declared.order.Order.TheVariants.{ShowStop, ShowProceed, ShowSlow, DriveNone, Drive}
 use Rattle.node_drive.specs.Calls.{Complains}
 use Rattle.node_drive.specs.Kinds.{Kind, Meaning, InForce, Comes, Faulty}
 use Rattle.node_drive.specs.Rounds.{Coming, RoundBegins, Listened, Line, NoLine, LinesEnd, Datagram, Late, NoDatagram, Tick, CourseState, Standing, all_come, comes, counted, heard_one, is_taken, last_order, later, new_order, released, step, steps, told}
 use Rattle.node_drive.specs.Same.{is_same_order, is_same_side}
-use Rattle.replay_words.specs.declared.fault.Fault.TheVariants.{Number}
+use Rattle.node_lines.specs.replay_words.declared.fault.Fault.TheVariants.{Number}
 
 same_side : (one other : Side) → is_same_side one other ≡ true → one ≡ other
 same_side side.Right side.Right e = refl

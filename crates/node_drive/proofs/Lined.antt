@@ -1,6 +1,6 @@
 -- A line, by what it was found to tell.
 use Rattle.std.proofs.Common.{◌≡◌, ℕ, suc, List, [], ◌∷◌, map, ap, ◌∙◌}
-use Rattle.replay_words.specs.declared.fault.Fault.{Fault}
+use Rattle.node_lines.specs.replay_words.declared.fault.Fault.{Fault}
 use Rattle.node_drive.specs.Calls.{Calls, CallsCut, Complains, Told, Writes}
 use Rattle.node_drive.specs.Inside.{standing_of}
 use Rattle.node_drive.specs.Kinds.{Comes, Faulty, InForce, Kind, Meaning, NodeState}

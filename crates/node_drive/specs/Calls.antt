@@ -1,7 +1,7 @@
 -- What the process of a node calls outside, one after another, with what was answered.
 use Rattle.std.specs.Prelude.{◌≡◌, ◌≤◌, ℕ, Bool, List, [], ◌∷◌, ◌++◌, Option, Some, None, string_bytes}
-use Rattle.replay_words.specs.declared.fault.Fault.{Fault}
-use Rattle.simulator_event.specs.declared.event.NodeId.{NodeId}
+use Rattle.node_lines.specs.replay_words.declared.fault.Fault.{Fault}
+use Rattle.node_lines.specs.simulator_event.declared.event.NodeId.{NodeId}
 use Rattle.node_drive.specs.declared.outside.NextLine.{NextLine}
 use Rattle.node_drive.specs.declared.outside.NextLine.TheVariants as next
 

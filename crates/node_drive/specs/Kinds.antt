@@ -1,7 +1,7 @@
 -- What the engine has to know of a kind of node.
 use Rattle.std.specs.Prelude.{ℕ, Bool, List, Option}
-use Rattle.replay_words.specs.declared.fault.Fault.{Fault}
-use Rattle.simulator_event.specs.declared.event.NodeId.{NodeId}
+use Rattle.node_lines.specs.replay_words.declared.fault.Fault.{Fault}
+use Rattle.node_lines.specs.simulator_event.declared.event.NodeId.{NodeId}
 use Rattle.node_lines.specs.declared.order.Order.{Order}
 use Rattle.node_drive.specs.Waiting.{Addressed}
 use Rattle.node_drive.specs.declared.node.LineMeaning.{LineMeaning}

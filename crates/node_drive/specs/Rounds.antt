@@ -1,7 +1,7 @@
 -- What the process of a node does with what comes, one after another.
 use Rattle.std.specs.Prelude.{ℕ, suc, nat_le, nat_lt, if◌then◌else◌, Bool, true, false, List, [], ◌∷◌, ◌++◌, map, Option, Some, None}
-use Rattle.replay_words.specs.declared.fault.Fault.TheVariants.{Number}
-use Rattle.simulator_event.specs.declared.event.NodeId.{NodeId}
+use Rattle.node_lines.specs.replay_words.declared.fault.Fault.TheVariants.{Number}
+use Rattle.node_lines.specs.simulator_event.declared.event.NodeId.{NodeId}
 use Rattle.node_lines.specs.Orders.{order_text}
 use Rattle.node_lines.specs.declared.order.Order.{Order}
 use Rattle.node_drive.specs.Same.{is_same_order}

@@ -1,7 +1,7 @@
 -- Whether two orders are one.
 use Rattle.std.specs.Prelude.{◌==◌, ◌&&◌, Bool, true, false}
-use Rattle.ixl_rules.specs.sci_telegram.declared.message.Side.{Side}
-use Rattle.ixl_rules.specs.sci_telegram.declared.message.Side.TheVariants as side
+use Rattle.node_lines.specs.sci_telegram.declared.message.Side.{Side}
+use Rattle.node_lines.specs.sci_telegram.declared.message.Side.TheVariants as side
 use Rattle.node_lines.specs.declared.order.Order.{Order}
 use Rattle.node_lines.specs.declared.order.Order.TheVariants.{ShowStop, ShowProceed, ShowSlow, DriveNone, Drive}
 

@@ -1,6 +1,6 @@
 -- Datagrams that wait until the line of their step is in force.
 use Rattle.std.specs.Prelude.{ℕ, ◌+◌, ◌&&◌, nat_le, nat_lt, not, if◌then◌else◌, Bool, List, [], ◌∷◌, ◌++◌, map}
-use Rattle.simulator_event.specs.declared.event.NodeId.{NodeId}
+use Rattle.node_lines.specs.simulator_event.declared.event.NodeId.{NodeId}
 
 -- a datagram, and the node to which it goes
 abbrev pub Addressed : Type 0

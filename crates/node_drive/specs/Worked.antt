@@ -1,11 +1,11 @@
 -- A small kind of node, and what its process does, worked by hand.
 use Rattle.std.specs.Prelude.{◌≡◌, ℕ, suc, ◌*◌, ◌==◌, if◌then◌else◌, Bool, true, false, List, [], ◌∷◌, codes, Some, None, Result, Ok, Err}
 use Rattle.std.specs.List.{filter}
-use Rattle.replay_words.specs.Read.{decimal}
-use Rattle.replay_words.specs.declared.fault.Fault.{Fault}
-use Rattle.replay_words.specs.declared.fault.Fault.TheVariants.{Number}
+use Rattle.node_lines.specs.replay_words.Read.{decimal}
+use Rattle.node_lines.specs.replay_words.declared.fault.Fault.{Fault}
+use Rattle.node_lines.specs.replay_words.declared.fault.Fault.TheVariants.{Number}
 use Rattle.node_lines.specs.declared.order.Order.TheVariants.{ShowStop, ShowProceed}
-use Rattle.simulator_event.specs.declared.event.NodeId.{NodeId}
+use Rattle.node_lines.specs.simulator_event.declared.event.NodeId.{NodeId}
 use Rattle.node_drive.specs.Beginning.{first_course}
 use Rattle.node_drive.specs.Calls.{Call, Rests, Reads, AsksListener, AsksLine, AsksDatagram, ThrowsAway, Writes, Sends, Complains, Nothing}
 use Rattle.node_drive.specs.Drives.{Round, in_rounds}

@@ -6,9 +6,9 @@ ghost use Rattle.node_drive.specs.Drives.{is_settled};
 ghost use Rattle.node_drive.specs.Rounds.{later, new_order, one_more};
 
 use crate::order_changes::new_order;
-use ixl_rules::rasta_pdu::Datagram;
 use node_lines::Order;
-use simulator_event::NodeId;
+use node_lines::ixl_rules::rasta_pdu::Datagram;
+use node_lines::simulator_event::NodeId;
 use std::alloc::Global;
 use std::collections::VecDeque;
 use std::marker::Model;

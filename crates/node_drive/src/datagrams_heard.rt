@@ -12,7 +12,7 @@ use crate::fault::NodeFault;
 use crate::node::Node;
 use crate::outside::{Arrived, Outside};
 use crate::step::perform;
-use simulator_event::NodeId;
+use node_lines::simulator_event::NodeId;
 use std::alloc::Global;
 
 /// How many datagrams a round takes at most.

@@ -25,3 +25,6 @@ pub use node::{LineMeaning, Node, Outgoing};
 pub use orders_written::finish;
 pub use outside::{Arrived, BrokenOff, NextLine, Outside, Received};
 pub use rounds::drive;
+
+// What crates above need of the crates below.
+pub use node_lines;

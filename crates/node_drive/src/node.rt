@@ -1,9 +1,9 @@
 //! The node that runs as a process of its own.
 
-use ixl_rules::rasta_pdu::Datagram;
 use node_lines::Order;
-use replay_words::Fault;
-use simulator_event::NodeId;
+use node_lines::ixl_rules::rasta_pdu::Datagram;
+use node_lines::replay_words::Fault;
+use node_lines::simulator_event::NodeId;
 use std::alloc::{AllocError, Global};
 
 /// A datagram that a node hands out, and the node to which it goes.

@@ -4,8 +4,8 @@ ghost use Rattle.std.specs.Prelude.{◌≡◌};
 ghost use Rattle.node_drive.specs.Rounds.{new_order};
 ghost use Rattle.node_drive.specs.Same.{is_same_order, is_same_side};
 
-use ixl_rules::control_table::sci_telegram::Side;
 use node_lines::Order;
+use node_lines::ixl_rules::control_table::sci_telegram::Side;
 
 /// The order that is to be written: none where it is that of the last line.
 pub(crate) fn new_order(last: Option<Order>, order: Option<Order>) -> Option<Order>

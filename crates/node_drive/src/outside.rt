@@ -1,8 +1,8 @@
 //! What a node's process has outside: its clock, its lines in and out, and its socket.
 
 use arrayvec::ArrayVec;
-use replay_words::Fault;
-use simulator_event::NodeId;
+use node_lines::replay_words::Fault;
+use node_lines::simulator_event::NodeId;
 use std::alloc::{AllocError, Global};
 
 /// The bytes that are received at once; longer datagrams are cut.

@@ -29,6 +29,8 @@ pub fn drive<N: Node, O: Outside>(
     requires { (N.node node.old).reached ≤ (O.told outside.old).latest }
     ensures done { IfOk result (λ ticks. Ran N.does for_ms first ticks (standing_of (N.node node.old) course.old) (standing_of (N.node node.new) course.new) (O.told outside.old) (O.told outside.new)) }
     ensures reached { IfOk result (λ ticks. ticks ≤ (O.told outside.new).latest) }
+    // So the node may be driven on.
+    ensures kept { OnOk result ((N.node node.new).reached ≤ (O.told outside.new).latest) }
     // It ends with a fault exactly as it would have gone on without, but cut off.
     ensures stopped { OnErr result (CutOff N.does for_ms first (standing_of (N.node node.old) course.old) (O.told outside.old) (O.told outside.new)) }
 {

@@ -11,7 +11,7 @@ use crate::fault::NodeFault;
 use crate::node::{LineMeaning, Node};
 use crate::orders_written::{say_all, write_order};
 use crate::outside::Outside;
-use replay_words::Fault;
+use node_lines::replay_words::Fault;
 use std::alloc::Global;
 
 /// What a step has left is performed: its lines are written, its datagrams wait, and those leave that may.

@@ -18,3 +18,9 @@ pub use operator_line::{Authority, Known, LinkState, OperatorLine, OperatorText}
 pub use order::{Order, OrderLine};
 pub use order_read::read_order;
 pub use report::{FieldReport, ReportText, read_report};
+
+// What crates above need of the crates below.
+pub use ixl_rules;
+pub use replay_lines;
+pub use replay_words;
+pub use simulator_event;
