@@ -1,0 +1,14 @@
+pub mod Cancels
+pub mod Clocks
+pub mod Entries
+pub mod Hosts
+pub mod HostsBelow
+pub mod IxlBelow
+pub mod Lists
+pub mod OpeningLines
+pub mod OwnSectionsTold
+pub mod Places
+pub mod ReportLines
+pub mod Same
+pub mod Steps
+pub mod Views

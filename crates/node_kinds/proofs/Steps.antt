@@ -1,0 +1,39 @@
+-- The node behind a step.
+use Rattle.std.proofs.Common.{◌≡◌, ◌∙◌, ◌++◌, ℕ, List, ap, Option}
+use Rattle.simulator_run.specs.ixl_rules.Step as ixl
+use Rattle.node_drive.specs.node_lines.declared.operator_line.Known.{Known}
+use Rattle.node_drive.specs.Kinds.{NodeState, node_after}
+use Rattle.node_kinds.specs.Interlockings.{InterlockingNode, all_known, answer, changes, interlocking_kind, to_controllers}
+use Rattle.node_kinds.specs.inside.InterlockingSteps.{SteppedState, step_of, stepped_at}
+
+abbrev pub state_of : SteppedState → List (Option Known) → InterlockingNode
+state_of stepped told = record { site = stepped.sited.site; table = stepped.sited.table; ixl = stepped.ixl; told = told }
+
+abbrev pub view_of : SteppedState → List (Option Known) → List (List ℕ) → List ixl.Input → NodeState InterlockingNode ixl.Input
+view_of stepped told said left = record {
+  state = state_of stepped told;
+  reached = stepped.reached;
+  handed = to_controllers stepped.sited.site stepped.datagrams;
+  said = said;
+  left = left;
+}
+
+pub node_stepped : (now : ℕ) (input : ixl.Input) (old then new : SteppedState) (old_told told : List (Option Known)) (old_said said answers : List (List ℕ)) (old_left left : List ixl.Input)
+    → new ≡ then → then ≡ stepped_at now input old → told ≡ all_known then.sited.site then.sited.table now then.ixl → answers ≡ answer now input (state_of old old_told)
+    → said ≡ answers ++ changes then.sited.site old_told told → left ≡ old_left
+    → view_of new told said left ≡ node_after interlocking_kind now input (view_of old old_told old_said old_left)
+node_stepped now input old then new old_told told old_said said answers old_left left new_is then_is told_is answers_are said_is left_is =
+    let after = stepped_at now input old in
+    let site = old.sited.site in
+    let answered = answer now input (state_of old old_told) in
+    let all = all_known site old.sited.table now (step_of now input old).ixl in
+    let told_so : told ≡ all = told_is ∙ ap (λ (s : SteppedState). all_known s.sited.site s.sited.table now s.ixl) then_is in
+    let said_so : said ≡ answered ++ changes site old_told all =
+    said_is
+    ∙ ap (λ a. a ++ changes then.sited.site old_told told) answers_are
+    ∙ ap (λ (s : SteppedState). answered ++ changes s.sited.site old_told told) then_is
+    ∙ ap (λ t. answered ++ changes site old_told t) told_so in
+    ap (λ s. view_of s told said left) (new_is ∙ then_is)
+    ∙ ap (λ t. view_of after t said left) told_so
+    ∙ ap (λ x. view_of after all x left) said_so
+    ∙ ap (λ l. view_of after all (answered ++ changes site old_told all) l) left_is

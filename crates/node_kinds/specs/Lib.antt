@@ -1,0 +1,11 @@
+pub mod Controllers
+pub mod Openings
+pub mod Interlockings
+pub mod Made
+pub mod MadeInterlocking
+pub mod Same
+pub mod inside
+-- what crates above need of the crates below
+pub use Rattle.node_drive.specs as node_drive
+pub use Rattle.simulator_run.specs as simulator_run
+pub use Rattle.ixl_state.specs.ixl_table as ixl_table

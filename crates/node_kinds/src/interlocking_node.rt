@@ -1,0 +1,181 @@
+//! The interlocking as a node.
+
+ghost use Rattle.ixl_state.specs.ixl_table.Table.{IsTableOf};
+ghost use Rattle.std.specs.Prelude.{◌≡◌, ◌++◌, ◌≤◌, [], map, IfOk, OnOk};
+ghost use Rattle.simulator_run.specs.First.{Beginning};
+ghost use Rattle.node_kinds.specs.Interlockings.{all_known, answer_to, changes, wanted};
+ghost use Rattle.node_kinds.specs.inside.InterlockingSteps.{texts};
+ghost use Rattle.node_kinds.specs.MadeInterlocking.{made, seen};
+
+use crate::asked::{add_wanted, say_answer_to};
+use crate::changes::say_changes;
+use crate::interlocking_steps::Stepped;
+use crate::knowledge::all_known;
+use crate::receivers::receiver;
+use crate::saying::say_answer_by_step;
+use ixl::{Command, Input};
+use node_drive::node_lines::{Known, OperatorCommand, Order, read_command};
+use node_drive::{LineMeaning, Node, Outgoing};
+use simulator_run::ixl_rules::control_table::Checked;
+use simulator_run::simulator_event::NodeId;
+use std::alloc::{AllocError, Global};
+use std::collections::VecDeque;
+
+/// The interlocking of a station, with what it told last of each thing, the lines that it has to tell, and the commands of a line
+/// that have to come.
+#[derive(Drop)]
+pub struct InterlockingNode {
+    pub(crate) stepped: Stepped,
+    pub(crate) told: Vec<Option<Known>>,
+    pub(crate) said: VecDeque<String>,
+    pub(crate) left: VecDeque<Command>,
+}
+
+impl InterlockingNode {
+    /// The interlocking of a table that was checked, at a reading of its clock. It numbers the PDUs of each link from `first` on, and
+    /// has told nothing yet.
+    pub fn new(
+        alloc: Global,
+        checked: Checked,
+        reading: u64,
+        first: u32,
+    ) -> Result<InterlockingNode, AllocError>
+        ensures site { IfOk result (λ n. (seen n).state.site ≡ checked) }
+        ensures table { IfOk result (λ n. IsTableOf (seen n).state.site (seen n).state.table) }
+        ensures node { IfOk result (λ n. seen n ≡ made (seen n).state.site (seen n).state.table (record { clock = reading; first = first })) }
+    {
+        let stepped = Stepped::new(alloc, checked, reading, first)?;
+        stepped.layout();
+        Ok(InterlockingNode {
+            stepped,
+            told: Vec::new(alloc),
+            said: VecDeque::new(alloc),
+            left: VecDeque::new(alloc),
+        })
+    }
+
+    /// What changed is to be told.
+    fn tell(&mut self, alloc: Global, reading: u64) -> Result<(), AllocError>
+        ensures stepped { self.new.stepped ≡ self.old.stepped }
+        ensures left { self.new.left ≡ self.old.left }
+        ensures told { OnOk result (self.new.told.items ≡ all_known self.old.stepped.sited.site self.old.stepped.sited.table reading self.old.stepped.ixl) }
+        ensures said { OnOk result (texts self.new.said ≡ texts self.old.said ++ changes self.old.stepped.sited.site self.old.told.items self.new.told.items) }
+    {
+        let all = all_known(alloc, self.stepped.interlocking(), reading)?;
+        say_changes(
+            alloc,
+            self.stepped.layout(),
+            &mut self.said,
+            &self.told,
+            &all,
+        )?;
+        self.told = all;
+        Ok(())
+    }
+
+    /// A line of the operator is taken: its answer is to be told, and its commands are to come.
+    fn take(
+        &mut self,
+        alloc: Global,
+        reading: u64,
+        asked: OperatorCommand,
+    ) -> Result<(), AllocError>
+        ensures stepped { self.new.stepped ≡ self.old.stepped }
+        ensures told { self.new.told ≡ self.old.told }
+        ensures said { OnOk result (texts self.new.said ≡ answer_to self.old.stepped.sited.site self.old.stepped.sited.table reading self.old.stepped.ixl asked) }
+        ensures left { OnOk result (self.new.left.items ≡ wanted self.old.stepped.ixl asked) }
+    {
+        self.said.clear();
+        self.left.clear();
+        let ixl = self.stepped.interlocking();
+        say_answer_to(alloc, ixl, reading, &mut self.said, asked)?;
+        add_wanted(&mut self.left, ixl, asked)
+    }
+}
+
+impl Node for InterlockingNode {
+    ghost use Rattle.node_kinds.specs.Interlockings.{InterlockingNode as Interlocking, interlocking_kind};
+    ghost use Rattle.node_kinds.specs.MadeInterlocking.{seen};
+    ghost use Rattle.simulator_run.specs.ixl_rules.Step.{Input as StepInput};
+
+    ghost State = { Interlocking };
+
+    ghost Input = { StepInput };
+
+    ghost does = { interlocking_kind };
+
+    ghost node = { seen };
+
+    fn is_partner(&self, other: NodeId) -> bool {
+        other.0 >= 1
+    }
+
+    fn hear(&mut self, alloc: Global, reading: u64, bytes: &[u8]) -> Result<(), AllocError> {
+        self.said.clear();
+        self.stepped.step(reading, Input::Datagram(bytes));
+        self.tell(alloc, reading)?;
+        Ok(())
+    }
+
+    fn tick(&mut self, alloc: Global, reading: u64) -> Result<(), AllocError> {
+        self.said.clear();
+        self.stepped.step(reading, Input::Tick);
+        self.tell(alloc, reading)?;
+        Ok(())
+    }
+
+    fn take_line(
+        &mut self,
+        alloc: Global,
+        reading: u64,
+        text: &str,
+    ) -> Result<LineMeaning, AllocError> {
+        match read_command(self.stepped.layout(), text) {
+            Ok(asked) => {
+                self.take(alloc, reading, asked)?;
+                Ok(LineMeaning::Comes)
+            }
+            Err(fault) => Ok(LineMeaning::Faulty(fault)),
+        }
+    }
+
+    fn step_on(&mut self, alloc: Global, reading: u64) -> Result<bool, AllocError> {
+        let Some(command) = self.left.pop_front() else {
+            return Ok(false);
+        };
+        self.said.clear();
+        let reply = self.stepped.step(reading, Input::Command(command));
+        say_answer_by_step(alloc, self.stepped.layout(), &mut self.said, command, reply)?;
+        self.tell(alloc, reading)?;
+        Ok(true)
+    }
+
+    fn order(&self) -> Option<Order> {
+        None
+    }
+
+    fn is_done(&self) -> bool {
+        false
+    }
+
+    fn take_datagram(&mut self) -> Option<Outgoing> {
+        let datagram = self.stepped.take_first()?;
+        let to = receiver(self.stepped.layout(), datagram.as_slice());
+        Some(Outgoing { to, datagram })
+    }
+
+    fn take_saying(&mut self) -> Option<String> {
+        self.said.pop_front()
+    }
+
+    fn tell_all(&mut self, alloc: Global, _reading: u64) -> Result<(), AllocError> {
+        self.said.clear();
+        say_changes(
+            alloc,
+            self.stepped.layout(),
+            &mut self.said,
+            &[],
+            &self.told,
+        )
+    }
+}

@@ -1,0 +1,34 @@
+//! The controllers and the interlocking as nodes that run as processes of their own, and what a controller's process is before its
+//! node is made.
+#![tactic(auto)]
+
+mod asked;
+mod changes;
+mod comparison;
+mod controller_steps;
+mod detector_node;
+mod equipment;
+mod interlocking_node;
+mod interlocking_steps;
+mod knowledge;
+mod laws;
+mod opening_node;
+mod own_sections;
+mod point_node;
+mod receivers;
+mod saying;
+mod signal_node;
+mod thing;
+mod thing_known;
+
+pub use detector_node::DetectorNode;
+pub use equipment::Equipment;
+pub use interlocking_node::InterlockingNode;
+pub use opening_node::OpeningNode;
+pub use point_node::PointNode;
+pub use signal_node::SignalNode;
+pub use thing::Thing;
+
+// What crates above need of the crates below.
+pub use node_drive;
+pub use simulator_run;
