@@ -1,0 +1,48 @@
+//! The kinds of nodes, for the laws of the engine. They have no code.
+
+use node_kinds::node_drive::Behaves;
+
+/// The controller of a signal.
+pub struct Signals;
+
+impl Behaves for Signals {
+    ghost use Rattle.simulator_run.specs.object_host.declared.input.Input.{Input as HostInput};
+    ghost use Rattle.simulator_run.specs.signal_ctl.Signal.{SignalState};
+    ghost use Rattle.node_kinds.specs.Controllers.{Controller, signal_kind};
+
+    ghost State = { Controller SignalState (Unit {0}) };
+
+    ghost Input = { HostInput };
+
+    ghost does = { signal_kind };
+}
+
+/// The controller of a point.
+pub struct Points;
+
+impl Behaves for Points {
+    ghost use Rattle.simulator_run.specs.object_host.declared.input.Input.{Input as HostInput};
+    ghost use Rattle.simulator_run.specs.point_ctl.Drive.{PointState};
+    ghost use Rattle.simulator_run.specs.sci_telegram.declared.message.Position.{Position};
+    ghost use Rattle.node_kinds.specs.Controllers.{Controller, point_kind};
+
+    ghost State = { Controller PointState Position };
+
+    ghost Input = { HostInput };
+
+    ghost does = { point_kind };
+}
+
+/// The interlocking.
+pub struct Interlockings;
+
+impl Behaves for Interlockings {
+    ghost use Rattle.simulator_run.specs.ixl_rules.Step as ixl;
+    ghost use Rattle.node_kinds.specs.Interlockings.{InterlockingNode, interlocking_kind};
+
+    ghost State = { InterlockingNode };
+
+    ghost Input = { ixl.Input };
+
+    ghost does = { interlocking_kind };
+}
