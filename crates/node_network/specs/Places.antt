@@ -1,0 +1,11 @@
+-- Which node has an address.
+use Rattle.std.specs.Prelude.{◌≡◌, ◌<◌, ℕ, List, Option, Some, None, slice_get}
+use Rattle.std.specs.declared.net.socket_addr.SocketAddr.{SocketAddr}
+use Rattle.node_drive.specs.simulator_event.declared.event.NodeId.{NodeId}
+
+-- it is the first whose address it is, or no node's
+abbrev pub IsNodeOf : List SocketAddr → SocketAddr → Option NodeId → Type 0
+IsNodeOf addresses address (Some node) =
+    (slice_get addresses node.0 ≡ Some address)
+    × ((before : ℕ) → before < node.0 → ¬ (slice_get addresses before ≡ Some address))
+IsNodeOf addresses address None = (place : ℕ) → ¬ (slice_get addresses place ≡ Some address)

@@ -1,0 +1,62 @@
+-- The record of a node's process: a line for each call that tells something.
+--
+--     node S1 first 7 for 60000     the first line: the node, the number of its first PDU, and for how many milliseconds it was to run
+--     at 12000                      the clock was read
+--     listens                       an operator began to listen
+--     hears set R1                  a line came
+--     closed                        no line came any more
+--     from IXL1 3200..              a datagram came from a node's address, or from another: `-`
+--     throws away                   all that waited in the socket was thrown away
+--     writes 7 at 12000 show stop   a line was written
+--     breaks off 7 at 12000 show st a line wasn't written whole
+--     sends IXL1 3200..             a datagram was sent to a node
+--     complains 3 1                 a line was faulty, by its number and that of its fault
+use Rattle.std.specs.Prelude.{true, false, List, ◌∷◌, ◌++◌, ℕ, codes, Option, Some, None}
+use Rattle.std.specs.Fmt.{decimal as written}
+use Rattle.node_drive.specs.replay_words.Fault.{number_of}
+use Rattle.node_drive.specs.replay_words.Read.{hex_word}
+use Rattle.node_drive.specs.replay_words.declared.fault.Fault.{Fault}
+use Rattle.node_drive.specs.layout.Entries.{Site}
+use Rattle.node_drive.specs.simulator_event.declared.event.NodeId.{NodeId}
+use Rattle.node_drive.specs.Calls.{Call, Rests, Reads, AsksListener, AsksLine, AsksDatagram, ThrowsAway, Writes, BreaksOff, Sends, Complains, Text, Nothing, Closed}
+use Rattle.node_drive.specs.node_lines.Known.{node_word}
+use Rattle.node_network.specs.declared.entry.Entry.{Entry}
+use Rattle.node_network.specs.declared.entry.Entry.TheVariants as entry
+
+-- the word for who sent a datagram: a node's name, or `-` where no node has that address
+abbrev pub sender_word : Site → Option NodeId → List ℕ
+sender_word site None = codes "-"
+sender_word site (Some node) = node_word site node
+
+abbrev pub bytes_word : Site → List ℕ → List ℕ → List ℕ
+bytes_word site word bytes = word ++ 32 ∷ hex_word bytes
+
+-- the line of a call; one that was answered by nothing has none
+abbrev pub call_line : Site → Call → Option (List ℕ)
+call_line site Rests = None
+call_line site (Reads reading) = Some (codes "at " ++ written reading)
+call_line site (AsksListener true) = Some (codes "listens")
+call_line site (AsksListener false) = None
+call_line site (AsksLine (Text text)) = Some (codes "hears " ++ text)
+call_line site (AsksLine Nothing) = None
+call_line site (AsksLine Closed) = Some (codes "closed")
+call_line site (AsksDatagram None) = None
+call_line site (AsksDatagram (Some arrival)) = Some (codes "from " ++ bytes_word site (sender_word site arrival.0) arrival.1)
+call_line site ThrowsAway = Some (codes "throws away")
+call_line site (Writes text) = Some (codes "writes " ++ text)
+call_line site (BreaksOff text) = Some (codes "breaks off " ++ text)
+call_line site (Sends to bytes) = Some (codes "sends " ++ bytes_word site (node_word site to) bytes)
+call_line site (Complains line fault) = Some (codes "complains " ++ (written line ++ 32 ∷ written (number_of fault)))
+
+-- what the code has as such a call
+abbrev pub call_with : Entry → Call
+call_with (entry.Reads reading) = Reads reading
+call_with entry.Listens = AsksListener true
+call_with (entry.Hears text) = AsksLine (Text text.now)
+call_with entry.Closed = AsksLine Closed
+call_with (entry.Comes from bytes) = AsksDatagram (Some (from, bytes.now))
+call_with entry.ThrowsAway = ThrowsAway
+call_with (entry.Writes text) = Writes text.now
+call_with (entry.BreaksOff text) = BreaksOff text.now
+call_with (entry.Sends to bytes) = Sends to bytes.now
+call_with (entry.Complains line fault) = Complains line fault

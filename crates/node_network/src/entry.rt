@@ -1,0 +1,79 @@
+//! The lines of a record.
+
+ghost use Rattle.std.specs.Prelude.{◌≡◌, ◌++◌, ◌∷◌, IfOk, Some, string_bytes};
+ghost use Rattle.node_network.specs.Records.{bytes_word, call_line, call_with, sender_word};
+
+use node_drive::node_lines::ixl_rules::control_table::layout::Layout;
+use node_drive::node_lines::replay_lines::node_name;
+use node_drive::node_lines::replay_words::{Fault, hex_word};
+use node_drive::node_lines::simulator_event::NodeId;
+use std::alloc::{AllocError, Global};
+
+/// A call of a node's process that has a line in its record.
+#[derive(Clone, Copy)]
+pub enum Entry<'a> {
+    /// The clock was read.
+    Reads(u64),
+    /// An operator began to listen.
+    Listens,
+    /// A line came.
+    Hears(&'a str),
+    /// No line came any more.
+    Closed,
+    /// A datagram came from the address of a node, or from another.
+    Comes(Option<NodeId>, &'a [u8]),
+    /// All that waited in the socket was thrown away.
+    ThrowsAway,
+    /// A line was written.
+    Writes(&'a str),
+    /// A line wasn't written whole.
+    BreaksOff(&'a str),
+    /// Bytes were sent to a node.
+    Sends(NodeId, &'a [u8]),
+    /// A line was faulty, by its number.
+    Complains(u64, Fault),
+}
+
+/// The line of a call, without a line feed.
+pub fn entry_line(alloc: Global, layout: &Layout, entry: Entry<'_>) -> Result<String, AllocError>
+    ensures { IfOk result (λ line. Some (string_bytes line) ≡ call_line layout.now (call_with entry.entry)) }
+{
+    match entry {
+        Entry::Reads(reading) => format!(in alloc; "at {reading}"),
+        Entry::Listens => String::from_str(alloc, "listens"),
+        Entry::Hears(text) => format!(in alloc; "hears {text}"),
+        Entry::Closed => String::from_str(alloc, "closed"),
+        Entry::Comes(from, bytes) => datagram_line(alloc, layout, "from", from, bytes),
+        Entry::ThrowsAway => String::from_str(alloc, "throws away"),
+        Entry::Writes(text) => format!(in alloc; "writes {text}"),
+        Entry::BreaksOff(text) => format!(in alloc; "breaks off {text}"),
+        Entry::Sends(to, bytes) => datagram_line(alloc, layout, "sends", Some(to), bytes),
+        Entry::Complains(line, fault) => {
+            let number = fault.number();
+            format!(in alloc; "complains {line} {number}")
+        }
+    }
+}
+
+/// The line of a datagram, with the node to which it goes or from whose address it came, if there is one.
+fn datagram_line(
+    alloc: Global,
+    layout: &Layout,
+    what: &str,
+    node: Option<NodeId>,
+    bytes: &[u8],
+) -> Result<String, AllocError>
+    ensures { IfOk result (λ line. string_bytes line ≡ what.now ++ 32 ∷ bytes_word layout.now (sender_word layout.now node) bytes.now) }
+{
+    let bytes = hex_word(alloc, bytes)?;
+    let Some(node) = node else {
+        return format!(in alloc; "{what} - {bytes}");
+    };
+    match node_name(layout, node) {
+        Some(name) => {
+            let name = name.as_str();
+            format!(in alloc; "{what} {name} {bytes}")
+        }
+        None => format!(in alloc; "{what} _ {bytes}"),
+    }
+}

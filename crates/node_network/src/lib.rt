@@ -1,0 +1,34 @@
+//! What the process of a node has outside: a socket of its own, the clock of the machine, and its lines on the standard streams or
+//! over a connection. And the same over memory, and what records say of it.
+#![tactic(auto)]
+
+mod connection_lines;
+mod entry;
+mod fault;
+mod laws;
+mod line_buffer;
+mod line_input;
+mod line_output;
+mod lines;
+mod log;
+mod machine;
+mod memory;
+mod node_clock;
+mod node_socket;
+mod recorded;
+mod replayed;
+mod stream_lines;
+mod stream_waited;
+
+pub use entry::{Entry, entry_line};
+pub use fault::OpenFault;
+pub use laws::{lines_come_in_any_pieces, lines_come_one_by_one};
+pub use lines::Lines;
+pub use log::OutsideCall;
+pub use machine::Machine;
+pub use memory::MemoryOutside;
+pub use node_clock::NodeClock;
+pub use node_socket::NodeSocket;
+pub use recorded::Recorded;
+pub use replayed::Replayed;
+pub use stream_waited::WaitedStream;

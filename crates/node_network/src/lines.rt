@@ -1,0 +1,95 @@
+//! The lines of a node.
+
+ghost use Rattle.std.specs.Prelude.{◌≡◌, IfErr, IfOk, false};
+ghost use Rattle.node_network.specs.Listeners.{IsForNobody, began, first_lines};
+ghost use Rattle.node_network.specs.declared.fault.OpenFault.TheVariants.{NoListener};
+ghost use Rattle.node_network.specs.declared.lines.Kind.TheVariants.{Field, Operator};
+
+use crate::connection_lines::ConnectionLines;
+use crate::fault::OpenFault;
+use crate::stream_lines::{OperatorLines, StreamLines};
+use node_drive::{BrokenOff, NextLine};
+use std::alloc::{AllocError, Global};
+use std::io::{Read, Write};
+use std::net::{Net, SocketAddr};
+
+/// The lines of a node, in and out.
+#[derive(Drop)]
+pub struct Lines<R: Net, I, O> {
+    pub(crate) kind: Kind<R, I, O>,
+}
+
+/// Whose lines they are, and over what.
+#[derive(Drop)]
+pub(crate) enum Kind<R: Net, I, O> {
+    Field(StreamLines<I, O>),
+    Operator(OperatorLines<I, O>),
+    Connection(ConnectionLines<R>),
+}
+
+impl<R: Net, I: Read, O: Write> Lines<R, I, O> {
+    /// The lines of field equipment. Without them a controller can't go on: their end is told.
+    pub fn of_field(input: I, output: O) -> Lines<R, I, O>
+        ensures { result.kind ≡ Field (first_lines input output) }
+    {
+        let lines = StreamLines::new(input, output);
+        Lines {
+            kind: Kind::Field(lines),
+        }
+    }
+
+    /// The lines of an operator, who listens from the beginning. At the end of the input the operator says nothing more.
+    pub fn of_operator(input: I, output: O) -> Lines<R, I, O>
+        ensures { result.kind ≡ Operator (record { streams = first_lines input output; told = false }) }
+    {
+        let lines = OperatorLines {
+            streams: StreamLines::new(input, output),
+            told: false,
+        };
+        Lines {
+            kind: Kind::Operator(lines),
+        }
+    }
+
+    /// The lines of an operator who comes and goes over a connection to an address.
+    pub fn over_connection(net: &R, address: SocketAddr) -> Result<Lines<R, I, O>, OpenFault>
+        ensures nobody { IfOk result (λ lines. IsForNobody lines.kind) }
+        ensures fault { IfErr result (λ fault. fault ≡ NoListener) }
+    {
+        match ConnectionLines::open(net, address) {
+            Ok(lines) => Ok(Lines {
+                kind: Kind::Connection(lines),
+            }),
+            Err(fault) => Err(fault),
+        }
+    }
+
+    pub(crate) fn has_listener(&mut self) -> bool
+        ensures { result ≡ began self.old.kind self.new.kind }
+    {
+        match &mut self.kind {
+            Kind::Field(_) => false,
+            Kind::Operator(lines) => lines.has_listener(),
+            Kind::Connection(lines) => lines.has_listener(),
+        }
+    }
+
+    pub(crate) fn next_line(&mut self, alloc: Global) -> Result<NextLine, AllocError> {
+        match &mut self.kind {
+            Kind::Field(lines) => lines.input.next_line(alloc),
+            Kind::Operator(lines) => lines.next_line(alloc),
+            Kind::Connection(lines) => lines.next_line(alloc),
+        }
+    }
+
+    pub(crate) fn write_line(&mut self, alloc: Global, text: &str) -> Result<(), BrokenOff> {
+        match &mut self.kind {
+            Kind::Field(lines) => lines.write_line(alloc, text),
+            Kind::Operator(lines) => lines.streams.write_line(alloc, text),
+            Kind::Connection(lines) => {
+                lines.write_line(alloc, text);
+                Ok(())
+            }
+        }
+    }
+}

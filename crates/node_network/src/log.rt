@@ -1,0 +1,63 @@
+//! What was asked of what a process has outside, and what it answered.
+
+ghost use Rattle.std.specs.Prelude.{◌≡◌, [], ◌∷◌, IfOk};
+ghost use Rattle.node_drive.specs.Calls.{Call, Grows};
+ghost use Rattle.node_network.specs.Log.{call_of, told_calls};
+
+use node_drive::node_lines::replay_words::Fault;
+use node_drive::node_lines::simulator_event::NodeId;
+use std::alloc::AllocError;
+
+/// A call of a node's process.
+#[derive(Debug, Drop)]
+pub enum OutsideCall {
+    /// It waited until the next round was due.
+    Rested,
+    /// It read the clock.
+    Read(u64),
+    /// It asked whether an operator began to listen.
+    AskedListener(bool),
+    /// It asked for a line, and was given one.
+    HeardLine(String),
+    /// It asked for a line, and there was none.
+    HeardNoLine,
+    /// It asked for a line, and none came any more.
+    HeardEnd,
+    /// It asked for a datagram, and was given one.
+    HeardDatagram(Option<NodeId>, Vec<u8>),
+    /// It asked for a datagram, and there was none, or the call failed.
+    HeardNoDatagram,
+    /// It threw away all datagrams that waited.
+    ThrewAway,
+    /// It wrote a line.
+    Wrote(String),
+    /// It didn't write a line whole.
+    BrokeOff(String),
+    /// It sent bytes to a node, or they were lost.
+    Sent(NodeId, Vec<u8>),
+    /// It told the fault of a line.
+    Complained(u64, Fault),
+}
+
+/// The calls of a process.
+#[derive(Drop)]
+pub(crate) struct Log {
+    pub(crate) calls: Vec<OutsideCall>,
+    /// Whether memory was there for each call.
+    pub(crate) tells: bool,
+}
+
+impl Log {
+    /// Keeps a call, if memory was there for it.
+    pub(crate) fn add(&mut self, call: Result<OutsideCall, AllocError>)
+        ensures { (one : Call) → IfOk call (λ kept. call_of kept ≡ one) → Grows (told_calls self.old.tells self.old.calls.items) (told_calls self.new.tells self.new.calls.items) (one ∷ []) }
+    {
+        let Ok(call) = call else {
+            self.tells = false;
+            return;
+        };
+        if self.calls.push(call).is_err() {
+            self.tells = false;
+        }
+    }
+}

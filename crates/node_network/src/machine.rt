@@ -1,0 +1,103 @@
+//! What a node's process has outside on a machine.
+
+ghost use Rattle.std.specs.Prelude.{◌≡◌, IfOk, string_bytes};
+ghost use Rattle.node_network.specs.Complaints.{complaint};
+
+use crate::line_output::write_line;
+use crate::lines::Lines;
+use crate::node_clock::NodeClock;
+use crate::node_socket::NodeSocket;
+use node_drive::node_lines::replay_words::Fault;
+use node_drive::node_lines::simulator_event::NodeId;
+use node_drive::{Arrived, BrokenOff, NextLine, Outside};
+use std::alloc::{AllocError, Global};
+use std::io::{Read, Write};
+use std::net::Net;
+use std::time::Clock as Timer;
+
+/// What a node's process has outside on a machine. It tells no calls.
+#[derive(Drop)]
+pub struct Machine<'a, R: Net, I, O, E> {
+    alloc: Global,
+    clock: NodeClock<'a, R>,
+    socket: NodeSocket,
+    lines: Lines<R, I, O>,
+    /// Where faulty lines are told.
+    complaints: E,
+}
+
+impl<'a, R: Net + Timer, I: Read, O: Write, E: Write> Machine<'a, R, I, O, E> {
+    pub fn new(
+        alloc: Global,
+        clock: NodeClock<'a, R>,
+        socket: NodeSocket,
+        lines: Lines<R, I, O>,
+        complaints: E,
+    ) -> Machine<'a, R, I, O, E>
+        ensures clock { result.clock.latest ≡ clock.entry.latest }
+        ensures socket { result.socket ≡ socket }
+        ensures lines { result.lines ≡ lines }
+        ensures complaints { result.complaints ≡ complaints }
+    {
+        Machine {
+            alloc,
+            clock,
+            socket,
+            lines,
+            complaints,
+        }
+    }
+}
+
+impl<'a, R: Net + Timer, I: Read, O: Write, E: Write> Outside for Machine<'a, R, I, O, E> {
+    ghost use Rattle.std.specs.Prelude.{None};
+
+    ghost told = { λ machine. record { calls = None; latest = machine.clock.latest } };
+
+    fn rest(&mut self) {
+        self.clock.rest();
+    }
+
+    fn read_clock(&mut self) -> u64 {
+        self.clock.read()
+    }
+
+    fn has_listener(&mut self) -> bool {
+        self.lines.has_listener()
+    }
+
+    fn next_line(&mut self, alloc: Global) -> Result<NextLine, AllocError> {
+        self.lines.next_line(alloc)
+    }
+
+    fn next_datagram(&mut self) -> Option<Arrived> {
+        self.socket.next_datagram()
+    }
+
+    fn throw_away(&mut self) {
+        self.socket.throw_away();
+    }
+
+    fn write_line(&mut self, text: &str) -> Result<(), BrokenOff> {
+        self.lines.write_line(self.alloc, text)
+    }
+
+    fn send(&mut self, to: NodeId, bytes: &[u8]) {
+        self.socket.send(to, bytes);
+    }
+
+    fn complain(&mut self, line: u64, fault: Fault) {
+        if let Ok(text) = complaint(self.alloc, line, fault) {
+            // Where this fails the fault isn't told.
+            let _ = write_line(self.alloc, &mut self.complaints, text.as_str());
+        }
+    }
+}
+
+/// How the fault of a line is told.
+fn complaint(alloc: Global, line: u64, fault: Fault) -> Result<String, AllocError>
+    ensures { IfOk result (λ text. string_bytes text ≡ complaint line fault) }
+{
+    let number = fault.number();
+    Ok(format!(in alloc; "line {line}: fault {number}")?)
+}

@@ -1,0 +1,298 @@
+//! What a node's process has outside, over memory.
+
+ghost use Rattle.std.specs.Prelude.{◌≡◌, ◌+◌, [], ◌∷◌, ◌++◌, IfOk, OnOk, Some, map, min, string_bytes, true};
+ghost use Rattle.std.specs.Option.{option_map, option_to_list};
+ghost use Rattle.node_drive.specs.Calls.{Arrival, AsksDatagram, AsksLine, BreaksOff, Sends, Writes, line_heard};
+ghost use Rattle.node_network.specs.Log.{call_of, told_calls};
+
+use crate::log::{Log, OutsideCall};
+use node_drive::node_lines::replay_words::Fault;
+use node_drive::node_lines::simulator_event::NodeId;
+use node_drive::{Arrived, BrokenOff, NextLine, Outside, Received};
+use std::alloc::{AllocError, Global};
+use std::collections::VecDeque;
+
+/// The longest datagram that is received whole.
+const LONGEST: usize = 512;
+
+/// What a node's process has outside, over memory: a clock that goes on by the same step in each round, what was brought, and what was
+/// written and sent. One of its calls may fail.
+#[derive(Drop)]
+pub struct MemoryOutside {
+    alloc: Global,
+    log: Log,
+    /// What time it is.
+    time: u64,
+    /// What was read last.
+    latest: u64,
+    step: u64,
+    /// Whether an operator began to listen since the last question.
+    began: bool,
+    lines: VecDeque<String>,
+    /// Whether no line comes behind those.
+    closed: bool,
+    datagrams: VecDeque<(Option<NodeId>, Vec<u8>)>,
+    written: VecDeque<String>,
+    sent: VecDeque<(NodeId, Vec<u8>)>,
+    /// How many calls were made that can fail.
+    made: u64,
+    /// Which of them fails, counted from 1; none at 0.
+    failing: u64,
+}
+
+impl MemoryOutside {
+    /// A clock of this first reading, and nothing else. Of the calls that write a line, send or ask for a datagram, the one of the
+    /// number `failing` fails, counted from 1; none at 0.
+    pub fn new(alloc: Global, first: u64, step: u64, failing: u64) -> MemoryOutside
+        ensures told { told_calls result.log.tells result.log.calls.items ≡ Some [] }
+        ensures time { result.time ≡ first }
+        ensures latest { result.latest ≡ first }
+    {
+        MemoryOutside {
+            alloc,
+            log: Log {
+                calls: Vec::new(alloc),
+                tells: true,
+            },
+            time: first,
+            latest: first,
+            step,
+            began: false,
+            lines: VecDeque::new(alloc),
+            closed: false,
+            datagrams: VecDeque::new(alloc),
+            written: VecDeque::new(alloc),
+            sent: VecDeque::new(alloc),
+            made: 0,
+            failing,
+        }
+    }
+
+    /// What was called so far, oldest first, as far as it was kept.
+    pub fn calls(&self) -> &[OutsideCall]
+        ensures { result.now ≡ self.now.log.calls.items }
+    {
+        &self.log.calls
+    }
+
+    /// Time passes.
+    pub fn pass(&mut self, millis: u64)
+        ensures time { self.new.time ≡ min (self.old.time + millis) 18446744073709551615 }
+        ensures log { self.new.log ≡ self.old.log }
+    {
+        self.time = self.time.saturating_add(millis);
+    }
+
+    /// An operator begins to listen.
+    pub fn listen(&mut self)
+        ensures { self.new ≡ record self.old { began = true } }
+    {
+        self.began = true;
+    }
+
+    /// A line comes.
+    pub fn bring_line(&mut self, text: &str) -> Result<(), AllocError>
+        ensures lines { OnOk result (map string_bytes self.new.lines.items ≡ map string_bytes self.old.lines.items ++ text.now ∷ []) }
+        ensures log { self.new.log ≡ self.old.log }
+    {
+        let text = String::from_str(self.alloc, text)?;
+        self.lines.push_back(text)?;
+        Ok(())
+    }
+
+    /// No more lines come.
+    pub fn close(&mut self)
+        ensures { self.new ≡ record self.old { closed = true } }
+    {
+        self.closed = true;
+    }
+
+    /// A datagram comes from the address of a node, or from that of none.
+    pub fn bring(&mut self, from: Option<NodeId>, bytes: &[u8]) -> Result<(), AllocError>
+        ensures datagrams { OnOk result (map {B = Arrival} (λ d. (d.0, d.1.items)) self.new.datagrams.items ≡ map {B = Arrival} (λ d. (d.0, d.1.items)) self.old.datagrams.items ++ (from, bytes.now) ∷ []) }
+        ensures log { self.new.log ≡ self.old.log }
+    {
+        let bytes = Vec::from_slice(self.alloc, bytes)?;
+        self.datagrams.push_back((from, bytes))?;
+        Ok(())
+    }
+
+    /// Takes the oldest line that was written, as far as it was kept.
+    pub fn take_written(&mut self) -> Option<String>
+        ensures written { self.old.written.items ≡ option_to_list result ++ self.new.written.items }
+        ensures log { self.new.log ≡ self.old.log }
+    {
+        self.written.pop_front()
+    }
+
+    /// Takes the oldest datagram that was sent, as far as it was kept, with the node to which it goes.
+    pub fn take_sent(&mut self) -> Option<(NodeId, Vec<u8>)>
+        ensures sent { self.old.sent.items ≡ option_to_list result ++ self.new.sent.items }
+        ensures log { self.new.log ≡ self.old.log }
+    {
+        self.sent.pop_front()
+    }
+
+    /// A call is made that can fail. It tells whether this is the one that does.
+    fn fails(&mut self) -> bool
+        ensures log { self.new.log ≡ self.old.log }
+        ensures latest { self.new.latest ≡ self.old.latest }
+    {
+        self.made = self.made.saturating_add(1);
+        self.made == self.failing
+    }
+
+    /// The oldest datagram that waits. One that is too long is cut.
+    fn take_datagram(&mut self) -> Option<Arrived>
+        ensures log { self.new.log ≡ self.old.log }
+        ensures latest { self.new.latest ≡ self.old.latest }
+    {
+        if self.fails() {
+            return None;
+        }
+        let (from, bytes) = self.datagrams.pop_front()?;
+        let (front, _) = bytes.split_at(bytes.len().min(LONGEST));
+        let bytes = Received::try_from(front).ok()?;
+        Some(Arrived { from, bytes })
+    }
+
+    /// The oldest line that waits.
+    fn take_line(&mut self) -> NextLine
+        ensures log { self.new.log ≡ self.old.log }
+        ensures latest { self.new.latest ≡ self.old.latest }
+    {
+        match self.lines.pop_front() {
+            Some(text) => NextLine::Text(text),
+            None if self.closed => NextLine::Closed,
+            None => NextLine::Nothing,
+        }
+    }
+
+    /// Keeps a line that was written. It tells whether memory was there.
+    fn keep_line(&mut self, text: &str) -> Result<(), AllocError>
+        ensures log { self.new.log ≡ self.old.log }
+        ensures latest { self.new.latest ≡ self.old.latest }
+    {
+        let text = String::from_str(self.alloc, text)?;
+        self.written.push_back(text)?;
+        Ok(())
+    }
+
+    /// Keeps a datagram that was sent. It tells whether memory was there.
+    fn keep_datagram(&mut self, to: NodeId, bytes: &[u8]) -> Result<(), AllocError>
+        ensures log { self.new.log ≡ self.old.log }
+        ensures latest { self.new.latest ≡ self.old.latest }
+    {
+        let bytes = Vec::from_slice(self.alloc, bytes)?;
+        self.sent.push_back((to, bytes))?;
+        Ok(())
+    }
+}
+
+impl Outside for MemoryOutside {
+    ghost told = { λ outside. record { calls = told_calls outside.log.tells outside.log.calls.items; latest = outside.latest } };
+
+    fn rest(&mut self) {
+        self.time = self.time.saturating_add(self.step);
+        self.log.add(Ok(OutsideCall::Rested));
+    }
+
+    fn read_clock(&mut self) -> u64 {
+        self.latest = self.latest.max(self.time);
+        self.log.add(Ok(OutsideCall::Read(self.latest)));
+        self.latest
+    }
+
+    fn has_listener(&mut self) -> bool {
+        let began = self.began;
+        self.began = false;
+        self.log.add(Ok(OutsideCall::AskedListener(began)));
+        began
+    }
+
+    fn next_line(&mut self, alloc: Global) -> Result<NextLine, AllocError> {
+        let line = self.take_line();
+        self.log.add(heard_line(alloc, &line));
+        Ok(line)
+    }
+
+    fn next_datagram(&mut self) -> Option<Arrived> {
+        let arrived = self.take_datagram();
+        self.log.add(heard_datagram(self.alloc, &arrived));
+        arrived
+    }
+
+    fn throw_away(&mut self) {
+        self.datagrams.clear();
+        self.log.add(Ok(OutsideCall::ThrewAway));
+    }
+
+    fn write_line(&mut self, text: &str) -> Result<(), BrokenOff> {
+        if self.fails() || self.keep_line(text).is_err() {
+            self.log.add(broke_off(self.alloc, text));
+            return Err(BrokenOff);
+        }
+        self.log.add(wrote(self.alloc, text));
+        Ok(())
+    }
+
+    fn send(&mut self, to: NodeId, bytes: &[u8]) {
+        self.log.add(sent(self.alloc, to, bytes));
+        if !self.fails() {
+            // Where no memory is left it is lost.
+            let _ = self.keep_datagram(to, bytes);
+        }
+    }
+
+    fn complain(&mut self, line: u64, fault: Fault) {
+        self.log.add(Ok(OutsideCall::Complained(line, fault)));
+    }
+}
+
+/// The call by which a line was asked for, with what was answered.
+fn heard_line(alloc: Global, line: &NextLine) -> Result<OutsideCall, AllocError>
+    ensures { IfOk result (λ call. call_of call ≡ AsksLine (line_heard line.now)) }
+{
+    match line {
+        NextLine::Text(text) => {
+            let text = String::from_str(alloc, text.as_str())?;
+            Ok(OutsideCall::HeardLine(text))
+        }
+        NextLine::Nothing => Ok(OutsideCall::HeardNoLine),
+        NextLine::Closed => Ok(OutsideCall::HeardEnd),
+    }
+}
+
+/// The call by which a datagram was asked for, with what was answered.
+fn heard_datagram(alloc: Global, arrived: &Option<Arrived>) -> Result<OutsideCall, AllocError>
+    ensures { IfOk result (λ call. call_of call ≡ AsksDatagram (option_map (λ d. (d.from, d.bytes.items)) arrived.now)) }
+{
+    match arrived {
+        Some(arrived) => {
+            let bytes = Vec::from_slice(alloc, &arrived.bytes)?;
+            Ok(OutsideCall::HeardDatagram(arrived.from, bytes))
+        }
+        None => Ok(OutsideCall::HeardNoDatagram),
+    }
+}
+
+/// The call by which a line was written.
+fn wrote(alloc: Global, text: &str) -> Result<OutsideCall, AllocError>
+    ensures { IfOk result (λ call. call_of call ≡ Writes text.now) }
+{
+    Ok(OutsideCall::Wrote(String::from_str(alloc, text)?))
+}
+
+/// The call by which a line wasn't written whole.
+fn broke_off(alloc: Global, text: &str) -> Result<OutsideCall, AllocError>
+    ensures { IfOk result (λ call. call_of call ≡ BreaksOff text.now) }
+{
+    Ok(OutsideCall::BrokeOff(String::from_str(alloc, text)?))
+}
+
+/// The call by which bytes were sent.
+fn sent(alloc: Global, to: NodeId, bytes: &[u8]) -> Result<OutsideCall, AllocError>
+    ensures { IfOk result (λ call. call_of call ≡ Sends to bytes.now) }
+{
+    Ok(OutsideCall::Sent(to, Vec::from_slice(alloc, bytes)?))
+}

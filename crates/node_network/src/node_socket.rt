@@ -1,0 +1,133 @@
+//! The socket of a node.
+
+ghost use Rattle.std.specs.Prelude.{◌≡◌, ◌≤◌, Err, IfErr, IfOk, IfSome, IsSomeAnd, Some, length, slice_get};
+ghost use Rattle.std.specs.Bool.{Decides};
+ghost use Rattle.node_network.specs.Places.{IsNodeOf};
+ghost use Rattle.node_network.specs.declared.fault.OpenFault.TheVariants.{NoAddress, NoSocket};
+
+use crate::fault::OpenFault;
+use node_drive::node_lines::simulator_event::NodeId;
+use node_drive::{Arrived, Received};
+use std::alloc::Global;
+use std::io::ErrorKind;
+use std::net::{Net, SocketAddr, UdpSocket};
+
+/// The longest datagram that is received whole.
+const LONGEST: usize = 512;
+
+/// How many datagrams are thrown away at most: more than a socket keeps.
+const MOST_THROWN_AWAY: u32 = 4096;
+
+/// The socket of a node, at the node's own address alone, with the addresses of all nodes in their order.
+#[derive(Drop)]
+pub struct NodeSocket {
+    socket: UdpSocket,
+    addresses: Vec<SocketAddr>,
+}
+
+impl NodeSocket {
+    /// Opens the socket of a node. It fails where another process has the address.
+    pub fn open(
+        net: &impl Net,
+        alloc: Global,
+        addresses: &[SocketAddr],
+        own: NodeId,
+    ) -> Result<NodeSocket, OpenFault>
+        ensures addresses { IfOk result (λ node. node.addresses.items ≡ addresses.now) }
+        ensures no_address { length addresses.now ≤ own.0 → result ≡ Err NoAddress }
+        ensures address { result ≡ Err NoAddress → length addresses.now ≤ own.0 }
+    {
+        let Some(address) = addresses.get(own.0) else {
+            return Err(OpenFault::NoAddress);
+        };
+        let socket = open_at(net, *address)?;
+        let addresses = Vec::from_slice(alloc, addresses)?;
+        Ok(NodeSocket { socket, addresses })
+    }
+
+    /// The next datagram, if there is one. A longer one is cut. A call that fails is silence.
+    pub(crate) fn next_datagram(&self) -> Option<Arrived>
+        ensures { IfSome result (λ arrived. (sender : SocketAddr) × IsNodeOf self.now.addresses.items sender arrived.from) }
+    {
+        let mut buffer = [0u8; LONGEST];
+        let (count, sender) = self.socket.recv_from(&mut buffer).ok()?;
+        let (bytes, _) = buffer.as_slice().split_at(count);
+        arrived(&self.addresses, &sender, bytes)
+    }
+
+    /// Throws away all datagrams that wait.
+    pub(crate) fn throw_away(&self) {
+        for _ in 0..MOST_THROWN_AWAY {
+            if self.is_empty() {
+                return;
+            }
+        }
+    }
+
+    /// Takes a datagram, if one waits. It tells whether none did.
+    fn is_empty(&self) -> bool {
+        match self.socket.recv_from(&mut [0u8; 1]) {
+            Ok(_) => false,
+            Err(error) => error.kind() == ErrorKind::WouldBlock,
+        }
+    }
+
+    /// Sends bytes to a node. Where that fails they are lost.
+    pub(crate) fn send(&self, to: NodeId, bytes: &[u8]) {
+        if let Some(address) = self.addresses.as_slice().get(to.0) {
+            // A datagram that isn't sent is one that is lost.
+            let _ = self.socket.send_to(bytes, *address);
+        }
+    }
+}
+
+/// Opens a socket whose calls don't wait.
+fn open_at(net: &impl Net, address: SocketAddr) -> Result<UdpSocket, OpenFault>
+    ensures { IfErr result (λ fault. fault ≡ NoSocket) }
+{
+    let Ok(socket) = net.bind_udp(address) else {
+        return Err(OpenFault::NoSocket);
+    };
+    match socket.set_nonblocking(true) {
+        Ok(()) => Ok(socket),
+        Err(_) => Err(OpenFault::NoSocket),
+    }
+}
+
+/// Bytes that came from an address.
+fn arrived(addresses: &[SocketAddr], sender: &SocketAddr, bytes: &[u8]) -> Option<Arrived>
+    requires { length bytes.now ≤ 512 }
+    ensures from { IsSomeAnd result (λ arrived. IsNodeOf addresses.now sender.now arrived.from) }
+    ensures bytes { IsSomeAnd result (λ arrived. arrived.bytes.items ≡ bytes.now) }
+{
+    let bytes = Received::try_from(bytes).ok()?;
+    let from = node_of(addresses, sender);
+    Some(Arrived { from, bytes })
+}
+
+/// The node that has an address, if one has.
+fn node_of(addresses: &[SocketAddr], address: &SocketAddr) -> Option<NodeId>
+    ensures { IsNodeOf addresses.now address.now result }
+{
+    for place in 0..addresses.len() {
+        if is_at(addresses, place, address) {
+            return Some(NodeId(place));
+        }
+    }
+    None
+}
+
+fn is_at(addresses: &[SocketAddr], place: usize, address: &SocketAddr) -> bool
+    ensures { Decides result (slice_get addresses.now place ≡ Some address.now) }
+{
+    match addresses.get(place) {
+        Some(one) => is_same(one, address),
+        None => false,
+    }
+}
+
+fn is_same(one: &SocketAddr, other: &SocketAddr) -> bool
+    ensures { Decides result (one.now ≡ other.now) }
+{
+    one == other
+}

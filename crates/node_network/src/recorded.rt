@@ -1,0 +1,130 @@
+//! A node's process that is recorded.
+
+ghost use Rattle.std.specs.Prelude.{◌≡◌};
+
+use crate::entry::{Entry, entry_line};
+use node_drive::node_lines::ixl_rules::control_table::layout::Layout;
+use node_drive::node_lines::replay_words::Fault;
+use node_drive::node_lines::simulator_event::NodeId;
+use node_drive::{Arrived, BrokenOff, NextLine, Outside};
+use std::alloc::{AllocError, Global};
+use std::io::{Eprint, Write};
+
+/// What a process has outside, where each call is written to a record as it was answered. A record that can't be written any more is
+/// told once, and the process goes on without it.
+#[derive(Drop)]
+pub struct Recorded<'a, O, W, E> {
+    alloc: Global,
+    layout: &'a Layout,
+    outside: O,
+    recorder: W,
+    /// Where it is told that the record can't be written any more.
+    complaints: &'a E,
+    /// Whether each call so far was written.
+    is_whole: bool,
+}
+
+impl<'a, O: Outside, W: Write, E: Eprint> Recorded<'a, O, W, E> {
+    /// A process that begins, in a station of this layout.
+    pub fn new(
+        alloc: Global,
+        layout: &'a Layout,
+        outside: O,
+        recorder: W,
+        complaints: &'a E,
+    ) -> Recorded<'a, O, W, E>
+        ensures outside { result.outside ≡ outside }
+        ensures recorder { result.recorder ≡ recorder }
+    {
+        Recorded {
+            alloc,
+            layout,
+            outside,
+            recorder,
+            complaints,
+            is_whole: true,
+        }
+    }
+
+    /// Writes a call to the record.
+    fn note(&mut self, entry: Entry<'_>)
+        ensures { self.new.outside ≡ self.old.outside }
+    {
+        if !self.is_whole {
+            return;
+        }
+        let written = match entry_line(self.alloc, self.layout, entry) {
+            Ok(line) => self.recorder.writeln(line.as_str()).is_ok(),
+            Err(_) => false,
+        };
+        if !written {
+            self.is_whole = false;
+            // Where this fails it isn't told.
+            let _ = self
+                .complaints
+                .eprintln("the record can't be written any more");
+        }
+    }
+}
+
+impl<'a, O: Outside, W: Write, E: Eprint> Outside for Recorded<'a, O, W, E> {
+    ghost told = { λ recorded. O.told recorded.outside };
+
+    fn rest(&mut self) {
+        self.outside.rest();
+    }
+
+    fn read_clock(&mut self) -> u64 {
+        let reading = self.outside.read_clock();
+        self.note(Entry::Reads(reading));
+        reading
+    }
+
+    fn has_listener(&mut self) -> bool {
+        let began = self.outside.has_listener();
+        if began {
+            self.note(Entry::Listens);
+        }
+        began
+    }
+
+    fn next_line(&mut self, alloc: Global) -> Result<NextLine, AllocError> {
+        let next = self.outside.next_line(alloc)?;
+        match &next {
+            NextLine::Text(text) => self.note(Entry::Hears(text.as_str())),
+            NextLine::Nothing => (),
+            NextLine::Closed => self.note(Entry::Closed),
+        }
+        Ok(next)
+    }
+
+    fn next_datagram(&mut self) -> Option<Arrived> {
+        let arrived = self.outside.next_datagram()?;
+        self.note(Entry::Comes(arrived.from, arrived.bytes.as_slice()));
+        Some(arrived)
+    }
+
+    fn throw_away(&mut self) {
+        self.outside.throw_away();
+        self.note(Entry::ThrowsAway);
+    }
+
+    fn write_line(&mut self, text: &str) -> Result<(), BrokenOff> {
+        let written = self.outside.write_line(text);
+        match written {
+            Ok(()) => self.note(Entry::Writes(text)),
+            Err(_) => self.note(Entry::BreaksOff(text)),
+        }
+        written
+    }
+
+    fn send(&mut self, to: NodeId, bytes: &[u8]) {
+        self.outside.send(to, bytes);
+        self.note(Entry::Sends(to, bytes));
+    }
+
+    fn complain(&mut self, line: u64, fault: Fault) {
+        self.outside.complain(line, fault);
+        self.note(Entry::Complains(line, fault));
+    }
+}

@@ -1,0 +1,196 @@
+//! What a record says that came to a node, and whether the node does what it says.
+
+ghost use Rattle.std.specs.Prelude.{◌≡◌, ◌≤◌};
+
+use crate::entry::{Entry, entry_line};
+use node_drive::node_lines::ixl_rules::control_table::layout::Layout;
+use node_drive::node_lines::replay_lines::node_named;
+use node_drive::node_lines::replay_words::{Fault, Lines, decimal, hexadecimal_or_none};
+use node_drive::node_lines::simulator_event::NodeId;
+use node_drive::{Arrived, BrokenOff, NextLine, Outside, Received};
+use std::alloc::{AllocError, Global};
+
+/// A record that is gone through once more: what came to the node is taken from it, and what the node does is compared with it.
+#[derive(Drop)]
+pub struct Replayed<'a> {
+    alloc: Global,
+    layout: &'a Layout,
+    lines: Lines<'a>,
+    /// The next line with its number, if there is one.
+    next: Option<(u64, &'a str)>,
+    /// What the clock read last.
+    latest: u64,
+    /// The number of the first line that differs.
+    differs: Option<u64>,
+    /// Whether memory was there for each comparison.
+    is_whole: bool,
+}
+
+impl<'a> Replayed<'a> {
+    /// What stands behind the first line of a record.
+    pub fn new(alloc: Global, layout: &'a Layout, lines: Lines<'a>) -> Replayed<'a> {
+        let mut lines = lines;
+        let next = lines.next();
+        Replayed {
+            alloc,
+            layout,
+            lines,
+            next,
+            latest: 0,
+            differs: None,
+            is_whole: true,
+        }
+    }
+
+    /// The number of the first line that differs, if one does: one of which the node does something else, or one that is left.
+    pub fn difference(&self) -> Option<u64> {
+        match (self.differs, self.next) {
+            (None, Some((number, _))) => Some(number),
+            (differs, _) => differs,
+        }
+    }
+
+    /// Whether memory was there for each comparison.
+    pub fn is_whole(&self) -> bool {
+        self.is_whole
+    }
+
+    /// The next line was gone through.
+    fn pass(&mut self)
+        ensures { self.new.latest ≡ self.old.latest }
+    {
+        self.next = self.lines.next();
+    }
+
+    /// The next line says something else.
+    fn differ(&mut self)
+        ensures { self.new.latest ≡ self.old.latest }
+    {
+        if let (None, Some((number, _))) = (self.differs, self.next) {
+            self.differs = Some(number);
+        }
+        self.next = None;
+    }
+
+    /// What stands behind these words in the next line, which is gone through.
+    fn behind(&mut self, words: &str) -> Option<&'a str>
+        ensures { self.new.latest ≡ self.old.latest }
+    {
+        let (_, line) = self.next?;
+        let rest = line.strip_prefix(words)?;
+        self.pass();
+        Some(rest)
+    }
+
+    /// Whether the next line is that of this call; it is gone through then.
+    fn is_next(&mut self, entry: Entry<'_>) -> bool
+        ensures { self.new.latest ≡ self.old.latest }
+    {
+        let Ok(line) = entry_line(self.alloc, self.layout, entry) else {
+            self.is_whole = false;
+            return false;
+        };
+        let is_next = is_line(self.next, line.as_str());
+        if is_next {
+            self.pass();
+        }
+        is_next
+    }
+
+    /// The node does this.
+    fn does(&mut self, entry: Entry<'_>)
+        ensures { self.new.latest ≡ self.old.latest }
+    {
+        if !self.is_next(entry) {
+            self.differ();
+        }
+    }
+
+    /// A datagram as a line has it, behind its first word.
+    fn arrived(&mut self, rest: &str) -> Option<Arrived>
+        ensures { self.new.latest ≡ self.old.latest }
+    {
+        let (word, bytes) = rest.split_once(' ')?;
+        let from = node_named(self.layout, word).ok();
+        let bytes = hexadecimal_or_none(bytes).ok()?;
+        let bytes = Received::try_from(bytes.as_slice()).ok()?;
+        Some(Arrived { from, bytes })
+    }
+}
+
+/// The reading of the clock that the next line tells, if it tells one.
+fn reading_in(next: Option<(u64, &str)>) -> Option<u64> {
+    let (_, line) = next?;
+    let word = line.strip_prefix("at ")?;
+    decimal(word).ok()
+}
+
+/// Whether the next line is this one.
+fn is_line(next: Option<(u64, &str)>, line: &str) -> bool {
+    match next {
+        Some((_, text)) => text == line,
+        None => false,
+    }
+}
+
+impl<'a> Outside for Replayed<'a> {
+    ghost use Rattle.std.specs.Prelude.{None};
+
+    ghost told = { λ replayed. record { calls = None; latest = replayed.latest } };
+
+    fn rest(&mut self) {}
+
+    fn read_clock(&mut self) -> u64 {
+        match reading_in(self.next) {
+            Some(reading) if reading >= self.latest => {
+                self.latest = reading;
+                self.pass();
+            }
+            _ => self.differ(),
+        }
+        self.latest
+    }
+
+    fn has_listener(&mut self) -> bool {
+        self.is_next(Entry::Listens)
+    }
+
+    /// Behind its last line a record has no more of what came, so the process ends there.
+    fn next_line(&mut self, alloc: Global) -> Result<NextLine, AllocError> {
+        if self.next.is_none() {
+            return Ok(NextLine::Closed);
+        }
+        if self.is_next(Entry::Closed) {
+            return Ok(NextLine::Closed);
+        }
+        match self.behind("hears ") {
+            Some(text) => Ok(NextLine::Text(String::from_str(alloc, text)?)),
+            None => Ok(NextLine::Nothing),
+        }
+    }
+
+    fn next_datagram(&mut self) -> Option<Arrived> {
+        let rest = self.behind("from ")?;
+        self.arrived(rest)
+    }
+
+    fn throw_away(&mut self) {
+        self.does(Entry::ThrowsAway);
+    }
+
+    fn write_line(&mut self, text: &str) -> Result<(), BrokenOff> {
+        if self.is_next(Entry::BreaksOff(text)) {
+            return Err(BrokenOff);
+        }
+        self.does(Entry::Writes(text));
+        Ok(())
+    }
+
+    fn send(&mut self, to: NodeId, bytes: &[u8]) {
+        self.does(Entry::Sends(to, bytes));
+    }
+
+    fn complain(&mut self, line: u64, fault: Fault) {
+        self.does(Entry::Complains(line, fault));
+    }
+}
