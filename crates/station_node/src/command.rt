@@ -1,0 +1,178 @@
+//! What `station node` does.
+
+ghost use Rattle.std.specs.Prelude.{◌≤◌, IfOk, length};
+ghost use Rattle.node_kinds.specs.node_drive.replay_lines.Names.{node_names};
+
+use crate::digest::layout_digest;
+use crate::failure::NodeFailure;
+use crate::process::run_node;
+use node_addresses::read_addresses;
+use node_kinds::node_drive::Outside;
+use node_kinds::node_drive::node_lines::replay_lines::node_named;
+use node_kinds::simulator_run::ixl_rules::control_table::Checked;
+use node_kinds::simulator_run::ixl_rules::control_table::layout::Layout;
+use node_kinds::simulator_run::simulator_event::NodeId;
+use node_network::{Lines, Machine, NodeClock, NodeSocket, Recorded};
+use station_check::{table_of, tell};
+use std::fs;
+use std::fs::Files;
+use std::io::{Eprint, Read, Write};
+use std::net::{Net, SocketAddr};
+use std::random::RandomSource;
+use std::time::Clock as Timer;
+
+/// What `station node` is asked.
+#[derive(Clone, Copy)]
+pub struct Asked<'a> {
+    /// The text of the layout.
+    pub layout: &'a str,
+    /// The name of the node.
+    pub name: &'a str,
+    /// The text of the addresses file.
+    pub addresses: &'a str,
+    /// The address at which the interlocking's operator is served, if not over the lines of the process.
+    pub operator: Option<&'a str>,
+    /// The path of the record, if there is to be one.
+    pub record: Option<&'a str>,
+    /// The first reading of the clock, in milliseconds.
+    pub clock: u64,
+    /// For how many milliseconds it runs, if not for ever.
+    pub for_ms: Option<u64>,
+}
+
+/// Runs a node of a station as a process of its own. Its lines go over `input` and `output`, those about faulty ones to `complaints`.
+/// The texts are judged before the socket is bound. On standard error the digest of the layout is told as the node begins, and why it
+/// ended before its time. The status is 0 where it ran to its end, and otherwise 1.
+pub fn run<
+    R: Files + Net + Timer + RandomSource + Eprint + AllocGlobal,
+    I: Read + Drop,
+    O: Write + Drop,
+    E: Write + Drop,
+>(rt: &R, asked: &Asked<'_>, input: I, output: O, complaints: E, err: &mut E) -> u8
+    ensures { result ≤ 1 }
+{
+    let table = match table_of(rt.alloc(), asked.layout) {
+        Ok(table) => table,
+        Err(failure) => {
+            tell(&failure, err);
+            return 1;
+        }
+    };
+    match begin(rt, asked, table, input, output, complaints) {
+        Ok(()) => 0,
+        Err(failure) => {
+            // Where this can't be written, the status has to do.
+            let _ = eprintln!(rt; "{failure}");
+            1
+        }
+    }
+}
+
+/// Judges the name and the addresses, opens what the process has outside, and runs it.
+fn begin<
+    R: Files + Net + Timer + RandomSource + Eprint + AllocGlobal,
+    I: Read + Drop,
+    O: Write + Drop,
+    E: Write + Drop,
+>(
+    rt: &R,
+    asked: &Asked<'_>,
+    table: Checked,
+    input: I,
+    output: O,
+    complaints: E,
+) -> Result<(), NodeFailure> {
+    let Ok(node) = node_named(table.layout(), asked.name) else {
+        return Err(NodeFailure::NoNode);
+    };
+    let addresses = read_addresses(rt.alloc(), table.layout(), asked.addresses)?;
+    let lines = lines_of(rt, asked.operator, node, input, output)?;
+    let socket = NodeSocket::open(rt, rt.alloc(), &addresses, node)?;
+    let clock = NodeClock::start(rt, asked.clock)?;
+    tell_digest(rt, asked.layout)?;
+    let machine = Machine::new(rt.alloc(), clock, socket, lines, complaints);
+    match asked.record {
+        Some(path) => run_recorded(rt, asked, table, node, machine, path),
+        None => {
+            let first = first_number(rt)?;
+            let mut machine = machine;
+            run_node(rt.alloc(), table, node, first, time(asked), &mut machine)?;
+            Ok(())
+        }
+    }
+}
+
+/// Runs a node, and records what comes to it and what it does.
+fn run_recorded<R: Files + RandomSource + Eprint + AllocGlobal, O: Outside + Drop>(
+    rt: &R,
+    asked: &Asked<'_>,
+    table: Checked,
+    node: NodeId,
+    outside: O,
+    path: &str,
+) -> Result<(), NodeFailure> {
+    let first = first_number(rt)?;
+    let layout = table.copy(rt.alloc())?;
+    let Ok(mut recorder) = fs::create(rt, path) else {
+        return Err(NodeFailure::NoRecord);
+    };
+    let name = asked.name;
+    let written = match asked.for_ms {
+        Some(for_ms) => recorder.writeln(format_args!("node {name} first {first} for {for_ms}")),
+        None => recorder.writeln(format_args!("node {name} first {first}")),
+    };
+    if written.is_err() {
+        return Err(NodeFailure::NoRecord);
+    }
+    let mut recorded = Recorded::new(rt.alloc(), layout.layout(), outside, recorder, rt);
+    run_node(rt.alloc(), table, node, first, time(asked), &mut recorded)?;
+    Ok(())
+}
+
+/// For how many milliseconds the process runs.
+fn time(asked: &Asked<'_>) -> u64 {
+    asked.for_ms.unwrap_or(u64::MAX)
+}
+
+/// The lines of a node: those of its field equipment, or of the operator, who may come and go over a connection.
+fn lines_of<R: Net, I: Read + Drop, O: Write + Drop>(
+    rt: &R,
+    operator: Option<&str>,
+    node: NodeId,
+    input: I,
+    output: O,
+) -> Result<Lines<R, I, O>, NodeFailure> {
+    match operator {
+        Some(text) => {
+            let address = loopback(text, node)?;
+            Ok(Lines::over_connection(rt, address)?)
+        }
+        None if node.0 == 0 => Ok(Lines::of_operator(input, output)),
+        None => Ok(Lines::of_field(input, output)),
+    }
+}
+
+/// The address at which the operator of the interlocking is served.
+fn loopback(text: &str, node: NodeId) -> Result<SocketAddr, NodeFailure> {
+    match text.parse::<SocketAddr>() {
+        Ok(address) if node.0 == 0 && address.ip().is_loopback() => Ok(address),
+        _ => Err(NodeFailure::Operator),
+    }
+}
+
+/// The number of the first PDU, drawn anew.
+fn first_number<R: RandomSource>(rt: &R) -> Result<u32, NodeFailure> {
+    let mut bytes = [0u8; 4];
+    match rt.fill_bytes(&mut bytes) {
+        Ok(()) => Ok(u32::from_le_bytes(bytes)),
+        Err(_) => Err(NodeFailure::NoRandom),
+    }
+}
+
+/// Tells the digest of the layout on standard error: all nodes have to have the same one.
+fn tell_digest<R: Eprint + AllocGlobal>(rt: &R, layout: &str) -> Result<(), NodeFailure> {
+    let digest = layout_digest(rt.alloc(), layout)?;
+    // Where this can't be written, the node begins all the same.
+    let _ = eprintln!(rt; "layout {digest}");
+    Ok(())
+}

@@ -1,0 +1,82 @@
+//! The processes of controllers: their equipment tells how it is, and then the node is made, and lives.
+
+ghost use Rattle.std.specs.Prelude.{◌≡◌, ◌<◌, length, slice_get, OnErr, OnOk, Some};
+ghost use Rattle.node_kinds.specs.Controllers.{detector_kind, point_kind, signal_kind};
+ghost use Rattle.node_kinds.specs.Openings.{Lamp, Motor, Sections};
+ghost use Rattle.node_kinds.specs.node_drive.Beginning.{first_course};
+ghost use Rattle.node_kinds.specs.simulator_run.layout.Entries.{DetectorEntry};
+ghost use Rattle.node_kinds.specs.simulator_run.layout.declared.entries.Point.{Point as PointEntry};
+ghost use Rattle.node_kinds.specs.simulator_run.layout.declared.entries.Signal.{Signal as SignalEntry};
+ghost use Rattle.station_node.specs.Processes.{Controls, ControlsCut, detector_made, point_made, signal_made, told_nothing, told_position, told_sections};
+
+use crate::lives::{Told, left, live, open};
+use node_kinds::node_drive::{Course, NodeFault, Outside};
+use node_kinds::{DetectorNode, Equipment, PointNode, SignalNode};
+use std::alloc::Global;
+
+/// The process of the signal at this place.
+pub(crate) fn run_signal<O: Outside>(
+    alloc: Global,
+    told: Told<'_>,
+    place: usize,
+    course: &mut Course,
+    outside: &mut O,
+) -> Result<(), NodeFault>
+    requires place { place < length told.table.now.signals }
+    requires first { course.old ≡ first_course }
+    ensures done { OnOk result ((entry : SignalEntry) → slice_get told.entry.table.now.signals place ≡ Some entry → Controls signal_kind told.entry.table.now Lamp told_nothing (signal_made told.entry.table.now told.entry.first entry) told.entry.for_ms told.entry.begins course.new (O.told outside.old) (O.told outside.new)) }
+    ensures stopped { OnErr result ((entry : SignalEntry) → slice_get told.entry.table.now.signals place ≡ Some entry → ControlsCut signal_kind told.entry.table.now Lamp told_nothing (signal_made told.entry.table.now told.entry.first entry) told.entry.for_ms told.entry.begins (O.told outside.old) (O.told outside.new)) }
+{
+    let _opening = open(alloc, told, Equipment::Lamp, course, outside)?;
+    let now = outside.read_clock();
+    let mut node = SignalNode::new(alloc, told.table, place, now, told.first)?;
+    let for_ms = left(told.for_ms, told.begins, now);
+    live(alloc, &mut node, course, outside, now, for_ms)
+}
+
+/// The process of the point at this place.
+pub(crate) fn run_point<O: Outside>(
+    alloc: Global,
+    told: Told<'_>,
+    place: usize,
+    course: &mut Course,
+    outside: &mut O,
+) -> Result<(), NodeFault>
+    requires place { place < length told.table.now.points }
+    requires first { course.old ≡ first_course }
+    ensures done { OnOk result ((entry : PointEntry) → slice_get told.entry.table.now.points place ≡ Some entry → Controls point_kind told.entry.table.now Motor told_position (point_made told.entry.table.now told.entry.first entry) told.entry.for_ms told.entry.begins course.new (O.told outside.old) (O.told outside.new)) }
+    ensures stopped { OnErr result ((entry : PointEntry) → slice_get told.entry.table.now.points place ≡ Some entry → ControlsCut point_kind told.entry.table.now Motor told_position (point_made told.entry.table.now told.entry.first entry) told.entry.for_ms told.entry.begins (O.told outside.old) (O.told outside.new)) }
+{
+    let opening = open(alloc, told, Equipment::Motor, course, outside)?;
+    let Some(lies) = opening.position() else {
+        return Ok(());
+    };
+    let now = outside.read_clock();
+    let mut node = PointNode::new(alloc, told.table, place, lies, now, told.first)?;
+    let for_ms = left(told.for_ms, told.begins, now);
+    live(alloc, &mut node, course, outside, now, for_ms)
+}
+
+/// The process of the detector at this place.
+pub(crate) fn run_detector<O: Outside>(
+    alloc: Global,
+    told: Told<'_>,
+    place: usize,
+    course: &mut Course,
+    outside: &mut O,
+) -> Result<(), NodeFault>
+    requires place { place < length told.table.now.detectors }
+    requires first { course.old ≡ first_course }
+    ensures done { OnOk result ((entry : DetectorEntry) → slice_get told.entry.table.now.detectors place ≡ Some entry → Controls detector_kind told.entry.table.now (Sections entry.sections) told_sections (detector_made told.entry.table.now told.entry.first entry) told.entry.for_ms told.entry.begins course.new (O.told outside.old) (O.told outside.new)) }
+    ensures stopped { OnErr result ((entry : DetectorEntry) → slice_get told.entry.table.now.detectors place ≡ Some entry → ControlsCut detector_kind told.entry.table.now (Sections entry.sections) told_sections (detector_made told.entry.table.now told.entry.first entry) told.entry.for_ms told.entry.begins (O.told outside.old) (O.told outside.new)) }
+{
+    let own = told.table.layout().detectors()[place].sections();
+    let opening = open(alloc, told, Equipment::Sections(own), course, outside)?;
+    let Some(sensed) = opening.occupancies(alloc)? else {
+        return Ok(());
+    };
+    let now = outside.read_clock();
+    let mut node = DetectorNode::new(alloc, told.table, place, &sensed, now, told.first)?;
+    let for_ms = left(told.for_ms, told.begins, now);
+    live(alloc, &mut node, course, outside, now, for_ms)
+}

@@ -1,0 +1,73 @@
+//! How a process waits for its field equipment, and how long its node may live.
+
+ghost use Rattle.std.specs.Prelude.{◌≡◌, ◌≤◌, ℕ, IfOk, OnErr, OnOk};
+ghost use Rattle.node_kinds.specs.Made.{equipment_of};
+ghost use Rattle.node_kinds.specs.inside.ControllerNodes.{opening_now};
+ghost use Rattle.node_kinds.specs.node_drive.Inside.{standing_of};
+ghost use Rattle.node_kinds.specs.node_drive.Beginning.{first_course};
+ghost use Rattle.node_kinds.specs.node_drive.Drives.{CutOff, Ran};
+ghost use Rattle.node_kinds.specs.Openings.{opening_kind, untold};
+ghost use Rattle.station_node.specs.Processes.{Opens, left_of, standing};
+
+use node_kinds::node_drive::{Course, Node, NodeFault, Outside, drive};
+use node_kinds::simulator_run::ixl_rules::control_table::Checked;
+use node_kinds::{Equipment, OpeningNode};
+use std::alloc::Global;
+
+/// What a process is told of itself: the station, the number of its first PDU, when it began by the reading of its clock, and for how
+/// many milliseconds it runs.
+#[derive(Clone, Copy)]
+pub(crate) struct Told<'a> {
+    pub(crate) table: &'a Checked,
+    pub(crate) first: u32,
+    pub(crate) begins: u64,
+    pub(crate) for_ms: u64,
+}
+
+/// How long a process may go on behind a reading.
+pub(crate) fn left(for_ms: u64, begins: u64, now: u64) -> u64
+    ensures { result ≡ left_of for_ms begins now }
+{
+    for_ms.saturating_sub(now.saturating_sub(begins))
+}
+
+/// Waits until the first line is in force and each contact has told how it is, or until the process is over.
+pub(crate) fn open<'a, O: Outside>(
+    alloc: Global,
+    told: Told<'a>,
+    equipment: Equipment<'a>,
+    course: &mut Course,
+    outside: &mut O,
+) -> Result<OpeningNode<'a>, NodeFault>
+    requires { course.old ≡ first_course }
+    ensures done { IfOk result (λ opening. Opens told.entry.table.now (equipment_of equipment.entry) told.entry.for_ms told.entry.begins (opening_now opening).state course.new (O.told outside.old) (O.told outside.new)) }
+    ensures stopped { OnErr result (CutOff opening_kind told.entry.for_ms told.entry.begins (standing (untold told.entry.table.now (equipment_of equipment.entry)) first_course) (O.told outside.old) (O.told outside.new)) }
+{
+    let mut opening = OpeningNode::new(alloc, told.table, equipment)?;
+    drive(
+        alloc,
+        &mut opening,
+        course,
+        outside,
+        told.begins,
+        told.for_ms,
+    )?;
+    Ok(opening)
+}
+
+/// The node lives, from the reading at which it was made, for so many milliseconds.
+pub(crate) fn live<N: Node, O: Outside>(
+    alloc: Global,
+    node: &mut N,
+    course: &mut Course,
+    outside: &mut O,
+    now: u64,
+    for_ms: u64,
+) -> Result<(), NodeFault>
+    requires { (N.node node.old).reached ≤ (O.told outside.old).latest }
+    ensures done { OnOk result ((ticks : ℕ) × Ran N.does for_ms now ticks (standing_of (N.node node.old) course.old) (standing_of (N.node node.new) course.new) (O.told outside.old) (O.told outside.new)) }
+    ensures stopped { OnErr result (CutOff N.does for_ms now (standing_of (N.node node.old) course.old) (O.told outside.old) (O.told outside.new)) }
+{
+    drive(alloc, node, course, outside, now, for_ms)?;
+    Ok(())
+}
