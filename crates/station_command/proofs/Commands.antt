@@ -14,9 +14,9 @@ use Rattle.station_command.proofs.LineRead.{AreFound, LineReads, line_fault, lin
 use Rattle.station_command.proofs.Numbers.{number_in}
 use Rattle.station_command.proofs.Rules.{Files, IsFile, IsHelp, IsLine, IsNamed, IsOption, IsSwitch, TakesOne, first_due, names_help, names_nothing, none_due, second_due, short_help, short_nothing, third_due}
 use Rattle.station_command.proofs.WordsRead.{Fails, nth_or, top}
-use Rattle.station_command.specs.CommandWords.{Capture, Chart, Check, Decode, DecodeSession, Given, Plan, Replay, Request, Run, Sim, Table, Usage, capture_by, capture_of, capture_usage, chart_by, chart_of, chart_usage, check_by, check_of, check_usage, decode_by, decode_of, decode_usage, given_in, is_on, plan_by, plan_of, plan_usage, replay_by, replay_of, run_by, run_of, run_usage, sim_by, sim_of, table_by, table_of, table_usage, time_of, two_files_usage, value_of}
+use Rattle.station_command.specs.CommandWords.{Capture, Chart, Check, Decode, DecodeSession, Given, Node, Plan, Replay, Request, Run, Sim, Table, Usage, capture_by, capture_of, capture_usage, chart_by, chart_of, chart_usage, check_by, check_of, check_usage, clock_of, decode_by, decode_of, decode_usage, given_in, is_on, node_by, node_of, node_usage, plan_by, plan_of, plan_usage, replay_by, replay_of, replay_usage, run_by, run_of, run_usage, sim_by, sim_of, sim_usage, table_by, table_of, table_usage, time_of, value_of}
 use Rattle.station_command.specs.Line.{station_line}
-use Rattle.station_command.specs.inside.Rows.{capture_of_rows, chart_of_rows, check_of_rows, decode_of_rows, number_of, plan_of_rows, replay_of_rows, run_of_rows, sim_of_rows, table_of_rows}
+use Rattle.station_command.specs.inside.Rows.{capture_of_rows, chart_of_rows, check_of_rows, decode_of_rows, node_of_rows, number_of, plan_of_rows, replay_of_rows, run_of_rows, sim_of_rows, table_of_rows}
 
 -- ---- the arguments
 
@@ -55,6 +55,9 @@ decode_rules = rules_of 7
 abbrev pub capture_rules : List Rule
 capture_rules = rules_of 8
 
+abbrev pub node_rules : List Rule
+node_rules = rules_of 9
+
 -- ---- `check`
 
 check_one : TakesOne check_rules (rule_at 0 check_rules)
@@ -63,7 +66,10 @@ check_one = record { found = refl; same = refl; fault = λ text rs. refl; empty 
 check_explain : IsSwitch check_rules (rule_at 1 check_rules)
 check_explain = record { long = refl; valueless = refl; fault = λ rs. refl; leaves = λ rs. refl }
 
-check_help : IsHelp (rule_at 2 check_rules)
+check_digest : IsSwitch check_rules (rule_at 2 check_rules)
+check_digest = record { long = refl; valueless = refl; fault = λ rs. refl; leaves = λ rs. refl }
+
+check_help : IsHelp (rule_at 3 check_rules)
 check_help = record { valueless = refl; fails = λ rs. tt }
 
 check_file : (n : Files) → IsFile check_usage.files check_rules n
@@ -72,21 +78,23 @@ check_file second_due = inr (refl, refl)
 check_file third_due = inr (refl, refl)
 check_file none_due = inr (refl, refl)
 
-check_named : (name : Text) (is_explain is_help : Bool) → bytes_eq (codes "explain") name ≡ is_explain → bytes_eq (codes "help") name ≡ is_help → IsNamed check_usage check_rules name
-check_named name true is_help a e = inr (inl (rule_at 1 check_rules, check_explain, (bytes_eq-Decides (codes "explain") name).0 a, refl, refl))
-check_named name false true a e = inr (inr (refl, rw a refl, names_help check_rules name (rule_at 2 check_rules) (rw (a, e) refl) check_help))
-check_named name false false a e = inr (inr (refl, rw a refl, names_nothing check_rules name (rw (a, e) refl)))
+check_named : (name : Text) (is_explain is_digest is_help : Bool) → bytes_eq (codes "explain") name ≡ is_explain → bytes_eq (codes "digest") name ≡ is_digest → bytes_eq (codes "help") name ≡ is_help
+    → IsNamed check_usage check_rules name
+check_named name true is_digest is_help a b e = inr (inl (rule_at 1 check_rules, check_explain, (bytes_eq-Decides (codes "explain") name).0 a, refl, refl))
+check_named name false true is_help a b e = inr (inl (rule_at 2 check_rules, check_digest, (bytes_eq-Decides (codes "digest") name).0 b, refl, refl))
+check_named name false false true a b e = inr (inr (refl, rw (a, b) refl, names_help check_rules name (rule_at 3 check_rules) (rw (a, b, e) refl) check_help))
+check_named name false false false a b e = inr (inr (refl, rw (a, b) refl, names_nothing check_rules name (rw (a, b, e) refl)))
 
 check_short : (x : ℕ) (is_help : Bool) → nat_eq 104 x ≡ is_help → (rest : Text) (h : Held) (after : Held → Kinds) → Fails (short_fault check_rules false (arg_by_short check_rules x) rest h after)
-check_short x true e = short_help check_rules x (rule_at 2 check_rules) (rw e refl) check_help
+check_short x true e = short_help check_rules x (rule_at 3 check_rules) (rw e refl) check_help
 check_short x false e = short_nothing check_rules x (rw e refl)
 
 check_is : IsLine check_usage check_rules
 check_is = record {
   file = check_file;
-  named = λ name. check_named name (bytes_eq (codes "explain") name) (bytes_eq (codes "help") name) refl refl;
+  named = λ name. check_named name (bytes_eq (codes "explain") name) (bytes_eq (codes "digest") name) (bytes_eq (codes "help") name) refl refl refl;
   short = λ x. check_short x (nat_eq 104 x) refl;
-  defaults = (refl, (refl, (refl, tt)));
+  defaults = (refl, (refl, (refl, (refl, tt))));
 }
 
 -- ---- `plan`
@@ -168,37 +176,77 @@ table_is = record {
   defaults = (refl, (refl, (refl, tt)));
 }
 
--- ---- `sim` and `replay`, which are read alike
+-- ---- `sim`
 
-two_first : TakesOne sim_rules (rule_at 0 sim_rules)
-two_first = record { found = refl; same = refl; fault = λ text rs. refl; empty = λ rs. tt; leaves = λ text rs. refl; most = refl; alone = refl; once = refl; further = refl }
+sim_layout : TakesOne sim_rules (rule_at 0 sim_rules)
+sim_layout = record { found = refl; same = refl; fault = λ text rs. refl; empty = λ rs. tt; leaves = λ text rs. refl; most = refl; alone = refl; once = refl; further = refl }
 
-two_second : TakesOne sim_rules (rule_at 1 sim_rules)
-two_second = record { found = refl; same = refl; fault = λ text rs. refl; empty = λ rs. tt; leaves = λ text rs. refl; most = refl; alone = refl; once = refl; further = refl }
+sim_events : TakesOne sim_rules (rule_at 1 sim_rules)
+sim_events = record { found = refl; same = refl; fault = λ text rs. refl; empty = λ rs. tt; leaves = λ text rs. refl; most = refl; alone = refl; once = refl; further = refl }
 
-two_help : IsHelp (rule_at 2 sim_rules)
-two_help = record { valueless = refl; fails = λ rs. tt }
+sim_help : IsHelp (rule_at 2 sim_rules)
+sim_help = record { valueless = refl; fails = λ rs. tt }
 
-two_file : (n : Files) → IsFile two_files_usage.files sim_rules n
-two_file first_due = inl (rule_at 0 sim_rules, record { one = two_first; found = refl; left = refl; steps = refl })
-two_file second_due = inl (rule_at 1 sim_rules, record { one = two_second; found = refl; left = refl; steps = refl })
-two_file third_due = inr (refl, refl)
-two_file none_due = inr (refl, refl)
+sim_file : (n : Files) → IsFile sim_usage.files sim_rules n
+sim_file first_due = inl (rule_at 0 sim_rules, record { one = sim_layout; found = refl; left = refl; steps = refl })
+sim_file second_due = inl (rule_at 1 sim_rules, record { one = sim_events; found = refl; left = refl; steps = refl })
+sim_file third_due = inr (refl, refl)
+sim_file none_due = inr (refl, refl)
 
-two_named : (name : Text) (is_help : Bool) → bytes_eq (codes "help") name ≡ is_help → IsNamed two_files_usage sim_rules name
-two_named name true e = inr (inr (refl, refl, names_help sim_rules name (rule_at 2 sim_rules) (rw e refl) two_help))
-two_named name false e = inr (inr (refl, refl, names_nothing sim_rules name (rw e refl)))
+sim_named : (name : Text) (is_help : Bool) → bytes_eq (codes "help") name ≡ is_help → IsNamed sim_usage sim_rules name
+sim_named name true e = inr (inr (refl, refl, names_help sim_rules name (rule_at 2 sim_rules) (rw e refl) sim_help))
+sim_named name false e = inr (inr (refl, refl, names_nothing sim_rules name (rw e refl)))
 
-two_short : (x : ℕ) (is_help : Bool) → nat_eq 104 x ≡ is_help → (rest : Text) (h : Held) (after : Held → Kinds) → Fails (short_fault sim_rules false (arg_by_short sim_rules x) rest h after)
-two_short x true e = short_help sim_rules x (rule_at 2 sim_rules) (rw e refl) two_help
-two_short x false e = short_nothing sim_rules x (rw e refl)
+sim_short : (x : ℕ) (is_help : Bool) → nat_eq 104 x ≡ is_help → (rest : Text) (h : Held) (after : Held → Kinds) → Fails (short_fault sim_rules false (arg_by_short sim_rules x) rest h after)
+sim_short x true e = short_help sim_rules x (rule_at 2 sim_rules) (rw e refl) sim_help
+sim_short x false e = short_nothing sim_rules x (rw e refl)
 
-two_is : IsLine two_files_usage sim_rules
-two_is = record {
-  file = two_file;
-  named = λ name. two_named name (bytes_eq (codes "help") name) refl;
-  short = λ x. two_short x (nat_eq 104 x) refl;
+sim_is : IsLine sim_usage sim_rules
+sim_is = record {
+  file = sim_file;
+  named = λ name. sim_named name (bytes_eq (codes "help") name) refl;
+  short = λ x. sim_short x (nat_eq 104 x) refl;
   defaults = (refl, (refl, (refl, tt)));
+}
+
+-- ---- `replay`
+
+replay_layout : TakesOne replay_rules (rule_at 0 replay_rules)
+replay_layout = record { found = refl; same = refl; fault = λ text rs. refl; empty = λ rs. tt; leaves = λ text rs. refl; most = refl; alone = refl; once = refl; further = refl }
+
+replay_record : TakesOne replay_rules (rule_at 1 replay_rules)
+replay_record = record { found = refl; same = refl; fault = λ text rs. refl; empty = λ rs. tt; leaves = λ text rs. refl; most = refl; alone = refl; once = refl; further = refl }
+
+replay_node : IsOption replay_rules (rule_at 2 replay_rules)
+replay_node = record {
+  one = record { found = refl; same = refl; fault = λ text rs. refl; empty = λ rs. tt; leaves = λ text rs. refl; most = refl; alone = refl; once = refl; further = refl };
+  long = refl;
+}
+
+replay_help : IsHelp (rule_at 3 replay_rules)
+replay_help = record { valueless = refl; fails = λ rs. tt }
+
+replay_file : (n : Files) → IsFile replay_usage.files replay_rules n
+replay_file first_due = inl (rule_at 0 replay_rules, record { one = replay_layout; found = refl; left = refl; steps = refl })
+replay_file second_due = inl (rule_at 1 replay_rules, record { one = replay_record; found = refl; left = refl; steps = refl })
+replay_file third_due = inr (refl, refl)
+replay_file none_due = inr (refl, refl)
+
+replay_named : (name : Text) (is_node is_help : Bool) → bytes_eq (codes "node") name ≡ is_node → bytes_eq (codes "help") name ≡ is_help → IsNamed replay_usage replay_rules name
+replay_named name true is_help a e = inl (rule_at 2 replay_rules, replay_node, (bytes_eq-Decides (codes "node") name).0 a, refl)
+replay_named name false true a e = inr (inr (rw a refl, refl, names_help replay_rules name (rule_at 3 replay_rules) (rw (a, e) refl) replay_help))
+replay_named name false false a e = inr (inr (rw a refl, refl, names_nothing replay_rules name (rw (a, e) refl)))
+
+replay_short : (x : ℕ) (is_help : Bool) → nat_eq 104 x ≡ is_help → (rest : Text) (h : Held) (after : Held → Kinds) → Fails (short_fault replay_rules false (arg_by_short replay_rules x) rest h after)
+replay_short x true e = short_help replay_rules x (rule_at 3 replay_rules) (rw e refl) replay_help
+replay_short x false e = short_nothing replay_rules x (rw e refl)
+
+replay_is : IsLine replay_usage replay_rules
+replay_is = record {
+  file = replay_file;
+  named = λ name. replay_named name (bytes_eq (codes "node") name) (bytes_eq (codes "help") name) refl refl;
+  short = λ x. replay_short x (nat_eq 104 x) refl;
+  defaults = (refl, (refl, (refl, (refl, tt))));
 }
 
 -- ---- `run`
@@ -389,6 +437,78 @@ capture_is = record {
   defaults = (refl, (refl, (refl, (refl, (refl, tt)))));
 }
 
+-- ---- `node`
+
+node_layout : TakesOne node_rules (rule_at 0 node_rules)
+node_layout = record { found = refl; same = refl; fault = λ text rs. refl; empty = λ rs. tt; leaves = λ text rs. refl; most = refl; alone = refl; once = refl; further = refl }
+
+node_name : TakesOne node_rules (rule_at 1 node_rules)
+node_name = record { found = refl; same = refl; fault = λ text rs. refl; empty = λ rs. tt; leaves = λ text rs. refl; most = refl; alone = refl; once = refl; further = refl }
+
+node_addresses : IsOption node_rules (rule_at 2 node_rules)
+node_addresses = record {
+  one = record { found = refl; same = refl; fault = λ text rs. refl; empty = λ rs. tt; leaves = λ text rs. refl; most = refl; alone = refl; once = refl; further = refl };
+  long = refl;
+}
+
+node_operator : IsOption node_rules (rule_at 3 node_rules)
+node_operator = record {
+  one = record { found = refl; same = refl; fault = λ text rs. refl; empty = λ rs. tt; leaves = λ text rs. refl; most = refl; alone = refl; once = refl; further = refl };
+  long = refl;
+}
+
+node_record : IsOption node_rules (rule_at 4 node_rules)
+node_record = record {
+  one = record { found = refl; same = refl; fault = λ text rs. refl; empty = λ rs. tt; leaves = λ text rs. refl; most = refl; alone = refl; once = refl; further = refl };
+  long = refl;
+}
+
+node_clock : IsOption node_rules (rule_at 5 node_rules)
+node_clock = record {
+  one = record { found = refl; same = refl; fault = λ text rs. refl; empty = λ rs. tt; leaves = λ text rs. refl; most = refl; alone = refl; once = refl; further = refl };
+  long = refl;
+}
+
+node_time : IsOption node_rules (rule_at 6 node_rules)
+node_time = record {
+  one = record { found = refl; same = refl; fault = λ text rs. refl; empty = λ rs. tt; leaves = λ text rs. refl; most = refl; alone = refl; once = refl; further = refl };
+  long = refl;
+}
+
+node_help : IsHelp (rule_at 7 node_rules)
+node_help = record { valueless = refl; fails = λ rs. tt }
+
+node_file : (n : Files) → IsFile node_usage.files node_rules n
+node_file first_due = inl (rule_at 0 node_rules, record { one = node_layout; found = refl; left = refl; steps = refl })
+node_file second_due = inl (rule_at 1 node_rules, record { one = node_name; found = refl; left = refl; steps = refl })
+node_file third_due = inr (refl, refl)
+node_file none_due = inr (refl, refl)
+
+node_named : (name : Text) (is_addresses is_operator is_record is_clock is_time is_help : Bool) → bytes_eq (codes "addresses") name ≡ is_addresses → bytes_eq (codes "operator") name ≡ is_operator
+    → bytes_eq (codes "record") name ≡ is_record → bytes_eq (codes "clock") name ≡ is_clock → bytes_eq (codes "for") name ≡ is_time → bytes_eq (codes "help") name ≡ is_help
+    → IsNamed node_usage node_rules name
+node_named name true is_operator is_record is_clock is_time is_help a b c d e f = inl (rule_at 2 node_rules, node_addresses, (bytes_eq-Decides (codes "addresses") name).0 a, refl)
+node_named name false true is_record is_clock is_time is_help a b c d e f = inl (rule_at 3 node_rules, node_operator, (bytes_eq-Decides (codes "operator") name).0 b, refl)
+node_named name false false true is_clock is_time is_help a b c d e f = inl (rule_at 4 node_rules, node_record, (bytes_eq-Decides (codes "record") name).0 c, refl)
+node_named name false false false true is_time is_help a b c d e f = inl (rule_at 5 node_rules, node_clock, (bytes_eq-Decides (codes "clock") name).0 d, refl)
+node_named name false false false false true is_help a b c d e f = inl (rule_at 6 node_rules, node_time, (bytes_eq-Decides (codes "for") name).0 e, refl)
+node_named name false false false false false true a b c d e f =
+    inr (inr (rw (a, b, c, d, e) refl, refl, names_help node_rules name (rule_at 7 node_rules) (rw (a, b, c, d, e, f) refl) node_help))
+node_named name false false false false false false a b c d e f = inr (inr (rw (a, b, c, d, e) refl, refl, names_nothing node_rules name (rw (a, b, c, d, e, f) refl)))
+
+node_short : (x : ℕ) (is_help : Bool) → nat_eq 104 x ≡ is_help → (rest : Text) (h : Held) (after : Held → Kinds) → Fails (short_fault node_rules false (arg_by_short node_rules x) rest h after)
+node_short x true e = short_help node_rules x (rule_at 7 node_rules) (rw e refl) node_help
+node_short x false e = short_nothing node_rules x (rw e refl)
+
+node_is : IsLine node_usage node_rules
+node_is = record {
+  file = node_file;
+  named = λ name. node_named name (bytes_eq (codes "addresses") name) (bytes_eq (codes "operator") name) (bytes_eq (codes "record") name) (bytes_eq (codes "clock") name)
+      (bytes_eq (codes "for") name) (bytes_eq (codes "help") name) refl refl refl refl refl refl;
+  short = λ x. node_short x (nat_eq 104 x) refl;
+  defaults = (refl, (refl, (refl, (refl, (refl, (refl, (refl, (refl, tt))))))));
+}
+
 -- ---- what is asked for
 
 -- something is missing, or nothing is, and something is asked for or nothing, by what was given and by what was found
@@ -431,9 +551,9 @@ off : (o : Option Text) → is_on (or_value o (Some (codes "false"))) ≡ is_on 
 off (Some text) = refl
 off None = refl
 
-check_ends : (file : Option Text) (explained : Bool) → Ends (check_of file explained) (check_of file explained) (check_kinds false false (not (is_some file) || false))
-check_ends (Some file) explained = inl (Check file explained, (refl, (refl, refl)))
-check_ends None explained = inr (inr (refl, tt))
+check_ends : (file : Option Text) (explained digest : Bool) → Ends (check_of file explained digest) (check_of file explained digest) (check_kinds false false (not (is_some file) || false))
+check_ends (Some file) explained digest = inl (Check file explained digest, (refl, (refl, refl)))
+check_ends None explained digest = inr (inr (refl, tt))
 
 pub check_reads : (words : List Text) → CommandReads (codes "check") check_usage check_rules check_by check_of_rows words
 check_reads = command_reads (codes "check") check_usage check_rules check_is check_by check_of_rows settles
@@ -442,7 +562,9 @@ check_reads = command_reads (codes "check") check_usage check_rules check_is che
     settles given found are =
         let file_is = no_default given found (codes "FILE") (are.values (codes "FILE")) in
         let on_is : is_on (first_of (codes "explain") found) ≡ is_on (value_of (codes "explain") given) = ap is_on (are.values (codes "explain")) ∙ off (value_of (codes "explain") given) in
-        subst (λ r. Settles check_rules (check_by given) r given) (λ i. check_of (sym file_is i) (sym on_is i)) (check_ends (value_of (codes "FILE") given) (is_on (value_of (codes "explain") given)))
+        let digest_is : is_on (first_of (codes "digest") found) ≡ is_on (value_of (codes "digest") given) = ap is_on (are.values (codes "digest")) ∙ off (value_of (codes "digest") given) in
+        subst (λ r. Settles check_rules (check_by given) r given) (λ i. check_of (sym file_is i) (sym on_is i) (sym digest_is i))
+        (check_ends (value_of (codes "FILE") given) (is_on (value_of (codes "explain") given)) (is_on (value_of (codes "digest") given)))
 
 plan_ends : (file route picture : Option Text) → Ends (plan_of file route picture) (plan_of file route picture) (check_kinds false false (not (is_some file) || false))
 plan_ends (Some file) route picture = inl (Plan file route picture, (refl, (refl, refl)))
@@ -480,8 +602,8 @@ sim_ends (Some a) (Some b) = inl (Sim a b, (refl, (refl, refl)))
 sim_ends (Some a) None = inr (inr (refl, tt))
 sim_ends None b = inr (inr (refl, tt))
 
-pub sim_reads : (words : List Text) → CommandReads (codes "sim") two_files_usage sim_rules sim_by sim_of_rows words
-sim_reads = command_reads (codes "sim") two_files_usage sim_rules two_is sim_by sim_of_rows settles
+pub sim_reads : (words : List Text) → CommandReads (codes "sim") sim_usage sim_rules sim_by sim_of_rows words
+sim_reads = command_reads (codes "sim") sim_usage sim_rules sim_is sim_by sim_of_rows settles
   where
     settles : (given : List Given) (found : List Row) → AreFound sim_rules given found → Settles sim_rules (sim_by given) (sim_of_rows found) given
     settles given found are =
@@ -489,19 +611,21 @@ sim_reads = command_reads (codes "sim") two_files_usage sim_rules two_is sim_by 
         let second_is = no_default given found (codes "SECOND") (are.values (codes "SECOND")) in
         subst (λ r. Settles sim_rules (sim_by given) r given) (λ i. sim_of (sym first_is i) (sym second_is i)) (sim_ends (value_of (codes "FILE") given) (value_of (codes "SECOND") given))
 
-replay_ends : (a b : Option Text) → Ends (replay_of a b) (replay_of a b) (two_missing a b)
-replay_ends (Some a) (Some b) = inl (Replay a b, (refl, (refl, refl)))
-replay_ends (Some a) None = inr (inr (refl, tt))
-replay_ends None b = inr (inr (refl, tt))
+replay_ends : (a b named : Option Text) → Ends (replay_of a b named) (replay_of a b named) (two_missing a b)
+replay_ends (Some a) (Some b) named = inl (Replay a b named, (refl, (refl, refl)))
+replay_ends (Some a) None named = inr (inr (refl, tt))
+replay_ends None b named = inr (inr (refl, tt))
 
-pub replay_reads : (words : List Text) → CommandReads (codes "replay") two_files_usage sim_rules replay_by replay_of_rows words
-replay_reads = command_reads (codes "replay") two_files_usage sim_rules two_is replay_by replay_of_rows settles
+pub replay_reads : (words : List Text) → CommandReads (codes "replay") replay_usage replay_rules replay_by replay_of_rows words
+replay_reads = command_reads (codes "replay") replay_usage replay_rules replay_is replay_by replay_of_rows settles
   where
-    settles : (given : List Given) (found : List Row) → AreFound sim_rules given found → Settles sim_rules (replay_by given) (replay_of_rows found) given
+    settles : (given : List Given) (found : List Row) → AreFound replay_rules given found → Settles replay_rules (replay_by given) (replay_of_rows found) given
     settles given found are =
         let first_is = no_default given found (codes "FILE") (are.values (codes "FILE")) in
         let second_is = no_default given found (codes "SECOND") (are.values (codes "SECOND")) in
-        subst (λ r. Settles sim_rules (replay_by given) r given) (λ i. replay_of (sym first_is i) (sym second_is i)) (replay_ends (value_of (codes "FILE") given) (value_of (codes "SECOND") given))
+        let node_is = no_default given found (codes "node") (are.values (codes "node")) in
+        subst (λ r. Settles replay_rules (replay_by given) r given) (λ i. replay_of (sym first_is i) (sym second_is i) (sym node_is i))
+        (replay_ends (value_of (codes "FILE") given) (value_of (codes "SECOND") given) (value_of (codes "node") given))
 
 abbrev run_missing : Option Text → Option Text → Option Text → Option Text → Kinds
 run_missing a b c d = check_kinds false false (not (is_some a) || (not (is_some b) || (not (is_some c) || (not (is_some d) || false))))
@@ -526,15 +650,19 @@ run_reads = command_reads (codes "run") run_usage run_rules run_is run_by run_of
         subst (λ r. Settles run_rules (run_by given) r given) (λ i. run_of (sym file_is i) (sym script_is i) (sym record_is i) (option_and_then number_of (sym time_is i)))
         (run_ends (value_of (codes "FILE") given) (value_of (codes "script") given) (value_of (codes "record") given) (value_of (codes "for") given) (are.taken (codes "for")))
 
--- the number that a moment writes, if there is one
-moment_read : (d : Option Text) → ((text : Text) → d ≡ Some text → is_unsigned_in 0 18446744073709551 text ≡ true) → option_and_then number_of d ≡ option_map time_of d
-moment_read None timed = refl
-moment_read (Some d) timed = number_in 0 18446744073709551 d (timed d refl)
+-- a number in a range, where there may be one
+abbrev InRange : ℕ → ℕ → Option Text → Type 0
+InRange low high d = (text : Text) → d ≡ Some text → is_unsigned_in low high text ≡ true
 
-chart_ends : (a b from to : Option Text) → ((text : Text) → from ≡ Some text → is_unsigned_in 0 18446744073709551 text ≡ true) → ((text : Text) → to ≡ Some text → is_unsigned_in 0 18446744073709551 text ≡ true)
+-- it is the number that is written
+number_read : (low high : ℕ) (d : Option Text) → InRange low high d → option_and_then number_of d ≡ option_map time_of d
+number_read low high None ranged = refl
+number_read low high (Some d) ranged = number_in low high d (ranged d refl)
+
+chart_ends : (a b from to : Option Text) → InRange 0 18446744073709551 from → InRange 0 18446744073709551 to
     → Ends (chart_of a b (option_map time_of from) (option_map time_of to)) (chart_of a b (option_and_then number_of from) (option_and_then number_of to)) (two_missing a b)
 chart_ends (Some a) (Some b) from to begins ends =
-    inl (Chart a b (option_map time_of from) (option_map time_of to), (refl, (refl, λ i. Some (Chart a b (moment_read from begins i) (moment_read to ends i)))))
+    inl (Chart a b (option_map time_of from) (option_map time_of to), (refl, (refl, λ i. Some (Chart a b (number_read 0 18446744073709551 from begins i) (number_read 0 18446744073709551 to ends i)))))
 chart_ends (Some a) None from to begins ends = inr (inr (refl, tt))
 chart_ends None b from to begins ends = inr (inr (refl, tt))
 
@@ -591,3 +719,32 @@ capture_reads = command_reads (codes "capture") capture_usage capture_rules capt
         let force_is : is_on (first_of (codes "force") found) ≡ is_on (value_of (codes "force") given) = ap is_on (are.values (codes "force")) ∙ off (value_of (codes "force") given) in
         subst (λ r. Settles capture_rules (capture_by given) r given) (λ i. capture_of (sym first_is i) (sym second_is i) (sym out_is i) (sym force_is i))
         (capture_ends (value_of (codes "FILE") given) (value_of (codes "SECOND") given) (value_of (codes "OUT") given) (is_on (value_of (codes "force") given)))
+
+node_ends : (a b c operator recording clock time : Option Text) → InRange 0 9000000000000 clock → InRange 1000 600000 time
+    → Ends (node_of a b c operator recording (clock_of (option_map time_of clock)) (option_map time_of time)) (node_of a b c operator recording (clock_of (option_and_then number_of clock)) (option_and_then number_of time))
+    (three_missing a b c)
+node_ends (Some a) (Some b) (Some c) operator recording clock time begins timed =
+    inl (
+      Node a b c operator recording (clock_of (option_map time_of clock)) (option_map time_of time),
+      (refl, (refl, λ i. Some (Node a b c operator recording (clock_of (number_read 0 9000000000000 clock begins i)) (number_read 1000 600000 time timed i)))),
+    )
+node_ends (Some a) (Some b) None operator recording clock time begins timed = inr (inr (refl, tt))
+node_ends (Some a) None c operator recording clock time begins timed = inr (inr (refl, tt))
+node_ends None b c operator recording clock time begins timed = inr (inr (refl, tt))
+
+pub node_reads : (words : List Text) → CommandReads (codes "node") node_usage node_rules node_by node_of_rows words
+node_reads = command_reads (codes "node") node_usage node_rules node_is node_by node_of_rows settles
+  where
+    settles : (given : List Given) (found : List Row) → AreFound node_rules given found → Settles node_rules (node_by given) (node_of_rows found) given
+    settles given found are =
+        let file_is = no_default given found (codes "FILE") (are.values (codes "FILE")) in
+        let name_is = no_default given found (codes "NAME") (are.values (codes "NAME")) in
+        let addresses_are = no_default given found (codes "addresses") (are.values (codes "addresses")) in
+        let operator_is = no_default given found (codes "operator") (are.values (codes "operator")) in
+        let record_is = no_default given found (codes "record") (are.values (codes "record")) in
+        let clock_is = no_default given found (codes "clock") (are.values (codes "clock")) in
+        let time_is = no_default given found (codes "for") (are.values (codes "for")) in
+        subst (λ r. Settles node_rules (node_by given) r given)
+        (λ i. node_of (sym file_is i) (sym name_is i) (sym addresses_are i) (sym operator_is i) (sym record_is i) (clock_of (option_and_then number_of (sym clock_is i))) (option_and_then number_of (sym time_is i)))
+        (node_ends (value_of (codes "FILE") given) (value_of (codes "NAME") given) (value_of (codes "addresses") given) (value_of (codes "operator") given) (value_of (codes "record") given)
+        (value_of (codes "clock") given) (value_of (codes "for") given) (are.taken (codes "clock")) (are.taken (codes "for")))

@@ -1,18 +1,35 @@
 -- What was found on a command line, as what is asked for.
-use Rattle.std.proofs.Common.{◌≡◌, ℕ, Bool, false, Option, Some, None, ap, ◌∙◌, codes}
+use Rattle.std.proofs.Common.{◌≡◌, ℕ, Bool, false, List, Option, Some, None, is_some, sym, ap, ◌∙◌, codes}
 use Rattle.std.specs.Prelude.{option_and_then}
-use Rattle.std.specs.Option.{option_map}
+use Rattle.std.proofs.lemmas.Bool.{true≢false}
+use Rattle.std.specs.Option.{option_map, unwrap_or}
 use Rattle.std.specs.Str.{bytes_eq}
-use Rattle.clap.specs.Words.{first_value, found_of}
+use Rattle.clap.specs.Words.{first_value, found_of, subcommand_name_of, subcommand_rows_of}
 use Rattle.clap.specs.declared.parser.matches.ArgMatches.{ArgMatches}
 use Rattle.clap.proofs.WalkLemmas.{first_value-rows}
-use Rattle.clap.specs.Walk.{Text, first_of, rows_of}
-use Rattle.station_command.specs.CommandWords.{Capture, Chart, Check, Plan, Request, Run, Table, both_of, captured, check_of, decode_of, is_on, plan_of, run_of, table_of}
-use Rattle.station_command.specs.inside.Rows.{capture_of_rows, chart_of_rows, check_of_rows, decode_of_rows, files_of, number_of, plan_of_rows, run_of_rows, table_of_rows}
+use Rattle.clap.specs.Walk.{Row, Text, first_of, rows_of}
+use Rattle.station_command.specs.CommandWords.{Capture, Chart, Check, Node, Plan, Replay, Request, Run, Table, both_of, captured, check_of, clock_of, decode_of, is_on, node_of, plan_of, run_of, table_of}
+use Rattle.station_command.specs.inside.Rows.{capture_of_rows, chart_of_rows, check_of_rows, decode_of_rows, files_of, node_of_rows, number_of, plan_of_rows, replay_of_rows, request_by, request_of_rows, run_of_rows, table_of_rows}
+
+-- the replay of two files
+abbrev replayed : Option (Text × Text) → Option Text → Option Request
+replayed files node = option_map (λ both. Replay both.0 both.1 node) files
 
 -- the chart of two files
 abbrev charted : Option (Text × Text) → Option ℕ → Option ℕ → Option Request
 charted files from to = option_map (λ both. Chart both.0 both.1 from to) files
+
+-- a subcommand by its two parts
+abbrev both_parts : {A : Type 0} → (A → Text) → (A → List Row) → A → Text × List Row
+both_parts f g a = (f a, g a)
+
+abbrev found_as : Text → List Row → Option (Text × List Row)
+found_as name rows = Some (name, rows)
+
+parts_are : {A : Type 0} (f : A → Text) (g : A → List Row) (o : Option A) (name : Text) (rows : List Row) → Some name ≡ option_map f o
+    → Some rows ≡ option_map (λ (p : Text × List Row). p.1) (option_map (both_parts f g) o) → found_as name rows ≡ option_map (both_parts f g) o
+parts_are f g None name rows e h = absurd (true≢false (ap (λ (o : Option Text). is_some o) e))
+parts_are f g (Some a) name rows e h = λ i. found_as (ap (λ (o : Option Text). unwrap_or o name) e i) (ap (λ (o : Option (List Row)). unwrap_or o rows) h i)
 
 module _ (m : ArgMatches) where
   abbrev FirstOf : Text → Option Text
@@ -48,12 +65,12 @@ module _ (m : ArgMatches) where
 
   -- ---- `check`
 
-  pub check_found : (a : Text) (explained : Bool) → Some a ≡ first_of (codes "FILE") (rows_of (found_of m)) → explained ≡ is_on (first_of (codes "explain") (rows_of (found_of m)))
-      → Some (Check a explained) ≡ check_of_rows (rows_of (found_of m))
-  check_found a explained e f = λ i. check_of (e i) (f i)
+  pub check_found : (a : Text) (explained digest : Bool) → Some a ≡ first_of (codes "FILE") (rows_of (found_of m)) → explained ≡ is_on (first_of (codes "explain") (rows_of (found_of m)))
+      → digest ≡ is_on (first_of (codes "digest") (rows_of (found_of m))) → Some (Check a explained digest) ≡ check_of_rows (rows_of (found_of m))
+  check_found a explained digest e f g = λ i. check_of (e i) (f i) (g i)
 
   pub no_check : None ≡ first_of (codes "FILE") (rows_of (found_of m)) → None ≡ check_of_rows (rows_of (found_of m))
-  no_check e = ap (λ o. check_of o (is_on (FirstOf (codes "explain")))) e
+  no_check e = ap (λ o. check_of o (is_on (FirstOf (codes "explain"))) (is_on (FirstOf (codes "digest")))) e
 
   -- ---- `plan`
 
@@ -125,13 +142,24 @@ module _ (m : ArgMatches) where
       → Some c ≡ first_value (found_of m) (codes "record") → Some t ≡ first_value (found_of m) (codes "for") → None ≡ number_of t → None ≡ run_of_rows (rows_of (found_of m))
   no_number a b c t e f g h is = four_found a b c t None e f g h is
 
+  -- ---- `replay`
+
+  pub replay_found : (a b : Text) (node : Option Text) → Some (a, b) ≡ files_of (rows_of (found_of m)) → node ≡ first_value (found_of m) (codes "node")
+      → Some (Replay a b node) ≡ replay_of_rows (rows_of (found_of m))
+  replay_found a b node e f =
+      let node_is = value_found (codes "node") node f in
+      λ i. replayed (e i) (node_is i)
+
+  pub no_replay : None ≡ files_of (rows_of (found_of m)) → None ≡ replay_of_rows (rows_of (found_of m))
+  no_replay e = ap (λ o. replayed o (FirstOf (codes "node"))) e
+
   -- ---- `chart`
 
-  pub moment_found : (id text : Text) (n : Option ℕ) → n ≡ number_of text → Some text ≡ first_value (found_of m) id → n ≡ option_and_then number_of (first_of id (rows_of (found_of m)))
-  moment_found id text n is e = is ∙ ap (option_and_then number_of) (value_found id (Some text) e)
+  pub number_found : (id text : Text) (n : Option ℕ) → n ≡ number_of text → Some text ≡ first_value (found_of m) id → n ≡ option_and_then number_of (first_of id (rows_of (found_of m)))
+  number_found id text n is e = is ∙ ap (option_and_then number_of) (value_found id (Some text) e)
 
-  pub moment_missing : (id : Text) → None ≡ first_value (found_of m) id → None ≡ option_and_then number_of (first_of id (rows_of (found_of m)))
-  moment_missing id e = ap (option_and_then number_of) (value_found id None e)
+  pub number_missing : (id : Text) → None ≡ first_value (found_of m) id → None ≡ option_and_then number_of (first_of id (rows_of (found_of m)))
+  number_missing id e = ap (option_and_then number_of) (value_found id None e)
 
   pub chart_found : (a b : Text) (from to : Option ℕ) → Some (a, b) ≡ files_of (rows_of (found_of m)) → from ≡ option_and_then number_of (FirstOf (codes "from"))
       → to ≡ option_and_then number_of (FirstOf (codes "to")) → Some (Chart a b from to) ≡ chart_of_rows (rows_of (found_of m))
@@ -167,3 +195,45 @@ module _ (m : ArgMatches) where
   no_out a b e f =
       let out_is = value_found (codes "OUT") None f in
       λ i. captured (e i) (out_is i) (is_on (FirstOf (codes "force")))
+
+  -- ---- `node`
+
+  -- the request by what was found
+  abbrev found_node : Option Text → Option Text → Option Text → Option Request
+  found_node a b c = node_of a b c (FirstOf (codes "operator")) (FirstOf (codes "record")) (clock_of (option_and_then number_of (FirstOf (codes "clock")))) (option_and_then number_of (FirstOf (codes "for")))
+
+  pub node_found : (a b c : Text) (operator recording : Option Text) (given time : Option ℕ) (clock : ℕ) → Some a ≡ first_value (found_of m) (codes "FILE")
+      → Some b ≡ first_value (found_of m) (codes "NAME") → Some c ≡ first_value (found_of m) (codes "addresses") → operator ≡ first_value (found_of m) (codes "operator")
+      → recording ≡ first_value (found_of m) (codes "record") → given ≡ option_and_then number_of (FirstOf (codes "clock")) → clock ≡ clock_of given
+      → time ≡ option_and_then number_of (FirstOf (codes "for")) → Some (Node a b c operator recording clock time) ≡ node_of_rows (rows_of (found_of m))
+  node_found a b c operator recording given time clock e f g h k l n o =
+      let file_is = value_found (codes "FILE") (Some a) e in
+      let name_is = value_found (codes "NAME") (Some b) f in
+      let addresses_are = value_found (codes "addresses") (Some c) g in
+      let operator_is = value_found (codes "operator") operator h in
+      let record_is = value_found (codes "record") recording k in
+      let clock_is = n ∙ ap clock_of l in
+      λ i. node_of (file_is i) (name_is i) (addresses_are i) (operator_is i) (record_is i) (clock_is i) (o i)
+
+  pub no_layout : None ≡ first_value (found_of m) (codes "FILE") → None ≡ node_of_rows (rows_of (found_of m))
+  no_layout e = ap (λ o. found_node o (FirstOf (codes "NAME")) (FirstOf (codes "addresses"))) (value_found (codes "FILE") None e)
+
+  pub no_name : (a : Text) → Some a ≡ first_value (found_of m) (codes "FILE") → None ≡ first_value (found_of m) (codes "NAME") → None ≡ node_of_rows (rows_of (found_of m))
+  no_name a e f =
+      let file_is = value_found (codes "FILE") (Some a) e in
+      let name_is = value_found (codes "NAME") None f in
+      λ i. found_node (file_is i) (name_is i) (FirstOf (codes "addresses"))
+
+  pub no_addresses : (a b : Text) → Some a ≡ first_value (found_of m) (codes "FILE") → Some b ≡ first_value (found_of m) (codes "NAME")
+      → None ≡ first_value (found_of m) (codes "addresses") → None ≡ node_of_rows (rows_of (found_of m))
+  no_addresses a b e f g =
+      let file_is = value_found (codes "FILE") (Some a) e in
+      let name_is = value_found (codes "NAME") (Some b) f in
+      let addresses_are = value_found (codes "addresses") None g in
+      λ i. found_node (file_is i) (name_is i) (addresses_are i)
+
+  -- ---- a subcommand
+
+  pub asked_by_name : (name word : Text) (found : List Row) (asked : Option Request) → Some name ≡ subcommand_name_of m
+      → Some found ≡ option_map (λ (p : Text × List Row). p.1) (subcommand_rows_of m) → name ≡ word → asked ≡ request_by word found → asked ≡ request_of_rows (subcommand_rows_of m)
+  asked_by_name name word found asked e f is by = by ∙ ap (λ n. request_by n found) (sym is) ∙ ap request_of_rows (parts_are _ _ _ name found e f)

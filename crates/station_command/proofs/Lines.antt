@@ -1,5 +1,5 @@
 -- The command line, made of its commands, and a command of its arguments, one after another.
-use Rattle.std.proofs.Common.{◌≡◌, ◌||◌, Err, IfOk, Ok, Result, Some, false, true, ap, ◌∙◌, codes}
+use Rattle.std.proofs.Common.{◌≡◌, ◌||◌, ℕ, Err, IfOk, Ok, Result, Some, false, true, ap, ◌∙◌, codes}
 use Rattle.clap.specs.Words.{AddsArg, AddsSubcommand, new_app, with_rule, with_subcommand}
 use Rattle.clap.specs.declared.builder.arg.Arg.{Arg}
 use Rattle.clap.specs.declared.builder.command.Command.{Command}
@@ -8,7 +8,7 @@ use Rattle.clap.specs.declared.builder.value_parser.ValueParser.{ValueParser}
 use Rattle.clap.specs.declared.builder.value_parser.ValueParser.TheVariants as parsers
 use Rattle.clap.specs.Simple.{App, app_of, on_top}
 use Rattle.clap.specs.Walk.{Rule, Text, rule_of}
-use Rattle.station_command.specs.Line.{alone_line, check_line, moment_rule, needed_rule, option_rule, reading_line, second_rule, session_line, sim_line, switch_rule, table_line, time_rule}
+use Rattle.station_command.specs.Line.{alone_line, needed_rule, option_rule, ranged_rule, reading_line, replay_line, second_rule, session_line, sim_line, switch_rule, table_line}
 use Rattle.station_command.specs.inside.Lines.{Joins, Takes, file_line, needed_file_rule}
 
 -- ---- the commands
@@ -70,6 +70,14 @@ pub both_taken : {E : Type 0} (a : App) (r s : Rule) (command one two : Result C
 both_taken a r s command one two first second is_a is_r local is_s also_local with_r with_s =
     taken (with_rule a r) s one two second with_s (taken a r command one first with_r is_a is_r local) is_s also_local
 
+-- three more arguments
+pub three_taken : {E : Type 0} (a : App) (r s t : Rule) (command one two three : Result Command E) (first second third : Arg) → IfOk command (λ k. (app_of k ≡ a) × ((out-Command k).has_globals ≡ false))
+    → rule_of first ≡ r → first.global ≡ false → rule_of second ≡ s → second.global ≡ false → rule_of third ≡ t → third.global ≡ false
+    → IfOk one (Takes command first) → IfOk two (Takes one second) → IfOk three (Takes two third)
+    → IfOk three (λ b. (app_of b ≡ with_rule (with_rule (with_rule a r) s) t) × ((out-Command b).has_globals ≡ false))
+three_taken a r s t command one two three first second third is_a is_r local is_s also_local is_t local_too with_r with_s with_t =
+    taken (with_rule (with_rule a r) s) t two three third with_t (both_taken a r s command one two first second is_a is_r local is_s also_local with_r with_s) is_t local_too
+
 -- a command with a layout
 pub on_layout_is : (name : Text) (a b : App) (file : Rule) → a ≡ new_app name → file ≡ needed_file_rule (codes "FILE") → b ≡ with_rule a file → b ≡ file_line name
 on_layout_is name a b file new f first = first ∙ (λ i. with_rule (new i) (f i))
@@ -77,10 +85,6 @@ on_layout_is name a b file new f first = first ∙ (λ i. with_rule (new i) (f i
 -- a command with a layout and a session
 pub session_is : (name : Text) (a b : App) (recording : Rule) → a ≡ file_line name → recording ≡ second_rule → b ≡ with_rule a recording → b ≡ session_line name
 session_is name a b recording layout r first = first ∙ (λ i. with_rule (layout i) (r i))
-
--- `check`
-pub check_is : (a b : App) (explain : Rule) → a ≡ file_line (codes "check") → explain ≡ switch_rule (codes "explain") → b ≡ with_rule a explain → b ≡ check_line
-check_is a b explain layout s first = first ∙ (λ i. with_rule (layout i) (s i))
 
 -- `table`
 pub table_is : (a b : App) (csv : Rule) → a ≡ file_line (codes "table") → csv ≡ switch_rule (codes "csv") → b ≡ with_rule a csv → b ≡ table_line
@@ -94,12 +98,11 @@ sim_is a b events layout e first = first ∙ (λ i. with_rule (layout i) (e i))
 pub reading_is : (a b : App) (script : Rule) → a ≡ file_line (codes "run") → script ≡ needed_rule (codes "script") → b ≡ with_rule a script → b ≡ reading_line
 reading_is a b script layout s first = first ∙ (λ i. with_rule (layout i) (s i))
 
--- the time among the options, by the parser of its value
-pub time_is : (before after : Arg) (parser : ValueParser) → after ≡ record before { value_parser = after.value_parser } → after.value_parser ≡ Some parser
-    → parser ≡ parsers.Unsigned 1000 600000 → rule_of before ≡ needed_rule (codes "for") → rule_of after ≡ time_rule
-time_is before after parser others given is rule = ap rule_of others ∙ (λ i. record (rule i) { parser = (given ∙ ap Some is) i })
+-- `replay`
+pub replay_is : (a b : App) (node : Rule) → a ≡ session_line (codes "replay") → node ≡ option_rule (codes "node") → b ≡ with_rule a node → b ≡ replay_line
+replay_is a b node session n first = first ∙ (λ i. with_rule (session i) (n i))
 
--- `chart`
-pub moment_is : (name : Text) (before after : Arg) (parser : ValueParser) → after ≡ record before { value_parser = after.value_parser } → after.value_parser ≡ Some parser
-    → parser ≡ parsers.Unsigned 0 18446744073709551 → rule_of before ≡ option_rule name → rule_of after ≡ moment_rule name
-moment_is name before after parser others given is rule = ap rule_of others ∙ (λ i. record (rule i) { parser = (given ∙ ap Some is) i })
+-- an option whose value is a number in a range, by the parser of its value
+pub ranged_is : (name : Text) (low high : ℕ) (before after : Arg) (parser : ValueParser) → after ≡ record before { value_parser = after.value_parser } → after.value_parser ≡ Some parser
+    → parser ≡ parsers.Unsigned low high → rule_of before ≡ option_rule name → rule_of after ≡ ranged_rule name low high
+ranged_is name low high before after parser others given is rule = ap rule_of others ∙ (λ i. record (rule i) { parser = (given ∙ ap Some is) i })

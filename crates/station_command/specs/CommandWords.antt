@@ -1,7 +1,7 @@
 -- What the words of a command line ask for.
 use Rattle.std.specs.Prelude.{◌≡◌, ◌==◌, ◌&&◌, not, false, true, is_some, Bool, ℕ, List, [], ◌∷◌, ◌++◌, Option, Some, None, if◌then◌else◌, length, codes, option_and_then, option_copied}
 use Rattle.std.specs.List.{list_any}
-use Rattle.std.specs.Option.{option_map}
+use Rattle.std.specs.Option.{option_map, unwrap_or}
 use Rattle.std.specs.Str.{bytes_eq, chars}
 use Rattle.std.specs.Str.Parse.{digits_value, without_leading_plus}
 use Rattle.clap.specs.Faults.{fault_of}
@@ -42,13 +42,14 @@ abbrev pub value_of : List ℕ → List Given → Option (List ℕ)
 value_of name [] = None
 value_of name (one ∷ given) = if bytes_eq one.0 name then Some one.1 else value_of name given
 
--- How long a run takes is a number from 1000 to 600000, and a moment of a chart one from 0 to 18446744073709551: in decimal
--- digits, with or without a plus before them. All else takes any word.
+-- How long something runs is a number from 1000 to 600000, a moment of a chart one from 0 to 18446744073709551, and the first
+-- reading of a clock one from 0 to 9000000000000: in decimal digits, with or without a plus before them. All else takes any word.
 abbrev pub takes : List ℕ → List ℕ → Bool
 takes name value =
     if bytes_eq (codes "for") name then is_unsigned_in 1000 600000 value
     else (if bytes_eq (codes "from") name then is_unsigned_in 0 18446744073709551 value
-    else (if bytes_eq (codes "to") name then is_unsigned_in 0 18446744073709551 value else true))
+    else (if bytes_eq (codes "to") name then is_unsigned_in 0 18446744073709551 value
+    else (if bytes_eq (codes "clock") name then is_unsigned_in 0 9000000000000 value else true)))
 
 -- one more value, where the name has none yet and takes it
 abbrev pub with_value : List Given → List ℕ → List ℕ → Option (List Given)
@@ -101,30 +102,31 @@ given_in usage words = option_and_then given_at (words_read usage (Between [] us
 
 -- ---- the commands
 
--- What is asked for, with the words for files and values, and for how many milliseconds.
+-- What is asked for, with the words for files, names and values, and numbers of milliseconds.
 pub data Request : Type 0 where
-  Check : List ℕ → Bool → Request
+  Check : List ℕ → Bool → Bool → Request
   Plan : List ℕ → Option (List ℕ) → Option (List ℕ) → Request
   Table : List ℕ → Bool → Request
   Sim : List ℕ → List ℕ → Request
   Run : List ℕ → List ℕ → List ℕ → ℕ → Request
-  Replay : List ℕ → List ℕ → Request
+  Replay : List ℕ → List ℕ → Option (List ℕ) → Request
   Chart : List ℕ → List ℕ → Option ℕ → Option ℕ → Request
   Decode : List ℕ → Option (List ℕ) → Request
   DecodeSession : List ℕ → List ℕ → Request
   Capture : List ℕ → List ℕ → List ℕ → Bool → Request
+  Node : List ℕ → List ℕ → List ℕ → Option (List ℕ) → Option (List ℕ) → ℕ → Option ℕ → Request
 
 -- a switch is on
 abbrev pub is_on : Option (List ℕ) → Bool
 is_on None = false
 is_on (Some value) = bytes_eq value (codes "true")
 
--- `check FILE [--explain]`
+-- `check FILE [--explain] [--digest]`
 abbrev pub check_usage : Usage
-check_usage = record { files = codes "FILE" ∷ []; options = []; switches = codes "explain" ∷ [] }
+check_usage = record { files = codes "FILE" ∷ []; options = []; switches = codes "explain" ∷ codes "digest" ∷ [] }
 
-abbrev pub check_of : Option (List ℕ) → Bool → Option Request
-check_of file explained = option_map (λ file. Check file explained) file
+abbrev pub check_of : Option (List ℕ) → Bool → Bool → Option Request
+check_of file explained digest = option_map (λ file. Check file explained digest) file
 
 -- `plan FILE [--route R] [--picture PICTURE]`
 abbrev pub plan_usage : Usage
@@ -140,9 +142,9 @@ table_usage = record { files = codes "FILE" ∷ []; options = []; switches = cod
 abbrev pub table_of : Option (List ℕ) → Bool → Option Request
 table_of file csv = option_map (λ file. Table file csv) file
 
--- `sim FILE EVENTS` and `replay FILE RECORD`
-abbrev pub two_files_usage : Usage
-two_files_usage = record { files = codes "FILE" ∷ codes "SECOND" ∷ []; options = []; switches = [] }
+-- `sim FILE EVENTS`
+abbrev pub sim_usage : Usage
+sim_usage = record { files = codes "FILE" ∷ codes "SECOND" ∷ []; options = []; switches = [] }
 
 abbrev pub both_of : Option (List ℕ) → Option (List ℕ) → Option (List ℕ × List ℕ)
 both_of (Some first) (Some second) = Some (first, second)
@@ -151,8 +153,12 @@ both_of _ _ = None
 abbrev pub sim_of : Option (List ℕ) → Option (List ℕ) → Option Request
 sim_of layout events = option_map (λ files. Sim files.0 files.1) (both_of layout events)
 
-abbrev pub replay_of : Option (List ℕ) → Option (List ℕ) → Option Request
-replay_of layout recording = option_map (λ files. Replay files.0 files.1) (both_of layout recording)
+-- `replay FILE RECORD [--node NAME]`
+abbrev pub replay_usage : Usage
+replay_usage = record { files = codes "FILE" ∷ codes "SECOND" ∷ []; options = codes "node" ∷ []; switches = [] }
+
+abbrev pub replay_of : Option (List ℕ) → Option (List ℕ) → Option (List ℕ) → Option Request
+replay_of layout recording node = option_map (λ files. Replay files.0 files.1 node) (both_of layout recording)
 
 -- `run FILE --script S --record R --for MS`
 abbrev pub run_usage : Usage
@@ -193,9 +199,25 @@ captured _ _ force = None
 abbrev pub capture_of : Option (List ℕ) → Option (List ℕ) → Option (List ℕ) → Bool → Option Request
 capture_of layout recording out force = captured (both_of layout recording) out force
 
+-- `node FILE NAME --addresses ADDRESSES [--operator ADDRESS] [--record R] [--clock MS] [--for MS]`
+abbrev pub node_usage : Usage
+node_usage = record {
+  files = codes "FILE" ∷ codes "NAME" ∷ [];
+  options = codes "addresses" ∷ codes "operator" ∷ codes "record" ∷ codes "clock" ∷ codes "for" ∷ [];
+  switches = [];
+}
+
+abbrev pub node_of : Option (List ℕ) → Option (List ℕ) → Option (List ℕ) → Option (List ℕ) → Option (List ℕ) → ℕ → Option ℕ → Option Request
+node_of (Some file) (Some name) (Some addresses) operator recording clock time = Some (Node file name addresses operator recording clock time)
+node_of _ _ _ operator recording clock time = None
+
+-- the first reading of a clock is 0, where none was given
+abbrev pub clock_of : Option ℕ → ℕ
+clock_of given = unwrap_or given 0
+
 -- what each command asks for by what it was given
 abbrev pub check_by : List Given → Option Request
-check_by given = check_of (value_of (codes "FILE") given) (is_on (value_of (codes "explain") given))
+check_by given = check_of (value_of (codes "FILE") given) (is_on (value_of (codes "explain") given)) (is_on (value_of (codes "digest") given))
 
 abbrev pub plan_by : List Given → Option Request
 plan_by given = plan_of (value_of (codes "FILE") given) (value_of (codes "route") given) (value_of (codes "picture") given)
@@ -210,7 +232,7 @@ abbrev pub run_by : List Given → Option Request
 run_by given = run_of (value_of (codes "FILE") given) (value_of (codes "script") given) (value_of (codes "record") given) (option_map time_of (value_of (codes "for") given))
 
 abbrev pub replay_by : List Given → Option Request
-replay_by given = replay_of (value_of (codes "FILE") given) (value_of (codes "SECOND") given)
+replay_by given = replay_of (value_of (codes "FILE") given) (value_of (codes "SECOND") given) (value_of (codes "node") given)
 
 abbrev pub chart_by : List Given → Option Request
 chart_by given = chart_of (value_of (codes "FILE") given) (value_of (codes "SECOND") given) (option_map time_of (value_of (codes "from") given)) (option_map time_of (value_of (codes "to") given))
@@ -221,32 +243,39 @@ decode_by given = decode_of (value_of (codes "hex") given) (value_of (codes "lay
 abbrev pub capture_by : List Given → Option Request
 capture_by given = capture_of (value_of (codes "FILE") given) (value_of (codes "SECOND") given) (value_of (codes "OUT") given) (is_on (value_of (codes "force") given))
 
+abbrev pub node_by : List Given → Option Request
+node_by given =
+    node_of (value_of (codes "FILE") given) (value_of (codes "NAME") given) (value_of (codes "addresses") given) (value_of (codes "operator") given) (value_of (codes "record") given)
+    (clock_of (option_map time_of (value_of (codes "clock") given))) (option_map time_of (value_of (codes "for") given))
+
 -- What a command line asks for, the first word of which is the program's name.
 abbrev pub request_in : List (List ℕ) → Option Request
 request_in (program ∷ command ∷ words) =
     if bytes_eq (codes "check") command then option_and_then check_by (given_in check_usage words) else
     (if bytes_eq (codes "plan") command then option_and_then plan_by (given_in plan_usage words) else
     (if bytes_eq (codes "table") command then option_and_then table_by (given_in table_usage words) else
-    (if bytes_eq (codes "sim") command then option_and_then sim_by (given_in two_files_usage words) else
+    (if bytes_eq (codes "sim") command then option_and_then sim_by (given_in sim_usage words) else
     (if bytes_eq (codes "run") command then option_and_then run_by (given_in run_usage words) else
-    (if bytes_eq (codes "replay") command then option_and_then replay_by (given_in two_files_usage words) else
+    (if bytes_eq (codes "replay") command then option_and_then replay_by (given_in replay_usage words) else
     (if bytes_eq (codes "chart") command then option_and_then chart_by (given_in chart_usage words) else
     (if bytes_eq (codes "decode") command then option_and_then decode_by (given_in decode_usage words) else
-    (if bytes_eq (codes "capture") command then option_and_then capture_by (given_in capture_usage words) else None))))))))
+    (if bytes_eq (codes "capture") command then option_and_then capture_by (given_in capture_usage words) else
+    (if bytes_eq (codes "node") command then option_and_then node_by (given_in node_usage words) else None)))))))))
 request_in _ = None
 
 -- an answer as a request
 abbrev pub request_of : Asked → Request
-request_of (asked.Check layout explained) = Check layout.now explained
+request_of (asked.Check layout explained digest) = Check layout.now explained digest
 request_of (asked.Plan layout route picture) = Plan layout.now (option_copied route) (option_copied picture)
 request_of (asked.Table layout csv) = Table layout.now csv
 request_of (asked.Sim layout events) = Sim layout.now events.now
 request_of (asked.Run layout script recording for_ms) = Run layout.now script.now recording.now for_ms
-request_of (asked.Replay layout recording) = Replay layout.now recording.now
+request_of (asked.Replay layout recording node) = Replay layout.now recording.now (option_copied node)
 request_of (asked.Chart layout recording from to) = Chart layout.now recording.now from to
 request_of (asked.Decode word layout) = Decode word.now (option_copied layout)
 request_of (asked.DecodeSession layout recording) = DecodeSession layout.now recording.now
 request_of (asked.Capture layout recording out force) = Capture layout.now recording.now out.now force
+request_of (asked.Node layout name addresses operator recording clock time) = Node layout.now name.now addresses.now (option_copied operator) (option_copied recording) clock time
 
 -- What is asked is what the words say.
 abbrev pub Asks : List (List ℕ) → Asked → Type 0

@@ -24,9 +24,9 @@ needed_rule name = record (option_rule name) { required = true }
 abbrev pub switch_rule : List ℕ → Rule
 switch_rule name = record (new_rule name) { long = Some name; action = Some action.SetTrue }
 
--- `check FILE [--explain]`
+-- `check FILE [--explain] [--digest]`
 abbrev pub check_line : App
-check_line = with_rule (with_rule (new_app (codes "check")) file_rule) (switch_rule (codes "explain"))
+check_line = with_rule (with_rule (with_rule (new_app (codes "check")) file_rule) (switch_rule (codes "explain"))) (switch_rule (codes "digest"))
 
 -- `plan FILE [--route R] [--picture PICTURE]`
 abbrev pub plan_line : App
@@ -40,9 +40,13 @@ table_line = with_rule (with_rule (new_app (codes "table")) file_rule) (switch_r
 abbrev pub sim_line : App
 sim_line = with_rule (with_rule (new_app (codes "sim")) file_rule) second_rule
 
+-- an option whose value is a number in a range
+abbrev pub ranged_rule : List ℕ → ℕ → ℕ → Rule
+ranged_rule name low high = record (option_rule name) { parser = Some (value.Unsigned low high) }
+
 -- the milliseconds that a run takes, in their range
 abbrev pub time_rule : Rule
-time_rule = record (needed_rule (codes "for")) { parser = Some (value.Unsigned 1000 600000) }
+time_rule = record (ranged_rule (codes "for") 1000 600000) { required = true }
 
 -- `run`, with the files that it reads
 abbrev pub reading_line : App
@@ -52,13 +56,9 @@ reading_line = with_rule (with_rule (new_app (codes "run")) file_rule) (needed_r
 abbrev pub run_line : App
 run_line = with_rule (with_rule reading_line (needed_rule (codes "record"))) time_rule
 
--- `replay FILE RECORD`
-abbrev pub replay_line : App
-replay_line = with_rule (with_rule (new_app (codes "replay")) file_rule) second_rule
-
 -- a moment of a chart, in its range
 abbrev pub moment_rule : List ℕ → Rule
-moment_rule name = record (option_rule name) { parser = Some (value.Unsigned 0 18446744073709551) }
+moment_rule name = ranged_rule name 0 18446744073709551
 
 -- a file that may be left out, which has a name of its own in the help
 abbrev pub optional_rule : List ℕ → Rule
@@ -76,6 +76,10 @@ decode_line = with_rule (with_rule datagram_line (optional_rule (codes "FILE")))
 abbrev pub session_line : List ℕ → App
 session_line name = with_rule (with_rule (new_app name) file_rule) second_rule
 
+-- `replay FILE RECORD [--node NAME]`
+abbrev pub replay_line : App
+replay_line = with_rule (session_line (codes "replay")) (option_rule (codes "node"))
+
 -- the file to which a capture goes
 abbrev pub out_rule : Rule
 out_rule = record (new_rule (codes "OUT")) { required = true }
@@ -87,6 +91,21 @@ capture_line = with_rule (with_rule (session_line (codes "capture")) out_rule) (
 -- `chart FILE RECORD [--from MS] [--to MS]`
 abbrev pub chart_line : App
 chart_line = with_rule (with_rule (session_line (codes "chart")) (moment_rule (codes "from"))) (moment_rule (codes "to"))
+
+-- the name of a node
+abbrev pub name_rule : Rule
+name_rule = record (new_rule (codes "NAME")) { required = true }
+
+-- `node`, with its name, and where nodes and its operator are reached
+abbrev pub reached_line : App
+reached_line =
+    let plain = with_rule (with_rule (new_app (codes "node")) file_rule) name_rule
+    in with_rule (with_rule plain (needed_rule (codes "addresses"))) (option_rule (codes "operator"))
+
+-- `node FILE NAME --addresses ADDRESSES [--operator ADDRESS] [--record R] [--clock MS] [--for MS]`
+abbrev pub node_line : App
+node_line =
+    with_rule (with_rule (with_rule reached_line (option_rule (codes "record"))) (ranged_rule (codes "clock") 0 9000000000000)) (ranged_rule (codes "for") 1000 600000)
 
 -- `station`, which has a version, and tells its help where no word is given
 abbrev pub alone_line : App
@@ -104,4 +123,4 @@ doing_line = with_subcommand (with_subcommand (with_subcommand layout_line sim_l
 
 -- `station COMMAND`
 abbrev pub station_line : App
-station_line = with_subcommand (with_subcommand (with_subcommand doing_line chart_line.top) decode_line.top) capture_line.top
+station_line = with_subcommand (with_subcommand (with_subcommand (with_subcommand doing_line chart_line.top) decode_line.top) capture_line.top) node_line.top

@@ -4,12 +4,13 @@ ghost use Rattle.std.specs.Prelude.{◌≡◌, ◌↔◌, ◌⊎◌, IsTrue, IfO
 ghost use Rattle.std.specs.Option.{option_map};
 ghost use Rattle.clap.specs.Words.{FailsBy, first_of, found_of, kind_of, rows_of, subcommand_rows_of};
 ghost use Rattle.station_command.specs.CommandWords.{Asks, faults_in, decode_of, is_on, request_in, request_of};
-ghost use Rattle.station_command.specs.inside.Rows.{capture_of_rows, chart_of_rows, check_of_rows, decode_of_rows, files_of, number_of, plan_of_rows, request_of_rows, run_of_rows, table_of_rows};
+ghost use Rattle.station_command.specs.inside.Rows.{capture_of_rows, chart_of_rows, check_of_rows, decode_of_rows, files_of, node_of_rows, number_of, plan_of_rows, replay_of_rows, request_of_rows, run_of_rows, table_of_rows};
 ghost use Rattle.clap.specs.declared.error.kind.ErrorKind.TheVariants as kind;
 
 use crate::line::{
-    CAPTURE, CHART, CHECK, CSV, DECODE, EXPLAIN, FILE, FOR, FORCE, FROM, HEX, LAYOUT, OUT, PICTURE,
-    PLAN, RECORD, REPLAY, ROUTE, RUN, SCRIPT, SECOND, SIM, TABLE, TO, station,
+    ADDRESSES, CAPTURE, CHART, CHECK, CLOCK, CSV, DECODE, DIGEST, EXPLAIN, FILE, FOR, FORCE, FROM,
+    HEX, LAYOUT, NAME, NODE, OPERATOR, OUT, PICTURE, PLAN, RECORD, REPLAY, ROUTE, RUN, SCRIPT,
+    SECOND, SIM, TABLE, TO, station,
 };
 use clap::error::ErrorKind;
 use clap::{ArgMatches, Error};
@@ -17,12 +18,13 @@ use std::alloc::Global;
 use std::convert::AsStr;
 
 /// What a command line asks for.
-#[derive(Clone, Copy, Debug, PartialEq, Eq)]
+#[derive(Clone, Copy, Debug)]
 pub enum Asked<'a> {
-    /// `check FILE [--explain]`: whether the layout in a file is sound, with what is wrong in words.
+    /// `check FILE [--explain] [--digest]`: whether the layout in a file is sound, with what is wrong in words, and with a digest of its text.
     Check {
         layout: &'a str,
         explained: bool,
+        digest: bool,
     },
     /// `plan FILE [--route R] [--picture PICTURE]`: the track plan of the layout in a file, with a route, and with what is
     /// seen in a picture.
@@ -48,10 +50,11 @@ pub enum Asked<'a> {
         record: &'a str,
         for_ms: u64,
     },
-    /// `replay FILE RECORD`: whether a recorded session on the layout in a file answers the same again.
+    /// `replay FILE RECORD [--node NAME]`: whether a recorded session on the layout in a file answers the same again, or the record of the node of this name.
     Replay {
         layout: &'a str,
         recording: &'a str,
+        node: Option<&'a str>,
     },
     /// `chart FILE RECORD [--from MS] [--to MS]`: a recorded session on the layout in a file as a chart over true time, from one moment to another.
     Chart {
@@ -76,6 +79,20 @@ pub enum Asked<'a> {
         recording: &'a str,
         out: &'a str,
         force: bool,
+    },
+    /// `node FILE NAME --addresses ADDRESSES [--operator ADDRESS] [--record R] [--clock MS] [--for MS]`: the node of this name of a station of the layout in a file, as a process of its own.
+    ///
+    /// `addresses` is the file with the addresses of the nodes, and `operator` the address for the operator, where it isn't
+    /// standard input and output. `record` is the file to which what came and what was done is written. The clock begins at
+    /// `clock` milliseconds, 0 if the words don't say it. The node runs for `for_ms` milliseconds, or until it is ended.
+    Node {
+        layout: &'a str,
+        name: &'a str,
+        addresses: &'a str,
+        operator: Option<&'a str>,
+        record: Option<&'a str>,
+        clock: u64,
+        for_ms: Option<u64>,
     },
 }
 
@@ -134,7 +151,12 @@ fn asked_check<'a>(matches: &ArgMatches<'a>) -> Option<Asked<'a>>
 {
     let layout = file(matches)?;
     let explained = is_on(matches, EXPLAIN);
-    Some(Asked::Check { layout, explained })
+    let digest = is_on(matches, DIGEST);
+    Some(Asked::Check {
+        layout,
+        explained,
+        digest,
+    })
 }
 
 /// The plan that is asked for.
@@ -179,9 +201,23 @@ fn asked_run<'a>(matches: &ArgMatches<'a>) -> Option<Asked<'a>>
     })
 }
 
-/// A moment of a chart, if it is given.
-#[tactic(auto, using(crate::proofs::Found::moment_found, crate::proofs::Found::moment_missing))]
-fn moment(matches: &ArgMatches<'_>, name: &str) -> Option<u64>
+/// The replay that is asked for.
+#[tactic(auto, using(crate::proofs::Found::replay_found, crate::proofs::Found::no_replay))]
+fn asked_replay<'a>(matches: &ArgMatches<'a>) -> Option<Asked<'a>>
+    ensures { option_map request_of result ≡ replay_of_rows (rows_of (found_of matches.now)) }
+{
+    let (layout, recording) = files(matches)?;
+    let node = matches.get_str(NODE);
+    Some(Asked::Replay {
+        layout,
+        recording,
+        node,
+    })
+}
+
+/// The number that an option was given, if it was given one.
+#[tactic(auto, using(crate::proofs::Found::number_found, crate::proofs::Found::number_missing))]
+fn number_given(matches: &ArgMatches<'_>, name: &str) -> Option<u64>
     ensures { result ≡ option_and_then number_of (first_of name.now (rows_of (found_of matches.now))) }
 {
     match matches.get_str(name) {
@@ -196,8 +232,8 @@ fn asked_chart<'a>(matches: &ArgMatches<'a>) -> Option<Asked<'a>>
     ensures { option_map request_of result ≡ chart_of_rows (rows_of (found_of matches.now)) }
 {
     let (layout, recording) = files(matches)?;
-    let from = moment(matches, FROM);
-    let to = moment(matches, TO);
+    let from = number_given(matches, FROM);
+    let to = number_given(matches, TO);
     Some(Asked::Chart {
         layout,
         recording,
@@ -252,6 +288,29 @@ fn asked_capture<'a>(matches: &ArgMatches<'a>) -> Option<Asked<'a>>
     })
 }
 
+/// The node that is asked for.
+#[tactic(auto, using(crate::proofs::Found::no_layout, crate::proofs::Found::no_name, crate::proofs::Found::no_addresses))]
+fn asked_node<'a>(matches: &ArgMatches<'a>) -> Option<Asked<'a>>
+    ensures { option_map request_of result ≡ node_of_rows (rows_of (found_of matches.now)) }
+{
+    let layout = matches.get_str(FILE)?;
+    let name = matches.get_str(NAME)?;
+    let addresses = matches.get_str(ADDRESSES)?;
+    let operator = matches.get_str(OPERATOR);
+    let record = matches.get_str(RECORD);
+    let clock = number_given(matches, CLOCK).unwrap_or(0);
+    let for_ms = number_given(matches, FOR);
+    Some(Asked::Node {
+        layout,
+        name,
+        addresses,
+        operator,
+        record,
+        clock,
+        for_ms,
+    })
+}
+
 /// What was found on a command line asks for, if for anything.
 fn asked_by<'a>(matches: &ArgMatches<'a>) -> Option<Asked<'a>>
     ensures { option_map request_of result ≡ request_of_rows (subcommand_rows_of matches.now) }
@@ -266,13 +325,11 @@ fn asked_by<'a>(matches: &ArgMatches<'a>) -> Option<Asked<'a>>
             Some(Asked::Sim { layout, events })
         }
         RUN => asked_run(matches),
-        REPLAY => {
-            let (layout, recording) = files(matches)?;
-            Some(Asked::Replay { layout, recording })
-        }
+        REPLAY => asked_replay(matches),
         CHART => asked_chart(matches),
         DECODE => asked_decode(matches),
         CAPTURE => asked_capture(matches),
+        NODE => asked_node(matches),
         _ => None,
     }
 }

@@ -3,7 +3,7 @@
 ghost use Rattle.std.specs.Prelude.{◌≡◌, IfOk, false};
 ghost use Rattle.clap.specs.Words.{app_of, new_app, rule_of};
 ghost use Rattle.clap.specs.declared.builder.command.Command.TheViews.{out-Command};
-ghost use Rattle.station_command.specs.Line.{alone_line, capture_line, chart_line, check_line, datagram_line, decode_line, doing_line, layout_line, moment_rule, needed_rule, option_rule, optional_rule, plan_line, reading_line, replay_line, run_line, second_rule, session_line, sim_line, station_line, switch_rule, table_line, time_rule};
+ghost use Rattle.station_command.specs.Line.{alone_line, capture_line, chart_line, check_line, datagram_line, decode_line, doing_line, layout_line, needed_rule, node_line, option_rule, optional_rule, plan_line, ranged_rule, reached_line, reading_line, replay_line, run_line, second_rule, session_line, sim_line, station_line, switch_rule, table_line, time_rule};
 ghost use Rattle.station_command.specs.inside.Lines.{Joins, Takes, file_line, needed_file_rule};
 
 use crate::texts;
@@ -30,6 +30,9 @@ pub(crate) const DECODE: &str = "decode";
 
 pub(crate) const CAPTURE: &str = "capture";
 
+/// This is also the word of a replay's option.
+pub(crate) const NODE: &str = "node";
+
 /// The file of the layout, and the one that is applied to it.
 pub(crate) const FILE: &str = "FILE";
 
@@ -40,8 +43,10 @@ pub(crate) const ROUTE: &str = "route";
 
 pub(crate) const PICTURE: &str = "picture";
 
-/// The switch of a check.
+/// The switches of a check.
 pub(crate) const EXPLAIN: &str = "explain";
+
+pub(crate) const DIGEST: &str = "digest";
 
 /// The switch of a table.
 pub(crate) const CSV: &str = "csv";
@@ -68,6 +73,15 @@ pub(crate) const OUT: &str = "OUT";
 
 pub(crate) const FORCE: &str = "force";
 
+/// The name of a node, where nodes and an operator are reached, and the first reading of a clock.
+pub(crate) const NAME: &str = "NAME";
+
+pub(crate) const ADDRESSES: &str = "addresses";
+
+pub(crate) const OPERATOR: &str = "operator";
+
+pub(crate) const CLOCK: &str = "clock";
+
 /// The shortest and the longest run, in milliseconds.
 const SHORTEST: u64 = 1000;
 
@@ -75,6 +89,9 @@ const LONGEST: u64 = 600_000;
 
 /// The last moment of a chart, in milliseconds of true time.
 const LATEST: u64 = 18_446_744_073_709_551;
+
+/// The latest first reading of a node's clock, in milliseconds.
+const LATEST_CLOCK: u64 = 9_000_000_000_000;
 
 /// The command line of `station`, without its commands.
 fn alone<'a>(alloc: Global) -> Result<Command<'a>, AllocError>
@@ -123,7 +140,8 @@ pub(crate) fn station<'a>(alloc: Global) -> Result<Command<'a>, AllocError>
 {
     let line = with(about_stations(alloc), chart(alloc));
     let line = with(line, decode(alloc));
-    with(line, capture(alloc))
+    let line = with(line, capture(alloc));
+    with(line, node(alloc))
 }
 
 /// An argument whose value has a name of its own in the help. It is known by its place, and may be left out.
@@ -148,6 +166,14 @@ fn needed<'a>(alloc: Global, name: &'a str, value: &'a str, help: &'a str) -> Ar
     ensures local { result.global ≡ false }
 {
     option(alloc, name, value, help).required(true)
+}
+
+/// An option whose value is a number of milliseconds in a range.
+fn ranged<'a>(alloc: Global, name: &'a str, help: &'a str, low: u64, high: u64) -> Arg<'a>
+    ensures rule { rule_of result ≡ ranged_rule name.entry.now low high }
+    ensures local { result.global ≡ false }
+{
+    option(alloc, name, "MS", help).value_parser(ValueParser::unsigned(low, high))
 }
 
 /// A switch.
@@ -221,16 +247,13 @@ fn taking<'a>(
     command?.arg(arg)
 }
 
-/// `check FILE [--explain]`.
-#[tactic(auto, using(crate::proofs::Lines::check_is))]
+/// `check FILE [--explain] [--digest]`.
 fn check<'a>(alloc: Global) -> Result<Command<'a>, AllocError>
     ensures { IfOk result (λ line. (app_of line ≡ check_line) × ((out-Command line).has_globals ≡ false)) }
 {
-    on_layout(alloc, CHECK, texts::CHECK, texts::CHECK_DETAILS)?.arg(switch(
-        alloc,
-        EXPLAIN,
-        texts::EXPLAIN,
-    ))
+    let line = on_layout(alloc, CHECK, texts::CHECK, texts::CHECK_DETAILS);
+    let line = taking(line, switch(alloc, EXPLAIN, texts::EXPLAIN));
+    taking(line, switch(alloc, DIGEST, texts::DIGEST))
 }
 
 /// `plan FILE [--route R] [--picture PICTURE]`.
@@ -267,7 +290,7 @@ fn time<'a>(alloc: Global) -> Arg<'a>
     ensures rule { rule_of result ≡ time_rule }
     ensures local { result.global ≡ false }
 {
-    needed(alloc, FOR, "MS", texts::FOR).value_parser(ValueParser::unsigned(SHORTEST, LONGEST))
+    ranged(alloc, FOR, texts::FOR, SHORTEST, LONGEST).required(true)
 }
 
 /// `run`, with the files that it reads.
@@ -294,11 +317,17 @@ fn run<'a>(alloc: Global) -> Result<Command<'a>, AllocError>
     taking(line, time(alloc))
 }
 
-/// `replay FILE RECORD`.
+/// `replay FILE RECORD [--node NAME]`.
+#[tactic(auto, using(crate::proofs::Lines::replay_is))]
 fn replay<'a>(alloc: Global) -> Result<Command<'a>, AllocError>
     ensures { IfOk result (λ line. (app_of line ≡ replay_line) × ((out-Command line).has_globals ≡ false)) }
 {
-    on_session(alloc, REPLAY, texts::REPLAY, texts::REPLAY_DETAILS)
+    on_session(alloc, REPLAY, texts::REPLAY, texts::REPLAY_DETAILS)?.arg(option(
+        alloc,
+        NODE,
+        "NAME",
+        texts::RECORDED_NODE,
+    ))
 }
 
 /// `decode`, with the options for a datagram.
@@ -321,21 +350,13 @@ fn decode<'a>(alloc: Global) -> Result<Command<'a>, AllocError>
     taking(line, valued(alloc, SECOND, "RECORD", texts::RECORD))
 }
 
-/// A moment of a chart.
-fn moment<'a>(alloc: Global, name: &'a str, help: &'a str) -> Arg<'a>
-    ensures rule { rule_of result ≡ moment_rule name.entry.now }
-    ensures local { result.global ≡ false }
-{
-    option(alloc, name, "MS", help).value_parser(ValueParser::unsigned(0, LATEST))
-}
-
 /// `chart FILE RECORD [--from MS] [--to MS]`.
 fn chart<'a>(alloc: Global) -> Result<Command<'a>, AllocError>
     ensures { IfOk result (λ line. (app_of line ≡ chart_line) × ((out-Command line).has_globals ≡ false)) }
 {
     let line = on_session(alloc, CHART, texts::CHART, texts::CHART_DETAILS);
-    let line = taking(line, moment(alloc, FROM, texts::FROM));
-    taking(line, moment(alloc, TO, texts::TO))
+    let line = taking(line, ranged(alloc, FROM, texts::FROM, 0, LATEST));
+    taking(line, ranged(alloc, TO, texts::TO, 0, LATEST))
 }
 
 /// `capture FILE RECORD OUT [--force]`.
@@ -345,4 +366,32 @@ fn capture<'a>(alloc: Global) -> Result<Command<'a>, AllocError>
     let line = on_session(alloc, CAPTURE, texts::CAPTURE, texts::CAPTURE_DETAILS);
     let line = taking(line, file(alloc, OUT, texts::OUT));
     taking(line, switch(alloc, FORCE, texts::FORCE))
+}
+
+/// `node`, with its name, and where nodes and its operator are reached.
+fn node_alone<'a>(alloc: Global) -> Result<Command<'a>, AllocError>
+    ensures { IfOk result (λ line. (app_of line ≡ reached_line) × ((out-Command line).has_globals ≡ false)) }
+{
+    let line = on_layout(alloc, NODE, texts::NODE, texts::NODE_DETAILS);
+    let line = taking(line, file(alloc, NAME, texts::NAME));
+    let line = taking(
+        line,
+        needed(alloc, ADDRESSES, "ADDRESSES", texts::ADDRESSES),
+    );
+    taking(line, option(alloc, OPERATOR, "ADDRESS", texts::OPERATOR))
+}
+
+/// `node FILE NAME --addresses ADDRESSES [--operator ADDRESS] [--record R] [--clock MS] [--for MS]`.
+fn node<'a>(alloc: Global) -> Result<Command<'a>, AllocError>
+    ensures { IfOk result (λ line. (app_of line ≡ node_line) × ((out-Command line).has_globals ≡ false)) }
+{
+    let line = taking(
+        node_alone(alloc),
+        option(alloc, RECORD, "R", texts::RECORD_OF_NODE),
+    );
+    let line = taking(line, ranged(alloc, CLOCK, texts::CLOCK, 0, LATEST_CLOCK));
+    taking(
+        line,
+        ranged(alloc, FOR, texts::FOR_OF_NODE, SHORTEST, LONGEST),
+    )
 }

@@ -6,6 +6,8 @@ pub(crate) const FILE: &str = "The layout, a TOML file";
 
 pub(crate) const EXPLAIN: &str = "Tells a fault in a second line, in words";
 
+pub(crate) const DIGEST: &str = "Prints a SHA-256 of the layout's text in one line more";
+
 pub(crate) const ROUTE: &str = "The route that is drawn thick, with its flank points and approach";
 
 pub(crate) const PICTURE: &str = "What is seen of the station, as sim prints it";
@@ -36,8 +38,9 @@ that it needs on its path and at its flanks, and has its signals at the right pl
 
 For a sound layout it prints how many signals, points, sections and routes the station has, and each
 pair of routes that can't be set at the same time. Otherwise it prints the first fault, and ends with
-status 1. With --explain a second line says what is wrong, in words. docs/INTERLOCKING.md has the keys
-of the file and all faults, examples/ has stations.
+status 1. With --explain a second line says what is wrong, in words. With --digest one line more has a
+SHA-256 of the layout's text, which is the same on two machines where the text is.
+docs/INTERLOCKING.md has the keys of the file and all faults, examples/ has stations.
 
 Example: station check examples/junction.toml";
 
@@ -107,6 +110,9 @@ it goes. At the end it prints what is seen of the station.
 
 Example: station run examples/small.toml --script examples/proceed.script --record run.session --for 12000";
 
+pub(crate) const RECORDED_NODE: &str =
+    "The name of the node whose record it is, as node writes one with --record";
+
 pub(crate) const REPLAY: &str = "Applies a recorded session to a station of a layout again";
 
 pub(crate) const REPLAY_DETAILS: &str = "Applies a recorded session to a station of a layout again.
@@ -114,6 +120,9 @@ pub(crate) const REPLAY_DETAILS: &str = "Applies a recorded session to a station
 The station begins with each point at left and each section clear. Each line of a session is an event
 and what it answered, as EVENT = ANSWER. Where each event answers the same, it prints `same`. Otherwise
 it prints the first line that differs, and ends with status 3.
+
+With --node the record is that of one node, as node writes it with --record. It is applied to a node of
+this name that is made anew.
 
 Example: station replay examples/small.toml examples/commands.session";
 
@@ -165,3 +174,66 @@ that is there already stays as it is, unless --force stands.
 docs/WIRE.md tells how a capture is looked at.
 
 Example: station capture examples/small.toml examples/traffic.session traffic.pcapng";
+
+pub(crate) const NAME: &str = "The name of the node, as the layout has it";
+
+pub(crate) const ADDRESSES: &str = "The addresses of the nodes, a TOML file";
+
+pub(crate) const OPERATOR: &str =
+    "The loopback address of the operator, in place of standard input and output";
+
+pub(crate) const RECORD_OF_NODE: &str = "The file to which what came and what was done is written";
+
+pub(crate) const CLOCK: &str =
+    "Where the node's clock begins, from 0 to 9000000000000 milliseconds, else at 0";
+
+pub(crate) const FOR_OF_NODE: &str =
+    "How long the node runs, from 1000 to 600000 milliseconds, else without end";
+
+pub(crate) const NODE: &str = "Runs one node of a station as a process of its own";
+
+pub(crate) const NODE_DETAILS: &str = "Runs one node of a station as a process of its own.
+
+NAME is the station's name, for its interlocking, or that of a signal, a point or a detector, for its
+controller. The nodes send each other UDP datagrams. ADDRESSES is a TOML file with a line for each
+node, its IP address and its port, as `S1 = \"10.0.0.2:5001\"`. All moments in the lines below are
+readings of the node's own clock, in milliseconds.
+
+The controller of a signal or a point tells its field equipment what to do, in lines on standard
+output. Each has a number, and the moment at which it was written:
+
+  7 at 12000 show proceed until 13640     the signal shows proceed (or slow); from 13640 on it
+                                          falls to stop by itself
+  8 at 12310 show stop                    the signal shows stop
+  9 at 500 drive left until 2280          the point is driven to the left (or right); from 2280
+                                          on the drive stops by itself
+  10 at 900 drive none                    the point isn't driven
+
+It is told by the field equipment, in lines on standard input:
+
+  done 7                      the line of this number is in force
+  occupy S, clear S           what the contact of a section tells a detector
+  reach left|right|none       where the point lies, with none for neither
+
+A controller waits until its first line is done and each contact has told its state.
+
+The interlocking serves an operator, in lines on standard input and output, or at --operator:
+
+  resume                      it takes `set` and `cancel` from now on
+  set R, cancel R             sets a route, or lets it go
+  cancel all                  lets each route go
+
+It answers `accepted`, or `refused N` with the cause, and tells what it knows whenever that changes:
+
+  link NODE ready|lost                    the link to a controller
+  section S clear|occupied|unknown        what is reported of a section
+  point P left|right|unknown              what is reported of a point
+  signal S ASPECT R, signal S stop -      what a signal may show, and the route into which it leads
+  indicates S ASPECT                      what a signal is reported to show
+  route R set|free                        whether a route is set
+  holding                                 it was made anew, and takes no command yet
+  waiting for resume                      it takes no command but `resume`
+
+docs/DEPLOYMENT.md tells how a station is put on machines.
+
+Example: station node examples/halden.toml A --addresses examples/machines/halden.addresses";

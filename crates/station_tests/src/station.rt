@@ -21,6 +21,7 @@ Commands:
   chart    Draws a session as a chart over true time
   decode   Puts a datagram, or those of a session, into words
   capture  Writes the datagrams of a session as a capture
+  node     Runs one node of a station as a process of its own
   help     Print this message or the help of the given subcommand(s)
 
 Options:
@@ -36,8 +37,9 @@ that it needs on its path and at its flanks, and has its signals at the right pl
 
 For a sound layout it prints how many signals, points, sections and routes the station has, and each
 pair of routes that can't be set at the same time. Otherwise it prints the first fault, and ends with
-status 1. With --explain a second line says what is wrong, in words. docs/INTERLOCKING.md has the keys
-of the file and all faults, examples/ has stations.
+status 1. With --explain a second line says what is wrong, in words. With --digest one line more has a
+SHA-256 of the layout's text, which is the same on two machines where the text is.
+docs/INTERLOCKING.md has the keys of the file and all faults, examples/ has stations.
 
 Example: station check examples/junction.toml
 
@@ -50,6 +52,9 @@ Arguments:
 Options:
       --explain
           Tells a fault in a second line, in words
+
+      --digest
+          Prints a SHA-256 of the layout's text in one line more
 
   -h, --help
           Print help (see a summary with '-h')
@@ -64,6 +69,7 @@ Arguments:
 
 Options:
       --explain  Tells a fault in a second line, in words
+      --digest   Prints a SHA-256 of the layout's text in one line more
   -h, --help     Print help (see more with '--help')
 ";
 
@@ -140,9 +146,12 @@ The station begins with each point at left and each section clear. Each line of 
 and what it answered, as EVENT = ANSWER. Where each event answers the same, it prints `same`. Otherwise
 it prints the first line that differs, and ends with status 3.
 
+With --node the record is that of one node, as node writes it with --record. It is applied to a node of
+this name that is made anew.
+
 Example: station replay examples/small.toml examples/commands.session
 
-Usage: station replay <FILE> <RECORD>
+Usage: station replay [OPTIONS] <FILE> <RECORD>
 
 Arguments:
   <FILE>
@@ -152,6 +161,9 @@ Arguments:
           The recorded session
 
 Options:
+      --node <NAME>
+          The name of the node whose record it is, as node writes one with --record
+
   -h, --help
           Print help (see a summary with '-h')
 ";
@@ -285,6 +297,23 @@ Options:
           Print help (see a summary with '-h')
 ";
 
+const SHORT_NODE_HELP: &str = "Runs one node of a station as a process of its own
+
+Usage: station node [OPTIONS] --addresses <ADDRESSES> <FILE> <NAME>
+
+Arguments:
+  <FILE>  The layout, a TOML file
+  <NAME>  The name of the node, as the layout has it
+
+Options:
+      --addresses <ADDRESSES>  The addresses of the nodes, a TOML file
+      --operator <ADDRESS>     The loopback address of the operator, in place of standard input and output
+      --record <R>             The file to which what came and what was done is written
+      --clock <MS>             Where the node's clock begins, from 0 to 9000000000000 milliseconds, else at 0
+      --for <MS>               How long the node runs, from 1000 to 600000 milliseconds, else without end
+  -h, --help                   Print help (see more with '--help')
+";
+
 const NO_FILE: &str = "error: the following required arguments were not provided:
   <FILE>
 
@@ -325,7 +354,7 @@ For more information, try '--help'.
 
 const A_RECORD_TOO_MANY: &str = "error: unexpected argument 'c' found
 
-Usage: station replay <FILE> <RECORD>
+Usage: station replay [OPTIONS] <FILE> <RECORD>
 
 For more information, try '--help'.
 ";
@@ -346,6 +375,20 @@ For more information, try '--help'.
 
 const TOO_LONG: &str =
     "error: invalid value '600001' for '--for <MS>': 600001 is not in 1000..=600000
+
+For more information, try '--help'.
+";
+
+const TOO_LATE: &str =
+    "error: invalid value '9000000000001' for '--clock <MS>': 9000000000001 is not in 0..=9000000000000
+
+For more information, try '--help'.
+";
+
+const NO_ADDRESSES: &str = "error: the following required arguments were not provided:
+  --addresses <ADDRESSES>
+
+Usage: station node --addresses <ADDRESSES> <FILE> <NAME>
 
 For more information, try '--help'.
 ";
@@ -410,6 +453,7 @@ const HELPED: &[Printed] = &[
     ("station chart --help", 0, CHART_HELP),
     ("station decode -h", 0, SHORT_DECODE_HELP),
     ("station capture --help", 0, CAPTURE_HELP),
+    ("station node -h", 0, SHORT_NODE_HELP),
     ("station --version", 0, "station 1.0.0\n"),
     ("station -V", 0, "station 1.0.0\n"),
 ];
@@ -431,6 +475,8 @@ const REFUSED: &[Printed] = &[
     ("station run --script=a --script=b", 2, A_SECOND_SCRIPT),
     ("station table f --csv=yes", 2, A_VALUE_OF_A_SWITCH),
     ("station table --csv --csv", 2, A_SECOND_SWITCH),
+    ("station node f S1", 2, NO_ADDRESSES),
+    ("station node f S1 --clock=9000000000001", 2, TOO_LATE),
     ("station decode --layout f", 2, NOTHING_TO_DECODE),
     ("station decode f", 2, NOTHING_TO_DECODE),
     ("station decode --hex - f r", 2, NOTHING_TO_DECODE),

@@ -4,7 +4,7 @@ use Rattle.std.specs.Str.{bytes_eq}
 use Rattle.std.specs.Str.Parse.{digits_value, without_leading_plus}
 use Rattle.clap.specs.ValueTests.{is_numeral}
 use Rattle.clap.specs.Words.{Row, Text, first_of}
-use Rattle.station_command.specs.CommandWords.{Request, both_of, capture_of, chart_of, check_of, decode_of, is_on, plan_of, replay_of, run_of, sim_of, table_of}
+use Rattle.station_command.specs.CommandWords.{Request, both_of, capture_of, chart_of, check_of, clock_of, decode_of, is_on, node_of, plan_of, replay_of, run_of, sim_of, table_of}
 
 -- the two files of a subcommand
 abbrev pub files_of : List Row → Option (Text × Text)
@@ -18,7 +18,7 @@ number_of text =
 
 -- what each command asks for
 abbrev pub check_of_rows : List Row → Option Request
-check_of_rows rows = check_of (first_of (codes "FILE") rows) (is_on (first_of (codes "explain") rows))
+check_of_rows rows = check_of (first_of (codes "FILE") rows) (is_on (first_of (codes "explain") rows)) (is_on (first_of (codes "digest") rows))
 
 abbrev pub plan_of_rows : List Row → Option Request
 plan_of_rows rows = plan_of (first_of (codes "FILE") rows) (first_of (codes "route") rows) (first_of (codes "picture") rows)
@@ -34,7 +34,7 @@ run_of_rows rows = run_of (first_of (codes "FILE") rows) (first_of (codes "scrip
     (option_and_then number_of (first_of (codes "for") rows))
 
 abbrev pub replay_of_rows : List Row → Option Request
-replay_of_rows rows = replay_of (first_of (codes "FILE") rows) (first_of (codes "SECOND") rows)
+replay_of_rows rows = replay_of (first_of (codes "FILE") rows) (first_of (codes "SECOND") rows) (first_of (codes "node") rows)
 
 abbrev pub chart_of_rows : List Row → Option Request
 chart_of_rows rows = chart_of (first_of (codes "FILE") rows) (first_of (codes "SECOND") rows) (option_and_then number_of (first_of (codes "from") rows)) (option_and_then number_of (first_of (codes "to") rows))
@@ -44,6 +44,11 @@ decode_of_rows rows = decode_of (first_of (codes "hex") rows) (first_of (codes "
 
 abbrev pub capture_of_rows : List Row → Option Request
 capture_of_rows rows = capture_of (first_of (codes "FILE") rows) (first_of (codes "SECOND") rows) (first_of (codes "OUT") rows) (is_on (first_of (codes "force") rows))
+
+abbrev pub node_of_rows : List Row → Option Request
+node_of_rows rows =
+    node_of (first_of (codes "FILE") rows) (first_of (codes "NAME") rows) (first_of (codes "addresses") rows) (first_of (codes "operator") rows) (first_of (codes "record") rows)
+    (clock_of (option_and_then number_of (first_of (codes "clock") rows))) (option_and_then number_of (first_of (codes "for") rows))
 
 -- what a subcommand of this name asks for
 abbrev pub request_by : Text → List Row → Option Request
@@ -56,7 +61,8 @@ request_by name rows =
     (if bytes_eq name (codes "replay") then replay_of_rows rows else
     (if bytes_eq name (codes "chart") then chart_of_rows rows else
     (if bytes_eq name (codes "decode") then decode_of_rows rows else
-    (if bytes_eq name (codes "capture") then capture_of_rows rows else None))))))))
+    (if bytes_eq name (codes "capture") then capture_of_rows rows else
+    (if bytes_eq name (codes "node") then node_of_rows rows else None)))))))))
 
 abbrev pub request_of_rows : Option (Text × List Row) → Option Request
 request_of_rows None = None

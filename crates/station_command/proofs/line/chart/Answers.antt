@@ -5,5 +5,5 @@ use Rattle.station_command.specs.Line.{moment_rule, session_line}
 
 pub returns : goal.returns
 returns c =
-    both_taken (session_line (codes "chart")) (moment_rule (codes "from")) (moment_rule (codes "to")) c.on_session-line.result c.taking-line.result c.taking.result c.moment.result c.moment-2.result
-    c.on_session-line.ensures c.moment.ensures.rule c.moment.ensures.local c.moment-2.ensures.rule c.moment-2.ensures.local c.taking-line.ensures c.taking.ensures
+    both_taken (session_line (codes "chart")) (moment_rule (codes "from")) (moment_rule (codes "to")) c.on_session-line.result c.taking-line.result c.taking.result c.ranged.result c.ranged-2.result
+    c.on_session-line.ensures c.ranged.ensures.rule c.ranged.ensures.local c.ranged-2.ensures.rule c.ranged-2.ensures.local c.taking-line.ensures c.taking.ensures
