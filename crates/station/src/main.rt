@@ -3,7 +3,7 @@
 //! station of it, `station run FILE --script S --record R --for MS` runs one over sockets, and `station replay FILE RECORD`
 //! applies a recorded session, and `station chart FILE RECORD` draws it; `station decode --hex HEX` puts a datagram into
 //! words, and `station decode FILE RECORD` those of a session, which `station capture FILE RECORD OUT` writes to a file for
-//! Wireshark. The status is 0 where this was done, 1 at a fault, 2 where the command line is wrong, and 3 where a session
+//! Wireshark. `station node FILE NAME --addresses ADDRESSES` runs a node of it as a process of its own. The status is 0 where this was done, 1 at a fault, 2 where the command line is wrong, and 3 where a session
 //! answers otherwise than it was recorded.
 #![tactic(auto)]
 
@@ -15,6 +15,8 @@ use station_chart::station_traffic::{Asked as Capture, capture_to_file, decode_s
 use station_chart::{Cut, chart_text};
 use station_command::{Asked, Error, Failure, is_memory, read_words, text_of, texts_of, words};
 use station_explain::explain_text;
+use station_node::node_network::WaitedStream;
+use station_node::{self, Asked as Node, layout_digest, replay_node_text};
 use station_plan_text::plan_text;
 use station_table::{Form, table_text};
 use std::io::{BufWriter, IsTerminal};
@@ -23,7 +25,13 @@ use std::process::ExitCode;
 fn main(rt: HostRuntime) -> ExitCode {
     let status = match words(&rt, rt.alloc()) {
         Ok(words) => match read_words(rt.alloc(), words.as_slice()) {
-            Ok(Asked::Check { layout, explained }) => check_file(&rt, layout, explained),
+            Ok(
+                Asked::Check {
+                    layout,
+                    explained,
+                    digest,
+                },
+            ) => check_file(&rt, layout, explained, digest),
             Ok(
                 Asked::Plan {
                     layout,
@@ -41,7 +49,13 @@ fn main(rt: HostRuntime) -> ExitCode {
                     for_ms,
                 },
             ) => run_files(&rt, layout, script, record, for_ms),
-            Ok(Asked::Replay { layout, recording }) => replay_files(&rt, layout, recording),
+            Ok(
+                Asked::Replay {
+                    layout,
+                    recording,
+                    node,
+                },
+            ) => replay_files(&rt, layout, recording, node),
             Ok(
                 Asked::Chart {
                     layout,
@@ -60,6 +74,28 @@ fn main(rt: HostRuntime) -> ExitCode {
                     force,
                 },
             ) => capture_files(&rt, layout, recording, out, force),
+            Ok(
+                Asked::Node {
+                    layout,
+                    name,
+                    addresses,
+                    operator,
+                    record,
+                    clock,
+                    for_ms,
+                },
+            ) => {
+                let files = Node {
+                    layout,
+                    name,
+                    addresses,
+                    operator,
+                    record,
+                    clock,
+                    for_ms,
+                };
+                node_files(&rt, files)
+            }
             Err(error) => refuse(&rt, &error),
         },
         Err(failure) => fail(&rt, &failure),
@@ -85,10 +121,16 @@ fn fail(rt: &HostRuntime, failure: &Failure) -> u8 {
     failure.status()
 }
 
-/// `check FILE [--explain]`.
-fn check_file(rt: &HostRuntime, file: &str, explained: bool) -> u8 {
+/// `check FILE [--explain] [--digest]`.
+fn check_file(rt: &HostRuntime, file: &str, explained: bool, digest: bool) -> u8 {
     match text_of(rt, file) {
-        Ok(text) => report(rt, text.as_str(), explained),
+        Ok(text) => {
+            let status = report(rt, text.as_str(), explained);
+            if status == 0 && digest {
+                return tell_digest(rt, text.as_str());
+            }
+            status
+        }
         Err(failure) => fail(rt, &failure),
     }
 }
@@ -141,10 +183,13 @@ fn run_files(rt: &HostRuntime, layout: &str, script: &str, record: &str, for_ms:
     }
 }
 
-/// `replay FILE RECORD`.
-fn replay_files(rt: &HostRuntime, layout: &str, record: &str) -> u8 {
+/// `replay FILE RECORD [--node NAME]`.
+fn replay_files(rt: &HostRuntime, layout: &str, record: &str, node: Option<&str>) -> u8 {
     match texts_of(rt, layout, record) {
-        Ok((layout, record)) => replay(rt, layout.as_str(), record.as_str()),
+        Ok((layout, record)) => match node {
+            Some(name) => replay_node(rt, layout.as_str(), name, record.as_str()),
+            None => replay(rt, layout.as_str(), record.as_str()),
+        },
         Err(failure) => fail(rt, &failure),
     }
 }
@@ -297,4 +342,50 @@ fn decode_session(rt: &HostRuntime, layout: &str, recording: &str) -> u8 {
         }
         Err(_) => fail(rt, &Failure::OutOfMemory),
     }
+}
+
+/// Prints the digest of a layout.
+fn tell_digest(rt: &HostRuntime, text: &str) -> u8 {
+    let Ok(digest) = layout_digest(rt.alloc(), text) else {
+        return fail(rt, &Failure::OutOfMemory);
+    };
+    match println!(rt; "sha256 {digest}") {
+        Ok(()) => 0,
+        Err(_) => 1,
+    }
+}
+
+/// Applies the record of a node, and writes to standard output whether it does the same.
+fn replay_node(rt: &HostRuntime, layout: &str, name: &str, record: &str) -> u8 {
+    match BufWriter::new(rt.alloc(), rt.stdout()) {
+        Ok(mut out) => {
+            replay_node_text(rt.alloc(), layout, name, record, &mut out, &mut rt.stderr())
+        }
+        Err(_) => fail(rt, &Failure::OutOfMemory),
+    }
+}
+
+/// `node FILE NAME --addresses ADDRESSES [--operator ADDRESS] [--record R] [--clock MS] [--for MS]`, by the names of its files.
+fn node_files(rt: &HostRuntime, files: Node<'_>) -> u8 {
+    match texts_of(rt, files.layout, files.addresses) {
+        Ok((layout, addresses)) => {
+            let asked = Node {
+                layout: layout.as_str(),
+                addresses: addresses.as_str(),
+                ..files
+            };
+            node(rt, &asked)
+        }
+        Err(failure) => fail(rt, &failure),
+    }
+}
+
+/// How many milliseconds a line may wait until it can be written.
+const PATIENCE: u16 = 50;
+
+/// Runs a node. Its lines go over standard input and output.
+fn node(rt: &HostRuntime, asked: &Node<'_>) -> u8 {
+    let input = WaitedStream::new(rt.stdin(), 0);
+    let output = WaitedStream::new(rt.stdout(), PATIENCE);
+    station_node::run(rt, asked, input, output, rt.stderr(), &mut rt.stderr())
 }
