@@ -1,0 +1,359 @@
+#!/usr/bin/env python3
+"""Runs a station with each node in a network namespace of its own (iproute2, as root), behind a relay that loses, delays, repeats and
+reorders datagrams, with the field equipment of examples/machines/field.py. A judge that knows the layout alone looks at the lamps and
+points after each change. It prints what was seen, and ends with status 1 where anything was unsafe or didn't come.
+
+    python3 bench/machines.py STATION [--layout FILE] [--route R] [quiet] [hostile] [strangers] [rest]
+
+quiet      one datagram in a hundred is lost, the others come up to 100 ms late, in order: a route comes to proceed, a train passes, and
+           when the relay stops each lamp falls
+hostile    one in five is lost, one in ten repeated, all come up to 400 ms late in any order; each node is killed and started anew in turn
+strangers  random bytes and copies of true datagrams from other addresses, 100,000 of them: the links stay up
+rest       the processor share and the memory of each node at rest
+"""
+import argparse
+import collections
+import heapq
+import itertools
+import os
+import pathlib
+import random
+import selectors
+import socket
+import subprocess
+import sys
+import tempfile
+import threading
+import time
+import tomllib
+
+TOP = pathlib.Path(__file__).resolve().parent.parent
+sys.path.insert(0, str(TOP / "examples" / "machines"))
+from start import Told, sections_of, start  # noqa: E402
+
+RELAY = "zendurai-relay"
+PORT = 5000
+
+
+def ip(*words):
+    subprocess.run(["ip", *words], check=True, stdout=subprocess.DEVNULL)
+
+
+class Machines:
+    """A namespace for each node, each joined to the relay's, and an addresses file for each: partners are reached at the relay."""
+
+    def __init__(self, program, layout, folder):
+        with open(layout, "rb") as file:
+            self.told = tomllib.load(file)
+        self.layout, self.folder = layout, folder
+        self.station = self.told["station"]["name"]
+        self.controllers = [it["name"] for kind in ("signal", "point", "detector") for it in self.told.get(kind, [])]
+        self.names = [self.station, *self.controllers]
+        ip("netns", "add", RELAY)
+        for at, name in enumerate(self.names):
+            space = self.space(at)
+            ip("netns", "add", space)
+            ip("link", "add", f"r{at}", "netns", RELAY, "type", "veth", "peer", "name", "n0", "netns", space)
+            for where, link, end in ((RELAY, f"r{at}", 1), (space, "n0", 2)):
+                ip("-n", where, "address", "add", f"10.77.{at}.{end}/24", "dev", link)
+                ip("-n", where, "link", "set", link, "up")
+            ip("-n", space, "link", "set", "lo", "up")
+            lines = [f'{other} = "{self.seen_at(at, number)}"' for number, other in enumerate(self.names)]
+            pathlib.Path(folder, f"{name}.addresses").write_text("\n".join(lines) + "\n")
+        # stands for the program: runs a node in its namespace, with its own addresses
+        self.wrapper = pathlib.Path(folder, "station")
+        cases = "".join(f"{name}) space={self.space(at)};;\n" for at, name in enumerate(self.names))
+        self.wrapper.write_text(f'#!/bin/sh\nlayout=$2 name=$3\nshift 5\ncase $name in\n{cases}esac\n'
+                                f'exec ip netns exec $space {program} node $layout $name --addresses {folder}/$name.addresses "$@"\n')
+        self.wrapper.chmod(0o755)
+
+    @staticmethod
+    def space(at):
+        return f"zendurai-{at}"
+
+    @staticmethod
+    def seen_at(at, number):
+        """The address at which a node sees another, or has itself."""
+        return f"10.77.{at}.2:{PORT}" if number == at else f"10.77.{at}.1:{PORT + number}"
+
+    def remove(self):
+        for space in [RELAY, *(self.space(at) for at in range(len(self.names)))]:
+            subprocess.run(["ip", "netns", "delete", space], stderr=subprocess.DEVNULL)
+
+
+def relay(nodes):
+    """The relay's process: a socket for each way between the interlocking and a controller. A line of standard input sets how it treats
+    datagrams: `LOST REPEATED DELAY ORDERED`, the first two in a hundred, the delay in milliseconds at most."""
+    heard, sockets = selectors.DefaultSelector(), {}
+    for at in range(1, nodes):
+        for one, other in ((0, at), (at, 0)):
+            it = socket.socket(socket.AF_INET, socket.SOCK_DGRAM)
+            it.bind((f"10.77.{one}.1", PORT + other))
+            it.setblocking(False)
+            sockets[one, other] = it
+            heard.register(it, selectors.EVENT_READ, (one, other))
+    os.set_blocking(0, False)
+    heard.register(0, selectors.EVENT_READ, None)
+    lost, repeated, delay, ordered, due, number, last = 100, 0, 0, 1, [], itertools.count(), collections.Counter()
+    print("ready", flush=True)
+    while True:
+        wait = max(0, due[0][0] - time.monotonic()) if due else 1
+        for key, _ in heard.select(wait):
+            if key.data is None:
+                said = os.read(0, 1000).split(b"\n")
+                if said == [b""]:
+                    return
+                lost, repeated, delay, ordered = (int(it) for it in said[-2].split())
+                continue
+            one, other = key.data
+            bytes_ = key.fileobj.recv(2000)
+            if random.random() * 100 < lost:
+                continue
+            for _ in range(2 if random.random() * 100 < repeated else 1):
+                when = time.monotonic() + random.random() * delay / 1000
+                if ordered:
+                    when = last[one, other] = max(when, last[one, other])
+                heapq.heappush(due, (when, next(number), one, other, bytes_))
+        while due and due[0][0] <= time.monotonic():
+            _, _, one, other, bytes_ = heapq.heappop(due)
+            sockets[other, one].sendto(bytes_, (f"10.77.{other}.2", PORT))
+
+
+class Judge:
+    """Knows the layout alone. For each lit signal some route of its aspect has its points right and undriven, and no two conflict."""
+
+    def __init__(self, told, conflicts):
+        self.routes, self.conflicts = told["route"], conflicts
+        self.shows, self.driven, self.unsafe, self.looks = {}, set(), [], 0
+        self.lies = {it["name"]: "left" for it in told.get("point", [])}
+        self.came = threading.Condition()
+
+    def hear(self, line):
+        name, *what = line.split()
+        if name in self.lies:
+            if what[0] == "driven":
+                self.driven.add(name)
+            elif what[0] == "undriven":
+                self.driven.discard(name)
+            else:
+                self.lies[name] = what[0]
+        elif what[0] in ("stop", "proceed", "slow"):
+            self.shows[name] = what[0]
+        self.look(line)
+
+    def candidates(self, signal, aspect):
+        for route in self.routes:
+            needs = {**route.get("points", {}), **route.get("flank", {})}
+            if route["entry"] == signal and route.get("aspect", "proceed") == aspect and all(self.lies[it] == side and it not in self.driven for it, side in needs.items()):
+                yield route["name"]
+
+    def look(self, line):
+        self.looks += 1
+        lit = [list(self.candidates(signal, aspect)) for signal, aspect in self.shows.items() if aspect != "stop"]
+        fits = any(not any(frozenset(pair) in self.conflicts for pair in itertools.combinations(chosen, 2)) for chosen in itertools.product(*lit))
+        if not fits:
+            self.unsafe.append((line, dict(self.shows), dict(self.lies), set(self.driven)))
+            print("UNSAFE", self.unsafe[-1], flush=True)
+
+    def lit(self):
+        return [signal for signal, aspect in self.shows.items() if aspect != "stop"]
+
+
+def conflicts_of(program, layout):
+    said = subprocess.run([program, "check", layout], check=True, stdout=subprocess.PIPE, text=True).stdout
+    return {frozenset(it.split()[1:]) for it in said.splitlines() if it.startswith("conflict ")}
+
+
+class Field(Told):
+    """The field program, of which each line goes to the judge."""
+
+    def __init__(self, judge, process):
+        self.judge = judge
+        super().__init__("field", process)
+
+    def listen(self):
+        for line in self.process.stdout:
+            with self.came:
+                self.lines.append(line.strip())
+                self.judge.hear(line.strip())
+                self.came.notify_all()
+
+
+class Operator(Told):
+    def listen(self):
+        for line in self.process.stdout:
+            with self.came:
+                self.lines.append(line.strip())
+                self.came.notify_all()
+
+    def say(self, line):
+        try:
+            self.process.stdin.write(line + "\n")
+            self.process.stdin.flush()
+        except OSError:
+            pass
+
+
+class Run:
+    def __init__(self, program, machines):
+        self.machines, self.program = machines, program
+        self.judge = Judge(machines.told, conflicts_of(program, machines.layout))
+        words = ["ip", "netns", "exec", RELAY, sys.executable, __file__, "relay", str(len(machines.names))]
+        self.relay = Told("relay", subprocess.Popen(words, stdin=subprocess.PIPE, stdout=subprocess.PIPE, text=True))
+        self.relay.wait_for("ready")
+        field = [sys.executable, str(TOP / "examples/machines/field.py"), str(machines.wrapper), machines.layout, "-"]
+        self.field = Field(self.judge, subprocess.Popen(field, stdin=subprocess.PIPE, stdout=subprocess.PIPE, text=True))
+        self.begin()
+
+    def begin(self):
+        """Starts the interlocking."""
+        words = [str(self.machines.wrapper), "node", self.machines.layout, self.machines.station, "--addresses", "-", "--clock", str(int(time.monotonic() * 1000))]
+        self.station = Operator("station", subprocess.Popen(words, stdin=subprocess.PIPE, stdout=subprocess.PIPE, text=True))
+
+    def treat(self, lost, repeated, delay, ordered):
+        self.relay.process.stdin.write(f"{lost} {repeated} {delay} {int(ordered)}\n")
+        self.relay.process.stdin.flush()
+
+    def end(self):
+        self.station.process.kill()
+        self.field.process.stdin.write("stop\n")
+        self.field.process.stdin.flush()
+        self.field.process.wait()
+        self.relay.process.stdin.close()
+
+    def ready(self):
+        self.station.wait_for("waiting for resume", *(f"link {it} ready" for it in self.machines.controllers))
+        self.station.say("resume")
+
+    def proceed(self, route):
+        began, behind = time.monotonic(), len(self.station.lines)
+        self.station.say(f"set {route['name']}")
+        aspect = route.get("aspect", "proceed")
+        self.station.wait_for(f"indicates {route['entry']} {aspect}", behind=behind)
+        self.field.wait_for(f"{route['entry']} {aspect}")
+        return time.monotonic() - began
+
+
+def quiet(run, route):
+    run.treat(1, 0, 100, True)
+    run.ready()
+    print(f"quiet: {route['entry']} shows proceed {run.proceed(route):.2f} s behind the request")
+    behind = len(run.station.lines)
+    sections = route.get("approach", [])[-1:] + sections_of(run.machines.told, route)
+    for here, ahead in zip([None, *sections], [*sections, None]):
+        if ahead:
+            run.field.say(f"occupy {ahead}")
+            run.station.wait_for(f"section {ahead} occupied", behind=behind)
+        if here:
+            run.field.say(f"clear {here}")
+    run.station.wait_for(f"route {route['name']} free", behind=behind)
+    print("quiet: a train passed, and its route is free")
+    run.proceed(route)
+    cut = time.monotonic()
+    run.treat(100, 0, 0, True)
+    while run.judge.lit():
+        time.sleep(0.001)
+    print(f"quiet: every lamp is at stop {time.monotonic() - cut:.3f} s after the relay stopped")
+    # the last stamp that came back may be older than the cut by the delay, but no lamp shines longer than this
+    return time.monotonic() - cut <= 1.8
+
+
+def hostile(run, route):
+    run.treat(20, 10, 400, False)
+    proceeds, routes = collections.Counter(), itertools.cycle(run.machines.told["route"])
+    for name in [*run.machines.controllers, run.machines.station] * 2:
+        ends, seen = time.monotonic() + 12, len(run.field.lines)
+        killed = False
+        while time.monotonic() < ends:
+            run.station.say("resume")
+            run.station.say(f"set {next(routes)['name']}")
+            time.sleep(0.5)
+            if run.judge.lit() and not killed:
+                killed = True
+                if name == run.machines.station:
+                    run.station.process.kill()
+                    run.begin()
+                else:
+                    run.field.say(f"restart {name}")
+            if random.random() < 0.2:
+                run.station.say("cancel all")
+        if not killed and name != run.machines.station:
+            run.field.say(f"restart {name}")
+        proceeds[name] = sum(it.split()[-1] in ("proceed", "slow") for it in run.field.lines[seen:])
+    print("hostile: how often a signal came to show proceed or slow, by the node that was killed:", dict(proceeds))
+    return sum(proceeds.values()) > 0
+
+
+def strangers(run, route):
+    run.treat(0, 0, 0, True)
+    run.ready()
+    lost = sum(it.endswith(" lost") for it in run.station.lines)
+    flood = f"""
+import os, socket
+s = socket.socket(socket.AF_INET, socket.SOCK_DGRAM)
+for number in range(100000):
+    s.sendto(os.urandom(number % 200), ("10.77.0.2", {PORT}))
+"""
+    subprocess.run(["ip", "netns", "exec", RELAY, sys.executable, "-c", flood], check=True)
+    time.sleep(3)
+    more = sum(it.endswith(" lost") for it in run.station.lines) - lost
+    print(f"strangers: {more} links were lost, the interlocking has {memory(run.station.process.pid)} KB")
+    return more == 0
+
+
+def memory(pid):
+    return next(int(it.split()[1]) for it in pathlib.Path(f"/proc/{pid}/status").read_text().splitlines() if it.startswith("VmRSS"))
+
+
+def ticks(pid):
+    return sum(int(it) for it in pathlib.Path(f"/proc/{pid}/stat").read_text().rsplit(")", 1)[1].split()[11:13])
+
+
+def rest(run, route):
+    run.treat(0, 0, 0, True)
+    run.ready()
+    nodes = {it.split("\0")[3]: pid for pid, it in commands() if "\0node\0" in it and it.split("\0")[3] in run.machines.names}
+    before = {name: ticks(pid) for name, pid in nodes.items()}
+    time.sleep(20)
+    shares = {name: (ticks(pid) - before[name]) / 20 for name, pid in nodes.items()}
+    print("rest: percent of a processor:", {name: round(share, 2) for name, share in shares.items()})
+    print("rest: KB of memory:", {name: memory(pid) for name, pid in nodes.items()})
+    return max(shares.values()) < 1
+
+
+def commands():
+    for pid in filter(str.isdigit, os.listdir("/proc")):
+        try:
+            yield pid, pathlib.Path(f"/proc/{pid}/cmdline").read_text()
+        except OSError:
+            pass
+
+
+def main():
+    words = argparse.ArgumentParser(description=__doc__, formatter_class=argparse.RawDescriptionHelpFormatter)
+    words.add_argument("station")
+    words.add_argument("--layout", default=str(TOP / "examples/halden.toml"))
+    words.add_argument("--route", default="A-N1")
+    words.add_argument("kinds", nargs="*", default=["quiet", "hostile", "strangers", "rest"])
+    given = words.parse_args()
+    well = True
+    for kind in given.kinds:
+        with tempfile.TemporaryDirectory() as folder:
+            machines = Machines(os.path.abspath(given.station), os.path.abspath(given.layout), folder)
+            try:
+                run = Run(os.path.abspath(given.station), machines)
+                route = next(it for it in machines.told["route"] if it["name"] == given.route)
+                did = globals()[kind](run, route)
+                print(f"{kind}: {run.judge.looks} changes seen, {len(run.judge.unsafe)} unsafe", flush=True)
+                well &= did and not run.judge.unsafe
+                run.end()
+            finally:
+                machines.remove()
+    sys.exit(not well)
+
+
+if __name__ == "__main__":
+    if sys.argv[1:2] == ["relay"]:
+        relay(int(sys.argv[2]))
+    else:
+        main()
