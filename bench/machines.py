@@ -7,7 +7,7 @@ points after each change. It prints what was seen, and ends with status 1 where 
 
 quiet      one datagram in a hundred is lost, the others come up to 100 ms late, in order: a route comes to proceed, a train passes, and
            when the relay stops each lamp falls
-hostile    one in five is lost, one in ten repeated, all come up to 400 ms late in any order; each node is killed and started anew in turn
+hostile    in turn for each node: over a quiet network the links come up and routes are set; then one in five is lost, one in ten repeated, all come up to 400 ms late in any order, and the node is killed and started anew
 strangers  random bytes and copies of true datagrams from other addresses, 100,000 of them: the links stay up
 rest       the processor share and the memory of each node at rest
 """
@@ -259,16 +259,19 @@ def quiet(run, route):
 
 
 def hostile(run, route):
-    run.treat(20, 10, 400, False)
     proceeds, routes = collections.Counter(), itertools.cycle(run.machines.told["route"])
     for name in [*run.machines.controllers, run.machines.station] * 2:
-        ends, seen = time.monotonic() + 12, len(run.field.lines)
+        # the links come up over a quiet network: one in five lost takes a link down again and again
+        run.treat(0, 0, 0, True)
+        begun, seen = time.monotonic(), len(run.field.lines)
         killed = False
-        while time.monotonic() < ends:
+        while time.monotonic() < begun + 24:
             run.station.say("resume")
             run.station.say(f"set {next(routes)['name']}")
             time.sleep(0.5)
-            if run.judge.lit() and not killed:
+            if time.monotonic() > begun + 10:
+                run.treat(20, 10, 400, False)
+            if run.judge.lit() and not killed and time.monotonic() > begun + 11:
                 killed = True
                 if name == run.machines.station:
                     run.station.process.kill()
