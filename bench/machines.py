@@ -258,30 +258,36 @@ def quiet(run, route):
     return time.monotonic() - cut <= 1.8
 
 
+def demand(run, route):
+    """The operator ends a hold, and requests a route."""
+    run.station.say("resume")
+    run.station.say(f"set {route['name']}")
+    time.sleep(0.5)
+
+
 def hostile(run, route):
     proceeds, routes = collections.Counter(), itertools.cycle(run.machines.told["route"])
-    for name in [*run.machines.controllers, run.machines.station] * 2:
-        # the links come up over a quiet network: one in five lost takes a link down again and again
-        run.treat(0, 0, 0, True)
+    for name in [*run.machines.controllers, run.machines.station]:
         begun, seen = time.monotonic(), len(run.field.lines)
-        killed = False
-        while time.monotonic() < begun + 24:
-            run.station.say("resume")
-            run.station.say(f"set {next(routes)['name']}")
-            time.sleep(0.5)
-            if time.monotonic() > begun + 10:
-                run.treat(20, 10, 400, False)
-            if run.judge.lit() and not killed and time.monotonic() > begun + 11:
-                killed = True
-                if name == run.machines.station:
-                    run.station.process.kill()
-                    run.begin()
-                else:
-                    run.field.say(f"restart {name}")
-            if random.random() < 0.2:
-                run.station.say("cancel all")
-        if not killed and name != run.machines.station:
+        # a signal comes to proceed over a quiet network, since where one in five is lost no link comes up, and by a new interlocking,
+        # since routes of the one before are held for 120 s
+        run.treat(0, 0, 0, True)
+        run.station.process.kill()
+        run.begin()
+        while not run.judge.lit() and time.monotonic() < begun + 40:
+            demand(run, next(routes))
+        run.treat(20, 10, 400, False)
+        begun = time.monotonic()
+        while time.monotonic() < begun + 1:
+            demand(run, next(routes))
+        if name == run.machines.station:
+            run.station.process.kill()
+            run.begin()
+        else:
             run.field.say(f"restart {name}")
+        while time.monotonic() < begun + 12:
+            demand(run, next(routes))
+        run.station.say("cancel all")
         proceeds[name] = sum(it.split()[-1] in ("proceed", "slow") for it in run.field.lines[seen:])
     print("hostile: how often a signal came to show proceed or slow, by the node that was killed:", dict(proceeds))
     return sum(proceeds.values()) > 0
