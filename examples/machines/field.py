@@ -95,9 +95,11 @@ class Point(Controller):
     def put_in_force(self, order):
         # ["drive", "none"] or ["drive", SIDE, "until", MOMENT]
         side = order[1] if order[1] != "none" else None
+        # an order that renews the last one lets the motor go on
+        starts = side not in (None, self.driven, self.lies)
         self.drive(side)
         self.until = int(order[3]) if len(order) == 4 else 0
-        if side is not None and side != self.lies:
+        if starts:
             self.reach("none")
             self.arrives = reading() + TURNING
 
