@@ -1,23 +1,23 @@
 -- Every event is a list of moves that keep a world represented, and so is every list of events.
 use Rattle.std.proofs.Common.{◌≡◌, ◌⊎◌, inl, inr, ℕ, zero, suc, List, [], ◌∷◌, ◌++◌, Some, None, refl, ap}
 use Rattle.std.specs.Prelude.{◌≢◌}
-use Rattle.simulator_run.specs.layout.Entries.{Site}
-use Rattle.simulator_run.specs.layout.Once.{Once}
-use Rattle.simulator_run.specs.layout.Station.{IsStation}
-use Rattle.simulator_run.specs.ixl_rules.Table.{Table}
-use Rattle.simulator_run.specs.ixl_rules.declared.command.Command.{Command}
+use Rattle.simulator_run_links.specs.layout.Entries.{Site}
+use Rattle.simulator_run_links.specs.layout.Once.{Once}
+use Rattle.simulator_run_links.specs.layout.Station.{IsStation}
+use Rattle.simulator_run_links.specs.ixl_rules.Table.{Table}
+use Rattle.simulator_run_links.specs.ixl_rules.declared.command.Command.{Command}
 use Rattle.ixl_table.specs.Table.{IsTableOf}
-use Rattle.simulator_run.specs.simulator_event.declared.event.Event.{Event}
-use Rattle.simulator_run.specs.simulator_event.declared.event.Event.TheVariants as event
-use Rattle.simulator_run.specs.simulator_event.declared.event.NodeId.{NodeId}
+use Rattle.simulator_run_links.specs.simulator_event.declared.event.Event.{Event}
+use Rattle.simulator_run_links.specs.simulator_event.declared.event.Event.TheVariants as event
+use Rattle.simulator_run_links.specs.simulator_event.declared.event.NodeId.{NodeId}
 use Rattle.simulator_machine.specs.Chains.{MovesTo}
 use Rattle.simulator_machine.specs.Machine.{Machine, made_anew}
 use Rattle.simulator_machine_interlocking.specs.Rows.{machine_table}
-use Rattle.simulator_run.specs.Run.{CanHappen, after_all}
-use Rattle.simulator_run.specs.Happens.{happens}
-use Rattle.simulator_run.specs.Nodes.{Interlocking, node_at}
-use Rattle.simulator_run.specs.Refusals.{refusal}
-use Rattle.simulator_run.specs.State.{WorldState}
+use Rattle.simulator_run_links.specs.simulator_run.Run.{CanHappen, after_all}
+use Rattle.simulator_run_links.specs.simulator_run.Happens.{happens}
+use Rattle.simulator_run_links.specs.simulator_run.Nodes.{Interlocking, node_at}
+use Rattle.simulator_run_links.specs.simulator_run.Refusals.{refusal}
+use Rattle.simulator_run_links.specs.simulator_run.State.{WorldState}
 use Rattle.simulator_headline.specs.Represents.{Represents, RepresentsAfter}
 use Rattle.simulator_headline.specs.Events.{IsOfControllers}
 

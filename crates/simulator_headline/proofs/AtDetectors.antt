@@ -1,21 +1,21 @@
 -- What happens at the controller of a detector, and a loss: the machine sees nothing of it.
 use Rattle.std.proofs.Common.{◌≡◌, ◌≢◌, ℕ, ◌+◌, ◌<◌, List, ◌∷◌, [], ◌++◌, length, Option, Some, None, slice_get, slice_set, refl, sym, subst, arith}
-use Rattle.simulator_run.specs.sci_telegram.declared.message.Occupancy.{Occupancy}
-use Rattle.simulator_run.specs.layout.Entries.{DetectorEntry, Site}
-use Rattle.simulator_run.specs.rasta_core.Links.{Links, LosesAny, run_links, without_oldest_of_all}
-use Rattle.simulator_run.specs.object_host.declared.input.Input.{Input}
-use Rattle.simulator_run.specs.object_host.declared.input.Input.TheVariants as inputs
-use Rattle.simulator_run.specs.object_host.declared.sense.Sense.TheVariants as sense
-use Rattle.simulator_run.specs.tds_ctl.Controlled.{detection_behaviour}
-use Rattle.simulator_run.specs.tds_ctl.declared.section.Section.{Section}
-use Rattle.simulator_run.specs.ixl_rules.Table.{Table}
+use Rattle.simulator_run_links.specs.sci_telegram.declared.message.Occupancy.{Occupancy}
+use Rattle.simulator_run_links.specs.layout.Entries.{DetectorEntry, Site}
+use Rattle.simulator_run_links.specs.rasta_core.Links.{Links, LosesAny, run_links, without_oldest_of_all}
+use Rattle.simulator_run_links.specs.object_host.declared.input.Input.{Input}
+use Rattle.simulator_run_links.specs.object_host.declared.input.Input.TheVariants as inputs
+use Rattle.simulator_run_links.specs.object_host.declared.sense.Sense.TheVariants as sense
+use Rattle.simulator_run_links.specs.tds_ctl.Controlled.{detection_behaviour}
+use Rattle.simulator_run_links.specs.tds_ctl.declared.section.Section.{Section}
+use Rattle.simulator_run_links.specs.ixl_rules.Table.{Table}
 use Rattle.simulator_machine.specs.Machine.{Machine}
 use Rattle.simulator_run_links.specs.Events.{anew_events, contact_events, host_events}
-use Rattle.simulator_run.specs.First.{Beginning}
-use Rattle.simulator_run.specs.Happens.{detector_anew, detector_stepped, sensed_by, stepped_at}
-use Rattle.simulator_run.specs.Nodes.{detector_link}
-use Rattle.simulator_run.specs.Controllers.{controller_after, sent_by_controller, step_of}
-use Rattle.simulator_run.specs.State.{ClockedControllerState, WorldState}
+use Rattle.simulator_run_links.specs.simulator_run.First.{Beginning}
+use Rattle.simulator_run_links.specs.simulator_run.Happens.{detector_anew, detector_stepped, sensed_by, stepped_at}
+use Rattle.simulator_run_links.specs.simulator_run.Nodes.{detector_link}
+use Rattle.simulator_run_links.specs.simulator_run.Controllers.{controller_after, sent_by_controller, step_of}
+use Rattle.simulator_run_links.specs.simulator_run.State.{ClockedControllerState, WorldState}
 use Rattle.simulator_headline.specs.Represents.{IsNetworkOf, Represents, RepresentsAfter}
 use Rattle.simulator_headline.specs.Change.{NoneChanges}
 use Rattle.simulator_headline.proofs.ControllerSteps.{CallLaws, SeesAnew, clients_anew, clients_stepped, servers_anew, servers_stepped}

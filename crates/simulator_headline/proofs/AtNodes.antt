@@ -1,25 +1,25 @@
 -- What happens at a node that is a controller, by its kind.
 use Rattle.std.proofs.Common.{◌≡◌, ◌≢◌, ℕ, zero, suc, nat_lt, Bool, true, false, List, Option, Some, None, length, refl, sym, subst, if◌then◌else◌}
 use Rattle.std.specs.Prelude.{◌-◌}
-use Rattle.simulator_run.specs.sci_telegram.declared.message.Occupancy.{Occupancy}
-use Rattle.simulator_run.specs.sci_telegram.declared.message.Position.{Position}
-use Rattle.simulator_run.specs.layout.declared.ids.PointId.{PointId}
-use Rattle.simulator_run.specs.layout.declared.ids.SectionId.{SectionId}
-use Rattle.simulator_run.specs.layout.Entries.{Site}
-use Rattle.simulator_run.specs.layout.Once.{Once}
-use Rattle.simulator_run.specs.layout.Station.{IsStation}
-use Rattle.simulator_run.specs.ixl_rules.Table.{Table}
-use Rattle.simulator_run.specs.simulator_event.declared.event.Event.{Event}
-use Rattle.simulator_run.specs.simulator_event.declared.event.Event.TheVariants as event
-use Rattle.simulator_run.specs.simulator_event.declared.event.NodeId.{NodeId}
+use Rattle.simulator_run_links.specs.sci_telegram.declared.message.Occupancy.{Occupancy}
+use Rattle.simulator_run_links.specs.sci_telegram.declared.message.Position.{Position}
+use Rattle.simulator_run_links.specs.layout.declared.ids.PointId.{PointId}
+use Rattle.simulator_run_links.specs.layout.declared.ids.SectionId.{SectionId}
+use Rattle.simulator_run_links.specs.layout.Entries.{Site}
+use Rattle.simulator_run_links.specs.layout.Once.{Once}
+use Rattle.simulator_run_links.specs.layout.Station.{IsStation}
+use Rattle.simulator_run_links.specs.ixl_rules.Table.{Table}
+use Rattle.simulator_run_links.specs.simulator_event.declared.event.Event.{Event}
+use Rattle.simulator_run_links.specs.simulator_event.declared.event.Event.TheVariants as event
+use Rattle.simulator_run_links.specs.simulator_event.declared.event.NodeId.{NodeId}
 use Rattle.simulator_machine.specs.Chains.{MovesTo}
 use Rattle.simulator_machine.specs.Machine.{Machine}
 use Rattle.simulator_machine.specs.Table.{Table as MachineTable}
-use Rattle.simulator_run.specs.Happens.{delivered_to, happens, made_anew, ticked_at}
-use Rattle.simulator_run.specs.Network.{connection_of, copy_of}
-use Rattle.simulator_run.specs.Nodes.{Node, Interlocking, Signal, Point, Detector, detector_link, links, node_at, point_link}
-use Rattle.simulator_run.specs.Refusals.{refusal}
-use Rattle.simulator_run.specs.State.{WorldState}
+use Rattle.simulator_run_links.specs.simulator_run.Happens.{delivered_to, happens, made_anew, ticked_at}
+use Rattle.simulator_run_links.specs.simulator_run.Network.{connection_of, copy_of}
+use Rattle.simulator_run_links.specs.simulator_run.Nodes.{Node, Interlocking, Signal, Point, Detector, detector_link, links, node_at, point_link}
+use Rattle.simulator_run_links.specs.simulator_run.Refusals.{refusal}
+use Rattle.simulator_run_links.specs.simulator_run.State.{WorldState}
 use Rattle.simulator_headline.specs.Represents.{Represents, RepresentsAfter}
 use Rattle.simulator_headline.specs.Events.{IsOfControllers}
 

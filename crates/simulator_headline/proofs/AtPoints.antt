@@ -3,51 +3,51 @@ use Rattle.std.proofs.Common.{◌≡◌, ◌≢◌, ◌⊎◌, ◌∙◌, ℕ, �
 use Rattle.std.specs.Prelude.{is_some}
 use Rattle.std.proofs.lemmas.Option.{get_or_from_slice_get}
 use Rattle.std.proofs.lemmas.Option.{same_Some}
-use Rattle.simulator_run.specs.sci_telegram.declared.message.Position.{Position}
-use Rattle.simulator_run.specs.sci_telegram.declared.message.Position.TheVariants as positions
-use Rattle.simulator_run.specs.layout.declared.entries.Point.{Point}
-use Rattle.simulator_run.specs.layout.Entries.{Site}
-use Rattle.simulator_run.specs.layout.Once.{Once}
-use Rattle.simulator_run.specs.layout.Station.{IsStation}
-use Rattle.simulator_run.specs.rasta_core.Ends.{reading_of}
-use Rattle.simulator_run.specs.rasta_core.Links.{Links, run_links, seen}
-use Rattle.simulator_run.specs.rasta_core.Names.{identity_of}
-use Rattle.simulator_run.specs.rasta_core.Run.{Ends, restarted}
-use Rattle.simulator_run.specs.rasta_core.State.{is_open}
-use Rattle.simulator_run.specs.rasta_core.identity.Identity.{Identity}
-use Rattle.simulator_run.specs.rasta_core.identity.Role.TheVariants as role
-use Rattle.simulator_run.specs.object_host.Host.{HostState, LinkCall, keeping}
-use Rattle.simulator_run.specs.object_host.Hosted.{IsNamedAs, new_host}
-use Rattle.simulator_run.specs.object_host.Made.{AreCallsFor, AreItems}
-use Rattle.simulator_run.specs.object_host.Step.{host_step}
-use Rattle.simulator_run.specs.object_host.declared.input.Input.{Input}
-use Rattle.simulator_run.specs.object_host.declared.input.Input.TheVariants as inputs
-use Rattle.simulator_run.specs.object_host.declared.sense.Sense.TheVariants as sense
-use Rattle.object_host_theorem.specs.World.{MayHear, called_all}
-use Rattle.simulator_run.specs.point_ctl.Controlled.{point_behaviour}
-use Rattle.simulator_run.specs.point_ctl.Drive.{PointState, drives, made}
-use Rattle.simulator_run.specs.ixl_rules.Table.{Table}
-use Rattle.object_host_theorem.specs.Point.{IsPointStep, position_told}
+use Rattle.simulator_run_links.specs.sci_telegram.declared.message.Position.{Position}
+use Rattle.simulator_run_links.specs.sci_telegram.declared.message.Position.TheVariants as positions
+use Rattle.simulator_run_links.specs.layout.declared.entries.Point.{Point}
+use Rattle.simulator_run_links.specs.layout.Entries.{Site}
+use Rattle.simulator_run_links.specs.layout.Once.{Once}
+use Rattle.simulator_run_links.specs.layout.Station.{IsStation}
+use Rattle.simulator_run_links.specs.rasta_core.Ends.{reading_of}
+use Rattle.simulator_run_links.specs.rasta_core.Links.{Links, run_links, seen}
+use Rattle.simulator_run_links.specs.rasta_core.Names.{identity_of}
+use Rattle.simulator_run_links.specs.rasta_core.Run.{Ends, restarted}
+use Rattle.simulator_run_links.specs.rasta_core.State.{is_open}
+use Rattle.simulator_run_links.specs.rasta_core.identity.Identity.{Identity}
+use Rattle.simulator_run_links.specs.rasta_core.identity.Role.TheVariants as role
+use Rattle.simulator_run_links.specs.object_host.Host.{HostState, LinkCall, keeping}
+use Rattle.simulator_run_links.specs.object_host.Hosted.{IsNamedAs, new_host}
+use Rattle.simulator_run_links.specs.object_host.Made.{AreCallsFor, AreItems}
+use Rattle.simulator_run_links.specs.object_host.Step.{host_step}
+use Rattle.simulator_run_links.specs.object_host.declared.input.Input.{Input}
+use Rattle.simulator_run_links.specs.object_host.declared.input.Input.TheVariants as inputs
+use Rattle.simulator_run_links.specs.object_host.declared.sense.Sense.TheVariants as sense
+use Rattle.simulator_run_links.specs.object_host_theorem.World.{MayHear, called_all}
+use Rattle.simulator_run_links.specs.point_ctl.Controlled.{point_behaviour}
+use Rattle.simulator_run_links.specs.point_ctl.Drive.{PointState, drives, made}
+use Rattle.simulator_run_links.specs.ixl_rules.Table.{Table}
+use Rattle.simulator_run_links.specs.object_host_theorem.Point.{IsPointStep, position_told}
 use Rattle.simulator_machine.specs.Chains.{MovesTo}
 use Rattle.simulator_machine.specs.Invariant.{IsPointSound}
 use Rattle.simulator_machine.specs.Machine.{Machine}
 use Rattle.simulator_machine.specs.Point.{Point as MachinePoint}
 use Rattle.simulator_machine.specs.Table.{Table as MachineTable}
-use Rattle.simulator_machine_links.specs.Lawful.{IsLawful}
-use Rattle.simulator_machine_links.specs.LinkMoves.{LinkGoes, moves_by}
-use Rattle.simulator_machine_links.specs.EndsSeen.{represented as link_represented}
+use Rattle.simulator_run_links.specs.simulator_machine_links.Lawful.{IsLawful}
+use Rattle.simulator_run_links.specs.simulator_machine_links.LinkMoves.{LinkGoes, moves_by}
+use Rattle.simulator_run_links.specs.simulator_machine_links.EndsSeen.{represented as link_represented}
 use Rattle.simulator_machine_controllers.specs.Ends.{AreFit, Steps}
 use Rattle.simulator_machine_controllers.specs.Point.{IsMovedDriven, IsPointSeen, PointGoes}
 use Rattle.simulator_run_links.specs.Events.{anew_events, host_events, point_events}
 use Rattle.simulator_run_links.specs.Nodes.{IsEndOfServer}
 use Rattle.simulator_run_links.specs.Whole.{IsWhole}
-use Rattle.simulator_run.specs.First.{Beginning, new_point}
-use Rattle.simulator_run.specs.Happens.{point_anew, point_stepped, stepped_at}
-use Rattle.simulator_run.specs.Links.{AreLinksOf, names_at}
-use Rattle.simulator_run.specs.Nodes.{links, names_of, point_link}
-use Rattle.simulator_run.specs.Refusals.{driven_by}
-use Rattle.simulator_run.specs.Controllers.{controller_after, controller_anew, sent_by_controller, step_of}
-use Rattle.simulator_run.specs.State.{ClockedControllerState, WorldState}
+use Rattle.simulator_run_links.specs.simulator_run.First.{Beginning, new_point}
+use Rattle.simulator_run_links.specs.simulator_run.Happens.{point_anew, point_stepped, stepped_at}
+use Rattle.simulator_run_links.specs.simulator_run.Links.{AreLinksOf, names_at}
+use Rattle.simulator_run_links.specs.simulator_run.Nodes.{links, names_of, point_link}
+use Rattle.simulator_run_links.specs.simulator_run.Refusals.{driven_by}
+use Rattle.simulator_run_links.specs.simulator_run.Controllers.{controller_after, controller_anew, sent_by_controller, step_of}
+use Rattle.simulator_run_links.specs.simulator_run.State.{ClockedControllerState, WorldState}
 use Rattle.simulator_headline.specs.Represents.{IsHostOf, IsNetworkOf, Represents, RepresentsAfter}
 use Rattle.simulator_headline.specs.Change.{PointChanges}
 use Rattle.simulator_headline.proofs.AtSignals.{named_still}

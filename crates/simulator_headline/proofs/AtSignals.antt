@@ -1,45 +1,45 @@
 -- What happens at the controller of a signal.
 use Rattle.std.proofs.Common.{◌≡◌, ◌∙◌, ℕ, ◌<◌, false, List, ◌++◌, length, Option, Some, None, slice_get, slice_set, refl, sym, ap, subst}
 use Rattle.std.proofs.lemmas.Option.{same_Some}
-use Rattle.simulator_run.specs.layout.declared.entries.Signal.{Signal}
-use Rattle.simulator_run.specs.layout.Entries.{Site}
-use Rattle.simulator_run.specs.layout.Once.{Once}
-use Rattle.simulator_run.specs.layout.Station.{IsStation}
-use Rattle.simulator_run.specs.rasta_core.Ends.{reading_of}
-use Rattle.simulator_run.specs.rasta_core.Links.{Links, run_links, seen}
-use Rattle.simulator_run.specs.rasta_core.Names.{identity_of}
-use Rattle.simulator_run.specs.rasta_core.Run.{Ends, restarted}
-use Rattle.simulator_run.specs.rasta_core.State.{is_open}
-use Rattle.simulator_run.specs.rasta_core.identity.Identity.{Identity}
-use Rattle.simulator_run.specs.rasta_core.identity.Role.TheVariants as role
-use Rattle.simulator_run.specs.object_host.Host.{HostState, keeping}
-use Rattle.simulator_run.specs.object_host.Hosted.{IsNamedAs, new_host}
-use Rattle.simulator_run.specs.object_host.Made.{AreCallsFor, AreItems}
-use Rattle.simulator_run.specs.object_host.Step.{host_step}
-use Rattle.simulator_run.specs.object_host.declared.input.Input.{Input}
-use Rattle.object_host_theorem.specs.World.{MayHear, called_all}
-use Rattle.simulator_run.specs.signal_ctl.Lamp.{new_lamp}
-use Rattle.simulator_run.specs.signal_ctl.Signal.{SignalState, signal_behaviour}
-use Rattle.simulator_run.specs.ixl_rules.Table.{Table}
+use Rattle.simulator_run_links.specs.layout.declared.entries.Signal.{Signal}
+use Rattle.simulator_run_links.specs.layout.Entries.{Site}
+use Rattle.simulator_run_links.specs.layout.Once.{Once}
+use Rattle.simulator_run_links.specs.layout.Station.{IsStation}
+use Rattle.simulator_run_links.specs.rasta_core.Ends.{reading_of}
+use Rattle.simulator_run_links.specs.rasta_core.Links.{Links, run_links, seen}
+use Rattle.simulator_run_links.specs.rasta_core.Names.{identity_of}
+use Rattle.simulator_run_links.specs.rasta_core.Run.{Ends, restarted}
+use Rattle.simulator_run_links.specs.rasta_core.State.{is_open}
+use Rattle.simulator_run_links.specs.rasta_core.identity.Identity.{Identity}
+use Rattle.simulator_run_links.specs.rasta_core.identity.Role.TheVariants as role
+use Rattle.simulator_run_links.specs.object_host.Host.{HostState, keeping}
+use Rattle.simulator_run_links.specs.object_host.Hosted.{IsNamedAs, new_host}
+use Rattle.simulator_run_links.specs.object_host.Made.{AreCallsFor, AreItems}
+use Rattle.simulator_run_links.specs.object_host.Step.{host_step}
+use Rattle.simulator_run_links.specs.object_host.declared.input.Input.{Input}
+use Rattle.simulator_run_links.specs.object_host_theorem.World.{MayHear, called_all}
+use Rattle.simulator_run_links.specs.signal_ctl.Lamp.{new_lamp}
+use Rattle.simulator_run_links.specs.signal_ctl.Signal.{SignalState, signal_behaviour}
+use Rattle.simulator_run_links.specs.ixl_rules.Table.{Table}
 use Rattle.simulator_machine.specs.Chains.{MovesTo}
 use Rattle.simulator_machine.specs.Invariant.{IsSignalSound}
 use Rattle.simulator_machine.specs.Machine.{Machine}
 use Rattle.simulator_machine.specs.Signal.{Signal as MachineSignal}
 use Rattle.simulator_machine.specs.Table.{Table as MachineTable}
-use Rattle.simulator_machine_links.specs.Lawful.{IsLawful}
-use Rattle.simulator_machine_links.specs.LinkMoves.{LinkGoes, moves_by}
-use Rattle.simulator_machine_links.specs.EndsSeen.{represented as link_represented}
+use Rattle.simulator_run_links.specs.simulator_machine_links.Lawful.{IsLawful}
+use Rattle.simulator_run_links.specs.simulator_machine_links.LinkMoves.{LinkGoes, moves_by}
+use Rattle.simulator_run_links.specs.simulator_machine_links.EndsSeen.{represented as link_represented}
 use Rattle.simulator_machine_controllers.specs.Ends.{AreFit, Steps}
 use Rattle.simulator_machine_controllers.specs.Signal.{IsSignalSeen, SignalGoes}
 use Rattle.simulator_run_links.specs.Events.{anew_events, host_events, signal_events}
 use Rattle.simulator_run_links.specs.Nodes.{IsEndOfServer}
 use Rattle.simulator_run_links.specs.Whole.{IsWhole}
-use Rattle.simulator_run.specs.First.{Beginning, new_signal}
-use Rattle.simulator_run.specs.Happens.{signal_anew, signal_stepped, stepped_at}
-use Rattle.simulator_run.specs.Links.{AreLinksOf, names_at}
-use Rattle.simulator_run.specs.Nodes.{links, names_of}
-use Rattle.simulator_run.specs.Controllers.{controller_after, controller_anew, sent_by_controller, step_of}
-use Rattle.simulator_run.specs.State.{ClockedControllerState, WorldState}
+use Rattle.simulator_run_links.specs.simulator_run.First.{Beginning, new_signal}
+use Rattle.simulator_run_links.specs.simulator_run.Happens.{signal_anew, signal_stepped, stepped_at}
+use Rattle.simulator_run_links.specs.simulator_run.Links.{AreLinksOf, names_at}
+use Rattle.simulator_run_links.specs.simulator_run.Nodes.{links, names_of}
+use Rattle.simulator_run_links.specs.simulator_run.Controllers.{controller_after, controller_anew, sent_by_controller, step_of}
+use Rattle.simulator_run_links.specs.simulator_run.State.{ClockedControllerState, WorldState}
 use Rattle.simulator_headline.specs.Represents.{IsHostOf, IsNetworkOf, Represents, RepresentsAfter}
 use Rattle.simulator_headline.specs.Change.{SignalChanges}
 use Rattle.simulator_headline.proofs.ControllerLists.{changed_one, some_within, within_some}

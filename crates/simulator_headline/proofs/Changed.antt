@@ -2,15 +2,15 @@
 use Rattle.std.proofs.Common.{◌≡◌, ◌≢◌, ◌⊎◌, ◌∙◌, ℕ, ◌+◌, ◌<◌, true, false, List, length, Some, None, slice_get, slice_set, refl, sym, ap, subst, arith, inl, inr}
 use Rattle.std.specs.List.{Contains}
 use Rattle.std.proofs.lemmas.Option.{same_Some}
-use Rattle.simulator_run.specs.sci_telegram.declared.message.Position.{Position}
-use Rattle.simulator_run.specs.layout.declared.entries.Point.{Point}
-use Rattle.simulator_run.specs.layout.declared.entries.Signal.{Signal}
-use Rattle.simulator_run.specs.layout.Entries.{Site}
-use Rattle.simulator_run.specs.rasta_core.Ends.{EndState}
-use Rattle.simulator_run.specs.rasta_core.Links.{Links, seen}
-use Rattle.simulator_run.specs.point_ctl.Drive.{PointState}
-use Rattle.simulator_run.specs.signal_ctl.Signal.{SignalState}
-use Rattle.simulator_run.specs.ixl_rules.Table.{Table}
+use Rattle.simulator_run_links.specs.sci_telegram.declared.message.Position.{Position}
+use Rattle.simulator_run_links.specs.layout.declared.entries.Point.{Point}
+use Rattle.simulator_run_links.specs.layout.declared.entries.Signal.{Signal}
+use Rattle.simulator_run_links.specs.layout.Entries.{Site}
+use Rattle.simulator_run_links.specs.rasta_core.Ends.{EndState}
+use Rattle.simulator_run_links.specs.rasta_core.Links.{Links, seen}
+use Rattle.simulator_run_links.specs.point_ctl.Drive.{PointState}
+use Rattle.simulator_run_links.specs.signal_ctl.Signal.{SignalState}
+use Rattle.simulator_run_links.specs.ixl_rules.Table.{Table}
 use Rattle.simulator_machine.specs.Chains.{MovesTo, PointMayChain, SignalMayChain, point_chained, signal_chained}
 use Rattle.simulator_machine.specs.Invariant.{Invariant}
 use Rattle.simulator_machine.specs.Link.{Gone, Link}
@@ -19,16 +19,16 @@ use Rattle.simulator_machine.specs.Machine.{Machine, with_point, with_signal}
 use Rattle.simulator_machine.specs.Point.{Point as MachinePoint, PointMove}
 use Rattle.simulator_machine.specs.Signal.{Signal as MachineSignal, SignalMove}
 use Rattle.simulator_machine.specs.Table.{IsSound, Table as MachineTable}
-use Rattle.simulator_machine_links.specs.Items.{aspects_in, moves_in}
-use Rattle.simulator_machine_links.specs.EndsSeen.{client_of}
+use Rattle.simulator_run_links.specs.simulator_machine_links.Items.{aspects_in, moves_in}
+use Rattle.simulator_run_links.specs.simulator_machine_links.EndsSeen.{client_of}
 use Rattle.simulator_machine_controllers.specs.Point.{IsPointSeen, PointGoes}
 use Rattle.simulator_machine_controllers.specs.Signal.{IsSignalSeen, SignalGoes}
 use Rattle.simulator_machine_interlocking.specs.Onward.{LooksAlike, PointLooksAlike, SignalLooksAlike}
 use Rattle.simulator_machine_interlocking.specs.Rows.{machine_table}
-use Rattle.simulator_run.specs.Nodes.{point_link}
-use Rattle.simulator_run.specs.State.{ClockedControllerState, WorldState}
-use Rattle.simulator_run.specs.simulator_snapshot.Safe.{IsThere}
-use Rattle.simulator_run.specs.simulator_snapshot.declared.snapshot.Held.{Held}
+use Rattle.simulator_run_links.specs.simulator_run.Nodes.{point_link}
+use Rattle.simulator_run_links.specs.simulator_run.State.{ClockedControllerState, WorldState}
+use Rattle.simulator_run_links.specs.simulator_snapshot.Safe.{IsThere}
+use Rattle.simulator_run_links.specs.simulator_snapshot.declared.snapshot.Held.{Held}
 use Rattle.simulator_headline.specs.Represents.{AreFrozen, ArePointsSeen, AreSignalsSeen, IsHostOf, Represents, RepresentsAfter, IsInterlockingSeen}
 use Rattle.simulator_headline.specs.Seen.{AreHeldPairs}
 use Rattle.simulator_headline.specs.Change.{LeavesInterlocking}

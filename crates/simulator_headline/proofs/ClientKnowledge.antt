@@ -5,38 +5,38 @@ use Rattle.std.proofs.lemmas.Bool.{false≢true}
 use Rattle.std.proofs.lemmas.Bool.Decides.{nat_tests}
 use Rattle.std.proofs.lemmas.List.{append-nil, length-append, length-map}
 use Rattle.std.proofs.lemmas.List.Elements.{All-nil}
-use Rattle.simulator_run.specs.sci_telegram.TelegramRead.{reading}
-use Rattle.simulator_run.specs.sci_telegram.Telegrams.{IsTelegram, writing}
-use Rattle.simulator_run.specs.sci_telegram.declared.fault.SciFault.{SciFault}
-use Rattle.simulator_run.specs.sci_telegram.declared.message.Message.{Message}
-use Rattle.simulator_run.specs.sci_telegram.declared.message.Message.TheVariants as message
-use Rattle.simulator_run.specs.sci_telegram.declared.message.SignalMessage.TheVariants.{IndicateAspect, IndicatedAspect}
-use Rattle.simulator_run.specs.sci_telegram.declared.telegram.Telegram.{Telegram}
-use Rattle.simulator_run.specs.rasta_core.Clock.{deadline, settled, state_at}
-use Rattle.simulator_run.specs.rasta_core.Ends.{reading_of}
-use Rattle.simulator_run.specs.rasta_core.Run.{Ends}
-use Rattle.simulator_run.specs.rasta_core.State.{LinkState, confirmed_items, is_open, is_up}
-use Rattle.simulator_run.specs.rasta_core.Steps.{all_made}
-use Rattle.simulator_run.specs.rasta_core.phase.Phase.{Phase}
-use Rattle.simulator_run.specs.rasta_core.phase.Phase.TheVariants as phase
-use Rattle.simulator_run.specs.object_host.Host.{HostState}
-use Rattle.simulator_run.specs.signal_ctl.Signal.{SignalState}
-use Rattle.simulator_run.specs.point_ctl.Drive.{PointState}
-use Rattle.simulator_run.specs.ixl_client.Client.{PeerState}
-use Rattle.simulator_run.specs.ixl_client.Made.{link_after}
-use Rattle.simulator_run.specs.ixl_client.ClientSoFar.{LinkCall}
-use Rattle.simulator_run.specs.ixl_client.Step.{message_of}
-use Rattle.simulator_run.specs.ixl_client.declared.command.Command.{Command}
-use Rattle.simulator_run.specs.ixl_client.declared.stage.Stage.{Stage}
-use Rattle.simulator_run.specs.ixl_client.declared.stage.Stage.TheVariants as stage
-use Rattle.simulator_run.specs.ixl_rules.State.{KnownSignalState}
-use Rattle.simulator_run.specs.ixl_rules.Step.{Input}
+use Rattle.simulator_run_links.specs.sci_telegram.TelegramRead.{reading}
+use Rattle.simulator_run_links.specs.sci_telegram.Telegrams.{IsTelegram, writing}
+use Rattle.simulator_run_links.specs.sci_telegram.declared.fault.SciFault.{SciFault}
+use Rattle.simulator_run_links.specs.sci_telegram.declared.message.Message.{Message}
+use Rattle.simulator_run_links.specs.sci_telegram.declared.message.Message.TheVariants as message
+use Rattle.simulator_run_links.specs.sci_telegram.declared.message.SignalMessage.TheVariants.{IndicateAspect, IndicatedAspect}
+use Rattle.simulator_run_links.specs.sci_telegram.declared.telegram.Telegram.{Telegram}
+use Rattle.simulator_run_links.specs.rasta_core.Clock.{deadline, settled, state_at}
+use Rattle.simulator_run_links.specs.rasta_core.Ends.{reading_of}
+use Rattle.simulator_run_links.specs.rasta_core.Run.{Ends}
+use Rattle.simulator_run_links.specs.rasta_core.State.{LinkState, confirmed_items, is_open, is_up}
+use Rattle.simulator_run_links.specs.rasta_core.Steps.{all_made}
+use Rattle.simulator_run_links.specs.rasta_core.phase.Phase.{Phase}
+use Rattle.simulator_run_links.specs.rasta_core.phase.Phase.TheVariants as phase
+use Rattle.simulator_run_links.specs.object_host.Host.{HostState}
+use Rattle.simulator_run_links.specs.signal_ctl.Signal.{SignalState}
+use Rattle.simulator_run_links.specs.point_ctl.Drive.{PointState}
+use Rattle.simulator_run_links.specs.ixl_client.Client.{PeerState}
+use Rattle.simulator_run_links.specs.ixl_client.Made.{link_after}
+use Rattle.simulator_run_links.specs.ixl_client.ClientSoFar.{LinkCall}
+use Rattle.simulator_run_links.specs.ixl_client.Step.{message_of}
+use Rattle.simulator_run_links.specs.ixl_client.declared.command.Command.{Command}
+use Rattle.simulator_run_links.specs.ixl_client.declared.stage.Stage.{Stage}
+use Rattle.simulator_run_links.specs.ixl_client.declared.stage.Stage.TheVariants as stage
+use Rattle.simulator_run_links.specs.ixl_rules.State.{KnownSignalState}
+use Rattle.simulator_run_links.specs.ixl_rules.Step.{Input}
 use Rattle.simulator_machine.specs.Link.{Server, Before, In, Gone, Link}
 use Rattle.simulator_machine.specs.Point.{Point, Position, reports_made}
 use Rattle.simulator_machine.specs.Signal.{Signal}
-use Rattle.simulator_machine_links.specs.Items.{all_said, aspects_in, aspects_of, reports_in, said_by}
-use Rattle.simulator_machine_links.specs.Flows.{ClientKnows, FlowsInOrder, commands_taken, given_after, of_server, reports_given, taken_after}
-use Rattle.simulator_machine_links.specs.EndsSeen.{represented, server_of}
+use Rattle.simulator_run_links.specs.simulator_machine_links.Items.{all_said, aspects_in, aspects_of, reports_in, said_by}
+use Rattle.simulator_run_links.specs.simulator_machine_links.Flows.{ClientKnows, FlowsInOrder, commands_taken, given_after, of_server, reports_given, taken_after}
+use Rattle.simulator_run_links.specs.simulator_machine_links.EndsSeen.{represented, server_of}
 use Rattle.simulator_machine_controllers.specs.Point.{AreSaid, IsPointSeen}
 use Rattle.simulator_machine_controllers.specs.Signal.{IsSignalSeen}
 use Rattle.simulator_machine_interlocking.specs.Calls.{Items, items_after}

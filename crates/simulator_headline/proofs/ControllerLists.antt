@@ -3,7 +3,7 @@ use Rattle.std.proofs.Common.{◌≡◌, ◌≢◌, ◌⊎◌, ℕ, zero, suc, �
 use Rattle.std.specs.Prelude.{◌==◌}
 use Rattle.std.proofs.lemmas.Bool.Decides.{nat_tests}
 use Rattle.std.proofs.lemmas.Option.{same_Some}
-use Rattle.simulator_run.specs.ixl_rules.State.{changed}
+use Rattle.simulator_run_links.specs.ixl_rules.State.{changed}
 use Rattle.simulator_machine.specs.Lists.{changed_at, is_same}
 
 -- two numbers are the same, or they aren't

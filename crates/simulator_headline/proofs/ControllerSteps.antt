@@ -1,32 +1,32 @@
 -- The ends of the links of a world when one controller makes a step, or is made anew.
 use Rattle.std.proofs.Common.{◌≡◌, ◌≢◌, ◌⊎◌, ◌∙◌, ℕ, Bool, true, false, List, [], ◌∷◌, map, refl, sym, ap, subst, inl, inr, if◌then◌else◌}
 use Rattle.std.specs.Prelude.{◌<◌}
-use Rattle.simulator_run.specs.layout.Entries.{Site}
-use Rattle.simulator_run.specs.layout.Once.{Once}
-use Rattle.simulator_run.specs.layout.Station.{IsStation}
-use Rattle.simulator_run.specs.rasta_core.Ends.{Call}
-use Rattle.simulator_run.specs.rasta_core.Events.{Restarts, happened, run}
-use Rattle.simulator_run.specs.rasta_core.Invariant.{Timely}
-use Rattle.simulator_run.specs.rasta_core.Links.{AreLinks, CallsOn, Links, RestartsOn, run_links, seen}
-use Rattle.simulator_run.specs.rasta_core.Names.{AreNames, Names}
-use Rattle.simulator_run.specs.rasta_core.Nodes.{is_among, restarts_of}
-use Rattle.simulator_run.specs.rasta_core.Run.{Ends, called, end_of, restarted}
-use Rattle.simulator_run.specs.rasta_core.State.{is_open}
-use Rattle.simulator_run.specs.rasta_core.Steps.{calls_at}
-use Rattle.simulator_run.specs.rasta_core.identity.Role.{Role}
-use Rattle.simulator_run.specs.rasta_core.identity.Role.TheVariants as role
-use Rattle.simulator_run.specs.object_host.Host.{HostState, LinkCall, HostSoFar}
-use Rattle.simulator_run.specs.object_host.Made.{AreCallsFor, AreItems}
-use Rattle.simulator_run.specs.object_host.declared.input.Input.{Input}
-use Rattle.object_host_theorem.specs.World.{MayHear, as_call, called_all}
-use Rattle.simulator_machine_links.specs.Lawful.{AreLawful, IsLawful}
-use Rattle.simulator_machine_links.specs.LinkMoves.{LinkGoes, moves_by}
-use Rattle.simulator_machine_links.specs.EndsSeen.{represented}
+use Rattle.simulator_run_links.specs.layout.Entries.{Site}
+use Rattle.simulator_run_links.specs.layout.Once.{Once}
+use Rattle.simulator_run_links.specs.layout.Station.{IsStation}
+use Rattle.simulator_run_links.specs.rasta_core.Ends.{Call}
+use Rattle.simulator_run_links.specs.rasta_core.Events.{Restarts, happened, run}
+use Rattle.simulator_run_links.specs.rasta_core.Invariant.{Timely}
+use Rattle.simulator_run_links.specs.rasta_core.Links.{AreLinks, CallsOn, Links, RestartsOn, run_links, seen}
+use Rattle.simulator_run_links.specs.rasta_core.Names.{AreNames, Names}
+use Rattle.simulator_run_links.specs.rasta_core.Nodes.{is_among, restarts_of}
+use Rattle.simulator_run_links.specs.rasta_core.Run.{Ends, called, end_of, restarted}
+use Rattle.simulator_run_links.specs.rasta_core.State.{is_open}
+use Rattle.simulator_run_links.specs.rasta_core.Steps.{calls_at}
+use Rattle.simulator_run_links.specs.rasta_core.identity.Role.{Role}
+use Rattle.simulator_run_links.specs.rasta_core.identity.Role.TheVariants as role
+use Rattle.simulator_run_links.specs.object_host.Host.{HostState, LinkCall, HostSoFar}
+use Rattle.simulator_run_links.specs.object_host.Made.{AreCallsFor, AreItems}
+use Rattle.simulator_run_links.specs.object_host.declared.input.Input.{Input}
+use Rattle.simulator_run_links.specs.object_host_theorem.World.{MayHear, as_call, called_all}
+use Rattle.simulator_run_links.specs.simulator_machine_links.Lawful.{AreLawful, IsLawful}
+use Rattle.simulator_run_links.specs.simulator_machine_links.LinkMoves.{LinkGoes, moves_by}
+use Rattle.simulator_run_links.specs.simulator_machine_links.EndsSeen.{represented}
 use Rattle.simulator_machine_controllers.specs.Ends.{AreFit, Steps}
-use Rattle.simulator_run.specs.Links.{names_at}
-use Rattle.simulator_run.specs.Nodes.{links}
-use Rattle.simulator_run.specs.Controllers.{controller_after, controller_anew}
-use Rattle.simulator_run.specs.State.{ClockedControllerState}
+use Rattle.simulator_run_links.specs.simulator_run.Links.{names_at}
+use Rattle.simulator_run_links.specs.simulator_run.Nodes.{links}
+use Rattle.simulator_run_links.specs.simulator_run.Controllers.{controller_after, controller_anew}
+use Rattle.simulator_run_links.specs.simulator_run.State.{ClockedControllerState}
 use Rattle.simulator_headline.proofs.ControllerLists.{itself, same_or_other, unequal}
 
 -- what calls at one end leave of every end

@@ -3,16 +3,16 @@ use Rattle.std.proofs.Common.{◌≡◌, ◌∙◌, ℕ, zero, suc, ◌<◌, nat
 use Rattle.std.specs.Prelude.{is_some, not}
 use Rattle.std.proofs.lemmas.Bool.Decides.{nat_tests}
 use Rattle.std.proofs.lemmas.Option.{same_Some}
-use Rattle.simulator_run.specs.sci_telegram.declared.message.Position.{Position}
-use Rattle.simulator_run.specs.sci_telegram.declared.message.Side.{Side}
-use Rattle.simulator_run.specs.layout.declared.ids.PointId.{PointId}
-use Rattle.simulator_run.specs.layout.Entries.{Site}
-use Rattle.simulator_run.specs.point_ctl.Drive.{PointState}
-use Rattle.simulator_run.specs.simulator_event.declared.event.Event.TheVariants as event
-use Rattle.simulator_run.specs.simulator_event.refused.Refused.{Refused}
-use Rattle.simulator_run.specs.simulator_event.refused.Refused.TheVariants as refused
-use Rattle.simulator_run.specs.Refusals.{driven_at, driven_by, may_reach, refusal, refused_where}
-use Rattle.simulator_run.specs.State.{ClockedControllerState, WorldState}
+use Rattle.simulator_run_links.specs.sci_telegram.declared.message.Position.{Position}
+use Rattle.simulator_run_links.specs.sci_telegram.declared.message.Side.{Side}
+use Rattle.simulator_run_links.specs.layout.declared.ids.PointId.{PointId}
+use Rattle.simulator_run_links.specs.layout.Entries.{Site}
+use Rattle.simulator_run_links.specs.point_ctl.Drive.{PointState}
+use Rattle.simulator_run_links.specs.simulator_event.declared.event.Event.TheVariants as event
+use Rattle.simulator_run_links.specs.simulator_event.refused.Refused.{Refused}
+use Rattle.simulator_run_links.specs.simulator_event.refused.Refused.TheVariants as refused
+use Rattle.simulator_run_links.specs.simulator_run.Refusals.{driven_at, driven_by, may_reach, refusal, refused_where}
+use Rattle.simulator_run_links.specs.simulator_run.State.{ClockedControllerState, WorldState}
 use Rattle.simulator_headline.proofs.ControllerLists.{none_some}
 
 not_refused : (fails : Bool) (why : Refused) (otherwise : Option Refused) → refused_where fails why otherwise ≡ None → (fails ≡ false) × (otherwise ≡ None)

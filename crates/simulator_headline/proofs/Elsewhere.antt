@@ -1,30 +1,30 @@
 -- What is seen of a controller whose end of the link is as it was, and of the interlocking.
 use Rattle.std.proofs.Common.{◌≡◌, ◌∙◌, ℕ, true, List, length, refl, sym, ap, subst}
 use Rattle.std.specs.Prelude.{slice_get}
-use Rattle.simulator_run.specs.layout.Entries.{Site}
-use Rattle.simulator_run.specs.rasta_core.Ends.{EndState, reading_of}
-use Rattle.simulator_run.specs.rasta_core.Links.{Links}
-use Rattle.simulator_run.specs.rasta_core.Run.{Ends}
-use Rattle.simulator_run.specs.rasta_core.State.{is_open}
-use Rattle.simulator_run.specs.object_host.Host.{HostState}
-use Rattle.simulator_run.specs.point_ctl.Drive.{PointState}
-use Rattle.simulator_run.specs.signal_ctl.Signal.{SignalState}
-use Rattle.simulator_run.specs.ixl_rules.State.{IxlState}
-use Rattle.simulator_run.specs.ixl_rules.Table.{Table}
+use Rattle.simulator_run_links.specs.layout.Entries.{Site}
+use Rattle.simulator_run_links.specs.rasta_core.Ends.{EndState, reading_of}
+use Rattle.simulator_run_links.specs.rasta_core.Links.{Links}
+use Rattle.simulator_run_links.specs.rasta_core.Run.{Ends}
+use Rattle.simulator_run_links.specs.rasta_core.State.{is_open}
+use Rattle.simulator_run_links.specs.object_host.Host.{HostState}
+use Rattle.simulator_run_links.specs.point_ctl.Drive.{PointState}
+use Rattle.simulator_run_links.specs.signal_ctl.Signal.{SignalState}
+use Rattle.simulator_run_links.specs.ixl_rules.State.{IxlState}
+use Rattle.simulator_run_links.specs.ixl_rules.Table.{Table}
 use Rattle.simulator_machine.specs.Link.{Link}
 use Rattle.simulator_machine.specs.Machine.{Machine}
 use Rattle.simulator_machine.specs.Point.{Point as MachinePoint, moves_given, reports_made}
 use Rattle.simulator_machine.specs.Signal.{Signal as MachineSignal, aspects_given}
-use Rattle.simulator_machine_links.specs.Items.{aspects_in, moves_in, reports_in}
-use Rattle.simulator_machine_links.specs.Flows.{of_server, reports_given}
-use Rattle.simulator_machine_links.specs.EndsSeen.{client_of, is_inside, is_same_connection, represented, server_in, state_of}
+use Rattle.simulator_run_links.specs.simulator_machine_links.Items.{aspects_in, moves_in, reports_in}
+use Rattle.simulator_run_links.specs.simulator_machine_links.Flows.{of_server, reports_given}
+use Rattle.simulator_run_links.specs.simulator_machine_links.EndsSeen.{client_of, is_inside, is_same_connection, represented, server_in, state_of}
 use Rattle.simulator_machine_controllers.specs.Point.{IsPointSeen}
 use Rattle.simulator_machine_controllers.specs.Signal.{IsSignalSeen}
 use Rattle.simulator_machine_interlocking.specs.Onward.{LooksAlike}
 use Rattle.simulator_machine_interlocking.specs.Calls.{Items}
 use Rattle.simulator_machine_interlocking.specs.Sees.{Given, Sees, SeesPoint, SeesSignal}
-use Rattle.simulator_run.specs.Nodes.{point_link}
-use Rattle.simulator_run.specs.State.{ClockedInterlockingState}
+use Rattle.simulator_run_links.specs.simulator_run.Nodes.{point_link}
+use Rattle.simulator_run_links.specs.simulator_run.State.{ClockedInterlockingState}
 use Rattle.simulator_headline.specs.Represents.{IsInterlockingSeen, given_in, items_of}
 
 -- the laws of what stays

@@ -3,30 +3,30 @@ use Rattle.std.proofs.Common.{◌≡◌, ◌≤◌, ◌+◌, ℕ, Bool, true, fa
 use Rattle.std.specs.Int.{w16, to_le_bytes}
 use Rattle.std.specs.Prelude.{◌||◌, is_ok}
 use Rattle.std.proofs.lemmas.List.{length-append}
-use Rattle.simulator_run.specs.sci_telegram.Messages.{payload, protocol_byte, protocol_of, type_number}
-use Rattle.simulator_run.specs.sci_telegram.Names.{name_field}
-use Rattle.simulator_run.specs.sci_telegram.Telegrams.{IsTelegram, writing}
-use Rattle.simulator_run.specs.sci_telegram.declared.message.Initialisation.{Initialisation}
-use Rattle.simulator_run.specs.sci_telegram.declared.message.Initialisation.TheVariants.{InitialisationRequest, StartInitialisation, InitialisationCompleted, VersionAnswer, VersionCheck}
-use Rattle.simulator_run.specs.sci_telegram.declared.message.Message.{Message}
-use Rattle.simulator_run.specs.sci_telegram.declared.message.Message.TheVariants as message
-use Rattle.simulator_run.specs.sci_telegram.declared.telegram.Telegram.{Telegram}
-use Rattle.simulator_run.specs.rasta_pdu.Items.{IsItem}
-use Rattle.simulator_run.specs.rasta_core.Calls.{answer_to_send, opens}
-use Rattle.simulator_run.specs.rasta_core.Each.{Each}
-use Rattle.simulator_run.specs.rasta_core.Ends as calls
-use Rattle.simulator_run.specs.rasta_core.Events.{MayCall}
-use Rattle.simulator_run.specs.rasta_core.Names.{Names}
-use Rattle.simulator_run.specs.rasta_core.Run.{Ends}
-use Rattle.simulator_run.specs.rasta_core.State.{LinkState}
-use Rattle.simulator_run.specs.rasta_core.Steps.{all_made, made_by}
-use Rattle.simulator_run.specs.rasta_core.identity.Role.TheVariants as role
-use Rattle.simulator_run.specs.ixl_client.Client.{PeerState}
-use Rattle.simulator_run.specs.ixl_client.Made.{link_after}
-use Rattle.simulator_run.specs.ixl_client.ClientSoFar.{LinkCall, Opens, Ticks, Closes, Sends, Receives, call_made, as_call}
-use Rattle.simulator_run.specs.ixl_client.Step.{telegram_to}
-use Rattle.simulator_run.specs.ixl_rules.Step.{Input, Datagram}
-use Rattle.simulator_machine_links.specs.Flows.{begins, given_after, given_by, has_begun, taken_after, taken_by}
+use Rattle.simulator_run_links.specs.sci_telegram.Messages.{payload, protocol_byte, protocol_of, type_number}
+use Rattle.simulator_run_links.specs.sci_telegram.Names.{name_field}
+use Rattle.simulator_run_links.specs.sci_telegram.Telegrams.{IsTelegram, writing}
+use Rattle.simulator_run_links.specs.sci_telegram.declared.message.Initialisation.{Initialisation}
+use Rattle.simulator_run_links.specs.sci_telegram.declared.message.Initialisation.TheVariants.{InitialisationRequest, StartInitialisation, InitialisationCompleted, VersionAnswer, VersionCheck}
+use Rattle.simulator_run_links.specs.sci_telegram.declared.message.Message.{Message}
+use Rattle.simulator_run_links.specs.sci_telegram.declared.message.Message.TheVariants as message
+use Rattle.simulator_run_links.specs.sci_telegram.declared.telegram.Telegram.{Telegram}
+use Rattle.simulator_run_links.specs.rasta_pdu.Items.{IsItem}
+use Rattle.simulator_run_links.specs.rasta_core.Calls.{answer_to_send, opens}
+use Rattle.simulator_run_links.specs.rasta_core.Each.{Each}
+use Rattle.simulator_run_links.specs.rasta_core.Ends as calls
+use Rattle.simulator_run_links.specs.rasta_core.Events.{MayCall}
+use Rattle.simulator_run_links.specs.rasta_core.Names.{Names}
+use Rattle.simulator_run_links.specs.rasta_core.Run.{Ends}
+use Rattle.simulator_run_links.specs.rasta_core.State.{LinkState}
+use Rattle.simulator_run_links.specs.rasta_core.Steps.{all_made, made_by}
+use Rattle.simulator_run_links.specs.rasta_core.identity.Role.TheVariants as role
+use Rattle.simulator_run_links.specs.ixl_client.Client.{PeerState}
+use Rattle.simulator_run_links.specs.ixl_client.Made.{link_after}
+use Rattle.simulator_run_links.specs.ixl_client.ClientSoFar.{LinkCall, Opens, Ticks, Closes, Sends, Receives, call_made, as_call}
+use Rattle.simulator_run_links.specs.ixl_client.Step.{telegram_to}
+use Rattle.simulator_run_links.specs.ixl_rules.Step.{Input, Datagram}
+use Rattle.simulator_run_links.specs.simulator_machine_links.Flows.{begins, given_after, given_by, has_begun, taken_after, taken_by}
 use Rattle.simulator_machine_interlocking.specs.Calls as rules
 use Rattle.simulator_machine_interlocking.specs.Calls.{Items, items_after, items_by}
 use Rattle.simulator_machine_interlocking.specs.Facts.{AreCallsIn}

@@ -5,47 +5,47 @@ use Rattle.std.specs.Prelude.{slice_get}
 use Rattle.std.proofs.lemmas.Bool.{false≢true}
 use Rattle.std.proofs.lemmas.Option.{get_or_from_slice_get, slice_get-map}
 use Rattle.std.proofs.lemmas.Slice.Zip.{firsts-zip, seconds-zip}
-use Rattle.simulator_run.specs.sci_telegram.Names.{IsName}
-use Rattle.simulator_run.specs.sci_telegram.declared.message.Position.{Position}
-use Rattle.simulator_run.specs.sci_telegram.declared.message.Position.TheVariants as positions
-use Rattle.simulator_run.specs.layout.declared.entries.Point.{Point}
-use Rattle.simulator_run.specs.layout.declared.entries.Signal.{Signal}
-use Rattle.simulator_run.specs.layout.Entries.{Site}
-use Rattle.simulator_run.specs.control_table.Table.{telegram_version}
-use Rattle.simulator_run.specs.rasta_core.Calls.{created}
-use Rattle.simulator_run.specs.rasta_core.Events.{Start, started}
-use Rattle.simulator_run.specs.rasta_core.Links.{Links, begun, seen, start_of}
-use Rattle.simulator_run.specs.rasta_core.Names.{Names, identity_of}
-use Rattle.simulator_run.specs.rasta_core.identity.Role.TheVariants as role
-use Rattle.simulator_run.specs.rasta_core.Run.{Ends}
-use Rattle.simulator_run.specs.object_host.Behaviour.{Behaviour}
-use Rattle.simulator_run.specs.object_host.Host.{keeping}
-use Rattle.simulator_run.specs.object_host.Hosted.{new_host}
-use Rattle.simulator_run.specs.point_ctl.Controlled.{point_behaviour}
-use Rattle.simulator_run.specs.point_ctl.Drive.{PointState, made}
-use Rattle.simulator_run.specs.signal_ctl.Lamp.{new_lamp}
-use Rattle.simulator_run.specs.signal_ctl.Signal.{SignalState, signal_behaviour}
-use Rattle.simulator_run.specs.ixl_client.Client.{new_client}
-use Rattle.simulator_run.specs.ixl_rules.State.{IxlState, KnownSignalState, RouteState, KnownPointState}
-use Rattle.simulator_run.specs.ixl_rules.Table.{Table}
+use Rattle.simulator_run_links.specs.sci_telegram.Names.{IsName}
+use Rattle.simulator_run_links.specs.sci_telegram.declared.message.Position.{Position}
+use Rattle.simulator_run_links.specs.sci_telegram.declared.message.Position.TheVariants as positions
+use Rattle.simulator_run_links.specs.layout.declared.entries.Point.{Point}
+use Rattle.simulator_run_links.specs.layout.declared.entries.Signal.{Signal}
+use Rattle.simulator_run_links.specs.layout.Entries.{Site}
+use Rattle.simulator_run_links.specs.control_table.Table.{telegram_version}
+use Rattle.simulator_run_links.specs.rasta_core.Calls.{created}
+use Rattle.simulator_run_links.specs.rasta_core.Events.{Start, started}
+use Rattle.simulator_run_links.specs.rasta_core.Links.{Links, begun, seen, start_of}
+use Rattle.simulator_run_links.specs.rasta_core.Names.{Names, identity_of}
+use Rattle.simulator_run_links.specs.rasta_core.identity.Role.TheVariants as role
+use Rattle.simulator_run_links.specs.rasta_core.Run.{Ends}
+use Rattle.simulator_run_links.specs.object_host.Behaviour.{Behaviour}
+use Rattle.simulator_run_links.specs.object_host.Host.{keeping}
+use Rattle.simulator_run_links.specs.object_host.Hosted.{new_host}
+use Rattle.simulator_run_links.specs.point_ctl.Controlled.{point_behaviour}
+use Rattle.simulator_run_links.specs.point_ctl.Drive.{PointState, made}
+use Rattle.simulator_run_links.specs.signal_ctl.Lamp.{new_lamp}
+use Rattle.simulator_run_links.specs.signal_ctl.Signal.{SignalState, signal_behaviour}
+use Rattle.simulator_run_links.specs.ixl_client.Client.{new_client}
+use Rattle.simulator_run_links.specs.ixl_rules.State.{IxlState, KnownSignalState, RouteState, KnownPointState}
+use Rattle.simulator_run_links.specs.ixl_rules.Table.{Table}
 use Rattle.simulator_machine.specs.Machine.{Machine}
 use Rattle.simulator_machine.specs.Point as machine
 use Rattle.simulator_machine.specs.Run.{first}
-use Rattle.simulator_machine_links.specs.Items.{position_seen}
+use Rattle.simulator_run_links.specs.simulator_machine_links.Items.{position_seen}
 use Rattle.simulator_machine_controllers.specs.Ends.{AreFit}
 use Rattle.simulator_machine_controllers.specs.Point.{IsPointSeen}
 use Rattle.simulator_machine_controllers.specs.Signal.{IsSignalSeen}
 use Rattle.simulator_machine.specs.Route.{Free}
-use Rattle.simulator_run.specs.ixl_rules.View.{is_holding}
-use Rattle.simulator_machine_links.specs.Lawful.{AreLawful, IsLawful}
+use Rattle.simulator_run_links.specs.ixl_rules.View.{is_holding}
+use Rattle.simulator_run_links.specs.simulator_machine_links.Lawful.{AreLawful, IsLawful}
 use Rattle.simulator_machine_interlocking.specs.Made.{IsJustMade, IsMadeClient, IsQuietMachine}
 use Rattle.simulator_machine_interlocking.specs.Nodes.{IsOfPoint, phase_seen}
 use Rattle.simulator_machine_interlocking.specs.Rows.{machine_table}
 use Rattle.simulator_machine_interlocking.specs.Sees.{Given, Sees}
-use Rattle.simulator_run.specs.First.{Beginning, IsOutsetOf, Outset, at_zero, first_controller, host_of, new_ixl, new_known_signal_of, new_point, new_route_of, new_signal, new_known_point_of, point_standing, world_at}
-use Rattle.simulator_run.specs.Links.{names_at, starts_at_zero}
-use Rattle.simulator_run.specs.Nodes.{links, names_of, point_link}
-use Rattle.simulator_run.specs.State.{ClockedControllerState}
+use Rattle.simulator_run_links.specs.simulator_run.First.{Beginning, IsOutsetOf, Outset, at_zero, first_controller, host_of, new_ixl, new_known_signal_of, new_point, new_route_of, new_signal, new_known_point_of, point_standing, world_at}
+use Rattle.simulator_run_links.specs.simulator_run.Links.{names_at, starts_at_zero}
+use Rattle.simulator_run_links.specs.simulator_run.Nodes.{links, names_of, point_link}
+use Rattle.simulator_run_links.specs.simulator_run.State.{ClockedControllerState}
 use Rattle.simulator_run_links.specs.Whole.{IsNamed, IsWhole}
 use Rattle.simulator_headline.specs.Represents.{AreFrozen, ArePointsSeen, AreSignalsSeen, IsHostOf, IsInterlockingSeen, given_in}
 use Rattle.simulator_headline.specs.Seen.{AreHeldPairs, positions_at}

@@ -4,28 +4,28 @@ use Rattle.std.specs.Prelude.{◌≢◌, ◌==◌, slice_get}
 use Rattle.std.specs.List.{Contains}
 use Rattle.std.proofs.lemmas.Bool.{false≢true}
 use Rattle.std.proofs.lemmas.Bool.Decides.{nat_tests}
-use Rattle.simulator_run.specs.layout.Entries.{Site}
-use Rattle.simulator_run.specs.rasta_core.Clock.{deadline, settled}
-use Rattle.simulator_run.specs.rasta_core.Ends.{reading_of}
-use Rattle.simulator_run.specs.rasta_core.Given.{items_given}
-use Rattle.simulator_run.specs.rasta_core.Invariant.{Timely}
-use Rattle.simulator_run.specs.rasta_core.Links.{Links, OnLink, of_link, seen}
-use Rattle.simulator_run.specs.rasta_core.Names.{Names}
-use Rattle.simulator_run.specs.rasta_core.Run.{Ends}
-use Rattle.simulator_run.specs.rasta_core.State.{LinkState, is_open}
-use Rattle.simulator_run.specs.rasta_core.identity.Role.TheVariants as role
-use Rattle.simulator_run.specs.rasta_core.phase.Phase.TheVariants as phase
-use Rattle.simulator_run.specs.signal_ctl.Signal.{SignalState}
-use Rattle.simulator_run.specs.point_ctl.Drive.{PointState}
+use Rattle.simulator_run_links.specs.layout.Entries.{Site}
+use Rattle.simulator_run_links.specs.rasta_core.Clock.{deadline, settled}
+use Rattle.simulator_run_links.specs.rasta_core.Ends.{reading_of}
+use Rattle.simulator_run_links.specs.rasta_core.Given.{items_given}
+use Rattle.simulator_run_links.specs.rasta_core.Invariant.{Timely}
+use Rattle.simulator_run_links.specs.rasta_core.Links.{Links, OnLink, of_link, seen}
+use Rattle.simulator_run_links.specs.rasta_core.Names.{Names}
+use Rattle.simulator_run_links.specs.rasta_core.Run.{Ends}
+use Rattle.simulator_run_links.specs.rasta_core.State.{LinkState, is_open}
+use Rattle.simulator_run_links.specs.rasta_core.identity.Role.TheVariants as role
+use Rattle.simulator_run_links.specs.rasta_core.phase.Phase.TheVariants as phase
+use Rattle.simulator_run_links.specs.signal_ctl.Signal.{SignalState}
+use Rattle.simulator_run_links.specs.point_ctl.Drive.{PointState}
 use Rattle.simulator_machine.specs.Link.{Server, Before, In, Gone}
-use Rattle.simulator_machine_links.specs.EndsSeen.{is_inside, is_same_connection, server_in, server_of, state_of}
-use Rattle.simulator_machine_links.specs.Flows.{AreInOne, Counts, FlowsInOrder, commands_taken, of_server}
-use Rattle.simulator_machine_links.specs.Lawful.{AreLawful, IsLawful}
+use Rattle.simulator_run_links.specs.simulator_machine_links.EndsSeen.{is_inside, is_same_connection, server_in, server_of, state_of}
+use Rattle.simulator_run_links.specs.simulator_machine_links.Flows.{AreInOne, Counts, FlowsInOrder, commands_taken, of_server}
+use Rattle.simulator_run_links.specs.simulator_machine_links.Lawful.{AreLawful, IsLawful}
 use Rattle.simulator_run_links.specs.Nodes.{IsEndOfServer}
 use Rattle.simulator_run_links.specs.Whole.{IsWhole}
-use Rattle.simulator_run.specs.Links.{AreLinksOf, names_at}
-use Rattle.simulator_run.specs.Nodes.{links, point_link}
-use Rattle.simulator_run.specs.State.{ClockedControllerState, WorldState}
+use Rattle.simulator_run_links.specs.simulator_run.Links.{AreLinksOf, names_at}
+use Rattle.simulator_run_links.specs.simulator_run.Nodes.{links, point_link}
+use Rattle.simulator_run_links.specs.simulator_run.State.{ClockedControllerState, WorldState}
 use Rattle.simulator_headline.specs.InFlight.{IsInFlight, given_on}
 use Rattle.simulator_headline.specs.Represents.{IsNetworkOf}
 use Rattle.simulator_headline.proofs.WorldLists.{get_contains, none_some, some_injective}

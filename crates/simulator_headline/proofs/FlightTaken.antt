@@ -3,25 +3,25 @@ use Rattle.std.proofs.Common.{◌≡◌, ◌∙◌, ◌+◌, ◌<◌, Bool, true
 use Rattle.std.specs.Prelude.{slice_get}
 use Rattle.std.specs.List.{Contains}
 use Rattle.std.proofs.lemmas.Bool.{true≢false}
-use Rattle.simulator_run.specs.layout.Entries.{Site}
-use Rattle.simulator_run.specs.rasta_core.Calls.{receiving}
-use Rattle.simulator_run.specs.rasta_core.Ends.{Call, EndState, Outcome, Receives, end_after, kept, newer, outcome, reading_of}
-use Rattle.simulator_run.specs.rasta_core.Events as link_events
-use Rattle.simulator_run.specs.rasta_core.Events.{MayCall}
-use Rattle.simulator_run.specs.rasta_core.Given.{items_given}
-use Rattle.simulator_run.specs.rasta_core.Invariant.{Timely}
-use Rattle.simulator_run.specs.rasta_core.Links.{Links, OnLink, of_link, seen}
-use Rattle.simulator_run.specs.rasta_core.Names.{AreNames, Names}
-use Rattle.simulator_run.specs.rasta_core.Run.{Ends, called}
-use Rattle.simulator_run.specs.rasta_core.Safe.{AreSafe, DoesNothing}
-use Rattle.simulator_run.specs.rasta_core.State.{LinkState, is_open}
-use Rattle.simulator_run.specs.rasta_core.identity.Role.TheVariants as role
-use Rattle.simulator_machine_links.specs.Flows.{EntersRightly}
-use Rattle.simulator_machine_links.specs.Lawful.{IsLawful}
+use Rattle.simulator_run_links.specs.layout.Entries.{Site}
+use Rattle.simulator_run_links.specs.rasta_core.Calls.{receiving}
+use Rattle.simulator_run_links.specs.rasta_core.Ends.{Call, EndState, Outcome, Receives, end_after, kept, newer, outcome, reading_of}
+use Rattle.simulator_run_links.specs.rasta_core.Events as link_events
+use Rattle.simulator_run_links.specs.rasta_core.Events.{MayCall}
+use Rattle.simulator_run_links.specs.rasta_core.Given.{items_given}
+use Rattle.simulator_run_links.specs.rasta_core.Invariant.{Timely}
+use Rattle.simulator_run_links.specs.rasta_core.Links.{Links, OnLink, of_link, seen}
+use Rattle.simulator_run_links.specs.rasta_core.Names.{AreNames, Names}
+use Rattle.simulator_run_links.specs.rasta_core.Run.{Ends, called}
+use Rattle.simulator_run_links.specs.rasta_core.Safe.{AreSafe, DoesNothing}
+use Rattle.simulator_run_links.specs.rasta_core.State.{LinkState, is_open}
+use Rattle.simulator_run_links.specs.rasta_core.identity.Role.TheVariants as role
+use Rattle.simulator_run_links.specs.simulator_machine_links.Flows.{EntersRightly}
+use Rattle.simulator_run_links.specs.simulator_machine_links.Lawful.{IsLawful}
 use Rattle.simulator_run_links.specs.Nodes.{IsEndOfServer}
-use Rattle.simulator_run.specs.Links.{names_at}
-use Rattle.simulator_run.specs.Nodes.{links}
-use Rattle.simulator_run.specs.State.{ClockedControllerState, WorldState}
+use Rattle.simulator_run_links.specs.simulator_run.Links.{names_at}
+use Rattle.simulator_run_links.specs.simulator_run.Nodes.{links}
+use Rattle.simulator_run_links.specs.simulator_run.State.{ClockedControllerState, WorldState}
 use Rattle.simulator_headline.specs.InFlight.{IsInFlight, given_on, items_taken}
 use Rattle.simulator_headline.specs.Represents.{IsNetworkOf}
 use Rattle.simulator_headline.proofs.FlightEnds.{FlightLaws, settled_taken}

@@ -5,21 +5,21 @@ use Rattle.std.specs.List.{All, Contains}
 use Rattle.std.proofs.Math.Nat.{eq-or-lt_of_le}
 use Rattle.std.proofs.lemmas.Bool.{cases_order, eqb-true, eq-eqb, false≢true}
 use Rattle.std.proofs.lemmas.List.Elements.{All-contains}
-use Rattle.simulator_run.specs.rasta_core.Ends.{reading_of}
-use Rattle.simulator_run.specs.ixl_rules.State.{IxlState, RouteState}
-use Rattle.simulator_run.specs.ixl_rules.Table.{Row, Table}
-use Rattle.simulator_run.specs.ixl_rules.View.{authority_from, has_authority, is_holding}
-use Rattle.simulator_run.specs.ixl_rules.declared.phase.Phase.{Phase}
-use Rattle.simulator_run.specs.ixl_rules.declared.phase.Phase.TheVariants as phase
+use Rattle.simulator_run_links.specs.rasta_core.Ends.{reading_of}
+use Rattle.simulator_run_links.specs.ixl_rules.State.{IxlState, RouteState}
+use Rattle.simulator_run_links.specs.ixl_rules.Table.{Row, Table}
+use Rattle.simulator_run_links.specs.ixl_rules.View.{authority_from, has_authority, is_holding}
+use Rattle.simulator_run_links.specs.ixl_rules.declared.phase.Phase.{Phase}
+use Rattle.simulator_run_links.specs.ixl_rules.declared.phase.Phase.TheVariants as phase
 use Rattle.simulator_machine.specs.Invariant.{Invariant}
 use Rattle.simulator_machine.specs.Machine.{Machine, is_held}
 use Rattle.simulator_machine.specs.Route as machine
 use Rattle.simulator_machine.specs.Table.{IsSound}
 use Rattle.simulator_machine_interlocking.specs.Nodes.{phase_seen, route_seen}
 use Rattle.simulator_machine_interlocking.specs.Rows.{machine_table, row_at}
-use Rattle.simulator_run.specs.State.{ClockedInterlockingState}
-use Rattle.simulator_run.specs.Interlocking.{authorities, held_of, pair_then}
-use Rattle.simulator_run.specs.simulator_snapshot.declared.snapshot.Held.{Held}
+use Rattle.simulator_run_links.specs.simulator_run.State.{ClockedInterlockingState}
+use Rattle.simulator_run_links.specs.simulator_run.Interlocking.{authorities, held_of, pair_then}
+use Rattle.simulator_run_links.specs.simulator_snapshot.declared.snapshot.Held.{Held}
 use Rattle.simulator_headline.specs.Seen.{AreHeldPairs, pair_of}
 use Rattle.simulator_headline.proofs.WorldLists.{contains_cases, contains_here, contains_none, contains_there, get_below, get_contains, get_inside, none_some, some_injective}
 use Rattle.simulator_headline.proofs.Rows.{row_is, true_both}

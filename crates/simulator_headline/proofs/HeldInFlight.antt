@@ -4,24 +4,24 @@ use Rattle.std.specs.Prelude.{◌≢◌, ◌⊎◌, Ok, is_some, slice_get}
 use Rattle.std.specs.List.{Contains}
 use Rattle.std.proofs.lemmas.Bool.{true≢false}
 use Rattle.std.proofs.lemmas.List.{append_cancel_left}
-use Rattle.simulator_run.specs.sci_telegram.TelegramRead.{reading}
-use Rattle.simulator_run.specs.sci_telegram.declared.message.Aspect.{Aspect}
-use Rattle.simulator_run.specs.sci_telegram.declared.message.Aspect.TheVariants as aspects
-use Rattle.simulator_run.specs.sci_telegram.declared.message.Message.{Message}
-use Rattle.simulator_run.specs.sci_telegram.declared.message.Position.{Position}
-use Rattle.simulator_run.specs.sci_telegram.declared.message.Side.{Side}
-use Rattle.simulator_run.specs.sci_telegram.declared.telegram.Telegram.{Telegram}
-use Rattle.simulator_run.specs.layout.declared.ids.PointId.{PointId}
-use Rattle.simulator_run.specs.layout.declared.ids.RouteId.{RouteId}
-use Rattle.simulator_run.specs.layout.declared.ids.SignalId.{SignalId}
-use Rattle.simulator_run.specs.layout.Entries.{Site}
-use Rattle.simulator_run.specs.layout.Station.{HasPoint}
-use Rattle.simulator_run.specs.control_table.Table.{RouteRequires}
-use Rattle.simulator_run.specs.rasta_core.Links.{Links, seen}
-use Rattle.simulator_run.specs.rasta_core.State.{LinkState, is_open}
-use Rattle.simulator_run.specs.point_ctl.Drive.{PointState}
-use Rattle.simulator_run.specs.signal_ctl.Signal.{SignalState}
-use Rattle.simulator_run.specs.ixl_rules.Table.{Table}
+use Rattle.simulator_run_links.specs.sci_telegram.TelegramRead.{reading}
+use Rattle.simulator_run_links.specs.sci_telegram.declared.message.Aspect.{Aspect}
+use Rattle.simulator_run_links.specs.sci_telegram.declared.message.Aspect.TheVariants as aspects
+use Rattle.simulator_run_links.specs.sci_telegram.declared.message.Message.{Message}
+use Rattle.simulator_run_links.specs.sci_telegram.declared.message.Position.{Position}
+use Rattle.simulator_run_links.specs.sci_telegram.declared.message.Side.{Side}
+use Rattle.simulator_run_links.specs.sci_telegram.declared.telegram.Telegram.{Telegram}
+use Rattle.simulator_run_links.specs.layout.declared.ids.PointId.{PointId}
+use Rattle.simulator_run_links.specs.layout.declared.ids.RouteId.{RouteId}
+use Rattle.simulator_run_links.specs.layout.declared.ids.SignalId.{SignalId}
+use Rattle.simulator_run_links.specs.layout.Entries.{Site}
+use Rattle.simulator_run_links.specs.layout.Station.{HasPoint}
+use Rattle.simulator_run_links.specs.control_table.Table.{RouteRequires}
+use Rattle.simulator_run_links.specs.rasta_core.Links.{Links, seen}
+use Rattle.simulator_run_links.specs.rasta_core.State.{LinkState, is_open}
+use Rattle.simulator_run_links.specs.point_ctl.Drive.{PointState}
+use Rattle.simulator_run_links.specs.signal_ctl.Signal.{SignalState}
+use Rattle.simulator_run_links.specs.ixl_rules.Table.{Table}
 use Rattle.ixl_table.specs.Table.{IsTableOf}
 use Rattle.simulator_machine.specs.Link.{Link, Server, Before, In, Gone}
 use Rattle.simulator_machine.specs.Lists.{IsOf}
@@ -29,15 +29,15 @@ use Rattle.simulator_machine.specs.Machine.{Machine}
 use Rattle.simulator_machine.specs.Point as machine_point
 use Rattle.simulator_machine.specs.Signal as machine_signal
 use Rattle.simulator_machine.specs.Signal.{IsLive, Stop, shown, shown_by as shown_in}
-use Rattle.simulator_machine_links.specs.Items.{all_said, aspect_seen, aspects_in, aspects_of, moves_in, moves_of, said_by}
-use Rattle.simulator_machine_links.specs.Items as items
+use Rattle.simulator_run_links.specs.simulator_machine_links.Items.{all_said, aspect_seen, aspects_in, aspects_of, moves_in, moves_of, said_by}
+use Rattle.simulator_run_links.specs.simulator_machine_links.Items as items
 use Rattle.simulator_machine_interlocking.specs.Telegrams.{side_seen}
-use Rattle.simulator_run.specs.Nodes.{point_link}
-use Rattle.simulator_run.specs.Seen.{shown_by}
-use Rattle.simulator_run.specs.State.{ClockedControllerState, WorldState}
-use Rattle.simulator_run.specs.Interlocking.{held_of}
-use Rattle.simulator_run.specs.simulator_snapshot.Safe.{position_at}
-use Rattle.simulator_run.specs.simulator_snapshot.declared.snapshot.Held.{Held}
+use Rattle.simulator_run_links.specs.simulator_run.Nodes.{point_link}
+use Rattle.simulator_run_links.specs.simulator_run.Seen.{shown_by}
+use Rattle.simulator_run_links.specs.simulator_run.State.{ClockedControllerState, WorldState}
+use Rattle.simulator_run_links.specs.simulator_run.Interlocking.{held_of}
+use Rattle.simulator_run_links.specs.simulator_snapshot.Safe.{position_at}
+use Rattle.simulator_run_links.specs.simulator_snapshot.declared.snapshot.Held.{Held}
 use Rattle.simulator_headline.specs.InFlight.{Indicates, IsInFlight, IsMovingTo, Moves, MovesOrMayMove, ShowsOrMayShow}
 use Rattle.simulator_headline.specs.Reached.{IsAtRest, IsOfHeldRoute}
 use Rattle.simulator_headline.specs.Represents.{Represents}

@@ -1,30 +1,30 @@
 -- The events in which the interlocking makes a step.
 use Rattle.std.proofs.Common.{◌≡◌, ℕ, List, Option, Some, None, refl, sym, ap, subst}
-use Rattle.simulator_run.specs.layout.Entries.{Site}
-use Rattle.simulator_run.specs.layout.Once.{Once}
-use Rattle.simulator_run.specs.layout.Station.{IsStation}
-use Rattle.simulator_run.specs.rasta_core.EachLink.{AreTimely}
-use Rattle.simulator_run.specs.rasta_core.Ends.{Receives}
-use Rattle.simulator_run.specs.rasta_core.Links.{AreLinks, Links, MayCallOn, run_links}
-use Rattle.simulator_run.specs.ixl_rules.Step as ixl
-use Rattle.simulator_run.specs.ixl_rules.Table.{Table}
-use Rattle.simulator_run.specs.ixl_rules.declared.command.Command.{Command}
+use Rattle.simulator_run_links.specs.layout.Entries.{Site}
+use Rattle.simulator_run_links.specs.layout.Once.{Once}
+use Rattle.simulator_run_links.specs.layout.Station.{IsStation}
+use Rattle.simulator_run_links.specs.rasta_core.EachLink.{AreTimely}
+use Rattle.simulator_run_links.specs.rasta_core.Ends.{Receives}
+use Rattle.simulator_run_links.specs.rasta_core.Links.{AreLinks, Links, MayCallOn, run_links}
+use Rattle.simulator_run_links.specs.ixl_rules.Step as ixl
+use Rattle.simulator_run_links.specs.ixl_rules.Table.{Table}
+use Rattle.simulator_run_links.specs.ixl_rules.declared.command.Command.{Command}
 use Rattle.ixl_table.specs.Table.{IsTableOf}
-use Rattle.simulator_run.specs.simulator_event.declared.event.Event.{Event}
-use Rattle.simulator_run.specs.simulator_event.declared.event.Event.TheVariants as event
-use Rattle.simulator_run.specs.simulator_event.declared.event.NodeId.{NodeId}
+use Rattle.simulator_run_links.specs.simulator_event.declared.event.Event.{Event}
+use Rattle.simulator_run_links.specs.simulator_event.declared.event.Event.TheVariants as event
+use Rattle.simulator_run_links.specs.simulator_event.declared.event.NodeId.{NodeId}
 use Rattle.simulator_machine.specs.Machine.{Machine}
 use Rattle.simulator_run_links.specs.Calls.{AreOfNodes}
 use Rattle.simulator_run_links.specs.Events.{FollowsBy, delivery_events, events_of, interlocking_events, tick_events}
 use Rattle.simulator_run_links.specs.Nodes.{MayComeWith}
 use Rattle.simulator_run_links.specs.Whole.{IsWhole}
-use Rattle.simulator_run.specs.Happens.{delivered_to, happens, interlocking_stepped, ticked_at}
-use Rattle.simulator_run.specs.Links.{AreLinksOf, names_at}
-use Rattle.simulator_run.specs.Network.{connection_of, copy_of}
-use Rattle.simulator_run.specs.Nodes.{Interlocking, Node, links, node_at}
-use Rattle.simulator_run.specs.Refusals.{refusal}
-use Rattle.simulator_run.specs.State.{WorldState}
-use Rattle.simulator_run.specs.Interlocking.{interlocking_step}
+use Rattle.simulator_run_links.specs.simulator_run.Happens.{delivered_to, happens, interlocking_stepped, ticked_at}
+use Rattle.simulator_run_links.specs.simulator_run.Links.{AreLinksOf, names_at}
+use Rattle.simulator_run_links.specs.simulator_run.Network.{connection_of, copy_of}
+use Rattle.simulator_run_links.specs.simulator_run.Nodes.{Interlocking, Node, links, node_at}
+use Rattle.simulator_run_links.specs.simulator_run.Refusals.{refusal}
+use Rattle.simulator_run_links.specs.simulator_run.State.{WorldState}
+use Rattle.simulator_run_links.specs.simulator_run.Interlocking.{interlocking_step}
 use Rattle.simulator_headline.specs.Represents.{IsNetworkOf, Represents, RepresentsAfter}
 use Rattle.simulator_headline.proofs.Step.{StepLaws, goes, step_represented}
 

@@ -1,15 +1,15 @@
 -- The state of a client's end is that of its link, whether the clock rules were applied or not.
 use Rattle.std.proofs.Common.{◌≡◌, ◌+◌, ◌&&◌, ℕ, Bool, true, false, nat_le, nat_lt, if◌then◌else◌, arith, refl, ap, sym, ◌∙◌}
 use Rattle.std.proofs.lemmas.Bool.Decides.{nat_tests}
-use Rattle.simulator_run.specs.rasta_core.Clock.{deadline, open_state, settled, state_at}
-use Rattle.simulator_run.specs.rasta_core.Ends.{EndState, reading_of}
-use Rattle.simulator_run.specs.rasta_core.Parameters.{quiet_time}
-use Rattle.simulator_run.specs.rasta_core.State.{LinkState, is_open}
-use Rattle.simulator_run.specs.rasta_core.phase.Phase.{Phase}
-use Rattle.simulator_run.specs.rasta_core.phase.Phase.TheVariants as phase
-use Rattle.simulator_run.specs.rasta_core.phase.State.{State}
-use Rattle.simulator_run.specs.rasta_core.phase.State.TheVariants as state
-use Rattle.simulator_machine_links.specs.EndsSeen.{client_in, client_of}
+use Rattle.simulator_run_links.specs.rasta_core.Clock.{deadline, open_state, settled, state_at}
+use Rattle.simulator_run_links.specs.rasta_core.Ends.{EndState, reading_of}
+use Rattle.simulator_run_links.specs.rasta_core.Parameters.{quiet_time}
+use Rattle.simulator_run_links.specs.rasta_core.State.{LinkState, is_open}
+use Rattle.simulator_run_links.specs.rasta_core.phase.Phase.{Phase}
+use Rattle.simulator_run_links.specs.rasta_core.phase.Phase.TheVariants as phase
+use Rattle.simulator_run_links.specs.rasta_core.phase.State.{State}
+use Rattle.simulator_run_links.specs.rasta_core.phase.State.TheVariants as state
+use Rattle.simulator_run_links.specs.simulator_machine_links.EndsSeen.{client_in, client_of}
 use Rattle.simulator_machine_interlocking.specs.Link.{client_at}
 
 -- the state by whether the link is open, its phase and its deadline

@@ -1,16 +1,16 @@
 -- What the ends of a world's links gave is read off its datagrams.
 use Rattle.std.proofs.Common.{◌≡◌, ◌∙◌, ℕ, List, Some, sym, ap}
-use Rattle.simulator_run.specs.layout.Entries.{Site}
-use Rattle.simulator_run.specs.rasta_core.Given.{items_given}
-use Rattle.simulator_run.specs.rasta_core.Links.{OnLink, of_link, seen}
-use Rattle.simulator_run.specs.rasta_core.Names.{partner_of}
-use Rattle.simulator_run.specs.rasta_core.Safe.{AreCounted, AreSafe}
-use Rattle.simulator_run.specs.rasta_core.identity.Role.{Role}
-use Rattle.simulator_run.specs.rasta_core.identity.Role.TheVariants as role
-use Rattle.simulator_machine_links.specs.Lawful.{IsLawful}
+use Rattle.simulator_run_links.specs.layout.Entries.{Site}
+use Rattle.simulator_run_links.specs.rasta_core.Given.{items_given}
+use Rattle.simulator_run_links.specs.rasta_core.Links.{OnLink, of_link, seen}
+use Rattle.simulator_run_links.specs.rasta_core.Names.{partner_of}
+use Rattle.simulator_run_links.specs.rasta_core.Safe.{AreCounted, AreSafe}
+use Rattle.simulator_run_links.specs.rasta_core.identity.Role.{Role}
+use Rattle.simulator_run_links.specs.rasta_core.identity.Role.TheVariants as role
+use Rattle.simulator_run_links.specs.simulator_machine_links.Lawful.{IsLawful}
 use Rattle.simulator_run_links.specs.HasLinks.{HasLinks, links_in}
-use Rattle.simulator_run.specs.Links.{names_at}
-use Rattle.simulator_run.specs.State.{WorldState}
+use Rattle.simulator_run_links.specs.simulator_run.Links.{names_at}
+use Rattle.simulator_run_links.specs.simulator_run.State.{WorldState}
 use Rattle.simulator_headline.specs.InFlight.{given_on}
 use Rattle.simulator_headline.specs.Reached.{IsReadOff, IsTakenOf, end_at}
 

@@ -1,15 +1,15 @@
 -- What is written to a peer with names is read as it was meant.
 use Rattle.std.proofs.Common.{◌≡◌, ◌<◌, Ok}
-use Rattle.simulator_run.specs.sci_telegram.TelegramRead.{reading}
-use Rattle.simulator_run.specs.sci_telegram.Telegrams.{IsMessage, IsTelegram, writing}
-use Rattle.simulator_run.specs.sci_telegram.declared.message.Initialisation.TheVariants.{InitialisationRequest, VersionCheck}
-use Rattle.simulator_run.specs.sci_telegram.declared.message.Message.{Message}
-use Rattle.simulator_run.specs.sci_telegram.declared.message.Message.TheVariants as message
-use Rattle.simulator_run.specs.sci_telegram.declared.telegram.Telegram.{Telegram}
-use Rattle.simulator_run.specs.ixl_client.Client.{PeerState}
-use Rattle.simulator_run.specs.ixl_client.Step.{message_of, telegram_to}
-use Rattle.simulator_run.specs.ixl_client.declared.command.Command.{Command}
-use Rattle.simulator_run.specs.ixl_client.declared.command.Command.TheVariants as commands
+use Rattle.simulator_run_links.specs.sci_telegram.TelegramRead.{reading}
+use Rattle.simulator_run_links.specs.sci_telegram.Telegrams.{IsMessage, IsTelegram, writing}
+use Rattle.simulator_run_links.specs.sci_telegram.declared.message.Initialisation.TheVariants.{InitialisationRequest, VersionCheck}
+use Rattle.simulator_run_links.specs.sci_telegram.declared.message.Message.{Message}
+use Rattle.simulator_run_links.specs.sci_telegram.declared.message.Message.TheVariants as message
+use Rattle.simulator_run_links.specs.sci_telegram.declared.telegram.Telegram.{Telegram}
+use Rattle.simulator_run_links.specs.ixl_client.Client.{PeerState}
+use Rattle.simulator_run_links.specs.ixl_client.Step.{message_of, telegram_to}
+use Rattle.simulator_run_links.specs.ixl_client.declared.command.Command.{Command}
+use Rattle.simulator_run_links.specs.ixl_client.declared.command.Command.TheVariants as commands
 use Rattle.simulator_machine_interlocking.specs.Telegrams.{item_of}
 use Rattle.simulator_machine_interlocking.specs.Totals.{IsReadable}
 use Rattle.simulator_headline.specs.At.{HasNames}

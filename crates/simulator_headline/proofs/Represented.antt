@@ -2,28 +2,28 @@
 use Rattle.std.proofs.Common.{◌≡◌, ◌∙◌, ℕ, ◌<◌, List, length, Some, sym, ap, subst}
 use Rattle.std.specs.Prelude.{◌≢◌, true, slice_get}
 use Rattle.std.specs.List.{All}
-use Rattle.simulator_run.specs.sci_telegram.declared.message.Aspect.TheVariants as aspects
-use Rattle.simulator_run.specs.sci_telegram.declared.message.Position.{Position}
-use Rattle.simulator_run.specs.sci_telegram.declared.message.Side.{Side}
-use Rattle.simulator_run.specs.layout.Entries.{Site}
-use Rattle.simulator_run.specs.layout.Station.{IsStation}
-use Rattle.simulator_run.specs.rasta_core.Ends.{reading_of}
-use Rattle.simulator_run.specs.rasta_core.Links.{Links, seen}
-use Rattle.simulator_run.specs.rasta_core.Names.{Names}
-use Rattle.simulator_run.specs.rasta_core.Run.{Ends}
-use Rattle.simulator_run.specs.object_host.Host.{HostState}
-use Rattle.simulator_run.specs.point_ctl.Drive.{PointState, drives}
-use Rattle.simulator_run.specs.signal_ctl.Lamp.{aspect_shown}
-use Rattle.simulator_run.specs.signal_ctl.Signal.{SignalState}
-use Rattle.simulator_run.specs.ixl_rules.Table.{Row, Table}
-use Rattle.simulator_run.specs.ixl_rules.View.{is_holding}
+use Rattle.simulator_run_links.specs.sci_telegram.declared.message.Aspect.TheVariants as aspects
+use Rattle.simulator_run_links.specs.sci_telegram.declared.message.Position.{Position}
+use Rattle.simulator_run_links.specs.sci_telegram.declared.message.Side.{Side}
+use Rattle.simulator_run_links.specs.layout.Entries.{Site}
+use Rattle.simulator_run_links.specs.layout.Station.{IsStation}
+use Rattle.simulator_run_links.specs.rasta_core.Ends.{reading_of}
+use Rattle.simulator_run_links.specs.rasta_core.Links.{Links, seen}
+use Rattle.simulator_run_links.specs.rasta_core.Names.{Names}
+use Rattle.simulator_run_links.specs.rasta_core.Run.{Ends}
+use Rattle.simulator_run_links.specs.object_host.Host.{HostState}
+use Rattle.simulator_run_links.specs.point_ctl.Drive.{PointState, drives}
+use Rattle.simulator_run_links.specs.signal_ctl.Lamp.{aspect_shown}
+use Rattle.simulator_run_links.specs.signal_ctl.Signal.{SignalState}
+use Rattle.simulator_run_links.specs.ixl_rules.Table.{Row, Table}
+use Rattle.simulator_run_links.specs.ixl_rules.View.{is_holding}
 use Rattle.ixl_table.specs.Table.{IsTableOf}
 use Rattle.simulator_machine.specs.Invariant.{Invariant}
 use Rattle.simulator_machine.specs.Machine.{Machine, is_held}
 use Rattle.simulator_machine.specs.Point.{Point as MachinePoint}
 use Rattle.simulator_machine.specs.Signal.{Signal as MachineSignal, shown}
-use Rattle.simulator_machine_links.specs.Items.{aspect_seen, position_seen}
-use Rattle.simulator_machine_links.specs.Lawful.{AreLawful, IsLawful}
+use Rattle.simulator_run_links.specs.simulator_machine_links.Items.{aspect_seen, position_seen}
+use Rattle.simulator_run_links.specs.simulator_machine_links.Lawful.{AreLawful, IsLawful}
 use Rattle.simulator_machine_controllers.specs.Ends.{AreFit}
 use Rattle.simulator_machine_controllers.specs.Point.{IsPointSeen}
 use Rattle.simulator_machine_controllers.specs.Signal.{IsSignalSeen}
@@ -31,13 +31,13 @@ use Rattle.simulator_machine_interlocking.specs.Nodes.{route_seen}
 use Rattle.simulator_machine_interlocking.specs.Rows.{machine_table}
 use Rattle.simulator_run_links.specs.Nodes.{IsEndOfServer}
 use Rattle.simulator_run_links.specs.Whole.{IsWhole}
-use Rattle.simulator_run.specs.Links.{AreLinksOf, names_at}
-use Rattle.simulator_run.specs.Nodes.{links, point_link}
-use Rattle.simulator_run.specs.Refusals.{driven_by}
-use Rattle.simulator_run.specs.Seen.{shown_by}
-use Rattle.simulator_run.specs.State.{ClockedControllerState, ClockedInterlockingState, WorldState}
-use Rattle.simulator_run.specs.Interlocking.{held_of}
-use Rattle.simulator_run.specs.simulator_snapshot.declared.snapshot.Held.{Held}
+use Rattle.simulator_run_links.specs.simulator_run.Links.{AreLinksOf, names_at}
+use Rattle.simulator_run_links.specs.simulator_run.Nodes.{links, point_link}
+use Rattle.simulator_run_links.specs.simulator_run.Refusals.{driven_by}
+use Rattle.simulator_run_links.specs.simulator_run.Seen.{shown_by}
+use Rattle.simulator_run_links.specs.simulator_run.State.{ClockedControllerState, ClockedInterlockingState, WorldState}
+use Rattle.simulator_run_links.specs.simulator_run.Interlocking.{held_of}
+use Rattle.simulator_run_links.specs.simulator_snapshot.declared.snapshot.Held.{Held}
 use Rattle.simulator_headline.specs.Represents.{Represents}
 use Rattle.simulator_headline.specs.Seen.{AreHeldPairs, IsSeen}
 use Rattle.simulator_headline.proofs.WorldLists.{get_below, get_inside}

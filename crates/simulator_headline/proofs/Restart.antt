@@ -3,28 +3,28 @@ use Rattle.std.proofs.Common.{◌≡◌, ◌∙◌, ◌*◌, ◌+◌, ◌<◌, �
 use Rattle.std.specs.Prelude.{◌==◌, slice_get}
 use Rattle.std.proofs.lemmas.Bool.Decides.{nat_tests}
 use Rattle.std.proofs.lemmas.Option.{same_Some}
-use Rattle.simulator_run.specs.layout.Entries.{Site}
-use Rattle.simulator_run.specs.layout.Once.{Once}
-use Rattle.simulator_run.specs.layout.Station.{IsStation}
-use Rattle.simulator_run.specs.layout.declared.entries.Point.{Point as PointEntry}
-use Rattle.simulator_run.specs.rasta_core.Ends.{end_restarted, reading_of}
-use Rattle.simulator_run.specs.rasta_core.Events.{Restarts, happened}
-use Rattle.simulator_run.specs.rasta_core.Links.{Links, run_links, seen}
-use Rattle.simulator_run.specs.rasta_core.Nodes.{is_among, restarts_of}
-use Rattle.simulator_run.specs.rasta_core.Parameters.{greatest}
-use Rattle.simulator_run.specs.rasta_core.Run.{Ends, restarted}
-use Rattle.simulator_run.specs.rasta_core.identity.Role.{Role}
-use Rattle.simulator_run.specs.rasta_core.identity.Role.TheVariants as role
-use Rattle.simulator_run.specs.object_host.Host.{HostState}
-use Rattle.simulator_run.specs.point_ctl.Drive.{PointState}
-use Rattle.simulator_run.specs.signal_ctl.Signal.{SignalState}
-use Rattle.simulator_run.specs.ixl_client.Client.{new_client}
-use Rattle.simulator_run.specs.ixl_rules.State.{IxlState, KnownPointState}
-use Rattle.simulator_run.specs.ixl_rules.Table.{Table}
+use Rattle.simulator_run_links.specs.layout.Entries.{Site}
+use Rattle.simulator_run_links.specs.layout.Once.{Once}
+use Rattle.simulator_run_links.specs.layout.Station.{IsStation}
+use Rattle.simulator_run_links.specs.layout.declared.entries.Point.{Point as PointEntry}
+use Rattle.simulator_run_links.specs.rasta_core.Ends.{end_restarted, reading_of}
+use Rattle.simulator_run_links.specs.rasta_core.Events.{Restarts, happened}
+use Rattle.simulator_run_links.specs.rasta_core.Links.{Links, run_links, seen}
+use Rattle.simulator_run_links.specs.rasta_core.Nodes.{is_among, restarts_of}
+use Rattle.simulator_run_links.specs.rasta_core.Parameters.{greatest}
+use Rattle.simulator_run_links.specs.rasta_core.Run.{Ends, restarted}
+use Rattle.simulator_run_links.specs.rasta_core.identity.Role.{Role}
+use Rattle.simulator_run_links.specs.rasta_core.identity.Role.TheVariants as role
+use Rattle.simulator_run_links.specs.object_host.Host.{HostState}
+use Rattle.simulator_run_links.specs.point_ctl.Drive.{PointState}
+use Rattle.simulator_run_links.specs.signal_ctl.Signal.{SignalState}
+use Rattle.simulator_run_links.specs.ixl_client.Client.{new_client}
+use Rattle.simulator_run_links.specs.ixl_rules.State.{IxlState, KnownPointState}
+use Rattle.simulator_run_links.specs.ixl_rules.Table.{Table}
 use Rattle.ixl_table.specs.Table.{IsTableOf}
-use Rattle.simulator_run.specs.simulator_event.declared.event.NodeId.{NodeId}
-use Rattle.simulator_run.specs.simulator_event.refused.Refused.{Refused}
-use Rattle.simulator_run.specs.simulator_event.refused.Refused.TheVariants as refused
+use Rattle.simulator_run_links.specs.simulator_event.declared.event.NodeId.{NodeId}
+use Rattle.simulator_run_links.specs.simulator_event.refused.Refused.{Refused}
+use Rattle.simulator_run_links.specs.simulator_event.refused.Refused.TheVariants as refused
 use Rattle.simulator_machine.specs.Chains.{MovesTo}
 use Rattle.simulator_machine.specs.Invariant.{Invariant}
 use Rattle.simulator_machine.specs.Link.{Closes, Link, link_after}
@@ -32,9 +32,9 @@ use Rattle.simulator_machine.specs.Machine.{Machine, made_anew}
 use Rattle.simulator_machine.specs.Point.{Point as MachinePoint, PointLink, point_after}
 use Rattle.simulator_machine.specs.Signal.{Signal as MachineSignal, SignalLink, signal_after}
 use Rattle.simulator_machine.specs.Table.{Table as MachineTable}
-use Rattle.simulator_machine_links.specs.Items.{aspects_in, moves_in, reports_in}
-use Rattle.simulator_machine_links.specs.Flows.{of_server, reports_given}
-use Rattle.simulator_machine_links.specs.EndsSeen.{represented, server_of}
+use Rattle.simulator_run_links.specs.simulator_machine_links.Items.{aspects_in, moves_in, reports_in}
+use Rattle.simulator_run_links.specs.simulator_machine_links.Flows.{of_server, reports_given}
+use Rattle.simulator_run_links.specs.simulator_machine_links.EndsSeen.{represented, server_of}
 use Rattle.simulator_machine_controllers.specs.Point.{IsPointSeen}
 use Rattle.simulator_machine_controllers.specs.Signal.{IsSignalSeen}
 use Rattle.simulator_machine_interlocking.specs.Onward.{IsMadeAnew}
@@ -42,12 +42,12 @@ use Rattle.simulator_machine_interlocking.specs.Made.{IsJustMade}
 use Rattle.simulator_machine_interlocking.specs.Rows.{machine_table}
 use Rattle.simulator_machine_interlocking.specs.Sees.{Given, Sees}
 use Rattle.simulator_run_links.specs.Events.{numbers_below, restart_events}
-use Rattle.simulator_run.specs.First.{Beginning, new_ixl, new_known_signal_of, new_route_of, new_known_point_of}
-use Rattle.simulator_run.specs.Nodes.{Interlocking, links, point_link}
-use Rattle.simulator_run.specs.Refusals.{is_missing, refused_where}
-use Rattle.simulator_run.specs.State.{WorldState}
-use Rattle.simulator_run.specs.Interlocking.{held_of}
-use Rattle.simulator_run.specs.Happens as world_run
+use Rattle.simulator_run_links.specs.simulator_run.First.{Beginning, new_ixl, new_known_signal_of, new_route_of, new_known_point_of}
+use Rattle.simulator_run_links.specs.simulator_run.Nodes.{Interlocking, links, point_link}
+use Rattle.simulator_run_links.specs.simulator_run.Refusals.{is_missing, refused_where}
+use Rattle.simulator_run_links.specs.simulator_run.State.{WorldState}
+use Rattle.simulator_run_links.specs.simulator_run.Interlocking.{held_of}
+use Rattle.simulator_run_links.specs.simulator_run.Happens as world_run
 use Rattle.simulator_headline.specs.Represents.{AreFrozen, ArePointsSeen, AreSignalsSeen, IsNetworkOf, Represents, RepresentsAfter, given_in}
 use Rattle.simulator_headline.proofs.StationEnds.{EndLaws, server_represented}
 use Rattle.simulator_headline.proofs.StationLists.{get_map, length_map, within_some}

@@ -3,18 +3,18 @@ use Rattle.std.proofs.Common.{◌≡◌, ◌∙◌, Bool, true, false, not, ◌&
 use Rattle.std.specs.Prelude.{◌≢◌, ◌↔◌, slice_get}
 use Rattle.std.specs.List.{Contains, list_any}
 use Rattle.std.proofs.lemmas.Bool.{eq-eqb, false≢true}
-use Rattle.simulator_run.specs.sci_telegram.declared.message.Aspect.{Aspect}
-use Rattle.simulator_run.specs.sci_telegram.declared.message.Aspect.TheVariants as aspects
-use Rattle.simulator_run.specs.sci_telegram.declared.message.Side.{Side}
-use Rattle.simulator_run.specs.sci_telegram.declared.message.Side.TheVariants as side
-use Rattle.simulator_run.specs.layout.declared.ids.SectionId.{SectionId}
-use Rattle.simulator_run.specs.layout.declared.ids.PointId.{PointId}
-use Rattle.simulator_run.specs.layout.declared.ids.RouteId.{RouteId}
-use Rattle.simulator_run.specs.layout.Entries.{Site, RouteEntry}
-use Rattle.simulator_run.specs.layout.Station.{HasRoute}
-use Rattle.simulator_run.specs.control_table.Topology.{IsRoute}
-use Rattle.simulator_run.specs.control_table.Table.{AreSections, Conflict, HasAspect, LeadsOver, Lists, RequireDifferently, RouteRequires, SameEntry, ShareSection}
-use Rattle.simulator_run.specs.ixl_rules.Table.{Need, Row, Table, is_same_side}
+use Rattle.simulator_run_links.specs.sci_telegram.declared.message.Aspect.{Aspect}
+use Rattle.simulator_run_links.specs.sci_telegram.declared.message.Aspect.TheVariants as aspects
+use Rattle.simulator_run_links.specs.sci_telegram.declared.message.Side.{Side}
+use Rattle.simulator_run_links.specs.sci_telegram.declared.message.Side.TheVariants as side
+use Rattle.simulator_run_links.specs.layout.declared.ids.SectionId.{SectionId}
+use Rattle.simulator_run_links.specs.layout.declared.ids.PointId.{PointId}
+use Rattle.simulator_run_links.specs.layout.declared.ids.RouteId.{RouteId}
+use Rattle.simulator_run_links.specs.layout.Entries.{Site, RouteEntry}
+use Rattle.simulator_run_links.specs.layout.Station.{HasRoute}
+use Rattle.simulator_run_links.specs.control_table.Topology.{IsRoute}
+use Rattle.simulator_run_links.specs.control_table.Table.{AreSections, Conflict, HasAspect, LeadsOver, Lists, RequireDifferently, RouteRequires, SameEntry, ShareSection}
+use Rattle.simulator_run_links.specs.ixl_rules.Table.{Need, Row, Table, is_same_side}
 use Rattle.ixl_table.specs.Table.{IsRowOf, IsTableOf, as_point, as_route, as_section}
 use Rattle.simulator_machine.specs.Lists.{is_same}
 use Rattle.simulator_machine_interlocking.specs.Rows.{is_elsewhere, is_side_seen, machine_table, row_at, row_or_none, rows_conflict, some_pair}

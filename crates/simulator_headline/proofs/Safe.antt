@@ -3,24 +3,24 @@ use Rattle.std.proofs.Common.{◌≡◌, ◌∙◌, Bool, true, false, ℕ, ◌<
 use Rattle.std.specs.Prelude.{◌≢◌, ◌↔◌, slice_get}
 use Rattle.std.specs.List.{Contains}
 use Rattle.std.proofs.lemmas.Bool.{true≢false}
-use Rattle.simulator_run.specs.sci_telegram.declared.message.Aspect.{Aspect}
-use Rattle.simulator_run.specs.sci_telegram.declared.message.Aspect.TheVariants as aspects
-use Rattle.simulator_run.specs.sci_telegram.declared.message.Position.{Position}
-use Rattle.simulator_run.specs.sci_telegram.declared.message.Position.TheVariants as positions
-use Rattle.simulator_run.specs.sci_telegram.declared.message.Side.{Side}
-use Rattle.simulator_run.specs.sci_telegram.declared.message.Side.TheVariants as sides
-use Rattle.simulator_run.specs.layout.declared.ids.PointId.{PointId}
-use Rattle.simulator_run.specs.layout.declared.ids.RouteId.{RouteId}
-use Rattle.simulator_run.specs.layout.declared.ids.SectionId.{SectionId}
-use Rattle.simulator_run.specs.layout.declared.ids.SignalId.{SignalId}
-use Rattle.simulator_run.specs.layout.Entries.{Site}
-use Rattle.simulator_run.specs.layout.Station.{HasPoint}
-use Rattle.simulator_run.specs.control_table.Table.{AreSections, Conflict, LeadsOver, RouteRequires}
-use Rattle.simulator_run.specs.ixl_rules.Table.{Table}
+use Rattle.simulator_run_links.specs.sci_telegram.declared.message.Aspect.{Aspect}
+use Rattle.simulator_run_links.specs.sci_telegram.declared.message.Aspect.TheVariants as aspects
+use Rattle.simulator_run_links.specs.sci_telegram.declared.message.Position.{Position}
+use Rattle.simulator_run_links.specs.sci_telegram.declared.message.Position.TheVariants as positions
+use Rattle.simulator_run_links.specs.sci_telegram.declared.message.Side.{Side}
+use Rattle.simulator_run_links.specs.sci_telegram.declared.message.Side.TheVariants as sides
+use Rattle.simulator_run_links.specs.layout.declared.ids.PointId.{PointId}
+use Rattle.simulator_run_links.specs.layout.declared.ids.RouteId.{RouteId}
+use Rattle.simulator_run_links.specs.layout.declared.ids.SectionId.{SectionId}
+use Rattle.simulator_run_links.specs.layout.declared.ids.SignalId.{SignalId}
+use Rattle.simulator_run_links.specs.layout.Entries.{Site}
+use Rattle.simulator_run_links.specs.layout.Station.{HasPoint}
+use Rattle.simulator_run_links.specs.control_table.Table.{AreSections, Conflict, LeadsOver, RouteRequires}
+use Rattle.simulator_run_links.specs.ixl_rules.Table.{Table}
 use Rattle.ixl_table.specs.Table.{IsTableOf}
-use Rattle.simulator_run.specs.point_ctl.Drive.{PointState}
-use Rattle.simulator_run.specs.signal_ctl.Signal.{SignalState}
-use Rattle.simulator_machine_links.specs.Items.{aspect_seen, position_seen}
+use Rattle.simulator_run_links.specs.point_ctl.Drive.{PointState}
+use Rattle.simulator_run_links.specs.signal_ctl.Signal.{SignalState}
+use Rattle.simulator_run_links.specs.simulator_machine_links.Items.{aspect_seen, position_seen}
 use Rattle.simulator_machine.specs.Lists.{is_same}
 use Rattle.simulator_machine.specs.Machine.{Machine}
 use Rattle.simulator_machine.specs.Promise as promised
@@ -28,12 +28,12 @@ use Rattle.simulator_machine.specs.Point as seen_point
 use Rattle.simulator_machine.specs.Signal.{shown}
 use Rattle.simulator_machine_interlocking.specs.Rows.{machine_table}
 use Rattle.simulator_machine_interlocking.specs.Telegrams.{side_seen}
-use Rattle.simulator_run.specs.Refusals.{driven_by}
-use Rattle.simulator_run.specs.Seen.{IsSnapshotOf, as_shown, as_stands, shown_by}
-use Rattle.simulator_run.specs.State.{ClockedControllerState, WorldState}
-use Rattle.simulator_run.specs.simulator_snapshot.Safe.{IsHeldFor, IsProtected, IsThere, Safe, Shows, ShowsOther, StandsUndriven, position_at}
-use Rattle.simulator_run.specs.simulator_snapshot.declared.snapshot.Held.{Held}
-use Rattle.simulator_run.specs.simulator_snapshot.declared.snapshot.Snapshot.{Snapshot}
+use Rattle.simulator_run_links.specs.simulator_run.Refusals.{driven_by}
+use Rattle.simulator_run_links.specs.simulator_run.Seen.{IsSnapshotOf, as_shown, as_stands, shown_by}
+use Rattle.simulator_run_links.specs.simulator_run.State.{ClockedControllerState, WorldState}
+use Rattle.simulator_run_links.specs.simulator_snapshot.Safe.{IsHeldFor, IsProtected, IsThere, Safe, Shows, ShowsOther, StandsUndriven, position_at}
+use Rattle.simulator_run_links.specs.simulator_snapshot.declared.snapshot.Held.{Held}
+use Rattle.simulator_run_links.specs.simulator_snapshot.declared.snapshot.Snapshot.{Snapshot}
 use Rattle.simulator_headline.specs.Seen.{IsSeen}
 use Rattle.simulator_headline.proofs.WorldLists.{get_below, get_map, map_get, map_length, some_injective}
 use Rattle.simulator_headline.proofs.Rows.{aspect_is_seen, aspects_are_told, conflict_is_seen, requirement_is_seen}

@@ -2,16 +2,16 @@
 use Rattle.std.proofs.Common.{◌≡◌, ◌∙◌, ◌+◌, ◌<◌, ℕ, zero, suc, Bool, true, false, List, [], ◌∷◌, length, map, refl, ap, arith, if◌then◌else◌}
 use Rattle.std.specs.Prelude.{◌==◌}
 use Rattle.std.proofs.lemmas.Bool.Decides.{nat_tests}
-use Rattle.simulator_run.specs.layout.Entries.{Site}
-use Rattle.simulator_run.specs.rasta_core.Ends.{Call}
-use Rattle.simulator_run.specs.rasta_core.Nodes.{at_link}
-use Rattle.simulator_run.specs.ixl_client.ClientSoFar.{LinkCall, as_call}
-use Rattle.simulator_run.specs.ixl_rules.StepSoFar.{Node, Signal, Point, Detector}
+use Rattle.simulator_run_links.specs.layout.Entries.{Site}
+use Rattle.simulator_run_links.specs.rasta_core.Ends.{Call}
+use Rattle.simulator_run_links.specs.rasta_core.Nodes.{at_link}
+use Rattle.simulator_run_links.specs.ixl_client.ClientSoFar.{LinkCall, as_call}
+use Rattle.simulator_run_links.specs.ixl_rules.StepSoFar.{Node, Signal, Point, Detector}
 use Rattle.simulator_machine.specs.Lists.{is_same}
 use Rattle.simulator_headline.specs.Calls.{as_calls}
 use Rattle.simulator_machine_interlocking.specs.Calls.{calls_at, is_node}
 use Rattle.simulator_run_links.specs.Calls.{AreOfNodes, IsNodeOf, link_at, node_call}
-use Rattle.simulator_run.specs.Nodes.{point_link}
+use Rattle.simulator_run_links.specs.simulator_run.Nodes.{point_link}
 
 -- ---- nodes by their links
 

@@ -1,26 +1,26 @@
 -- A signal and a point at the end of whose link the interlocking makes a step.
 use Rattle.std.proofs.Common.{◌≡◌, ◌∙◌, ℕ, Bool, true, false, List, [], length, refl, sym, ap, subst}
 use Rattle.std.specs.Prelude.{if◌then◌else◌}
-use Rattle.simulator_run.specs.rasta_core.Clock.{settled}
-use Rattle.simulator_run.specs.rasta_core.Ends.{EndState, reading_of}
-use Rattle.simulator_run.specs.rasta_core.Invariant.{Timely}
-use Rattle.simulator_run.specs.rasta_core.Names.{Names}
-use Rattle.simulator_run.specs.rasta_core.Run.{Ends}
-use Rattle.simulator_run.specs.rasta_core.State.{LinkState, is_open}
-use Rattle.simulator_run.specs.object_host.Host.{HostState}
-use Rattle.simulator_run.specs.point_ctl.Drive.{PointState}
-use Rattle.simulator_run.specs.signal_ctl.Signal.{SignalState}
-use Rattle.simulator_run.specs.ixl_client.ClientSoFar.{LinkCall}
-use Rattle.simulator_run.specs.ixl_rules.State.{IxlState, KnownSignalState, KnownPointState}
-use Rattle.simulator_run.specs.ixl_rules.Step.{Input}
+use Rattle.simulator_run_links.specs.rasta_core.Clock.{settled}
+use Rattle.simulator_run_links.specs.rasta_core.Ends.{EndState, reading_of}
+use Rattle.simulator_run_links.specs.rasta_core.Invariant.{Timely}
+use Rattle.simulator_run_links.specs.rasta_core.Names.{Names}
+use Rattle.simulator_run_links.specs.rasta_core.Run.{Ends}
+use Rattle.simulator_run_links.specs.rasta_core.State.{LinkState, is_open}
+use Rattle.simulator_run_links.specs.object_host.Host.{HostState}
+use Rattle.simulator_run_links.specs.point_ctl.Drive.{PointState}
+use Rattle.simulator_run_links.specs.signal_ctl.Signal.{SignalState}
+use Rattle.simulator_run_links.specs.ixl_client.ClientSoFar.{LinkCall}
+use Rattle.simulator_run_links.specs.ixl_rules.State.{IxlState, KnownSignalState, KnownPointState}
+use Rattle.simulator_run_links.specs.ixl_rules.Step.{Input}
 use Rattle.simulator_machine.specs.Link.{Client, Server, Before, In, Link}
 use Rattle.simulator_machine.specs.Machine.{Machine}
 use Rattle.simulator_machine.specs.Point.{Point as MachinePoint, moves_given, reports_made}
 use Rattle.simulator_machine.specs.Signal.{Signal as MachineSignal, aspects_given}
 use Rattle.simulator_machine.specs.Table.{Table as MachineTable}
-use Rattle.simulator_machine_links.specs.Items.{all_said, aspects_in, moves_in, reports_in}
-use Rattle.simulator_machine_links.specs.Flows.{ClientIsAfter, given_after, has_begun, of_server, reports_given, taken_after}
-use Rattle.simulator_machine_links.specs.EndsSeen.{client_of, represented, server_of}
+use Rattle.simulator_run_links.specs.simulator_machine_links.Items.{all_said, aspects_in, moves_in, reports_in}
+use Rattle.simulator_run_links.specs.simulator_machine_links.Flows.{ClientIsAfter, given_after, has_begun, of_server, reports_given, taken_after}
+use Rattle.simulator_run_links.specs.simulator_machine_links.EndsSeen.{client_of, represented, server_of}
 use Rattle.simulator_machine_controllers.specs.Point.{IsPointSeen}
 use Rattle.simulator_machine_controllers.specs.Signal.{IsSignalSeen}
 use Rattle.simulator_headline.specs.Calls.{as_calls}

@@ -3,33 +3,33 @@ use Rattle.std.proofs.Common.{◌≡◌, ◌∙◌, ◌<◌, ◌≤◌, ℕ, suc
 use Rattle.std.specs.Prelude.{slice_get}
 use Rattle.std.specs.List.{All, list_all}
 use Rattle.std.proofs.lemmas.Bool.Decides.{nat_tests}
-use Rattle.simulator_run.specs.layout.Entries.{Site}
-use Rattle.simulator_run.specs.layout.declared.entries.Point.{Point as PointEntry}
-use Rattle.simulator_run.specs.rasta_core.Clock.{settled}
-use Rattle.simulator_run.specs.rasta_core.EachLink.{AreTimely}
-use Rattle.simulator_run.specs.rasta_core.Ends.{Receives, reading_of}
-use Rattle.simulator_run.specs.rasta_core.Events.{MayCall}
-use Rattle.simulator_run.specs.rasta_core.Links.{AreLinks, Links, MayCallOn, MayRunLinks, run_links, seen}
-use Rattle.simulator_run.specs.rasta_core.Names.{Names}
-use Rattle.simulator_run.specs.rasta_core.Nodes.{NodeCall, at_link, calls_of}
-use Rattle.simulator_run.specs.rasta_core.Outbox.{OutboxState}
-use Rattle.simulator_run.specs.rasta_core.Parameters.{greatest}
-use Rattle.simulator_run.specs.rasta_core.identity.Role.{Role}
-use Rattle.simulator_run.specs.rasta_core.identity.Role.TheVariants as role
-use Rattle.simulator_run.specs.rasta_pdu.declared.key.Key.{Key}
-use Rattle.simulator_run.specs.point_ctl.Drive.{PointState}
-use Rattle.simulator_run.specs.signal_ctl.Signal.{SignalState}
-use Rattle.simulator_run.specs.ixl_client.Client.{ClientState, PeerState}
-use Rattle.simulator_run.specs.ixl_rules.StepSoFar.{StepSoFar, Point, Signal, begun_with, empty_outbox}
-use Rattle.simulator_run.specs.ixl_rules.State.{IxlState, KnownSignalState, KnownPointState}
-use Rattle.simulator_run.specs.ixl_rules.Step as ixl
-use Rattle.simulator_run.specs.ixl_rules.Table.{Need, Table}
+use Rattle.simulator_run_links.specs.layout.Entries.{Site}
+use Rattle.simulator_run_links.specs.layout.declared.entries.Point.{Point as PointEntry}
+use Rattle.simulator_run_links.specs.rasta_core.Clock.{settled}
+use Rattle.simulator_run_links.specs.rasta_core.EachLink.{AreTimely}
+use Rattle.simulator_run_links.specs.rasta_core.Ends.{Receives, reading_of}
+use Rattle.simulator_run_links.specs.rasta_core.Events.{MayCall}
+use Rattle.simulator_run_links.specs.rasta_core.Links.{AreLinks, Links, MayCallOn, MayRunLinks, run_links, seen}
+use Rattle.simulator_run_links.specs.rasta_core.Names.{Names}
+use Rattle.simulator_run_links.specs.rasta_core.Nodes.{NodeCall, at_link, calls_of}
+use Rattle.simulator_run_links.specs.rasta_core.Outbox.{OutboxState}
+use Rattle.simulator_run_links.specs.rasta_core.Parameters.{greatest}
+use Rattle.simulator_run_links.specs.rasta_core.identity.Role.{Role}
+use Rattle.simulator_run_links.specs.rasta_core.identity.Role.TheVariants as role
+use Rattle.simulator_run_links.specs.rasta_pdu.declared.key.Key.{Key}
+use Rattle.simulator_run_links.specs.point_ctl.Drive.{PointState}
+use Rattle.simulator_run_links.specs.signal_ctl.Signal.{SignalState}
+use Rattle.simulator_run_links.specs.ixl_client.Client.{ClientState, PeerState}
+use Rattle.simulator_run_links.specs.ixl_rules.StepSoFar.{StepSoFar, Point, Signal, begun_with, empty_outbox}
+use Rattle.simulator_run_links.specs.ixl_rules.State.{IxlState, KnownSignalState, KnownPointState}
+use Rattle.simulator_run_links.specs.ixl_rules.Step as ixl
+use Rattle.simulator_run_links.specs.ixl_rules.Table.{Need, Table}
 use Rattle.ixl_table.specs.Table.{IsHeldUntil, IsRowOf, IsTableOf, as_route}
 use Rattle.simulator_machine.specs.Chains.{MovesTo}
 use Rattle.simulator_machine.specs.Invariant.{Invariant}
 use Rattle.simulator_machine.specs.Machine.{Machine}
-use Rattle.simulator_machine_links.specs.Flows.{ClientIsAfter}
-use Rattle.simulator_machine_links.specs.Lawful.{AreLawful, IsLawful}
+use Rattle.simulator_run_links.specs.simulator_machine_links.Flows.{ClientIsAfter}
+use Rattle.simulator_run_links.specs.simulator_machine_links.Lawful.{AreLawful, IsLawful}
 use Rattle.simulator_machine_controllers.specs.Point.{IsPointSeen}
 use Rattle.simulator_machine_controllers.specs.Signal.{IsSignalSeen}
 use Rattle.simulator_headline.specs.At as far
@@ -46,11 +46,11 @@ use Rattle.simulator_run_links.specs.Calls.{AreOfNodes, node_call}
 use Rattle.simulator_run_links.specs.Events.{FollowsBy, interlocking_events}
 use Rattle.simulator_run_links.specs.Nodes.{IsEndOfClient, MayComeWith}
 use Rattle.simulator_run_links.specs.Whole.{IsWhole}
-use Rattle.simulator_run.specs.Happens.{interlocking_stepped}
-use Rattle.simulator_run.specs.Links.{AreLinksOf, names_at}
-use Rattle.simulator_run.specs.Nodes.{key_of, links, point_link}
-use Rattle.simulator_run.specs.State.{ClockedControllerState, WorldState}
-use Rattle.simulator_run.specs.Interlocking.{interlocking_step}
+use Rattle.simulator_run_links.specs.simulator_run.Happens.{interlocking_stepped}
+use Rattle.simulator_run_links.specs.simulator_run.Links.{AreLinksOf, names_at}
+use Rattle.simulator_run_links.specs.simulator_run.Nodes.{key_of, links, point_link}
+use Rattle.simulator_run_links.specs.simulator_run.State.{ClockedControllerState, WorldState}
+use Rattle.simulator_run_links.specs.simulator_run.Interlocking.{interlocking_step}
 use Rattle.simulator_headline.specs.Represents.{AreFrozen, ArePointsSeen, AreSignalsSeen, IsNetworkOf, Represents, given_in, items_of}
 use Rattle.simulator_headline.specs.Seen.{AreHeldPairs}
 use Rattle.simulator_headline.proofs.StationCalls.{point_calls, signal_calls}

@@ -4,17 +4,17 @@ use Rattle.std.specs.Prelude.{get_or, slice_get, if◌then◌else◌}
 use Rattle.std.specs.List.{All, Contains}
 use Rattle.std.proofs.lemmas.List.Elements.{All-contains}
 use Rattle.std.proofs.lemmas.Option.{slice_get-get_or}
-use Rattle.simulator_run.specs.layout.Entries.{Site}
-use Rattle.simulator_run.specs.layout.Station.{IsRouteOf, IsStation}
-use Rattle.simulator_run.specs.rasta_core.Ends.{reading_of}
-use Rattle.simulator_run.specs.ixl_rules.State.{IxlState}
-use Rattle.simulator_run.specs.ixl_rules.Table.{Row, Table}
-use Rattle.simulator_run.specs.ixl_rules.View.{is_holding}
+use Rattle.simulator_run_links.specs.layout.Entries.{Site}
+use Rattle.simulator_run_links.specs.layout.Station.{IsRouteOf, IsStation}
+use Rattle.simulator_run_links.specs.rasta_core.Ends.{reading_of}
+use Rattle.simulator_run_links.specs.ixl_rules.State.{IxlState}
+use Rattle.simulator_run_links.specs.ixl_rules.Table.{Row, Table}
+use Rattle.simulator_run_links.specs.ixl_rules.View.{is_holding}
 use Rattle.ixl_table.specs.Table.{IsRowOf, IsTableOf}
-use Rattle.simulator_run.specs.State.{ClockedInterlockingState}
-use Rattle.simulator_run.specs.Interlocking.{authorities, held_of}
-use Rattle.simulator_run.specs.simulator_snapshot.Safe.{IsThere}
-use Rattle.simulator_run.specs.simulator_snapshot.declared.snapshot.Held.{Held}
+use Rattle.simulator_run_links.specs.simulator_run.State.{ClockedInterlockingState}
+use Rattle.simulator_run_links.specs.simulator_run.Interlocking.{authorities, held_of}
+use Rattle.simulator_run_links.specs.simulator_snapshot.Safe.{IsThere}
+use Rattle.simulator_run_links.specs.simulator_snapshot.declared.snapshot.Held.{Held}
 use Rattle.simulator_headline.proofs.Held.{HasFrom, found_has, pairs_have}
 use Rattle.simulator_headline.proofs.WorldLists.{get_contains, get_inside}
 

@@ -4,21 +4,21 @@ use Rattle.std.specs.Prelude.{◌==◌, ◌&&◌, slice_get, slice_index_or}
 use Rattle.std.specs.List.{list_all}
 use Rattle.std.proofs.lemmas.Bool.{true≢false}
 use Rattle.std.proofs.lemmas.Bool.Decides.{nat_tests}
-use Rattle.simulator_run.specs.layout.Entries.{Site}
-use Rattle.simulator_run.specs.rasta_core.Clock.{settled}
-use Rattle.simulator_run.specs.rasta_core.Ends.{end_later, reading_of}
-use Rattle.simulator_run.specs.rasta_core.Links.{Links, run_links, seen}
-use Rattle.simulator_run.specs.rasta_core.Names.{Names}
-use Rattle.simulator_run.specs.rasta_core.Parameters.{greatest}
-use Rattle.simulator_run.specs.rasta_core.Run.{Ends, later}
-use Rattle.simulator_run.specs.rasta_core.State.{LinkState}
-use Rattle.simulator_run.specs.object_host.Host.{HostState}
-use Rattle.simulator_run.specs.point_ctl.Drive.{PointState}
-use Rattle.simulator_run.specs.signal_ctl.Signal.{SignalState}
-use Rattle.simulator_run.specs.ixl_rules.State.{IxlState, KnownSignalState, KnownPointState}
-use Rattle.simulator_run.specs.ixl_rules.Table.{Table}
-use Rattle.simulator_run.specs.simulator_event.refused.Refused.{Refused}
-use Rattle.simulator_run.specs.simulator_event.refused.Refused.TheVariants as refused
+use Rattle.simulator_run_links.specs.layout.Entries.{Site}
+use Rattle.simulator_run_links.specs.rasta_core.Clock.{settled}
+use Rattle.simulator_run_links.specs.rasta_core.Ends.{end_later, reading_of}
+use Rattle.simulator_run_links.specs.rasta_core.Links.{Links, run_links, seen}
+use Rattle.simulator_run_links.specs.rasta_core.Names.{Names}
+use Rattle.simulator_run_links.specs.rasta_core.Parameters.{greatest}
+use Rattle.simulator_run_links.specs.rasta_core.Run.{Ends, later}
+use Rattle.simulator_run_links.specs.rasta_core.State.{LinkState}
+use Rattle.simulator_run_links.specs.object_host.Host.{HostState}
+use Rattle.simulator_run_links.specs.point_ctl.Drive.{PointState}
+use Rattle.simulator_run_links.specs.signal_ctl.Signal.{SignalState}
+use Rattle.simulator_run_links.specs.ixl_rules.State.{IxlState, KnownSignalState, KnownPointState}
+use Rattle.simulator_run_links.specs.ixl_rules.Table.{Table}
+use Rattle.simulator_run_links.specs.simulator_event.refused.Refused.{Refused}
+use Rattle.simulator_run_links.specs.simulator_event.refused.Refused.TheVariants as refused
 use Rattle.simulator_machine.specs.Chains.{MovesTo, NoneFrom, PointMayChain, SignalMayChain, point_chained, points_chained, signal_chained, signals_chained}
 use Rattle.simulator_machine.specs.Invariant.{Invariant}
 use Rattle.simulator_machine.specs.Link.{Down, In, Link}
@@ -26,8 +26,8 @@ use Rattle.simulator_machine.specs.Machine.{Machine}
 use Rattle.simulator_machine.specs.Point.{Point as MachinePoint, PointMove}
 use Rattle.simulator_machine.specs.Signal.{Signal as MachineSignal, SignalMove}
 use Rattle.simulator_machine.specs.Table.{Table as MachineTable}
-use Rattle.simulator_machine_links.specs.Lawful.{AreLawful, IsLawful}
-use Rattle.simulator_machine_links.specs.EndsSeen.{represented, server_of}
+use Rattle.simulator_run_links.specs.simulator_machine_links.Lawful.{AreLawful, IsLawful}
+use Rattle.simulator_run_links.specs.simulator_machine_links.EndsSeen.{represented, server_of}
 use Rattle.simulator_machine_controllers.specs.Ends.{AreFit, server_later}
 use Rattle.simulator_machine_controllers.specs.Point.{IsPointSeen, PointGoes}
 use Rattle.simulator_machine_controllers.specs.Signal.{IsSignalSeen, SignalGoes}
@@ -38,12 +38,12 @@ use Rattle.simulator_machine_interlocking.specs.Sees.{Given, Sees, SeesPoint, Se
 use Rattle.simulator_run_links.specs.Events.{time_events}
 use Rattle.simulator_run_links.specs.Nodes.{IsEndOfClient}
 use Rattle.simulator_run_links.specs.Whole.{IsWhole}
-use Rattle.simulator_run.specs.Happens.{all_later, passed}
-use Rattle.simulator_run.specs.Links.{AreLinksOf, names_at}
-use Rattle.simulator_run.specs.Nodes.{links, nodes, point_link}
-use Rattle.simulator_run.specs.Refusals.{all_within, interlocking_within, keeps_time, refusal_of_time, refused_where}
-use Rattle.simulator_run.specs.Controllers as servers_of
-use Rattle.simulator_run.specs.State.{ClockedControllerState, WorldState}
+use Rattle.simulator_run_links.specs.simulator_run.Happens.{all_later, passed}
+use Rattle.simulator_run_links.specs.simulator_run.Links.{AreLinksOf, names_at}
+use Rattle.simulator_run_links.specs.simulator_run.Nodes.{links, nodes, point_link}
+use Rattle.simulator_run_links.specs.simulator_run.Refusals.{all_within, interlocking_within, keeps_time, refusal_of_time, refused_where}
+use Rattle.simulator_run_links.specs.simulator_run.Controllers as servers_of
+use Rattle.simulator_run_links.specs.simulator_run.State.{ClockedControllerState, WorldState}
 use Rattle.simulator_headline.specs.Represents.{AreFrozen, ArePointsSeen, AreSignalsSeen, IsHostOf, IsNetworkOf, Represents, RepresentsAfter, IsInterlockingSeen, given_in}
 use Rattle.simulator_headline.specs.Seen.{AreHeldPairs}
 use Rattle.simulator_headline.proofs.TimePasses.{client_seen, point_passed, server_seen, signal_passed}

@@ -1,18 +1,18 @@
 -- Time that passes at one signal and at one point: first at the controller's end, then at the interlocking's.
 use Rattle.std.proofs.Common.{◌≡◌, ◌∙◌, ℕ, length, refl, sym, ap}
-use Rattle.simulator_run.specs.rasta_core.Clock.{settled}
-use Rattle.simulator_run.specs.rasta_core.Ends.{end_later, reading_of}
-use Rattle.simulator_run.specs.rasta_core.Run.{Ends, later}
-use Rattle.simulator_run.specs.rasta_core.State.{LinkState}
-use Rattle.simulator_run.specs.object_host.Host.{HostState}
-use Rattle.simulator_run.specs.point_ctl.Drive.{PointState}
-use Rattle.simulator_run.specs.signal_ctl.Signal.{SignalState}
+use Rattle.simulator_run_links.specs.rasta_core.Clock.{settled}
+use Rattle.simulator_run_links.specs.rasta_core.Ends.{end_later, reading_of}
+use Rattle.simulator_run_links.specs.rasta_core.Run.{Ends, later}
+use Rattle.simulator_run_links.specs.rasta_core.State.{LinkState}
+use Rattle.simulator_run_links.specs.object_host.Host.{HostState}
+use Rattle.simulator_run_links.specs.point_ctl.Drive.{PointState}
+use Rattle.simulator_run_links.specs.signal_ctl.Signal.{SignalState}
 use Rattle.simulator_machine.specs.Link.{Link}
 use Rattle.simulator_machine.specs.Point.{Point as MachinePoint, moves_given}
 use Rattle.simulator_machine.specs.Signal.{Signal as MachineSignal, aspects_given}
-use Rattle.simulator_machine_links.specs.Items.{aspects_in, moves_in, reports_in}
-use Rattle.simulator_machine_links.specs.Flows.{of_server, reports_given}
-use Rattle.simulator_machine_links.specs.EndsSeen.{is_inside, is_same_connection, represented, server_in, server_of, state_of}
+use Rattle.simulator_run_links.specs.simulator_machine_links.Items.{aspects_in, moves_in, reports_in}
+use Rattle.simulator_run_links.specs.simulator_machine_links.Flows.{of_server, reports_given}
+use Rattle.simulator_run_links.specs.simulator_machine_links.EndsSeen.{is_inside, is_same_connection, represented, server_in, server_of, state_of}
 use Rattle.simulator_machine_controllers.specs.Ends.{server_later}
 use Rattle.simulator_machine_controllers.specs.Point.{IsPointSeen}
 use Rattle.simulator_machine_controllers.specs.Signal.{IsSignalSeen}

@@ -5,21 +5,21 @@ use Rattle.std.specs.Prelude.{Some, Result, Ok}
 use Rattle.std.specs.Str.{bytes_eq}
 use Rattle.std.proofs.lemmas.List.Elements.{All-head, All-tail}
 use Rattle.std.proofs.lemmas.Slice.Eq.{bytes_eq-Decides}
-use Rattle.simulator_run.specs.sci_telegram.Names.{IsName}
-use Rattle.simulator_run.specs.sci_telegram.TelegramRead.{reading}
-use Rattle.simulator_run.specs.sci_telegram.Telegrams.{IsTelegram, writing}
-use Rattle.simulator_run.specs.sci_telegram.declared.fault.SciFault.{SciFault}
-use Rattle.simulator_run.specs.sci_telegram.declared.message.Message.{Message}
-use Rattle.simulator_run.specs.sci_telegram.declared.message.Message.TheVariants as message
-use Rattle.simulator_run.specs.sci_telegram.declared.message.PointMessage.TheVariants.{MovePoint, PointPosition, Timeout}
-use Rattle.simulator_run.specs.sci_telegram.declared.message.Position.TheVariants as position_of
-use Rattle.simulator_run.specs.sci_telegram.declared.telegram.Telegram.{Telegram}
-use Rattle.simulator_run.specs.object_host.Host.{sender_of}
-use Rattle.simulator_run.specs.object_host.declared.report.Report.{Report}
-use Rattle.simulator_run.specs.ixl_client.Client.{PeerState}
-use Rattle.simulator_run.specs.ixl_client.Meaning.{place_of, state_in}
-use Rattle.simulator_run.specs.ixl_client.Made.{told_by, told_by_all, told_of}
-use Rattle.simulator_machine_links.specs.Items.{all_said, reports_in, reports_of, said_by}
+use Rattle.simulator_run_links.specs.sci_telegram.Names.{IsName}
+use Rattle.simulator_run_links.specs.sci_telegram.TelegramRead.{reading}
+use Rattle.simulator_run_links.specs.sci_telegram.Telegrams.{IsTelegram, writing}
+use Rattle.simulator_run_links.specs.sci_telegram.declared.fault.SciFault.{SciFault}
+use Rattle.simulator_run_links.specs.sci_telegram.declared.message.Message.{Message}
+use Rattle.simulator_run_links.specs.sci_telegram.declared.message.Message.TheVariants as message
+use Rattle.simulator_run_links.specs.sci_telegram.declared.message.PointMessage.TheVariants.{MovePoint, PointPosition, Timeout}
+use Rattle.simulator_run_links.specs.sci_telegram.declared.message.Position.TheVariants as position_of
+use Rattle.simulator_run_links.specs.sci_telegram.declared.telegram.Telegram.{Telegram}
+use Rattle.simulator_run_links.specs.object_host.Host.{sender_of}
+use Rattle.simulator_run_links.specs.object_host.declared.report.Report.{Report}
+use Rattle.simulator_run_links.specs.ixl_client.Client.{PeerState}
+use Rattle.simulator_run_links.specs.ixl_client.Meaning.{place_of, state_in}
+use Rattle.simulator_run_links.specs.ixl_client.Made.{told_by, told_by_all, told_of}
+use Rattle.simulator_run_links.specs.simulator_machine_links.Items.{all_said, reports_in, reports_of, said_by}
 use Rattle.simulator_machine_controllers.specs.Point.{AreSaid, IsOfPoint, IsOwn, item_by}
 use Rattle.simulator_machine_interlocking.specs.Telegrams.{position_told, positions_told}
 

@@ -1,24 +1,24 @@
 -- The links and the controllers of a station in a step of its interlocking.
 use Rattle.std.specs.Prelude.{◌≡◌, ◌<◌, ℕ, List, [], ◌∷◌, Some, slice_get}
-use Rattle.simulator_run.specs.sci_telegram.Names.{IsName}
-use Rattle.simulator_run.specs.rasta_core.Clock.{settled}
-use Rattle.simulator_run.specs.rasta_core.Ends.{Receives, reading_of}
-use Rattle.simulator_run.specs.rasta_core.Events.{MayCall}
-use Rattle.simulator_run.specs.rasta_core.Names.{AreNames, Names}
-use Rattle.simulator_run.specs.rasta_core.Parameters.{greatest}
-use Rattle.simulator_run.specs.rasta_core.Run.{Ends}
-use Rattle.simulator_run.specs.rasta_core.State.{LinkState}
-use Rattle.simulator_run.specs.rasta_core.identity.Role.TheVariants.{Client}
-use Rattle.simulator_run.specs.object_host.Host.{HostState}
-use Rattle.simulator_run.specs.signal_ctl.Signal.{SignalState}
-use Rattle.simulator_run.specs.point_ctl.Drive.{PointState}
-use Rattle.simulator_run.specs.ixl_client.Client.{PeerState}
-use Rattle.simulator_run.specs.ixl_rules.State.{IxlState, KnownSignalState, KnownPointState}
-use Rattle.simulator_run.specs.ixl_rules.Step.{Input, Datagram}
+use Rattle.simulator_run_links.specs.sci_telegram.Names.{IsName}
+use Rattle.simulator_run_links.specs.rasta_core.Clock.{settled}
+use Rattle.simulator_run_links.specs.rasta_core.Ends.{Receives, reading_of}
+use Rattle.simulator_run_links.specs.rasta_core.Events.{MayCall}
+use Rattle.simulator_run_links.specs.rasta_core.Names.{AreNames, Names}
+use Rattle.simulator_run_links.specs.rasta_core.Parameters.{greatest}
+use Rattle.simulator_run_links.specs.rasta_core.Run.{Ends}
+use Rattle.simulator_run_links.specs.rasta_core.State.{LinkState}
+use Rattle.simulator_run_links.specs.rasta_core.identity.Role.TheVariants.{Client}
+use Rattle.simulator_run_links.specs.object_host.Host.{HostState}
+use Rattle.simulator_run_links.specs.signal_ctl.Signal.{SignalState}
+use Rattle.simulator_run_links.specs.point_ctl.Drive.{PointState}
+use Rattle.simulator_run_links.specs.ixl_client.Client.{PeerState}
+use Rattle.simulator_run_links.specs.ixl_rules.State.{IxlState, KnownSignalState, KnownPointState}
+use Rattle.simulator_run_links.specs.ixl_rules.Step.{Input, Datagram}
 use Rattle.simulator_machine.specs.Machine.{Machine}
 use Rattle.simulator_machine.specs.Point.{Point}
 use Rattle.simulator_machine.specs.Signal.{Signal}
-use Rattle.simulator_machine_links.specs.Lawful.{IsLawful}
+use Rattle.simulator_run_links.specs.simulator_machine_links.Lawful.{IsLawful}
 use Rattle.simulator_machine_controllers.specs.Point.{IsPointSeen}
 use Rattle.simulator_machine_controllers.specs.Signal.{IsSignalSeen}
 use Rattle.simulator_machine_interlocking.specs.Calls.{Items}

@@ -1,15 +1,15 @@
 -- What an event at one controller changes, and what it leaves.
 use Rattle.std.specs.Prelude.{◌≡◌, ◌≢◌, ◌+◌, ◌<◌, ℕ, length, Some, slice_get, slice_set}
-use Rattle.simulator_run.specs.sci_telegram.declared.message.Position.{Position}
-use Rattle.simulator_run.specs.layout.declared.entries.Point.{Point}
-use Rattle.simulator_run.specs.layout.declared.entries.Signal.{Signal}
-use Rattle.simulator_run.specs.layout.Entries.{Site}
-use Rattle.simulator_run.specs.rasta_core.Links.{Links}
-use Rattle.simulator_run.specs.point_ctl.Drive.{PointState}
-use Rattle.simulator_run.specs.signal_ctl.Signal.{SignalState}
+use Rattle.simulator_run_links.specs.sci_telegram.declared.message.Position.{Position}
+use Rattle.simulator_run_links.specs.layout.declared.entries.Point.{Point}
+use Rattle.simulator_run_links.specs.layout.declared.entries.Signal.{Signal}
+use Rattle.simulator_run_links.specs.layout.Entries.{Site}
+use Rattle.simulator_run_links.specs.rasta_core.Links.{Links}
+use Rattle.simulator_run_links.specs.point_ctl.Drive.{PointState}
+use Rattle.simulator_run_links.specs.signal_ctl.Signal.{SignalState}
 use Rattle.simulator_headline.specs.Represents.{IsHostOf, IsNetworkOf}
-use Rattle.simulator_run.specs.Nodes.{point_link}
-use Rattle.simulator_run.specs.State.{ClockedControllerState, WorldState}
+use Rattle.simulator_run_links.specs.simulator_run.Nodes.{point_link}
+use Rattle.simulator_run_links.specs.simulator_run.State.{ClockedControllerState, WorldState}
 
 -- What no controller changes: the interlocking, its ends of all links, and the frozen pairs. The links are those of the new
 -- world.

@@ -1,7 +1,7 @@
 -- Which events are the controllers' own.
 use Rattle.std.specs.Prelude.{◌≢◌}
-use Rattle.simulator_run.specs.simulator_event.declared.event.Event.{Event}
-use Rattle.simulator_run.specs.simulator_event.declared.event.Event.TheVariants as event
+use Rattle.simulator_run_links.specs.simulator_event.declared.event.Event.{Event}
+use Rattle.simulator_run_links.specs.simulator_event.declared.event.Event.TheVariants as event
 
 -- an event at a signal, a point or a detector, or a loss: the interlocking is the node 0
 abbrev pub IsOfControllers : Event → Type 0

@@ -1,30 +1,30 @@
 -- What is in flight from the interlocking to the controllers of signals and points, read off the datagrams of a world.
 use Rattle.std.specs.Prelude.{◌≡◌, ◌⊎◌, ◌≤◌, ℕ, false, true, List, Some, Ok, slice_get}
 use Rattle.std.specs.List.{Contains}
-use Rattle.simulator_run.specs.sci_telegram.TelegramRead.{reading}
-use Rattle.simulator_run.specs.sci_telegram.declared.message.Aspect.{Aspect}
-use Rattle.simulator_run.specs.sci_telegram.declared.message.Message.TheVariants as message
-use Rattle.simulator_run.specs.sci_telegram.declared.message.PointMessage.TheVariants.{MovePoint}
-use Rattle.simulator_run.specs.sci_telegram.declared.message.Side.{Side}
-use Rattle.simulator_run.specs.sci_telegram.declared.message.SignalMessage.TheVariants.{IndicateAspect}
-use Rattle.simulator_run.specs.sci_telegram.declared.telegram.Telegram.{Telegram}
-use Rattle.simulator_run.specs.layout.declared.ids.PointId.{PointId}
-use Rattle.simulator_run.specs.layout.declared.ids.SignalId.{SignalId}
-use Rattle.simulator_run.specs.layout.Entries.{Site}
-use Rattle.simulator_run.specs.rasta_core.Calls.{receiving}
-use Rattle.simulator_run.specs.rasta_core.Clock.{settled}
-use Rattle.simulator_run.specs.rasta_core.Ends.{reading_of}
-use Rattle.simulator_run.specs.rasta_core.Given.{items_given}
-use Rattle.simulator_run.specs.rasta_core.Links.{of_link}
-use Rattle.simulator_run.specs.rasta_core.identity.Role.{Role}
-use Rattle.simulator_run.specs.rasta_core.identity.Role.TheVariants as role
-use Rattle.simulator_run.specs.point_ctl.Drive.{PointState, move_in}
-use Rattle.simulator_run.specs.signal_ctl.Signal.{SignalState}
-use Rattle.simulator_run.specs.Links.{names_at}
-use Rattle.simulator_run.specs.Nodes.{point_link}
-use Rattle.simulator_run.specs.Seen.{shown_by}
-use Rattle.simulator_run.specs.Controllers.{is_inside_at}
-use Rattle.simulator_run.specs.State.{ClockedControllerState, WorldState}
+use Rattle.simulator_run_links.specs.sci_telegram.TelegramRead.{reading}
+use Rattle.simulator_run_links.specs.sci_telegram.declared.message.Aspect.{Aspect}
+use Rattle.simulator_run_links.specs.sci_telegram.declared.message.Message.TheVariants as message
+use Rattle.simulator_run_links.specs.sci_telegram.declared.message.PointMessage.TheVariants.{MovePoint}
+use Rattle.simulator_run_links.specs.sci_telegram.declared.message.Side.{Side}
+use Rattle.simulator_run_links.specs.sci_telegram.declared.message.SignalMessage.TheVariants.{IndicateAspect}
+use Rattle.simulator_run_links.specs.sci_telegram.declared.telegram.Telegram.{Telegram}
+use Rattle.simulator_run_links.specs.layout.declared.ids.PointId.{PointId}
+use Rattle.simulator_run_links.specs.layout.declared.ids.SignalId.{SignalId}
+use Rattle.simulator_run_links.specs.layout.Entries.{Site}
+use Rattle.simulator_run_links.specs.rasta_core.Calls.{receiving}
+use Rattle.simulator_run_links.specs.rasta_core.Clock.{settled}
+use Rattle.simulator_run_links.specs.rasta_core.Ends.{reading_of}
+use Rattle.simulator_run_links.specs.rasta_core.Given.{items_given}
+use Rattle.simulator_run_links.specs.rasta_core.Links.{of_link}
+use Rattle.simulator_run_links.specs.rasta_core.identity.Role.{Role}
+use Rattle.simulator_run_links.specs.rasta_core.identity.Role.TheVariants as role
+use Rattle.simulator_run_links.specs.point_ctl.Drive.{PointState, move_in}
+use Rattle.simulator_run_links.specs.signal_ctl.Signal.{SignalState}
+use Rattle.simulator_run_links.specs.simulator_run.Links.{names_at}
+use Rattle.simulator_run_links.specs.simulator_run.Nodes.{point_link}
+use Rattle.simulator_run_links.specs.simulator_run.Seen.{shown_by}
+use Rattle.simulator_run_links.specs.simulator_run.Controllers.{is_inside_at}
+use Rattle.simulator_run_links.specs.simulator_run.State.{ClockedControllerState, WorldState}
 
 -- ---- items
 

@@ -1,35 +1,35 @@
 -- A world to which some list of events has led, and what is so of it.
 use Rattle.std.specs.Prelude.{◌≡◌, ◌≢◌, ℕ, ◌<◌, List, ◌++◌, Some, None, slice_get}
 use Rattle.std.specs.List.{Contains}
-use Rattle.simulator_run.specs.sci_telegram.declared.message.Aspect.{Aspect}
-use Rattle.simulator_run.specs.sci_telegram.declared.message.Aspect.TheVariants as aspects
-use Rattle.simulator_run.specs.sci_telegram.declared.message.Side.{Side}
-use Rattle.simulator_run.specs.layout.declared.ids.PointId.{PointId}
-use Rattle.simulator_run.specs.layout.declared.ids.RouteId.{RouteId}
-use Rattle.simulator_run.specs.layout.declared.ids.SignalId.{SignalId}
-use Rattle.simulator_run.specs.layout.Entries.{Site}
-use Rattle.simulator_run.specs.control_table.Table.{HasAspect, RouteRequires}
-use Rattle.simulator_run.specs.rasta_core.Ends.{EndState}
-use Rattle.simulator_run.specs.rasta_core.Links.{seen as ends_of}
-use Rattle.simulator_run.specs.rasta_core.Names.{partner_of}
-use Rattle.simulator_run.specs.rasta_core.Run.{end_of}
-use Rattle.simulator_run.specs.rasta_core.Safe.{IsCounted}
-use Rattle.simulator_run.specs.rasta_core.identity.Role.{Role}
-use Rattle.simulator_run.specs.point_ctl.Drive.{PointState}
-use Rattle.simulator_run.specs.ixl_rules.Table.{Table}
-use Rattle.simulator_run.specs.simulator_event.declared.event.Event.{Event}
-use Rattle.simulator_run.specs.simulator_event.declared.event.Event.TheVariants.{Deliver}
-use Rattle.simulator_run.specs.simulator_event.declared.event.NodeId.{NodeId}
-use Rattle.simulator_run.specs.simulator_snapshot.Safe.{position_at}
-use Rattle.simulator_run.specs.simulator_snapshot.declared.snapshot.Held.{Held}
-use Rattle.simulator_run.specs.Run.{CanHappen, after_all}
+use Rattle.simulator_run_links.specs.sci_telegram.declared.message.Aspect.{Aspect}
+use Rattle.simulator_run_links.specs.sci_telegram.declared.message.Aspect.TheVariants as aspects
+use Rattle.simulator_run_links.specs.sci_telegram.declared.message.Side.{Side}
+use Rattle.simulator_run_links.specs.layout.declared.ids.PointId.{PointId}
+use Rattle.simulator_run_links.specs.layout.declared.ids.RouteId.{RouteId}
+use Rattle.simulator_run_links.specs.layout.declared.ids.SignalId.{SignalId}
+use Rattle.simulator_run_links.specs.layout.Entries.{Site}
+use Rattle.simulator_run_links.specs.control_table.Table.{HasAspect, RouteRequires}
+use Rattle.simulator_run_links.specs.rasta_core.Ends.{EndState}
+use Rattle.simulator_run_links.specs.rasta_core.Links.{seen as ends_of}
+use Rattle.simulator_run_links.specs.rasta_core.Names.{partner_of}
+use Rattle.simulator_run_links.specs.rasta_core.Run.{end_of}
+use Rattle.simulator_run_links.specs.rasta_core.Safe.{IsCounted}
+use Rattle.simulator_run_links.specs.rasta_core.identity.Role.{Role}
+use Rattle.simulator_run_links.specs.point_ctl.Drive.{PointState}
+use Rattle.simulator_run_links.specs.ixl_rules.Table.{Table}
+use Rattle.simulator_run_links.specs.simulator_event.declared.event.Event.{Event}
+use Rattle.simulator_run_links.specs.simulator_event.declared.event.Event.TheVariants.{Deliver}
+use Rattle.simulator_run_links.specs.simulator_event.declared.event.NodeId.{NodeId}
+use Rattle.simulator_run_links.specs.simulator_snapshot.Safe.{position_at}
+use Rattle.simulator_run_links.specs.simulator_snapshot.declared.snapshot.Held.{Held}
+use Rattle.simulator_run_links.specs.simulator_run.Run.{CanHappen, after_all}
 use Rattle.simulator_run_links.specs.HasLinks.{HasLinks, IsSafeLink, links_in}
-use Rattle.simulator_run.specs.First.{IsOutsetOf, Outset, world_at}
-use Rattle.simulator_run.specs.Links.{names_at}
-use Rattle.simulator_run.specs.Nodes.{links}
-use Rattle.simulator_run.specs.Refusals.{refusal}
-use Rattle.simulator_run.specs.State.{ClockedControllerState, WorldState}
-use Rattle.simulator_run.specs.Interlocking.{held_of}
+use Rattle.simulator_run_links.specs.simulator_run.First.{IsOutsetOf, Outset, world_at}
+use Rattle.simulator_run_links.specs.simulator_run.Links.{names_at}
+use Rattle.simulator_run_links.specs.simulator_run.Nodes.{links}
+use Rattle.simulator_run_links.specs.simulator_run.Refusals.{refusal}
+use Rattle.simulator_run_links.specs.simulator_run.State.{ClockedControllerState, WorldState}
+use Rattle.simulator_run_links.specs.simulator_run.Interlocking.{held_of}
 use Rattle.simulator_headline.specs.InFlight.{MovesOrMayMove, ShowsOrMayShow, TakesFromFlight, given_on}
 
 -- A station has come to be so: it lay in some way when it was started, and each of these events could happen where it came.

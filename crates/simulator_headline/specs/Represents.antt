@@ -1,34 +1,34 @@
 -- When the machine sees a world. By this the promise of the machine is one of the world, and every event keeps it.
 use Rattle.std.specs.Prelude.{◌≡◌, ◌≤◌, ℕ, List, [], ◌∷◌, length, Some, slice_get}
 use Rattle.std.specs.List.{Contains}
-use Rattle.simulator_run.specs.sci_telegram.declared.message.Position.{Position}
-use Rattle.simulator_run.specs.layout.declared.entries.Point.{Point}
-use Rattle.simulator_run.specs.layout.declared.entries.Signal.{Signal}
-use Rattle.simulator_run.specs.layout.Entries.{Site}
-use Rattle.simulator_run.specs.control_table.Table.{telegram_version}
-use Rattle.simulator_run.specs.rasta_core.Ends.{EndState, reading_of}
-use Rattle.simulator_run.specs.rasta_core.Links.{Links, seen}
-use Rattle.simulator_run.specs.object_host.Host.{HostState}
-use Rattle.simulator_run.specs.point_ctl.Drive.{PointState}
-use Rattle.simulator_run.specs.signal_ctl.Signal.{SignalState}
-use Rattle.simulator_run.specs.ixl_rules.State.{KnownPointState}
-use Rattle.simulator_run.specs.ixl_rules.Table.{Table}
+use Rattle.simulator_run_links.specs.sci_telegram.declared.message.Position.{Position}
+use Rattle.simulator_run_links.specs.layout.declared.entries.Point.{Point}
+use Rattle.simulator_run_links.specs.layout.declared.entries.Signal.{Signal}
+use Rattle.simulator_run_links.specs.layout.Entries.{Site}
+use Rattle.simulator_run_links.specs.control_table.Table.{telegram_version}
+use Rattle.simulator_run_links.specs.rasta_core.Ends.{EndState, reading_of}
+use Rattle.simulator_run_links.specs.rasta_core.Links.{Links, seen}
+use Rattle.simulator_run_links.specs.object_host.Host.{HostState}
+use Rattle.simulator_run_links.specs.point_ctl.Drive.{PointState}
+use Rattle.simulator_run_links.specs.signal_ctl.Signal.{SignalState}
+use Rattle.simulator_run_links.specs.ixl_rules.State.{KnownPointState}
+use Rattle.simulator_run_links.specs.ixl_rules.Table.{Table}
 use Rattle.simulator_machine.specs.Chains.{MovesTo}
 use Rattle.simulator_machine.specs.Invariant.{Invariant}
 use Rattle.simulator_machine.specs.Machine.{Machine}
-use Rattle.simulator_machine_links.specs.Lawful.{AreLawful}
+use Rattle.simulator_run_links.specs.simulator_machine_links.Lawful.{AreLawful}
 use Rattle.simulator_machine_controllers.specs.Point.{IsPointSeen}
 use Rattle.simulator_machine_controllers.specs.Signal.{IsSignalSeen}
 use Rattle.simulator_machine_interlocking.specs.Calls.{Items}
 use Rattle.simulator_machine_interlocking.specs.Rows.{machine_table}
 use Rattle.simulator_machine_interlocking.specs.Sees.{Given, Sees}
 use Rattle.simulator_run_links.specs.Whole.{IsWhole}
-use Rattle.simulator_run.specs.Links.{AreLinksOf, names_at}
-use Rattle.simulator_run.specs.Nodes.{links, point_link}
-use Rattle.simulator_run.specs.Refusals.{clock_limit}
-use Rattle.simulator_run.specs.State.{ClockedControllerState, ClockedInterlockingState, WorldState}
-use Rattle.simulator_run.specs.simulator_snapshot.Safe.{IsThere}
-use Rattle.simulator_run.specs.simulator_snapshot.declared.snapshot.Held.{Held}
+use Rattle.simulator_run_links.specs.simulator_run.Links.{AreLinksOf, names_at}
+use Rattle.simulator_run_links.specs.simulator_run.Nodes.{links, point_link}
+use Rattle.simulator_run_links.specs.simulator_run.Refusals.{clock_limit}
+use Rattle.simulator_run_links.specs.simulator_run.State.{ClockedControllerState, ClockedInterlockingState, WorldState}
+use Rattle.simulator_run_links.specs.simulator_snapshot.Safe.{IsThere}
+use Rattle.simulator_run_links.specs.simulator_snapshot.declared.snapshot.Held.{Held}
 use Rattle.simulator_headline.specs.Seen.{AreHeldPairs}
 
 -- ---- the links

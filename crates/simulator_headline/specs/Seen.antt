@@ -1,27 +1,27 @@
 -- What the machine sees of a world, as far as its promise speaks of it.
 use Rattle.std.specs.Prelude.{◌≡◌, ◌≢◌, ◌↔◌, ℕ, Bool, true, List, length, Some, slice_get, slice_index_or}
 use Rattle.std.specs.List.{Contains}
-use Rattle.simulator_run.specs.sci_telegram.declared.message.Aspect.TheVariants as aspects
-use Rattle.simulator_run.specs.sci_telegram.declared.message.Position.{Position}
-use Rattle.simulator_run.specs.sci_telegram.declared.message.Position.TheVariants as positions
-use Rattle.simulator_run.specs.sci_telegram.declared.message.Side.{Side}
-use Rattle.simulator_run.specs.layout.Entries.{Site}
-use Rattle.simulator_run.specs.ixl_rules.Table.{Table}
-use Rattle.simulator_run.specs.point_ctl.Drive.{PointState}
-use Rattle.simulator_run.specs.signal_ctl.Signal.{SignalState}
-use Rattle.simulator_machine_links.specs.Items.{aspect_seen, position_seen}
+use Rattle.simulator_run_links.specs.sci_telegram.declared.message.Aspect.TheVariants as aspects
+use Rattle.simulator_run_links.specs.sci_telegram.declared.message.Position.{Position}
+use Rattle.simulator_run_links.specs.sci_telegram.declared.message.Position.TheVariants as positions
+use Rattle.simulator_run_links.specs.sci_telegram.declared.message.Side.{Side}
+use Rattle.simulator_run_links.specs.layout.Entries.{Site}
+use Rattle.simulator_run_links.specs.ixl_rules.Table.{Table}
+use Rattle.simulator_run_links.specs.point_ctl.Drive.{PointState}
+use Rattle.simulator_run_links.specs.signal_ctl.Signal.{SignalState}
+use Rattle.simulator_run_links.specs.simulator_machine_links.Items.{aspect_seen, position_seen}
 use Rattle.simulator_machine.specs.Machine.{Machine, is_held}
 use Rattle.simulator_machine.specs.Point.{Position as MachinePosition}
 use Rattle.simulator_machine.specs.Signal.{shown}
 use Rattle.simulator_machine.specs.Table.{Table as MachineTable}
 use Rattle.simulator_machine_interlocking.specs.Rows.{machine_table}
-use Rattle.simulator_run.specs.First.{Outset}
-use Rattle.simulator_run.specs.Refusals.{driven_by}
-use Rattle.simulator_run.specs.Seen.{shown_by}
-use Rattle.simulator_run.specs.State.{ClockedControllerState, WorldState}
-use Rattle.simulator_run.specs.Interlocking.{held_of}
-use Rattle.simulator_run.specs.simulator_snapshot.Safe.{IsThere}
-use Rattle.simulator_run.specs.simulator_snapshot.declared.snapshot.Held.{Held}
+use Rattle.simulator_run_links.specs.simulator_run.First.{Outset}
+use Rattle.simulator_run_links.specs.simulator_run.Refusals.{driven_by}
+use Rattle.simulator_run_links.specs.simulator_run.Seen.{shown_by}
+use Rattle.simulator_run_links.specs.simulator_run.State.{ClockedControllerState, WorldState}
+use Rattle.simulator_run_links.specs.simulator_run.Interlocking.{held_of}
+use Rattle.simulator_run_links.specs.simulator_snapshot.Safe.{IsThere}
+use Rattle.simulator_run_links.specs.simulator_snapshot.declared.snapshot.Held.{Held}
 
 -- where the machine has its points when a station is started
 abbrev pub positions_at : Outset → ℕ → MachinePosition

@@ -1,17 +1,17 @@
 //! A world in which one controller is changed, or none.
 
 ghost use Rattle.std.specs.Prelude.{ℕ, ◌<◌, length};
-ghost use Rattle.simulator_run.specs.layout.Entries.{Site};
-ghost use Rattle.simulator_run.specs.rasta_core.Links.{Links, seen};
-ghost use Rattle.simulator_run.specs.point_ctl.Drive.{PointState};
-ghost use Rattle.simulator_run.specs.signal_ctl.Signal.{SignalState};
-ghost use Rattle.simulator_run.specs.ixl_rules.Table.{Table};
+ghost use Rattle.simulator_run_links.specs.layout.Entries.{Site};
+ghost use Rattle.simulator_run_links.specs.rasta_core.Links.{Links, seen};
+ghost use Rattle.simulator_run_links.specs.point_ctl.Drive.{PointState};
+ghost use Rattle.simulator_run_links.specs.signal_ctl.Signal.{SignalState};
+ghost use Rattle.simulator_run_links.specs.ixl_rules.Table.{Table};
 ghost use Rattle.simulator_machine.specs.Machine.{Machine};
 ghost use Rattle.simulator_machine_controllers.specs.Point.{IsPointSeen, PointGoes};
 ghost use Rattle.simulator_machine_controllers.specs.Signal.{IsSignalSeen, SignalGoes};
 ghost use Rattle.simulator_headline.specs.Represents.{Represents, RepresentsAfter};
-ghost use Rattle.simulator_run.specs.Nodes.{point_link};
-ghost use Rattle.simulator_run.specs.State.{ClockedControllerState, WorldState};
+ghost use Rattle.simulator_run_links.specs.simulator_run.Nodes.{point_link};
+ghost use Rattle.simulator_run_links.specs.simulator_run.State.{ClockedControllerState, WorldState};
 ghost use Rattle.simulator_headline.specs.Change.{NoneChanges, PointChanges, SignalChanges};
 
 use simulator_machine::{

@@ -1,18 +1,18 @@
 //! Time, and an interlocking that is made anew.
 
 ghost use Rattle.std.specs.Prelude.{◌≡◌, List, None, Some, ℕ};
-ghost use Rattle.simulator_run.specs.layout.Entries.{Site};
-ghost use Rattle.simulator_run.specs.layout.Once.{Once};
-ghost use Rattle.simulator_run.specs.layout.Station.{IsStation};
-ghost use Rattle.simulator_run.specs.ixl_rules.Table.{Table};
+ghost use Rattle.simulator_run_links.specs.layout.Entries.{Site};
+ghost use Rattle.simulator_run_links.specs.layout.Once.{Once};
+ghost use Rattle.simulator_run_links.specs.layout.Station.{IsStation};
+ghost use Rattle.simulator_run_links.specs.ixl_rules.Table.{Table};
 ghost use Rattle.ixl_table.specs.Table.{IsTableOf};
-ghost use Rattle.simulator_run.specs.simulator_event.declared.event.Event.TheVariants.{Restart, Time};
-ghost use Rattle.simulator_run.specs.simulator_event.declared.event.NodeId.{NodeId};
+ghost use Rattle.simulator_run_links.specs.simulator_event.declared.event.Event.TheVariants.{Restart, Time};
+ghost use Rattle.simulator_run_links.specs.simulator_event.declared.event.NodeId.{NodeId};
 ghost use Rattle.simulator_machine.specs.Machine.{Machine, made_anew};
-ghost use Rattle.simulator_run.specs.Happens.{happens};
-ghost use Rattle.simulator_run.specs.Nodes.{Interlocking, node_at};
-ghost use Rattle.simulator_run.specs.Refusals.{refusal};
-ghost use Rattle.simulator_run.specs.State.{WorldState};
+ghost use Rattle.simulator_run_links.specs.simulator_run.Happens.{happens};
+ghost use Rattle.simulator_run_links.specs.simulator_run.Nodes.{Interlocking, node_at};
+ghost use Rattle.simulator_run_links.specs.simulator_run.Refusals.{refusal};
+ghost use Rattle.simulator_run_links.specs.simulator_run.State.{WorldState};
 ghost use Rattle.simulator_headline.specs.Represents.{Represents, RepresentsAfter};
 
 use crate::{
@@ -27,12 +27,12 @@ use simulator_machine_controllers::{
 use simulator_machine_interlocking::{
     controllers_change_nothing_seen, passing_time_is_moves, restarts_are_moves, tables_are_sound,
 };
-use simulator_machine_links::{
+use simulator_run_links::ends_are_those_of_the_nodes;
+use simulator_run_links::simulator_machine_links::{
     lawful_worlds_stay_lawful, representations_tell_the_connection,
     restarts_are_moves as link_restarts,
 };
-use simulator_run::ixl_rules::rasta_core::a_node_restarts;
-use simulator_run_links::ends_are_those_of_the_nodes;
+use simulator_run_links::simulator_run::ixl_rules::rasta_core::a_node_restarts;
 
 /// Time that passes is a list of moves of the machine: controllers leave their connections, then clients do, quiet times end,
 /// and so does the hold. The machine sees the world behind it.

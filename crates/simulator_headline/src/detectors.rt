@@ -1,25 +1,25 @@
 //! What happens at the controller of a detector, and what the network loses.
 
 ghost use Rattle.std.specs.Prelude.{◌≡◌, ℕ, List, None, Some};
-ghost use Rattle.simulator_run.specs.sci_telegram.declared.message.Occupancy.{Occupancy};
-ghost use Rattle.simulator_run.specs.layout.declared.ids.SectionId.{SectionId};
-ghost use Rattle.simulator_run.specs.layout.Entries.{Site};
-ghost use Rattle.simulator_run.specs.layout.Once.{Once};
-ghost use Rattle.simulator_run.specs.layout.Station.{IsStation};
-ghost use Rattle.simulator_run.specs.ixl_rules.Table.{Table};
-ghost use Rattle.simulator_run.specs.simulator_event.declared.event.Event.TheVariants.{Deliver, Lose, Occupy, Restart, Tick};
-ghost use Rattle.simulator_run.specs.simulator_event.declared.event.NodeId.{NodeId};
+ghost use Rattle.simulator_run_links.specs.sci_telegram.declared.message.Occupancy.{Occupancy};
+ghost use Rattle.simulator_run_links.specs.layout.declared.ids.SectionId.{SectionId};
+ghost use Rattle.simulator_run_links.specs.layout.Entries.{Site};
+ghost use Rattle.simulator_run_links.specs.layout.Once.{Once};
+ghost use Rattle.simulator_run_links.specs.layout.Station.{IsStation};
+ghost use Rattle.simulator_run_links.specs.ixl_rules.Table.{Table};
+ghost use Rattle.simulator_run_links.specs.simulator_event.declared.event.Event.TheVariants.{Deliver, Lose, Occupy, Restart, Tick};
+ghost use Rattle.simulator_run_links.specs.simulator_event.declared.event.NodeId.{NodeId};
 ghost use Rattle.simulator_machine.specs.Machine.{Machine};
 ghost use Rattle.simulator_headline.specs.Represents.{Represents, RepresentsAfter};
-ghost use Rattle.simulator_run.specs.Happens.{happens};
-ghost use Rattle.simulator_run.specs.Nodes.{Detector, node_at};
-ghost use Rattle.simulator_run.specs.Refusals.{refusal};
-ghost use Rattle.simulator_run.specs.State.{WorldState};
+ghost use Rattle.simulator_run_links.specs.simulator_run.Happens.{happens};
+ghost use Rattle.simulator_run_links.specs.simulator_run.Nodes.{Detector, node_at};
+ghost use Rattle.simulator_run_links.specs.simulator_run.Refusals.{refusal};
+ghost use Rattle.simulator_run_links.specs.simulator_run.State.{WorldState};
 
 use crate::changes::changes_are_represented;
 use crate::networks_follow_their_worlds;
-use simulator_machine_links::a_node_of_one_link_makes_a_step;
-use simulator_run::ixl_rules::rasta_core::a_node_restarts;
+use simulator_run_links::simulator_machine_links::a_node_of_one_link_makes_a_step;
+use simulator_run_links::simulator_run::ixl_rules::rasta_core::a_node_restarts;
 
 /// The machine sees nothing of what happens at the controller of a detector, and so it sees the world then: its tick, what
 /// is delivered to it, a section that is occupied or cleared, and its being made anew.

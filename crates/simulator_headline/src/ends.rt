@@ -1,20 +1,20 @@
 //! The interlocking's clients at the ends of their links.
 
 ghost use Rattle.std.specs.Prelude.{◌≡◌, ◌<◌, ℕ, List};
-ghost use Rattle.simulator_run.specs.rasta_core.Clock.{settled};
-ghost use Rattle.simulator_run.specs.rasta_core.Ends.{EndState, reading_of};
-ghost use Rattle.simulator_run.specs.rasta_core.State.{LinkState};
-ghost use Rattle.simulator_run.specs.ixl_client.Client.{PeerState};
-ghost use Rattle.simulator_run.specs.ixl_client.ClientSoFar.{LinkCall};
-ghost use Rattle.simulator_machine_links.specs.Flows.{given_after, has_begun, taken_after};
-ghost use Rattle.simulator_machine_links.specs.EndsSeen.{client_of};
+ghost use Rattle.simulator_run_links.specs.rasta_core.Clock.{settled};
+ghost use Rattle.simulator_run_links.specs.rasta_core.Ends.{EndState, reading_of};
+ghost use Rattle.simulator_run_links.specs.rasta_core.State.{LinkState};
+ghost use Rattle.simulator_run_links.specs.ixl_client.Client.{PeerState};
+ghost use Rattle.simulator_run_links.specs.ixl_client.ClientSoFar.{LinkCall};
+ghost use Rattle.simulator_run_links.specs.simulator_machine_links.Flows.{given_after, has_begun, taken_after};
+ghost use Rattle.simulator_run_links.specs.simulator_machine_links.EndsSeen.{client_of};
 ghost use Rattle.simulator_machine_interlocking.specs.Calls.{Items, has_begun as has_begun_in, items_after};
 ghost use Rattle.simulator_machine_interlocking.specs.Link.{client_at};
 ghost use Rattle.simulator_machine_interlocking.specs.Totals.{IsReadable};
 ghost use Rattle.simulator_headline.specs.At.{HasNames};
 ghost use Rattle.simulator_headline.specs.Calls.{as_calls};
 
-use simulator_run::ixl_rules::control_table::sci_telegram::written_is_read;
+use simulator_run_links::simulator_run::ixl_rules::control_table::sci_telegram::written_is_read;
 
 /// The machine sees a client at its end of the link where the interlocking has it.
 pub fn clients_are_seen_at_their_ends()

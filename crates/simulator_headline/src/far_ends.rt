@@ -1,22 +1,22 @@
 //! The far ends of a station in a step of its interlocking.
 
 ghost use Rattle.std.specs.Prelude.{◌≡◌, ◌≢◌, ℕ, [], ◌∷◌};
-ghost use Rattle.simulator_run.specs.rasta_core.Clock.{settled};
-ghost use Rattle.simulator_run.specs.rasta_core.Ends.{reading_of};
-ghost use Rattle.simulator_run.specs.rasta_core.Names.{Names};
-ghost use Rattle.simulator_run.specs.rasta_core.Run.{Ends};
-ghost use Rattle.simulator_run.specs.rasta_core.State.{LinkState};
-ghost use Rattle.simulator_run.specs.object_host.Host.{HostState};
-ghost use Rattle.simulator_run.specs.point_ctl.Drive.{PointState};
-ghost use Rattle.simulator_run.specs.ixl_client.Client.{PeerState};
-ghost use Rattle.simulator_run.specs.ixl_rules.State.{IxlState};
-ghost use Rattle.simulator_run.specs.ixl_rules.Step.{Input};
+ghost use Rattle.simulator_run_links.specs.rasta_core.Clock.{settled};
+ghost use Rattle.simulator_run_links.specs.rasta_core.Ends.{reading_of};
+ghost use Rattle.simulator_run_links.specs.rasta_core.Names.{Names};
+ghost use Rattle.simulator_run_links.specs.rasta_core.Run.{Ends};
+ghost use Rattle.simulator_run_links.specs.rasta_core.State.{LinkState};
+ghost use Rattle.simulator_run_links.specs.object_host.Host.{HostState};
+ghost use Rattle.simulator_run_links.specs.point_ctl.Drive.{PointState};
+ghost use Rattle.simulator_run_links.specs.ixl_client.Client.{PeerState};
+ghost use Rattle.simulator_run_links.specs.ixl_rules.State.{IxlState};
+ghost use Rattle.simulator_run_links.specs.ixl_rules.Step.{Input};
 ghost use Rattle.simulator_machine.specs.Link.{Down, In};
 ghost use Rattle.simulator_machine.specs.Machine.{Machine};
 ghost use Rattle.simulator_machine.specs.Point.{Point, reports_made};
-ghost use Rattle.simulator_machine_links.specs.Flows.{reports_given};
-ghost use Rattle.simulator_machine_links.specs.Lawful.{IsLawful};
-ghost use Rattle.simulator_machine_links.specs.EndsSeen.{server_of};
+ghost use Rattle.simulator_run_links.specs.simulator_machine_links.Flows.{reports_given};
+ghost use Rattle.simulator_run_links.specs.simulator_machine_links.Lawful.{IsLawful};
+ghost use Rattle.simulator_run_links.specs.simulator_machine_links.EndsSeen.{server_of};
 ghost use Rattle.simulator_machine_interlocking.specs.Link.{client_at};
 ghost use Rattle.simulator_machine_controllers.specs.Point.{IsPointSeen};
 ghost use Rattle.simulator_machine_interlocking.specs.Facts.{FarEnds};
@@ -24,10 +24,10 @@ ghost use Rattle.simulator_machine_interlocking.specs.Sees.{Given, Sees};
 ghost use Rattle.simulator_machine_interlocking.specs.Telegrams.{positions_told};
 ghost use Rattle.simulator_headline.specs.At.{AreFarEnds};
 
-use simulator_machine_links::{
+use simulator_run_links::simulator_machine_links::{
     clients_know_throughout, flows_are_in_order, items_join, representations_tell_the_connection,
 };
-use simulator_run::ixl_rules::control_table::sci_telegram::written_is_read;
+use simulator_run_links::simulator_run::ixl_rules::control_table::sci_telegram::written_is_read;
 
 /// Where the links are lawful, and the machine sees the interlocking and each controller, all that a step of the interlocking
 /// takes of the far ends is so.

@@ -2,39 +2,41 @@
 
 ghost use Rattle.std.specs.Prelude.{◌≡◌, ◌≢◌, ◌<◌, ℕ, List, None, Some};
 ghost use Rattle.std.specs.List.{Contains};
-ghost use Rattle.simulator_run.specs.sci_telegram.declared.message.Aspect.{Aspect};
-ghost use Rattle.simulator_run.specs.sci_telegram.declared.message.Aspect.TheVariants.{Stop};
-ghost use Rattle.simulator_run.specs.sci_telegram.declared.message.Side.{Side};
-ghost use Rattle.simulator_run.specs.layout.declared.ids.PointId.{PointId};
-ghost use Rattle.simulator_run.specs.layout.declared.ids.SignalId.{SignalId};
-ghost use Rattle.simulator_run.specs.layout.Entries.{Site};
-ghost use Rattle.simulator_run.specs.layout.Once.{Once};
-ghost use Rattle.simulator_run.specs.layout.Station.{IsStation};
-ghost use Rattle.simulator_run.specs.control_table.Table.{RouteRequires};
-ghost use Rattle.simulator_run.specs.rasta_core.Names.{partner_of};
-ghost use Rattle.simulator_run.specs.rasta_core.identity.Role.{Role};
-ghost use Rattle.simulator_run.specs.ixl_rules.Table.{Table};
+ghost use Rattle.simulator_run_links.specs.sci_telegram.declared.message.Aspect.{Aspect};
+ghost use Rattle.simulator_run_links.specs.sci_telegram.declared.message.Aspect.TheVariants.{Stop};
+ghost use Rattle.simulator_run_links.specs.sci_telegram.declared.message.Side.{Side};
+ghost use Rattle.simulator_run_links.specs.layout.declared.ids.PointId.{PointId};
+ghost use Rattle.simulator_run_links.specs.layout.declared.ids.SignalId.{SignalId};
+ghost use Rattle.simulator_run_links.specs.layout.Entries.{Site};
+ghost use Rattle.simulator_run_links.specs.layout.Once.{Once};
+ghost use Rattle.simulator_run_links.specs.layout.Station.{IsStation};
+ghost use Rattle.simulator_run_links.specs.control_table.Table.{RouteRequires};
+ghost use Rattle.simulator_run_links.specs.rasta_core.Names.{partner_of};
+ghost use Rattle.simulator_run_links.specs.rasta_core.identity.Role.{Role};
+ghost use Rattle.simulator_run_links.specs.ixl_rules.Table.{Table};
 ghost use Rattle.ixl_table.specs.Table.{IsTableOf};
-ghost use Rattle.simulator_run.specs.simulator_event.declared.event.Event.TheVariants.{Deliver};
-ghost use Rattle.simulator_run.specs.simulator_event.declared.event.NodeId.{NodeId};
+ghost use Rattle.simulator_run_links.specs.simulator_event.declared.event.Event.TheVariants.{Deliver};
+ghost use Rattle.simulator_run_links.specs.simulator_event.declared.event.NodeId.{NodeId};
 ghost use Rattle.simulator_machine.specs.Machine.{Machine};
 ghost use Rattle.simulator_run_links.specs.HasLinks.{HasLinks};
-ghost use Rattle.simulator_run.specs.Nodes.{links};
-ghost use Rattle.simulator_run.specs.Refusals.{refusal};
-ghost use Rattle.simulator_run.specs.State.{WorldState};
-ghost use Rattle.simulator_run.specs.Interlocking.{held_of};
-ghost use Rattle.simulator_run.specs.simulator_snapshot.declared.snapshot.Held.{Held};
+ghost use Rattle.simulator_run_links.specs.simulator_run.Nodes.{links};
+ghost use Rattle.simulator_run_links.specs.simulator_run.Refusals.{refusal};
+ghost use Rattle.simulator_run_links.specs.simulator_run.State.{WorldState};
+ghost use Rattle.simulator_run_links.specs.simulator_run.Interlocking.{held_of};
+ghost use Rattle.simulator_run_links.specs.simulator_snapshot.declared.snapshot.Held.{Held};
 ghost use Rattle.simulator_headline.specs.InFlight.{ShowsOrMayShow, TakesFromFlight, given_on};
 ghost use Rattle.simulator_headline.specs.Reached.{IsAtRest, IsOfHeldRoute, IsReadOff, end_at};
 ghost use Rattle.simulator_headline.specs.Represents.{Represents};
 
 use crate::represented_worlds_are_seen;
-use simulator_machine_links::{
+use simulator_run_links::simulator_machine_links::{
     flows_are_in_order, items_join, lawful_links_stay_lawful, lawful_worlds_stay_lawful,
     representations_tell_the_connection, servers_enter_once,
 };
-use simulator_run::ixl_rules::control_table::required_points_are_there;
-use simulator_run::ixl_rules::rasta_core::{items_are_counted, outside_until_it_enters};
+use simulator_run_links::simulator_run::ixl_rules::control_table::required_points_are_there;
+use simulator_run_links::simulator_run::ixl_rules::rasta_core::{
+    items_are_counted, outside_until_it_enters,
+};
 use simulator_run_links::{
     deliveries_may_come, ends_are_those_of_the_nodes, layouts_name_their_links,
 };

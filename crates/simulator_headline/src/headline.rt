@@ -1,22 +1,22 @@
 //! Every event, and every list of events.
 
 ghost use Rattle.std.specs.Prelude.{[], ◌++◌, ◌∷◌, ◌≡◌, List, None};
-ghost use Rattle.simulator_run.specs.layout.Entries.{Site};
-ghost use Rattle.simulator_run.specs.layout.Once.{Once};
-ghost use Rattle.simulator_run.specs.layout.Station.{IsStation};
-ghost use Rattle.simulator_run.specs.ixl_rules.Table.{Table};
+ghost use Rattle.simulator_run_links.specs.layout.Entries.{Site};
+ghost use Rattle.simulator_run_links.specs.layout.Once.{Once};
+ghost use Rattle.simulator_run_links.specs.layout.Station.{IsStation};
+ghost use Rattle.simulator_run_links.specs.ixl_rules.Table.{Table};
 ghost use Rattle.ixl_table.specs.Table.{IsTableOf};
-ghost use Rattle.simulator_run.specs.simulator_event.declared.event.Event.{Event};
+ghost use Rattle.simulator_run_links.specs.simulator_event.declared.event.Event.{Event};
 ghost use Rattle.simulator_machine.specs.Machine.{Machine};
 ghost use Rattle.simulator_machine.specs.Run.{first};
-ghost use Rattle.simulator_run.specs.Run.{CanHappen, after_all};
-ghost use Rattle.simulator_run.specs.First.{IsOutsetOf, Outset, world_at};
-ghost use Rattle.simulator_run.specs.Happens.{happens};
-ghost use Rattle.simulator_run.specs.Refusals.{refusal};
-ghost use Rattle.simulator_run.specs.Seen.{IsSnapshotOf};
-ghost use Rattle.simulator_run.specs.State.{WorldState};
-ghost use Rattle.simulator_run.specs.simulator_snapshot.Safe.{Safe};
-ghost use Rattle.simulator_run.specs.simulator_snapshot.declared.snapshot.Snapshot.{Snapshot};
+ghost use Rattle.simulator_run_links.specs.simulator_run.Run.{CanHappen, after_all};
+ghost use Rattle.simulator_run_links.specs.simulator_run.First.{IsOutsetOf, Outset, world_at};
+ghost use Rattle.simulator_run_links.specs.simulator_run.Happens.{happens};
+ghost use Rattle.simulator_run_links.specs.simulator_run.Refusals.{refusal};
+ghost use Rattle.simulator_run_links.specs.simulator_run.Seen.{IsSnapshotOf};
+ghost use Rattle.simulator_run_links.specs.simulator_run.State.{WorldState};
+ghost use Rattle.simulator_run_links.specs.simulator_snapshot.Safe.{Safe};
+ghost use Rattle.simulator_run_links.specs.simulator_snapshot.declared.snapshot.Snapshot.{Snapshot};
 ghost use Rattle.simulator_headline.specs.Represents.{Represents, RepresentsAfter};
 ghost use Rattle.simulator_headline.specs.Seen.{positions_at};
 

@@ -1,19 +1,19 @@
 //! The network of a world from one event to the next.
 
 ghost use Rattle.std.specs.Prelude.{◌≡◌, None};
-ghost use Rattle.simulator_run.specs.layout.Entries.{Site};
-ghost use Rattle.simulator_run.specs.layout.Once.{Once};
-ghost use Rattle.simulator_run.specs.layout.Station.{IsStation};
-ghost use Rattle.simulator_run.specs.rasta_core.Links.{Links, run_links};
-ghost use Rattle.simulator_run.specs.ixl_rules.Table.{Table};
-ghost use Rattle.simulator_run.specs.simulator_event.declared.event.Event.{Event};
+ghost use Rattle.simulator_run_links.specs.layout.Entries.{Site};
+ghost use Rattle.simulator_run_links.specs.layout.Once.{Once};
+ghost use Rattle.simulator_run_links.specs.layout.Station.{IsStation};
+ghost use Rattle.simulator_run_links.specs.rasta_core.Links.{Links, run_links};
+ghost use Rattle.simulator_run_links.specs.ixl_rules.Table.{Table};
+ghost use Rattle.simulator_run_links.specs.simulator_event.declared.event.Event.{Event};
 ghost use Rattle.simulator_run_links.specs.Events.{events_of};
-ghost use Rattle.simulator_run.specs.Happens.{happens};
-ghost use Rattle.simulator_run.specs.Refusals.{refusal};
-ghost use Rattle.simulator_run.specs.State.{WorldState};
+ghost use Rattle.simulator_run_links.specs.simulator_run.Happens.{happens};
+ghost use Rattle.simulator_run_links.specs.simulator_run.Refusals.{refusal};
+ghost use Rattle.simulator_run_links.specs.simulator_run.State.{WorldState};
 ghost use Rattle.simulator_headline.specs.Represents.{IsNetworkOf};
 
-use simulator_machine_links::lawful_worlds_stay_lawful;
+use simulator_run_links::simulator_machine_links::lawful_worlds_stay_lawful;
 use simulator_run_links::{events_are_those_of_the_links, layouts_name_their_links};
 
 /// The network of a world after an event is what the event is to its links makes of it.

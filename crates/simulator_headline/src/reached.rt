@@ -1,19 +1,19 @@
 //! Worlds to which a list of events has led.
 
 ghost use Rattle.std.specs.Prelude.{◌≡◌, None};
-ghost use Rattle.simulator_run.specs.layout.Entries.{Site};
-ghost use Rattle.simulator_run.specs.layout.Once.{Once};
-ghost use Rattle.simulator_run.specs.layout.Station.{IsStation};
-ghost use Rattle.simulator_run.specs.ixl_rules.Table.{Table};
+ghost use Rattle.simulator_run_links.specs.layout.Entries.{Site};
+ghost use Rattle.simulator_run_links.specs.layout.Once.{Once};
+ghost use Rattle.simulator_run_links.specs.layout.Station.{IsStation};
+ghost use Rattle.simulator_run_links.specs.ixl_rules.Table.{Table};
 ghost use Rattle.ixl_table.specs.Table.{IsTableOf};
-ghost use Rattle.simulator_run.specs.simulator_event.declared.event.Event.{Event};
-ghost use Rattle.simulator_run.specs.First.{IsOutsetOf, Outset, first_world, world_at};
-ghost use Rattle.simulator_run.specs.Happens.{happens};
-ghost use Rattle.simulator_run.specs.Refusals.{refusal};
-ghost use Rattle.simulator_run.specs.Seen.{IsSnapshotOf};
-ghost use Rattle.simulator_run.specs.State.{WorldState};
-ghost use Rattle.simulator_run.specs.simulator_snapshot.Safe.{Safe};
-ghost use Rattle.simulator_run.specs.simulator_snapshot.declared.snapshot.Snapshot.{Snapshot};
+ghost use Rattle.simulator_run_links.specs.simulator_event.declared.event.Event.{Event};
+ghost use Rattle.simulator_run_links.specs.simulator_run.First.{IsOutsetOf, Outset, first_world, world_at};
+ghost use Rattle.simulator_run_links.specs.simulator_run.Happens.{happens};
+ghost use Rattle.simulator_run_links.specs.simulator_run.Refusals.{refusal};
+ghost use Rattle.simulator_run_links.specs.simulator_run.Seen.{IsSnapshotOf};
+ghost use Rattle.simulator_run_links.specs.simulator_run.State.{WorldState};
+ghost use Rattle.simulator_run_links.specs.simulator_snapshot.Safe.{Safe};
+ghost use Rattle.simulator_run_links.specs.simulator_snapshot.declared.snapshot.Snapshot.{Snapshot};
 ghost use Rattle.simulator_headline.specs.Reached.{HasSafeLinks, IsReached, IsReachedSafely};
 
 use crate::flight::{
@@ -21,7 +21,7 @@ use crate::flight::{
     points_of_held_routes_are_at_rest, what_is_taken_was_in_flight,
 };
 use crate::headline::{every_world_is_safe, lists_of_events_go_on};
-use simulator_run::the_first_world_is_at_rest;
+use simulator_run_links::simulator_run::the_first_world_is_at_rest;
 use simulator_run_links::{each_link_of_a_station_is_safe, stations_have_links};
 
 /// A station as it lies when it is started is reached by no event (*at*), and so is the first world (*first*). An event that

@@ -2,17 +2,17 @@
 
 ghost use Rattle.std.specs.Prelude.{◌≡◌, List};
 ghost use Rattle.std.specs.List.{Contains};
-ghost use Rattle.simulator_run.specs.layout.Entries.{Site};
-ghost use Rattle.simulator_run.specs.layout.Once.{Once};
-ghost use Rattle.simulator_run.specs.layout.Station.{IsStation};
-ghost use Rattle.simulator_run.specs.ixl_rules.Table.{Table};
+ghost use Rattle.simulator_run_links.specs.layout.Entries.{Site};
+ghost use Rattle.simulator_run_links.specs.layout.Once.{Once};
+ghost use Rattle.simulator_run_links.specs.layout.Station.{IsStation};
+ghost use Rattle.simulator_run_links.specs.ixl_rules.Table.{Table};
 ghost use Rattle.ixl_table.specs.Table.{IsTableOf};
 ghost use Rattle.simulator_machine.specs.Machine.{Machine, made_anew};
-ghost use Rattle.simulator_run.specs.Seen.{IsSnapshotOf};
-ghost use Rattle.simulator_run.specs.State.{WorldState};
-ghost use Rattle.simulator_run.specs.Interlocking.{held_of};
-ghost use Rattle.simulator_run.specs.simulator_snapshot.Safe.{Safe};
-ghost use Rattle.simulator_run.specs.simulator_snapshot.declared.snapshot.Snapshot.{Snapshot};
+ghost use Rattle.simulator_run_links.specs.simulator_run.Seen.{IsSnapshotOf};
+ghost use Rattle.simulator_run_links.specs.simulator_run.State.{WorldState};
+ghost use Rattle.simulator_run_links.specs.simulator_run.Interlocking.{held_of};
+ghost use Rattle.simulator_run_links.specs.simulator_snapshot.Safe.{Safe};
+ghost use Rattle.simulator_run_links.specs.simulator_snapshot.declared.snapshot.Snapshot.{Snapshot};
 ghost use Rattle.simulator_headline.specs.Represents.{AreFrozen, Represents};
 ghost use Rattle.simulator_headline.specs.Seen.{IsSeen};
 
@@ -22,8 +22,8 @@ use simulator_machine_controllers::{
     driven_points_are_seen_driven, lawful_ends_are_fit, signal_shows_what_is_seen,
 };
 use simulator_machine_interlocking::tables_are_sound;
-use simulator_machine_links::lawful_worlds_stay_lawful;
 use simulator_run_links::ends_are_those_of_the_nodes;
+use simulator_run_links::simulator_machine_links::lawful_worlds_stay_lawful;
 
 /// A world that the machine sees is seen as far as its promise speaks of it. The pairs that are held in it are what a
 /// restart of the interlocking freezes.

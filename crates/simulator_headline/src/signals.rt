@@ -1,18 +1,18 @@
 //! What happens at the controller of a signal.
 
 ghost use Rattle.std.specs.Prelude.{◌≡◌, ℕ, List, None, Some};
-ghost use Rattle.simulator_run.specs.layout.Entries.{Site};
-ghost use Rattle.simulator_run.specs.layout.Once.{Once};
-ghost use Rattle.simulator_run.specs.layout.Station.{IsStation};
-ghost use Rattle.simulator_run.specs.ixl_rules.Table.{Table};
-ghost use Rattle.simulator_run.specs.simulator_event.declared.event.Event.TheVariants.{Deliver, Restart, Tick};
-ghost use Rattle.simulator_run.specs.simulator_event.declared.event.NodeId.{NodeId};
+ghost use Rattle.simulator_run_links.specs.layout.Entries.{Site};
+ghost use Rattle.simulator_run_links.specs.layout.Once.{Once};
+ghost use Rattle.simulator_run_links.specs.layout.Station.{IsStation};
+ghost use Rattle.simulator_run_links.specs.ixl_rules.Table.{Table};
+ghost use Rattle.simulator_run_links.specs.simulator_event.declared.event.Event.TheVariants.{Deliver, Restart, Tick};
+ghost use Rattle.simulator_run_links.specs.simulator_event.declared.event.NodeId.{NodeId};
 ghost use Rattle.simulator_machine.specs.Machine.{Machine};
 ghost use Rattle.simulator_headline.specs.Represents.{Represents, RepresentsAfter};
-ghost use Rattle.simulator_run.specs.Happens.{happens};
-ghost use Rattle.simulator_run.specs.Nodes.{Signal as SignalAt, node_at};
-ghost use Rattle.simulator_run.specs.Refusals.{refusal};
-ghost use Rattle.simulator_run.specs.State.{WorldState};
+ghost use Rattle.simulator_run_links.specs.simulator_run.Happens.{happens};
+ghost use Rattle.simulator_run_links.specs.simulator_run.Nodes.{Signal as SignalAt, node_at};
+ghost use Rattle.simulator_run_links.specs.simulator_run.Refusals.{refusal};
+ghost use Rattle.simulator_run_links.specs.simulator_run.State.{WorldState};
 
 use crate::changes::changes_are_represented;
 use crate::networks_follow_their_worlds;
@@ -20,12 +20,12 @@ use simulator_machine::lists_of_moves_compose;
 use simulator_machine_controllers::{
     lawful_ends_are_fit, signals_pass_time_and_restart, steps_of_signals_are_moves,
 };
-use simulator_machine_links::{
+use simulator_run_links::simulator_machine_links::{
     a_node_of_one_link_makes_a_step, lawful_worlds_stay_lawful, restarts_are_moves,
 };
-use simulator_run::ixl_rules::rasta_core::a_node_restarts;
-use simulator_run::object_host::{step_is_calls, steps_keep_a_host};
-use simulator_run::signal_ctl::Signal;
+use simulator_run_links::simulator_run::ixl_rules::rasta_core::a_node_restarts;
+use simulator_run_links::simulator_run::object_host::{step_is_calls, steps_keep_a_host};
+use simulator_run_links::simulator_run::signal_ctl::Signal;
 use simulator_run_links::{
     deliveries_may_come, ends_are_those_of_the_nodes, hosts_say_items, layouts_name_their_links,
     links_are_named_by_their_controllers,

@@ -1,19 +1,19 @@
 //! The steps of the interlocking.
 
 ghost use Rattle.std.specs.Prelude.{◌≡◌, List, None, Some, ℕ};
-ghost use Rattle.simulator_run.specs.layout.Entries.{Site};
-ghost use Rattle.simulator_run.specs.layout.Once.{Once};
-ghost use Rattle.simulator_run.specs.layout.Station.{IsStation};
-ghost use Rattle.simulator_run.specs.ixl_rules.Table.{Table};
-ghost use Rattle.simulator_run.specs.ixl_rules.declared.command.Command.{Command};
+ghost use Rattle.simulator_run_links.specs.layout.Entries.{Site};
+ghost use Rattle.simulator_run_links.specs.layout.Once.{Once};
+ghost use Rattle.simulator_run_links.specs.layout.Station.{IsStation};
+ghost use Rattle.simulator_run_links.specs.ixl_rules.Table.{Table};
+ghost use Rattle.simulator_run_links.specs.ixl_rules.declared.command.Command.{Command};
 ghost use Rattle.ixl_table.specs.Table.{IsTableOf};
-ghost use Rattle.simulator_run.specs.simulator_event.declared.event.Event.TheVariants.{Deliver, Request, Tick};
-ghost use Rattle.simulator_run.specs.simulator_event.declared.event.NodeId.{NodeId};
+ghost use Rattle.simulator_run_links.specs.simulator_event.declared.event.Event.TheVariants.{Deliver, Request, Tick};
+ghost use Rattle.simulator_run_links.specs.simulator_event.declared.event.NodeId.{NodeId};
 ghost use Rattle.simulator_machine.specs.Machine.{Machine};
-ghost use Rattle.simulator_run.specs.Happens.{happens};
-ghost use Rattle.simulator_run.specs.Nodes.{Interlocking, node_at};
-ghost use Rattle.simulator_run.specs.Refusals.{refusal};
-ghost use Rattle.simulator_run.specs.State.{WorldState};
+ghost use Rattle.simulator_run_links.specs.simulator_run.Happens.{happens};
+ghost use Rattle.simulator_run_links.specs.simulator_run.Nodes.{Interlocking, node_at};
+ghost use Rattle.simulator_run_links.specs.simulator_run.Refusals.{refusal};
+ghost use Rattle.simulator_run_links.specs.simulator_run.State.{WorldState};
 ghost use Rattle.simulator_headline.specs.Represents.{Represents, RepresentsAfter};
 
 use crate::{
@@ -23,10 +23,10 @@ use crate::{
 use simulator_machine::invariant_is_kept;
 use simulator_machine_controllers::{points_stay_elsewhere, signals_stay_elsewhere};
 use simulator_machine_interlocking::{steps_are_seen, tables_are_sound};
-use simulator_machine_links::{
+use simulator_run_links::simulator_machine_links::{
     a_client_of_many_makes_a_step, lawful_worlds_stay_lawful, representations_tell_the_connection,
 };
-use simulator_run::ixl_rules::rasta_core::a_node_makes_a_step;
+use simulator_run_links::simulator_run::ixl_rules::rasta_core::a_node_makes_a_step;
 use simulator_run_links::{
     deliveries_may_come, ends_are_those_of_the_nodes, events_are_those_of_the_links,
     interlockings_call_their_nodes, layouts_name_their_links,

@@ -2,12 +2,12 @@
 
 ghost use Rattle.std.specs.Prelude.{◌≡◌, ◌<◌, ℕ, List, length, slice_get};
 ghost use Rattle.std.specs.List.{All};
-ghost use Rattle.simulator_run.specs.layout.Entries.{Site};
-ghost use Rattle.simulator_run.specs.layout.Once.{Once};
-ghost use Rattle.simulator_run.specs.layout.Station.{IsStation};
-ghost use Rattle.simulator_run.specs.rasta_core.Ends.{reading_of};
-ghost use Rattle.simulator_run.specs.ixl_rules.Table.{Row, Table};
-ghost use Rattle.simulator_run.specs.ixl_rules.View.{is_holding};
+ghost use Rattle.simulator_run_links.specs.layout.Entries.{Site};
+ghost use Rattle.simulator_run_links.specs.layout.Once.{Once};
+ghost use Rattle.simulator_run_links.specs.layout.Station.{IsStation};
+ghost use Rattle.simulator_run_links.specs.rasta_core.Ends.{reading_of};
+ghost use Rattle.simulator_run_links.specs.ixl_rules.Table.{Row, Table};
+ghost use Rattle.simulator_run_links.specs.ixl_rules.View.{is_holding};
 ghost use Rattle.ixl_table.specs.Table.{IsTableOf};
 ghost use Rattle.simulator_machine.specs.Invariant.{Invariant};
 ghost use Rattle.simulator_machine.specs.Machine.{Machine, is_held};
@@ -15,16 +15,16 @@ ghost use Rattle.simulator_machine.specs.Promise.{Promise};
 ghost use Rattle.simulator_machine.specs.Table.{IsSound};
 ghost use Rattle.simulator_machine_interlocking.specs.Nodes.{route_seen};
 ghost use Rattle.simulator_machine_interlocking.specs.Rows.{machine_table};
-ghost use Rattle.simulator_run.specs.Seen.{IsSnapshotOf};
-ghost use Rattle.simulator_run.specs.State.{ClockedInterlockingState, WorldState};
-ghost use Rattle.simulator_run.specs.Interlocking.{held_of};
-ghost use Rattle.simulator_run.specs.simulator_snapshot.Safe.{Safe};
-ghost use Rattle.simulator_run.specs.simulator_snapshot.declared.snapshot.Held.{Held};
-ghost use Rattle.simulator_run.specs.simulator_snapshot.declared.snapshot.Snapshot.{Snapshot};
+ghost use Rattle.simulator_run_links.specs.simulator_run.Seen.{IsSnapshotOf};
+ghost use Rattle.simulator_run_links.specs.simulator_run.State.{ClockedInterlockingState, WorldState};
+ghost use Rattle.simulator_run_links.specs.simulator_run.Interlocking.{held_of};
+ghost use Rattle.simulator_run_links.specs.simulator_snapshot.Safe.{Safe};
+ghost use Rattle.simulator_run_links.specs.simulator_snapshot.declared.snapshot.Held.{Held};
+ghost use Rattle.simulator_run_links.specs.simulator_snapshot.declared.snapshot.Snapshot.{Snapshot};
 ghost use Rattle.simulator_headline.specs.Seen.{AreHeldPairs, IsSeen};
 
 use simulator_machine::equal_numbers_are_same;
-use simulator_run::ixl_rules::control_table::{
+use simulator_run_links::simulator_run::ixl_rules::control_table::{
     a_route_leads_over_its_sections_alone, required_points_are_there,
 };
 

@@ -16,3 +16,8 @@ pub use nodes::{
 pub use restarts::restarts_are_those_of_the_links;
 pub use stations::{each_link_of_a_station_is_safe, layouts_name_their_links, stations_have_links};
 pub use time_and_losses::{a_loss_is_one_of_the_links, time_passes_for_the_links};
+
+// What crates above need of the crates below.
+pub use object_host_theorem;
+pub use simulator_machine_links;
+pub use simulator_run;

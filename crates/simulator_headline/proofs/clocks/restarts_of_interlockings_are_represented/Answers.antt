@@ -1,12 +1,12 @@
 use Rattle.std.proofs.Common.{◌≡◌, Option, sym, subst}
-use Rattle.simulator_run.specs.rasta_core.Links.{run_links}
-use Rattle.simulator_run.specs.simulator_event.declared.event.Event.TheVariants.{Restart}
+use Rattle.simulator_run_links.specs.rasta_core.Links.{run_links}
+use Rattle.simulator_run_links.specs.simulator_event.declared.event.Event.TheVariants.{Restart}
 use Rattle.simulator_machine.specs.Machine as machine
 use Rattle.simulator_machine_interlocking.specs.Rows.{machine_table}
 use Rattle.simulator_run_links.specs.Events.{events_of, restart_events}
-use Rattle.simulator_run.specs.Happens.{happens, made_anew}
-use Rattle.simulator_run.specs.Nodes.{Node}
-use Rattle.simulator_run.specs.Refusals.{refusal}
+use Rattle.simulator_run_links.specs.simulator_run.Happens.{happens, made_anew}
+use Rattle.simulator_run_links.specs.simulator_run.Nodes.{Node}
+use Rattle.simulator_run_links.specs.simulator_run.Refusals.{refusal}
 use Rattle.simulator_headline.specs.Represents.{IsNetworkOf, RepresentsAfter}
 use Rattle.simulator_headline.proofs.Restart.{AnewLaws, restart_represented, restart_within}
 use Rattle.simulator_headline.proofs.clocks.restarts_of_interlockings_are_represented.Goals as goal

@@ -1,8 +1,8 @@
-use Rattle.simulator_run.specs.simulator_event.declared.event.Event.TheVariants.{Time}
+use Rattle.simulator_run_links.specs.simulator_event.declared.event.Event.TheVariants.{Time}
 use Rattle.simulator_machine_interlocking.specs.Rows.{machine_table}
 use Rattle.simulator_run_links.specs.Events.{events_of}
-use Rattle.simulator_run.specs.Happens.{happens}
-use Rattle.simulator_run.specs.Refusals.{refusal}
+use Rattle.simulator_run_links.specs.simulator_run.Happens.{happens}
+use Rattle.simulator_run_links.specs.simulator_run.Refusals.{refusal}
 use Rattle.simulator_headline.proofs.Time.{TimeLaws, clock_within, time_represented}
 use Rattle.simulator_headline.proofs.clocks.time_keeps_representations.Goals as goal
 

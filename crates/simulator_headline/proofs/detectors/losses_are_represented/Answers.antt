@@ -1,6 +1,6 @@
-use Rattle.simulator_run.specs.simulator_event.declared.event.Event.TheVariants as event
+use Rattle.simulator_run_links.specs.simulator_event.declared.event.Event.TheVariants as event
 use Rattle.simulator_run_links.specs.Events.{events_of}
-use Rattle.simulator_run.specs.Happens.{happens}
+use Rattle.simulator_run_links.specs.simulator_run.Happens.{happens}
 use Rattle.simulator_headline.proofs.AtDetectors.{loss_is_unseen}
 use Rattle.simulator_headline.proofs.detectors.losses_are_represented.Goals as goal
 

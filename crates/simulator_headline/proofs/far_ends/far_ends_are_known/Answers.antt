@@ -1,11 +1,11 @@
 use Rattle.std.proofs.Common.{List, subst}
-use Rattle.simulator_run.specs.rasta_core.Clock.{settled}
-use Rattle.simulator_run.specs.rasta_core.Run.{Ends}
-use Rattle.simulator_run.specs.rasta_core.State.{LinkState}
-use Rattle.simulator_run.specs.ixl_client.Client.{PeerState}
-use Rattle.simulator_run.specs.ixl_client.Made.{link_after}
-use Rattle.simulator_run.specs.ixl_client.ClientSoFar.{LinkCall}
-use Rattle.simulator_machine_links.specs.Flows.{ClientKnows}
+use Rattle.simulator_run_links.specs.rasta_core.Clock.{settled}
+use Rattle.simulator_run_links.specs.rasta_core.Run.{Ends}
+use Rattle.simulator_run_links.specs.rasta_core.State.{LinkState}
+use Rattle.simulator_run_links.specs.ixl_client.Client.{PeerState}
+use Rattle.simulator_run_links.specs.ixl_client.Made.{link_after}
+use Rattle.simulator_run_links.specs.ixl_client.ClientSoFar.{LinkCall}
+use Rattle.simulator_run_links.specs.simulator_machine_links.Flows.{ClientKnows}
 use Rattle.simulator_machine_interlocking.specs.Calls.{Items, items_after}
 use Rattle.simulator_machine_interlocking.specs.Facts.{AreCallsIn}
 use Rattle.simulator_machine_interlocking.specs.Sees.{SeesSignal, SignalFits}

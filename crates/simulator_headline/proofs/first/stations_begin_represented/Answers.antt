@@ -1,10 +1,10 @@
-use Rattle.simulator_run.specs.rasta_core.Links.{begun}
-use Rattle.simulator_machine_links.specs.Lawful.{AreLawful}
+use Rattle.simulator_run_links.specs.rasta_core.Links.{begun}
+use Rattle.simulator_run_links.specs.simulator_machine_links.Lawful.{AreLawful}
 use Rattle.simulator_machine_interlocking.specs.Rows.{machine_table}
 use Rattle.simulator_run_links.specs.Whole.{IsWhole}
-use Rattle.simulator_run.specs.First.{world_at}
-use Rattle.simulator_run.specs.Links.{names_at, starts_at_zero}
-use Rattle.simulator_run.specs.Nodes.{links}
+use Rattle.simulator_run_links.specs.simulator_run.First.{world_at}
+use Rattle.simulator_run_links.specs.simulator_run.Links.{names_at, starts_at_zero}
+use Rattle.simulator_run_links.specs.simulator_run.Nodes.{links}
 use Rattle.simulator_headline.specs.Seen.{positions_at}
 use Rattle.simulator_headline.proofs.FirstWorld.{FirstLaws, first_frozen, first_points, first_signals, first_station}
 use Rattle.simulator_headline.proofs.first.stations_begin_represented.Goals as goal

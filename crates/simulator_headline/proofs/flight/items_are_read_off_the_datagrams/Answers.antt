@@ -1,7 +1,7 @@
-use Rattle.simulator_run.specs.rasta_core.Links.{AreLinks, begun, seen}
-use Rattle.simulator_run.specs.Links.{names_at, starts_at_zero}
-use Rattle.simulator_run.specs.Nodes.{links}
-use Rattle.simulator_machine_links.specs.Lawful.{AreLawful, IsLawful}
+use Rattle.simulator_run_links.specs.rasta_core.Links.{AreLinks, begun, seen}
+use Rattle.simulator_run_links.specs.simulator_run.Links.{names_at, starts_at_zero}
+use Rattle.simulator_run_links.specs.simulator_run.Nodes.{links}
+use Rattle.simulator_run_links.specs.simulator_machine_links.Lawful.{AreLawful, IsLawful}
 use Rattle.simulator_run_links.specs.HasLinks.{links_in}
 use Rattle.simulator_headline.proofs.ReadOff.{read_off}
 use Rattle.simulator_headline.proofs.flight.items_are_read_off_the_datagrams.Goals as goal

@@ -1,11 +1,11 @@
 use Rattle.std.proofs.Common.{ℕ, ◌<◌}
-use Rattle.simulator_run.specs.rasta_core.Ends.{Receives}
-use Rattle.simulator_run.specs.rasta_core.Events.{MayCall}
-use Rattle.simulator_run.specs.rasta_core.Links.{AreLinks, seen}
-use Rattle.simulator_run.specs.rasta_core.identity.Role.TheVariants as role
-use Rattle.simulator_run.specs.Links.{names_at}
-use Rattle.simulator_run.specs.Network.{connection_of, copy_of}
-use Rattle.simulator_run.specs.Nodes.{links, point_link}
+use Rattle.simulator_run_links.specs.rasta_core.Ends.{Receives}
+use Rattle.simulator_run_links.specs.rasta_core.Events.{MayCall}
+use Rattle.simulator_run_links.specs.rasta_core.Links.{AreLinks, seen}
+use Rattle.simulator_run_links.specs.rasta_core.identity.Role.TheVariants as role
+use Rattle.simulator_run_links.specs.simulator_run.Links.{names_at}
+use Rattle.simulator_run_links.specs.simulator_run.Network.{connection_of, copy_of}
+use Rattle.simulator_run_links.specs.simulator_run.Nodes.{links, point_link}
 use Rattle.simulator_headline.proofs.FlightEnds.{FlightLaws}
 use Rattle.simulator_headline.proofs.FlightTaken.{TakingLaws, was_in_flight}
 use Rattle.simulator_headline.proofs.flight.what_is_taken_was_in_flight.Goals as goal

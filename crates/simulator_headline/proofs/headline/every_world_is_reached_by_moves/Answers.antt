@@ -1,18 +1,18 @@
 use Rattle.std.proofs.Common.{List}
-use Rattle.simulator_run.specs.layout.Entries.{Site}
-use Rattle.simulator_run.specs.layout.Once.{Once}
-use Rattle.simulator_run.specs.layout.Station.{IsStation}
-use Rattle.simulator_run.specs.ixl_rules.Table.{Table}
+use Rattle.simulator_run_links.specs.layout.Entries.{Site}
+use Rattle.simulator_run_links.specs.layout.Once.{Once}
+use Rattle.simulator_run_links.specs.layout.Station.{IsStation}
+use Rattle.simulator_run_links.specs.ixl_rules.Table.{Table}
 use Rattle.ixl_table.specs.Table.{IsTableOf}
-use Rattle.simulator_run.specs.simulator_event.declared.event.Event.{Event}
+use Rattle.simulator_run_links.specs.simulator_event.declared.event.Event.{Event}
 use Rattle.simulator_machine.specs.Machine.{Machine}
 use Rattle.simulator_machine.specs.Run.{first}
 use Rattle.simulator_headline.specs.Seen.{positions_at}
 use Rattle.simulator_headline.specs.Represents.{Represents, RepresentsAfter}
 use Rattle.simulator_machine_interlocking.specs.Rows.{machine_table}
-use Rattle.simulator_run.specs.Run.{CanHappen, after_all}
-use Rattle.simulator_run.specs.First.{world_at}
-use Rattle.simulator_run.specs.State.{WorldState}
+use Rattle.simulator_run_links.specs.simulator_run.Run.{CanHappen, after_all}
+use Rattle.simulator_run_links.specs.simulator_run.First.{world_at}
+use Rattle.simulator_run_links.specs.simulator_run.State.{WorldState}
 use Rattle.simulator_headline.proofs.AllEvents.{MovingLaws, all_kept}
 use Rattle.simulator_headline.proofs.headline.every_world_is_reached_by_moves.Goals as goal
 

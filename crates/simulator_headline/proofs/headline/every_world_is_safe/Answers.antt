@@ -1,5 +1,5 @@
-use Rattle.simulator_run.specs.Run.{after_all}
-use Rattle.simulator_run.specs.First.{world_at}
+use Rattle.simulator_run_links.specs.simulator_run.Run.{after_all}
+use Rattle.simulator_run_links.specs.simulator_run.First.{world_at}
 use Rattle.simulator_headline.proofs.headline.every_world_is_safe.Goals as goal
 
 pub returns : goal.returns

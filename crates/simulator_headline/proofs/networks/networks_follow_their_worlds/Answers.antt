@@ -1,8 +1,8 @@
-use Rattle.simulator_run.specs.rasta_core.Links.{AreLinks}
+use Rattle.simulator_run_links.specs.rasta_core.Links.{AreLinks}
 use Rattle.simulator_run_links.specs.Events.{FollowsBy, events_of}
-use Rattle.simulator_run.specs.Happens.{happens}
-use Rattle.simulator_run.specs.Links.{names_at}
-use Rattle.simulator_run.specs.Nodes.{links}
+use Rattle.simulator_run_links.specs.simulator_run.Happens.{happens}
+use Rattle.simulator_run_links.specs.simulator_run.Links.{names_at}
+use Rattle.simulator_run_links.specs.simulator_run.Nodes.{links}
 use Rattle.simulator_headline.proofs.networks.networks_follow_their_worlds.Goals as goal
 
 pub returns : goal.returns

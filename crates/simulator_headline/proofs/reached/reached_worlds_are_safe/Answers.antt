@@ -1,16 +1,16 @@
 use Rattle.std.proofs.Common.{◌≡◌, [], ◌∷◌, ◌++◌, None, refl, sym, ap, subst, ◌∙◌}
-use Rattle.simulator_run.specs.layout.Entries.{Site}
-use Rattle.simulator_run.specs.layout.Once.{Once}
-use Rattle.simulator_run.specs.layout.Station.{IsStation}
-use Rattle.simulator_run.specs.ixl_rules.Table.{Table}
+use Rattle.simulator_run_links.specs.layout.Entries.{Site}
+use Rattle.simulator_run_links.specs.layout.Once.{Once}
+use Rattle.simulator_run_links.specs.layout.Station.{IsStation}
+use Rattle.simulator_run_links.specs.ixl_rules.Table.{Table}
 use Rattle.ixl_table.specs.Table.{IsTableOf}
 use Rattle.simulator_machine.specs.Machine.{Machine}
-use Rattle.simulator_run.specs.simulator_event.declared.event.Event.{Event}
-use Rattle.simulator_run.specs.First.{IsOutsetOf, Outset, at_rest, world_at}
-use Rattle.simulator_run.specs.Happens.{happens}
-use Rattle.simulator_run.specs.Refusals.{refusal}
-use Rattle.simulator_run.specs.Seen.{IsSnapshotOf}
-use Rattle.simulator_run.specs.State.{WorldState}
+use Rattle.simulator_run_links.specs.simulator_event.declared.event.Event.{Event}
+use Rattle.simulator_run_links.specs.simulator_run.First.{IsOutsetOf, Outset, at_rest, world_at}
+use Rattle.simulator_run_links.specs.simulator_run.Happens.{happens}
+use Rattle.simulator_run_links.specs.simulator_run.Refusals.{refusal}
+use Rattle.simulator_run_links.specs.simulator_run.Seen.{IsSnapshotOf}
+use Rattle.simulator_run_links.specs.simulator_run.State.{WorldState}
 use Rattle.simulator_run_links.specs.HasLinks.{IsStanding}
 use Rattle.simulator_headline.specs.Reached.{HasSafeLinks, IsReached, IsReachedSafely}
 use Rattle.simulator_headline.specs.Represents.{Represents}

@@ -1,12 +1,12 @@
 use Rattle.std.proofs.Common.{Option, sym, subst}
-use Rattle.simulator_run.specs.object_host.declared.input.Input.TheVariants as inputs
-use Rattle.simulator_run.specs.rasta_core.Links.{run_links}
-use Rattle.simulator_run.specs.rasta_core.identity.Role.TheVariants as role
-use Rattle.simulator_run.specs.simulator_event.declared.event.Event.TheVariants as event
+use Rattle.simulator_run_links.specs.object_host.declared.input.Input.TheVariants as inputs
+use Rattle.simulator_run_links.specs.rasta_core.Links.{run_links}
+use Rattle.simulator_run_links.specs.rasta_core.identity.Role.TheVariants as role
+use Rattle.simulator_run_links.specs.simulator_event.declared.event.Event.TheVariants as event
 use Rattle.simulator_run_links.specs.Events.{delivery_events, events_of, restart_events, tick_events}
-use Rattle.simulator_run.specs.Happens.{coming, delivered_to, happens, made_anew, ticked_at}
-use Rattle.simulator_run.specs.Network.{connection_of, copy_of}
-use Rattle.simulator_run.specs.Nodes.{Node}
+use Rattle.simulator_run_links.specs.simulator_run.Happens.{coming, delivered_to, happens, made_anew, ticked_at}
+use Rattle.simulator_run_links.specs.simulator_run.Network.{connection_of, copy_of}
+use Rattle.simulator_run_links.specs.simulator_run.Nodes.{Node}
 use Rattle.simulator_headline.specs.Represents.{IsNetworkOf, RepresentsAfter}
 use Rattle.simulator_headline.proofs.AtSignals.{SignalLaws, signal_restarts, signal_steps}
 use Rattle.simulator_headline.proofs.signals.events_at_signals_are_represented.Goals as goal

@@ -1,4 +1,4 @@
-use Rattle.simulator_run.specs.rasta_core.identity.Role.TheVariants as role
+use Rattle.simulator_run_links.specs.rasta_core.identity.Role.TheVariants as role
 use Rattle.simulator_machine_interlocking.specs.Rows.{machine_table}
 use Rattle.simulator_headline.proofs.InterlockingSteps.{EventLaws, delivery_represented, request_represented, tick_represented}
 use Rattle.simulator_headline.proofs.steps.steps_of_interlockings_are_represented.Goals as goal
