@@ -53,7 +53,7 @@ ul.p-list{list-style:none;margin:0;padding:0}
 ul.p-list li{display:flex;gap:5px;align-items:center;padding:1px 0;flex-wrap:wrap}
 ul.p-list .p-why{flex-basis:100%;color:#4a5b68;padding-left:2.6em}
 ul.p-list .p-grow{flex:1;min-width:0;overflow:hidden;text-overflow:ellipsis;white-space:nowrap}
-.p-route{flex:1;display:flex;gap:8px;text-align:left;border-color:transparent;padding:1px 6px}
+.p-route{flex:1;min-width:0;overflow:hidden;display:flex;gap:8px;text-align:left;border-color:transparent;padding:1px 6px}
 .p-route .p-ends{color:#4a5b68;margin-left:auto}
 .p-route[aria-pressed=true]{border-color:#14682e;border-width:1px 1px 1px 6px;font-weight:600}
 .p-route.p-can{border-color:#0b5fd0;border-style:dashed}
@@ -361,7 +361,7 @@ function drawPlan() {
   plan.querySelectorAll("#notes,.detector").forEach(of => of.remove());
   fitPlan(plan);
   for (const name of layout.signals.keys()) markSignal(name);
-  for (const name of layout.borders) markTarget("border", name, boxOf(group("border", name)));
+  for (const name of layout.borders) markTarget("border", name, boxOf(group("border", name), ".arrow,.name"));
   for (const name of layout.points) markSigns("point", name);
   for (const name of layout.sections) markSection(name);
   const leader = plan.querySelector("[tabindex]");
@@ -375,7 +375,12 @@ function fitPlan(plan) {
   plan.setAttribute("viewBox", [box.x - 10, box.y - 6, box.width + 20, box.height + 12].join(" "));
 }
 
-const boxOf = of => of?.getBBox();
+// The box about parts of a group.
+function boxOf(of, parts) {
+  const boxes = [...of?.querySelectorAll(parts) || []].map(part => part.getBBox());
+  const x = Math.min(...boxes.map(box => box.x)), y = Math.min(...boxes.map(box => box.y));
+  return {x, y, width: Math.max(...boxes.map(box => box.x + box.width)) - x, height: Math.max(...boxes.map(box => box.y + box.height)) - y};
+}
 
 // What can be clicked has a place of its own that lights; of all such places one is in the tab order, and arrows go on to the others.
 function markTarget(kind, name, box) {
@@ -411,10 +416,7 @@ function markSignal(name) {
   if (!of) return;
   const near = of.querySelector(".lamp.near"), distant = of.querySelector(".lamp.distant");
   const [one, other] = [near, distant].map(lamp => ({x: +lamp.getAttribute("cx"), y: +lamp.getAttribute("cy"), r: +lamp.getAttribute("r") - 1}));
-  const boxes = [...of.querySelectorAll(".mast,.lamp")].map(part => part.getBBox());
-  const x = Math.min(...boxes.map(box => box.x)), y = Math.min(...boxes.map(box => box.y));
-  const box = {x, y, width: Math.max(...boxes.map(box => box.x + box.width)) - x, height: Math.max(...boxes.map(box => box.y + box.height)) - y};
-  markTarget("signal", name, box);
+  markTarget("signal", name, boxOf(of, ".mast,.lamp"));
   element(of, "line", {class: "bar of-stop", x1: one.x - one.r, y1: one.y, x2: one.x + one.r, y2: one.y});
   element(of, "line", {class: "bar of-proceed", x1: other.x, y1: other.y - other.r, x2: other.x, y2: other.y + other.r});
   for (const {x, y, r} of [one, other]) element(of, "line", {class: "bar of-slow", x1: x - r / 1.5, y1: y + r / 1.5, x2: x + r / 1.5, y2: y - r / 1.5});
@@ -476,7 +478,8 @@ const isLocked = (section, name) => !known.has("locked " + section) || first("lo
 let entry = null;
 
 const from = name => layout.routes.filter(one => one.entry === name);
-const isExit = (one, kind, name) => one.exit === name && one.kind === kind;
+// A signal at a border, for trains that come in there, stands for the border, too.
+const isExit = (one, kind, name) => one.kind === kind ? one.exit === name : kind === "signal" && layout.signals.get(name) === one.exit + ".end";
 
 // Whether a route could be set, as far as the page sees it. The interlocking decides.
 function isPossible(one) {
@@ -848,7 +851,7 @@ function middleOf(place) {
   const side = place.out === "tip" ? place.in : place.out;
   const rail = kind === "border" ? null : group(kind === "track" ? "track" : side, place.name)?.querySelector(".rail");
   if (rail) return rail.getPointAtLength(rail.getTotalLength() / 2);
-  const box = boxOf(group(kind, place.name).querySelector(".arrow,.name") || group(kind, place.name));
+  const box = boxOf(group(kind, place.name), kind === "border" ? ".arrow" : ".name");
   return {x: box.x + box.width / 2, y: box.y + box.height / 2};
 }
 
