@@ -59,7 +59,9 @@ class Panel:
             return answer.read()
 
     def replays(self):
-        """Whether its record replays as it was, and what was said of it."""
+        """Whether its record replays as it was, and what was said of it. It was stopped, perhaps in the middle of a line."""
+        text = self.record.read_bytes()
+        self.record.write_bytes(text[:text.rfind(b"\n") + 1])
         said = subprocess.run([self.program, "replay", self.layout, str(self.record)], stdout=subprocess.PIPE, stderr=subprocess.STDOUT, text=True)
         last = said.stdout.strip().splitlines()[-1:] or [""]
         return said.returncode == 0 and last[0] == "same", last[0]

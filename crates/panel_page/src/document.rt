@@ -71,6 +71,7 @@ dialog{border:1px solid #667;border-radius:6px;padding:14px 20px;max-width:900px
 dialog h2{margin:0 0 8px;font-size:16px}
 dialog .p-two{display:grid;grid-template-columns:auto auto;gap:0 32px}
 dialog td{padding:2px 8px 2px 0;vertical-align:middle}
+dialog td:first-child{white-space:nowrap}
 /* the classes set, off, moving, occupied, unknown, stop, proceed and slow are the plan's own */
 #p-plan .rail,#p-plan .joint,#p-plan .ring,#p-plan .arrow,#p-plan .mast,#p-plan .lamp{pointer-events:none}
 #p-plan .section{cursor:pointer}
@@ -305,7 +306,8 @@ const first = (kind, name) => words(kind, name)[0];
 const group = (kind, name) => by(kind + "." + name);
 const route = name => layout.routes.find(one => one.name === name);
 const held = name => first("route", name) === "set";
-const aspect = name => first("shows", name) || first("indicates", name) || "unknown";
+// What a signal shows; of a node, what it indicates, as long as its link is up.
+const aspect = name => first("shows", name) || (first("link", name) === "ready" && first("indicates", name)) || "unknown";
 const occupancy = name => first("stands", name) || first("section", name);
 const authority = name => { const said = words("signal", name); return said[0] === "stop" || said.length < 2 ? null : said[1]; };
 const isWorld = () => station.kind === "world";
@@ -902,7 +904,7 @@ function paintFaults() {
   for (const name of disturbed("cut")) row("\u2702 " + name + " is cut off", "Mend", "mend " + name);
   for (const name of disturbed("jam")) row("\u25b2 " + name + " doesn't arrive", "Free", "unjam " + name);
   for (const name of lostLinks()) row("\u2715 the link of " + name + " isn't ready");
-  by("p-faults").replaceChildren(...rows);
+  if (by("p-faults").textContent !== rows.map(row => row.textContent).join("")) by("p-faults").replaceChildren(...rows);
   const one = first("drop", ""), late = first("delay", "");
   by("p-drop-now").textContent = one === "" || one === "0" ? "now none" : "now one in " + one;
   by("p-delay-now").textContent = "now " + (late || "0") + " ms";
@@ -1185,7 +1187,7 @@ async function start() {
   document.title = layout.name + " \u2013 panel";
   by("p-name").textContent = layout.name;
   by("p-name").title = "station " + station.version;
-  by("p-record").textContent = station.record ? "record " + station.record.split("/").at(-1) : "no record";
+  by("p-record").textContent = station.record ? "record " + station.record.split("/").at(-1) : isWorld() ? "no record" : "";
   by("p-record").title = station.record;
   drawPlan();
   drawRoutes();
