@@ -4,10 +4,11 @@ signaller does, and looks at what is drawn. A judge that knows the layout alone 
 between them: each lit signal has a route whose points are all drawn right and still, and no two such routes conflict. It ends with a table
 of what was seen, and with status 1 where anything was unsafe or didn't come.
 
-    python3 bench/panel.py STATION [--to FOLDER] [--size 1280x720] [walk] [load]
+    python3 bench/panel.py STATION [--to FOLDER] [--size 1280x720] [walk] [storm] [load]
 
 walk       on Halden and on Neustadt: a refusal and its cause, a route by two clicks, a train through the station, a point that doesn't
            arrive, a link that is cut, a restart of the interlocking, a route by the keyboard; then the record is replayed
+storm      five commands a second for 60 s, drawn from a seed: routes, occupancies, and every kind of fault
 load       50 clients that ask as the page does, for 60 s, beside 100 connections that stay half open: how long rounds took
 """
 import argparse
@@ -19,6 +20,7 @@ import itertools
 import json
 import os
 import pathlib
+import random
 import socket
 import statistics
 import struct
@@ -387,6 +389,45 @@ def walk(program, layout, size, folder):
     return all(row[1] == "came" for row in signaller.rows) and not judge.unsafe and not faults
 
 
+def drawn_command(draw, judge, held):
+    """A command of any kind that the page gives, routes more often than faults."""
+    told, route = judge.told, draw.choice(list(judge.routes))
+    controllers = [it["name"] for kind in ("signal", "point", "detector") for it in told[kind]]
+    node, point, section = draw.choice(controllers), draw.choice([it["name"] for it in told["point"]]), draw.choice(told["section"])
+    kinds = {f"set {route}": 30, f"cancel {draw.choice(held or [route])}": 6, f"occupy {section}": 3, f"clear {section}": 12, f"cut {node}": 2, f"mend {node}": 6,
+             f"restart {node} 0 {draw.getrandbits(32)}": 1, f"restart {told['station']['name']} 0 {draw.getrandbits(32)}": 0.3, f"jam {point}": 2,
+             f"unjam {point}": 8, f"drop {draw.choice([0, 0, 0, 20, 5])}": 2, f"delay {draw.choice([0, 0, 0, 100, 400])}": 2}
+    return draw.choices(list(kinds), list(kinds.values()))[0]
+
+
+def storm(program, layout, size, folder, seconds=60, seed=1):
+    draw, given, at_once = random.Random(seed), collections.Counter(), collections.Counter()
+    with tempfile.TemporaryDirectory() as place:
+        panel, judge = Panel(program, layout, place), Judge(layout)
+        signaller = Signaller(panel, judge, size, folder)
+        try:
+            signaller.opened()
+            until = time.monotonic() + seconds
+            while time.monotonic() < until:
+                drawn = signaller.drawn()
+                at_once[sum(aspect != "stop" for aspect in drawn["shows"].values())] += 1
+                command = "resume" if drawn["mode"] == "resume" else drawn_command(draw, judge, drawn["set"])
+                signaller.browser.tell(f"command({json.dumps(command)})")
+                given[command.split()[0]] += 1
+                signaller.drawn()
+                time.sleep(0.1)
+            signaller.shot("storm")
+        finally:
+            faults = signaller.browser.faults
+            signaller.browser.end()
+            panel.end()
+        same, said = panel.replays()
+    rows = [("commands", ", ".join(f"{count} {word}" for word, count in given.most_common())), ("looks", f"{judge.looks}, {len(judge.unsafe)} unsafe"),
+            ("signals lit", ", ".join(f"{count} times {lit}" for lit, count in sorted(at_once.items()))), ("record", said), ("faults of the page", str(len(faults)))]
+    print(f"\n{signaller.name}: a storm of {seconds} s\n\n{table(('', ''), rows)}", flush=True)
+    return same and not judge.unsafe and not faults and max(at_once) > 0
+
+
 def table(head, rows):
     widths = [max(len(row[at]) for row in (head, *rows)) for at in range(len(head))]
     return "\n".join("  ".join(cell.ljust(width) for cell, width in zip(row, widths)).rstrip() for row in (head, *rows))
@@ -465,7 +506,7 @@ def main():
     words.add_argument("--to", type=pathlib.Path, help="a folder for pictures of the page")
     words.add_argument("--size", default="1280x720", type=lambda text: tuple(map(int, text.split("x"))))
     words.add_argument("--layout", action="append", help="examples/halden.toml and examples/neustadt.toml, if not said")
-    words.add_argument("kinds", nargs="*", default=["walk", "load"])
+    words.add_argument("kinds", nargs="*", default=["walk", "storm", "load"])
     given = words.parse_intermixed_args()
     if given.to:
         given.to.mkdir(parents=True, exist_ok=True)
