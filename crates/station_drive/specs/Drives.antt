@@ -12,9 +12,11 @@ use Rattle.station_drive.specs.Rounds.{RoundHeard, RunSoFar, rounds}
 abbrev pub beginning : Site → List (ℕ × Event) → ℕ → RunSoFar
 beginning site script first = record { first = first; reading = first; left = script; drives = replicate (length site.points) None }
 
--- in a round each node heard
-abbrev pub IsWhole : Site → RoundHeard → Type 0
-IsWhole site one = length one.heard ≡ length (node_names site)
+-- In a round of a drive each node heard, nothing was asked for beside the script, and each point could reach its end position.
+pub record IsPlain (site : Site) (one : RoundHeard) : Type 0 where
+  pub whole : length one.heard ≡ length (node_names site)
+  pub unasked : one.asked ≡ []
+  pub unjammed : one.jammed ≡ []
 
 -- After a first reading each further one made a round, up to and with the first that was `for_ms` or more behind it.
 pub record Driven {State : Type 0} (does : Behaviour State) (site : Site) (script : List (ℕ × Event)) (for_ms : ℕ)
@@ -23,7 +25,7 @@ pub record Driven {State : Type 0} (does : Behaviour State) (site : Site) (scrip
   pub earlier : List RoundHeard
   pub last : RoundHeard
   pub read : Grows readings_old readings_new (first ∷ map (λ one. one.reading) (earlier ++ last ∷ []))
-  pub whole : AllByRecursion (IsWhole site) (earlier ++ last ∷ [])
+  pub plain : AllByRecursion (IsPlain site) (earlier ++ last ∷ [])
   pub goes_on : AllByRecursion (λ one. (one.reading - first) / 1000 < for_ms) earlier
   pub over : for_ms ≤ (last.reading - first) / 1000
   pub performs : Performs does site (rounds does site old (beginning site script first) (earlier ++ last ∷ [])) old new calls_old calls_new text_old text_new
@@ -42,7 +44,7 @@ pub record CutOff {State : Type 0} (does : Behaviour State) (site : Site) (scrip
   pub made : List RoundHeard
   pub broken : Option RoundHeard
   pub read : Grows readings_old readings_new (first ∷ map (λ one. one.reading) (begun made broken))
-  pub whole : AllByRecursion (IsWhole site) (begun made broken)
+  pub plain : AllByRecursion (IsPlain site) (begun made broken)
   pub goes_on : AllByRecursion (λ one. (one.reading - first) / 1000 < for_ms) made
   pub stops : Stops does site (rounds does site old (beginning site script first) (begun made broken)) old new calls_old calls_new text_old text_new
   pub all_made : length (rounds does site old (beginning site script first) made) ≤ stops.count

@@ -1,5 +1,5 @@
 -- The rounds by which a station is driven: what they do, by what the clock and the network tell.
-use Rattle.std.specs.Prelude.{ℕ, zero, suc, ◌-◌, ◌/◌, nat_le, Bool, true, false, if◌then◌else◌, List, [], ◌∷◌, ◌++◌, length, map, replicate, Option, Some, None}
+use Rattle.std.specs.Prelude.{ℕ, zero, suc, ◌-◌, ◌/◌, nat_le, Bool, true, false, if◌then◌else◌, List, [], ◌∷◌, ◌++◌, get_or, length, map, replicate, Option, Some, None}
 use Rattle.control_table.specs.layout.Entries.{Site}
 use Rattle.replay_lines.specs.Names.{node_names}
 use Rattle.control_table.specs.sci_telegram.declared.message.Position.{Position}
@@ -31,6 +31,10 @@ pub record Hearing : Type 0 where
 pub record RoundHeard : Type 0 where
   pub reading : ℕ
   pub heard : List Hearing
+  -- what was asked for in it beside the script
+  pub asked : List Event
+  -- of each point, whether it didn't reach an end position in it, however long it was driven; where there are fewer, of the first ones
+  pub jammed : List Bool
 
 -- ---- how far a run has come
 
@@ -83,10 +87,17 @@ reach reading place None = []
 reach reading place (Some drive) =
     if nat_le 500000 (reading - drive.since) then Reach (record { 0 = place }) (end_position drive.side) ∷ [] else []
 
+-- a jammed point counts as one that isn't driven
+abbrev pub is_jammed : List Bool → ℕ → Bool
+is_jammed jammed place = get_or jammed place false
+
+abbrev pub unless_jammed : List Bool → ℕ → Option Drive → Option Drive
+unless_jammed jammed place drive = if is_jammed jammed place then None else drive
+
 -- the points from this place on
-abbrev pub reaches : ℕ → ℕ → List (Option Drive) → List Event
-reaches reading place [] = []
-reaches reading place (drive ∷ more) = reach reading place drive ++ reaches reading (suc place) more
+abbrev pub reaches : List Bool → ℕ → ℕ → List (Option Drive) → List Event
+reaches jammed reading place [] = []
+reaches jammed reading place (drive ∷ more) = reach reading place (unless_jammed jammed place drive) ++ reaches jammed reading (suc place) more
 
 abbrev pub is_same : Side → Side → Bool
 is_same sides.Right sides.Right = true
@@ -114,8 +125,8 @@ ticks (suc node) = ticks node ++ Tick (record { 0 = node }) ∷ []
 abbrev pub passed : RunSoFar → ℕ → ℕ
 passed so_far reading = (reading - so_far.first) / 1000
 
--- Time goes on at equal rates; each node hears; the lines of the script that are due; points reach their end positions; each
--- node ticks.
+-- Time goes on at equal rates; each node hears; the lines of the script that are due; what was asked for; points reach their end
+-- positions; each node ticks.
 abbrev pub round : Site → RunSoFar → RoundHeard → List Doing
 round site so_far one =
     let elapsed = one.reading - so_far.reading
@@ -123,8 +134,9 @@ round site so_far one =
     in Applying (Time elapsed (replicate nodes elapsed))
     ∷ (hearings 0 one.heard
     ++ (map Applying (due (passed so_far one.reading) so_far.left)
-    ++ (map Applying (reaches one.reading 0 so_far.drives)
-    ++ map Applying (ticks nodes))))
+    ++ (map Applying one.asked
+    ++ (map Applying (reaches one.jammed one.reading 0 so_far.drives)
+    ++ map Applying (ticks nodes)))))
 
 -- how far a run has come after a round at this reading that left the station so
 abbrev pub run_after : {State : Type 0} → Behaviour State → State → RunSoFar → ℕ → RunSoFar

@@ -16,7 +16,7 @@ pub(crate) struct Drive {
 
 /// How far a run has come.
 #[derive(Drop)]
-pub(crate) struct Course<'a> {
+pub struct Course<'a> {
     /// The clock when it began, in microseconds.
     pub(crate) first: u64,
     /// The clock at the last round.

@@ -1,11 +1,11 @@
-//! The other events of a round: time, the script, points that reach their end positions, and ticks.
+//! The other events of a round: time, the script, what is asked for, points that reach their end positions, and ticks.
 
 ghost use Rattle.std.specs.Prelude.{◌≡◌, [], ◌∷◌, length, map, replicate, OnErr, OnOk, ℕ};
 ghost use Rattle.simulator_event.specs.declared.event.Event.TheVariants.{Time};
 ghost use Rattle.replay_lines.specs.Names.{node_names};
 ghost use Rattle.station_drive.specs.Doings.{Applying, Performs, Stops};
 ghost use Rattle.station_drive.specs.Inside.{waiting};
-ghost use Rattle.station_drive.specs.Rounds.{due, end_position, reach, reaches, ticks};
+ghost use Rattle.station_drive.specs.Rounds.{due, end_position, is_jammed, reach, reaches, ticks, unless_jammed};
 
 use crate::course::Drive;
 use crate::datagrams::Datagrams;
@@ -72,17 +72,36 @@ pub(crate) fn apply_due<S: Station, N: Datagrams, W: Write>(
     Ok(())
 }
 
-/// The points that were driven for their whole way reach their end positions.
+/// Applies what is asked for, in order.
+pub(crate) fn apply_asked<S: Station, N: Datagrams, W: Write>(
+    alloc: Global,
+    station: &mut S,
+    net: &mut N,
+    recorder: &mut W,
+    asked: &[Event],
+) -> Result<(), DriveFault>
+    ensures done { OnOk result (Performs S.does (S.site station.old) (map Applying asked.now) (S.state station.old) (S.state station.new) (N.calls net.old) (N.calls net.new) (W.contents recorder.old) (W.contents recorder.new)) }
+    ensures stopped { OnErr result (Stops S.does (S.site station.old) (map Applying asked.now) (S.state station.old) (S.state station.new) (N.calls net.old) (N.calls net.new) (W.contents recorder.old) (W.contents recorder.new)) }
+    ensures site { S.site station.new ≡ S.site station.old }
+{
+    for place in 0..asked.len() {
+        perform(alloc, station, net, recorder, &asked[place])?;
+    }
+    Ok(())
+}
+
+/// The points that were driven for their whole way reach their end positions, but those that are jammed.
 pub(crate) fn reach_all<S: Station, N: Datagrams, W: Write>(
     alloc: Global,
     station: &mut S,
     net: &mut N,
     recorder: &mut W,
     drives: &[Option<Drive>],
+    jammed: &[bool],
     reading: u64,
 ) -> Result<(), DriveFault>
-    ensures done { OnOk result (Performs S.does (S.site station.old) (map Applying (reaches reading 0 drives.now)) (S.state station.old) (S.state station.new) (N.calls net.old) (N.calls net.new) (W.contents recorder.old) (W.contents recorder.new)) }
-    ensures stopped { OnErr result (Stops S.does (S.site station.old) (map Applying (reaches reading 0 drives.now)) (S.state station.old) (S.state station.new) (N.calls net.old) (N.calls net.new) (W.contents recorder.old) (W.contents recorder.new)) }
+    ensures done { OnOk result (Performs S.does (S.site station.old) (map Applying (reaches jammed.now reading 0 drives.now)) (S.state station.old) (S.state station.new) (N.calls net.old) (N.calls net.new) (W.contents recorder.old) (W.contents recorder.new)) }
+    ensures stopped { OnErr result (Stops S.does (S.site station.old) (map Applying (reaches jammed.now reading 0 drives.now)) (S.state station.old) (S.state station.new) (N.calls net.old) (N.calls net.new) (W.contents recorder.old) (W.contents recorder.new)) }
     ensures site { S.site station.new ≡ S.site station.old }
 {
     for (place, drive) in drives.iter().enumerate() {
@@ -92,11 +111,31 @@ pub(crate) fn reach_all<S: Station, N: Datagrams, W: Write>(
             net,
             recorder,
             PointId(place),
-            *drive,
+            unless_jammed(jammed, place, *drive),
             reading,
         )?;
     }
     Ok(())
+}
+
+/// The drive of a point; none where it is jammed.
+fn unless_jammed(jammed: &[bool], place: usize, drive: Option<Drive>) -> Option<Drive>
+    ensures { result ≡ unless_jammed jammed.now place drive }
+{
+    if is_jammed(jammed, place) {
+        None
+    } else {
+        drive
+    }
+}
+
+fn is_jammed(jammed: &[bool], place: usize) -> bool
+    ensures { result ≡ is_jammed jammed.now place }
+{
+    match jammed.get(place) {
+        Some(is_jammed) => *is_jammed,
+        None => false,
+    }
 }
 
 /// A point reaches its end position, if it was driven for its whole way.

@@ -10,7 +10,7 @@ use crate::clock::Clock;
 use crate::course::{Course, Drive};
 use crate::datagrams::Datagrams;
 use crate::datagrams_heard::hear_all;
-use crate::events::{apply_due, pass, reach_all, tick_all};
+use crate::events::{apply_asked, apply_due, pass, reach_all, tick_all};
 use crate::events_performed::flush;
 use crate::fault::DriveFault;
 use crate::station::Station;
@@ -44,7 +44,16 @@ pub fn drive<S: Station, N: Datagrams, C: Clock, W: Write>(
     let mut course = begin(alloc, station, script, first)?;
     for _ in 0..u64::MAX {
         let reading = clock.read();
-        round(alloc, station, net, recorder, &mut course, reading)?;
+        round(
+            alloc,
+            station,
+            net,
+            recorder,
+            &mut course,
+            reading,
+            &[],
+            &[],
+        )?;
         if millis_since(first, reading) >= for_ms {
             return Ok(());
         }
@@ -68,7 +77,7 @@ fn millis_since(earlier: u64, reading: u64) -> u64
 }
 
 /// A run begins: no line of the script was applied, and no point was seen driven.
-fn begin<'a, S: Station>(
+pub fn begin<'a, S: Station>(
     alloc: Global,
     station: &S,
     script: &'a [(u64, Event)],
@@ -85,19 +94,22 @@ fn begin<'a, S: Station>(
     })
 }
 
-/// A round at a clock reading. The record is flushed at its end.
-fn round<S: Station, N: Datagrams, W: Write>(
+/// A round at a clock reading, in which these events are asked for beside the script. A point that is jammed doesn't reach an end
+/// position, however long it is driven. The record is flushed at its end.
+pub fn round<S: Station, N: Datagrams, W: Write>(
     alloc: Global,
     station: &mut S,
     net: &mut N,
     recorder: &mut W,
     course: &mut Course<'_>,
     reading: u64,
+    asked: &[Event],
+    jammed: &[bool],
 ) -> Result<(), DriveFault>
     requires { length course.old.drives ≡ length (S.site station.old).points }
-    ensures done { OnOk result ((heard : List Hearing) × (length heard ≡ length (node_names (S.site station.old))) × Performs S.does (S.site station.old) (round (S.site station.old) course.old (record { reading = reading; heard = heard })) (S.state station.old) (S.state station.new) (N.calls net.old) (N.calls net.new) (W.contents recorder.old) (W.contents recorder.new)) }
+    ensures done { OnOk result ((heard : List Hearing) × (length heard ≡ length (node_names (S.site station.old))) × Performs S.does (S.site station.old) (round (S.site station.old) course.old (record { reading = reading; heard = heard; asked = asked.now; jammed = jammed.now })) (S.state station.old) (S.state station.new) (N.calls net.old) (N.calls net.new) (W.contents recorder.old) (W.contents recorder.new)) }
     ensures course { OnOk result (course.new ≡ run_after S.does (S.state station.new) course.old reading) }
-    ensures stopped { OnErr result ((heard : List Hearing) × (length heard ≡ length (node_names (S.site station.old))) × Stops S.does (S.site station.old) (round (S.site station.old) course.old (record { reading = reading; heard = heard })) (S.state station.old) (S.state station.new) (N.calls net.old) (N.calls net.new) (W.contents recorder.old) (W.contents recorder.new)) }
+    ensures stopped { OnErr result ((heard : List Hearing) × (length heard ≡ length (node_names (S.site station.old))) × Stops S.does (S.site station.old) (round (S.site station.old) course.old (record { reading = reading; heard = heard; asked = asked.now; jammed = jammed.now })) (S.state station.old) (S.state station.new) (N.calls net.old) (N.calls net.new) (W.contents recorder.old) (W.contents recorder.new)) }
     ensures site { S.site station.new ≡ S.site station.old }
 {
     let passed = millis_since(course.first, reading);
@@ -105,7 +117,16 @@ fn round<S: Station, N: Datagrams, W: Write>(
     pass(alloc, station, net, recorder, elapsed)?;
     hear_all(alloc, station, net, recorder)?;
     apply_due(alloc, station, net, recorder, &course.left, passed)?;
-    reach_all(alloc, station, net, recorder, &course.drives, reading)?;
+    apply_asked(alloc, station, net, recorder, asked)?;
+    reach_all(
+        alloc,
+        station,
+        net,
+        recorder,
+        &course.drives,
+        jammed,
+        reading,
+    )?;
     tick_all(alloc, station, net, recorder)?;
     flush(recorder)?;
     course.left = course.left.after(passed);

@@ -2,7 +2,7 @@ use Rattle.std.proofs.Common.{◌≡◌, ◌<◌, ◌-◌, ◌/◌, ◌∷◌, L
 use Rattle.std.specs.List.{AllByRecursion}
 use Rattle.station_drive.specs.Told.{Grows}
 use Rattle.station_drive.specs.Doings.{Performs}
-use Rattle.station_drive.specs.Drives.{IsWhole, beginning}
+use Rattle.station_drive.specs.Drives.{IsPlain, beginning}
 use Rattle.station_drive.specs.Rounds.{RoundHeard, rounds}
 use Rattle.station_drive.proofs.Turns.{standing_end}
 use Rattle.station_drive.proofs.rounds.drive.Given as goal
@@ -14,7 +14,7 @@ invariant-loop g l =
     let site = s.site l.fn.station in
     (turns : List RoundHeard)
     × Grows (g.C.Clock.readings l.fn.clock) (g.C.Clock.readings l.clock) (l.first ∷ map (λ turn. turn.reading) turns)
-    × AllByRecursion (IsWhole site) turns
+    × AllByRecursion (IsPlain site) turns
     × AllByRecursion (λ turn. (turn.reading - l.first) / 1000 < l.for_ms) turns
     × Performs s.does site (rounds s.does site (s.state l.fn.station) (beginning site l.script l.first) turns) (s.state l.fn.station) (s.state l.station)
     (g.N.Datagrams.calls l.fn.net) (g.N.Datagrams.calls l.net) (g.W.Write.contents l.fn.recorder) (g.W.Write.contents l.recorder)
