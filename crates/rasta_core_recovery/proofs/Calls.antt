@@ -6,7 +6,7 @@ use Rattle.rasta_core_run.specs.Clock.{settled, deadline, state_at, open_state}
 use Rattle.rasta_core_run.specs.PdusHandedOut.{Step, silent, then_do, sending, limited, entered, beating}
 use Rattle.rasta_core_run.specs.Establishment.{requesting, is_down, may_open}
 use Rattle.rasta_core_run.specs.Receipt.{hearing}
-use Rattle.rasta_core_run.specs.Calls.{opening, ticking}
+use Rattle.rasta_core_run.specs.Calls.{opens, opening, ticking}
 use Rattle.rasta_core_run.specs.identity.Role.{Role}
 use Rattle.rasta_core_run.specs.identity.Role.TheVariants as role
 use Rattle.rasta_core_run.specs.phase.Phase.{Phase}
@@ -68,6 +68,17 @@ opening_lives now l lives = ap (λ (s : Step). then_do s (λ k. if may_open k th
     both : (b : Bool) → (if b && false then requesting (at_reading now l) else silent (at_reading now l)) ≡ silent (at_reading now l)
     both true = refl
     both false = refl
+
+pub may_not_open : (now : ℕ) (l : LinkState) → Lives now l → opens now l ≡ false
+unfolding opens state_at deadline
+may_not_open now l lives = ap (λ (s : Step). may_open s.link) (entered_lives now l lives) ∙ rw (lives.connected, young, not_down l.phase lives.connected) (never (is_client l.identity.role))
+  where
+    young : nat_lt now (l.own_stamp + 1800) ≡ true
+    young = let y = lives.young in grind (arith, nat_tests)
+
+    never : (b : Bool) → (b && false) ≡ false
+    never true = refl
+    never false = refl
 
 pub lives_on : (now : ℕ) (l : LinkState) → Lives now l → Lives now (at_reading now l)
 lives_on now l lives = record { connected = lives.connected; young = lives.young; room = lives.room }

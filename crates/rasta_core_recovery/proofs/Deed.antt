@@ -6,7 +6,7 @@ use Rattle.rasta_core_run.specs.Sequence.{wire}
 use Rattle.rasta_core_run.specs.State.{LinkState, is_open, is_asking, is_client}
 use Rattle.rasta_core_run.specs.Clock.{state_at, deadline, open_state}
 use Rattle.rasta_core_run.specs.PdusHandedOut.{sending, telling, header_of, pdu_of}
-use Rattle.rasta_core_run.specs.Receipt.{Receipt, refusing, violating, age, ahead, behind, is_stale, confirms, taking, answering, repeating, retagged, repeated, missing, handing, bringing, in_turn, admission, admitting, testing, is_opening_again, connected, asking, by_state, hearing}
+use Rattle.rasta_core_run.specs.Receipt.{Receipt, refusing, violating, age, ahead, behind, is_stale, confirms, still_waiting, taking, answering, repeating, retagged, repeated, missing, handing, bringing, in_turn, admission, admitting, testing, is_opening_again, connected, asking, by_state, hearing}
 use Rattle.rasta_core_run.specs.header.Header.{Header}
 use Rattle.rasta_core_run.specs.verdict.Verdict.TheVariants as verdict
 use Rattle.rasta_core_run.specs.phase.Phase.{Phase}
@@ -64,6 +64,9 @@ pub record Taken (p : Pdu) (l k : LinkState) (ps : List Pdu) : Type 0 where
   pub sent_at : ((ps ≡ []) × (k.sent_at ≡ l.sent_at)) ⊎ ((k.sent_at ≡ l.clock) × (ps ≡ [] → ⊥))
   pub calm : IsPlain p.body → ps ≡ []
   pub turn : (p.body ≡ RetransmissionResponse) ⊎ InTurn p l
+  -- no item is given by it, and none waits again
+  pub given : k.given ≡ l.given
+  pub waiting : IsPlain p.body → k.waiting ≡ still_waiting (l.sent - 1 - behind p l) l.waiting
 
 -- a PDU is missing, and is asked for
 pub record Asked (l k : LinkState) (ps : List Pdu) : Type 0 where
@@ -101,6 +104,8 @@ module _ (l : LinkState) (p : Pdu) (connected_is : is_open l.phase ≡ true) (jo
     sent_at = inr (refl, λ e. absurd (some_said e));
     calm = λ plain. absurd (subst IsPlain is plain);
     turn = inr turn;
+    given = refl;
+    waiting = λ plain. absurd (subst IsPlain is plain);
   })
     where
       t : LinkState
@@ -128,6 +133,8 @@ module _ (l : LinkState) (p : Pdu) (connected_is : is_open l.phase ≡ true) (jo
     sent_at = inl (refl, refl);
     calm = λ is. refl;
     turn = inr turn;
+    given = refl;
+    waiting = λ is. refl;
   })
 
   handed_again : (items : List (List ℕ)) → is_reading l.phase ≡ true → InTurn p l → Deed p l (handing items (taking p l)).link []
@@ -143,6 +150,8 @@ module _ (l : LinkState) (p : Pdu) (connected_is : is_open l.phase ≡ true) (jo
     sent_at = inl (refl, refl);
     calm = λ is. refl;
     turn = inr turn;
+    given = refl;
+    waiting = λ is. refl;
   })
 
   comes_up : InTurn p l → Deed p l (record (taking p l) { phase = phase.Up }) []
@@ -158,6 +167,8 @@ module _ (l : LinkState) (p : Pdu) (connected_is : is_open l.phase ≡ true) (jo
     sent_at = inl (refl, refl);
     calm = λ is. refl;
     turn = inr turn;
+    given = refl;
+    waiting = λ is. refl;
   })
 
   resumes : p.body ≡ RetransmissionResponse → Deed p l (record (taking p l) { phase = phase.RetransmissionRunning }) []
@@ -173,6 +184,8 @@ module _ (l : LinkState) (p : Pdu) (connected_is : is_open l.phase ≡ true) (jo
     sent_at = inl (refl, refl);
     calm = λ plain. refl;
     turn = inl is;
+    given = refl;
+    waiting = λ plain. refl;
   })
 
   closes_by : (IsSimple p.body → ⊥) → Deed p l (record (taking p l) { phase = phase.Closed; closed_at = l.clock }) []

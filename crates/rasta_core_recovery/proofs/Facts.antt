@@ -9,11 +9,12 @@ use Rattle.rasta_core_run.specs.pdu.Pdu.{Pdu}
 use Rattle.rasta_core_run.specs.Bag.{lifetime}
 use Rattle.rasta_core_run.specs.Each.{Each}
 use Rattle.rasta_core_run.specs.Ends.{Sent}
+use Rattle.rasta_core_run.specs.Run.{Ends}
 use Rattle.rasta_core_run.specs.Names.{Names, identity_of}
 use Rattle.rasta_core.specs.TimedEnds.{Inside, Outside, IsInside, IsOutside, HasHeard, own_stamp, heard_stamp, closed_at, standing, Times, times_of}
 use Rattle.rasta_core.specs.Timely.{IsKnown}
 use Rattle.rasta_core.specs.Invariant.{InFlight, Timely}
-use Rattle.rasta_core.specs.Ordered.{Ordered, unbegun, alone, together}
+use Rattle.rasta_core.specs.Ordered.{AreTogether, Ordered, unbegun, alone, together}
 use Rattle.rasta_core.specs.EndFlow.{EndFlow}
 use Rattle.rasta_core.specs.LinkAndFlow.{Plays, joined, asking, left, HasJoined}
 use Rattle.rasta_core_recovery.proofs.Links.{Pair}
@@ -68,6 +69,21 @@ has_heard l e joined_is = subst HasHeard (sym (standing_in l e ∙ ap (λ (b : B
 
 of_open : (link : LinkState) → is_open link.phase ≡ false → is_open link.phase ≡ true → ⊥
 of_open link e f = cc
+
+-- two ends inside are in one connection, in order
+pub are_together : (names : Names) (ends : Ends) → Timely names ends → Ordered names ends → is_open ends.client.link.phase ≡ true → is_open ends.server.link.phase ≡ true → AreTogether names ends
+are_together names ends timely ordered client_in server_in = of_order ordered
+  where
+    newest_client : ends.client.connection ≡ Some timely.newest
+    newest_client = timely.ends_timed.client.in_newest (is_inside ends.client.link client_in)
+
+    newest_server : ends.server.connection ≡ Some timely.newest
+    newest_server = timely.ends_timed.server.in_newest (is_inside ends.server.link server_in)
+
+    of_order : Ordered names ends → AreTogether names ends
+    of_order (unbegun e) = absurd (cc (e, newest_client))
+    of_order (alone a) = absurd (a.not_of_server (newest_server ∙ sym newest_client ∙ a.of_client))
+    of_order (together t) = t
 
 module _ (names : Names) (f : Flow) (p : Pair) (m : Mirrors names f p) (ordered : Ordered names f.ends) where
   abbrev timely : Timely names f.ends
@@ -150,23 +166,15 @@ module _ (names : Names) (f : Flow) (p : Pair) (m : Mirrors names f p) (ordered 
       not_client l e = grind (arith, e)
 
   both_share : is_open c.phase ≡ true → is_asking c ≡ false → is_open s.phase ≡ true → Shares c s × Shares s c
-  both_share client_in client_joined server_in = of_order ordered
+  both_share client_in client_joined server_in = of_order (are_together names f.ends timely ordered client_in server_in)
     where
-      newest_client : f.ends.client.connection ≡ Some timely.newest
-      newest_client = timely.ends_timed.client.in_newest (is_inside c client_in)
-
-      newest_server : f.ends.server.connection ≡ Some timely.newest
-      newest_server = timely.ends_timed.server.in_newest (is_inside s server_in)
-
       plays_in : (l : LinkState) (own other : EndFlow) → is_open l.phase ≡ true → is_asking l ≡ false → Plays l own other → HasJoined l own other
       plays_in l own other is_in joined_is (joined h) = h
       plays_in l own other is_in joined_is (asking a) = absurd (cc (a.asking, joined_is))
       plays_in l own other is_in joined_is (left out keeps) = absurd (of_open l out is_in)
 
-      of_order : Ordered names f.ends → Shares c s × Shares s c
-      of_order (unbegun e) = absurd (cc (e, newest_client))
-      of_order (alone a) = absurd (a.not_of_server (newest_server ∙ sym newest_client ∙ a.of_client))
-      of_order (together t) =
+      of_order : AreTogether names f.ends → Shares c s × Shares s c
+      of_order t =
           let x = plays_in c t.client t.server client_in client_joined t.client_plays in
           let y = plays_in s t.server t.client server_in (server_joined server_in) t.server_plays in
           let there = t.order.back.counts in let back = t.order.there.counts in (

@@ -1,5 +1,5 @@
 -- Two ends at work that are up and stay so: each takes what the other says, and has been heard lately.
-use Rattle.std.proofs.Common.{◌≡◌, ℕ, ◌+◌, ◌^◌, ◌≤◌, ◌<◌, ◌⊎◌, inl, inr, Bool, true, false, List, [], ◌∷◌, refl, ap, subst, arith}
+use Rattle.std.proofs.Common.{◌≡◌, ℕ, ◌+◌, ◌^◌, ◌≤◌, ◌<◌, ◌⊎◌, inl, inr, Bool, true, false, List, [], ◌∷◌, refl, sym, ap, subst, arith}
 use Rattle.rasta_core_run.specs.State.{LinkState, is_up}
 use Rattle.rasta_core_run.specs.Clock.{settled}
 use Rattle.rasta_core_run.specs.PdusHandedOut.{Step}
@@ -13,7 +13,9 @@ use Rattle.rasta_core_recovery.proofs.Calls.{at_reading}
 use Rattle.rasta_core_recovery.proofs.Fold.{settled_in}
 use Rattle.rasta_core_recovery.proofs.Health.{reading_up}
 use Rattle.rasta_core_recovery.proofs.TunedEnds.{IsPlainPdu, Round, Bounds}
-use Rattle.rasta_core_recovery.proofs.Turn.{EndMode}
+use Rattle.rasta_core_recovery.proofs.Turn.{EndMode, reading_joined}
+use Rattle.rasta_core_recovery.proofs.Given.{Grows}
+use Rattle.rasta_core_recovery.proofs.Within.{Within, all_grow, work_brings}
 use Rattle.rasta_core_recovery.proofs.Converse.{Way, Talk, client_round, server_round, hearing_now}
 use Rattle.rasta_core_recovery.proofs.WorkTurn.{IsSimplePdu, simple_are_plain, Worked, Left, has_left, stays_in, works_surely}
 use Rattle.rasta_core_recovery.proofs.WorkTalk.{Goes, client_bounds, server_bounds, both_go}
@@ -244,6 +246,38 @@ module _ (names : Names) (p : Pair) (r : WorkRound p) (c : Closely names p) (cli
     before = c.to_server.way.sent_before;
     calm = c.to_server.calm;
   }
+
+  level_then : (x : Round) (b : Bounds x) (y : Bool) (kept : ℕ) (k : LinkState) → y ≡ true → EndMode x b y kept k → k.expected ≡ x.end
+  level_then x b false kept k e mode = absurd (cc e)
+  level_then x b true kept k e mode = mode.0.expected
+
+  -- each then expects what the other says next
+  pub client_level : (behind p r).client.expected ≡ p.server.sent
+  client_level = level_then xc bc client_worked.heeds.then_tuned client_worked.heeds.says.kept (client_step p r).link (client_worked.heeds.keeps refl) client_worked.heeds.mode
+
+  pub server_level : (behind p r).server.expected ≡ p.client.sent
+  server_level = level_then xs bs server_worked.heeds.then_tuned server_worked.heeds.says.kept (server_step p r).link (server_worked.heeds.keeps refl) server_worked.heeds.mode
+
+  client_all : Within (p.client.clock + 10) r.client_acts (at_reading (p.client.clock + 10) p.client) × Grows (at_reading (p.client.clock + 10) p.client) (all_did (p.client.clock + 10) r.client_acts (at_reading (p.client.clock + 10) p.client)).link
+  client_all = all_grow (p.client.clock + 10) r.client_acts (at_reading (p.client.clock + 10) p.client) (reading_joined (p.client.clock + 10) p.client c.to_client.way.is refl client_young) client_room
+      (subst (Each IsSimplePdu) (sym (work_brings role.Client p.to_client r.client_acts r.client_work)) c.to_client.simple)
+
+  server_all : Within (p.server.clock + 10) r.server_acts (at_reading (p.server.clock + 10) p.server) × Grows (at_reading (p.server.clock + 10) p.server) (all_did (p.server.clock + 10) r.server_acts (at_reading (p.server.clock + 10) p.server)).link
+  server_all = all_grow (p.server.clock + 10) r.server_acts (at_reading (p.server.clock + 10) p.server) (reading_joined (p.server.clock + 10) p.server c.to_server.way.is refl server_young) server_room
+      (subst (Each IsSimplePdu) (sym (work_brings role.Server p.to_server r.server_acts r.server_work)) c.to_server.simple)
+
+  -- and each stays in its connection, and gives on in it
+  pub client_within : Within (p.client.clock + 10) r.client_acts (settled (p.client.clock + 10) p.client)
+  client_within = subst (Within (p.client.clock + 10) r.client_acts) (sym client_on) client_all.0
+
+  pub server_within : Within (p.server.clock + 10) r.server_acts (settled (p.server.clock + 10) p.server)
+  server_within = subst (Within (p.server.clock + 10) r.server_acts) (sym server_on) server_all.0
+
+  pub client_grows : Grows p.client (behind p r).client
+  client_grows = let g = subst (λ (s : Step). Grows (at_reading (p.client.clock + 10) p.client) s.link) (sym client_does) client_all.1 in record { sent = g.sent; waits = g.waits }
+
+  pub server_grows : Grows p.server (behind p r).server
+  server_grows = let g = subst (λ (s : Step). Grows (at_reading (p.server.clock + 10) p.server) s.link) (sym server_does) server_all.1 in record { sent = g.sent; waits = g.waits }
 
 -- health at work is kept by a round
 pub hale_on : (names : Names) (p : Pair) (r : WorkRound p) → Hale names p → Hale names (behind p r)

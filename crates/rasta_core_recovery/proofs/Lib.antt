@@ -30,10 +30,12 @@ pub mod Gaps
 pub mod Recovers
 -- Rounds at work.
 pub mod Acts
+pub mod Given
 pub mod Own
 pub mod WorkFold
 pub mod WorkTurn
 pub mod WorkTalk
+pub mod Within
 pub mod Hale
 pub mod WorkOpens
 pub mod WorkAsks
@@ -41,6 +43,7 @@ pub mod WorkNew
 pub mod WorkFates
 pub mod WorkBridge
 pub mod WorkRecovers
+pub mod HandOver
 pub mod WorkGood
 -- Rounds that go wrong.
 pub mod Wrong

@@ -1,11 +1,13 @@
 -- What an end says of its own: a heartbeat, and the items that it is given; and what is done at an end that is outside.
-use Rattle.std.proofs.Common.{◌≡◌, ℕ, ◌∙◌, ◌+◌, ◌-◌, ◌<◌, ◌⊎◌, inl, inr, Bool, true, false, ◌&&◌, nat_le, if◌then◌else◌, List, [], ◌∷◌, ◌++◌, refl, sym, ap, subst, arith}
+use Rattle.std.proofs.Common.{◌≡◌, ℕ, ◌∙◌, ◌+◌, ◌-◌, ◌^◌, ◌<◌, ◌⊎◌, inl, inr, Bool, true, false, ◌&&◌, nat_le, if◌then◌else◌, List, [], ◌∷◌, ◌++◌, refl, sym, ap, subst, arith}
 use Rattle.std.specs.Prelude.{is_ok}
+use Rattle.rasta_core_run.specs.Parameters.{stops_at_greatest}
 use Rattle.rasta_core_run.specs.State.{LinkState, is_open, is_up}
 use Rattle.rasta_core_run.specs.PdusHandedOut.{Step, silent, then_do, sending, entered, beating, giving, header_of, pdu_of}
 use Rattle.rasta_core_run.specs.Calls.{ticking, opening, sending_item, acceptance}
 use Rattle.rasta_core_run.specs.pdu.Pdu.{Pdu}
 use Rattle.rasta_core_run.specs.body.Body.TheVariants.{Heartbeat}
+use Rattle.rasta_core_recovery.proofs.Given.{Grows, grows_none, one_more_waits}
 use Rattle.rasta_core_recovery.proofs.Acts.{Act, Hears, Beats, Asks, Gives, did, all_did, HasRoom}
 use Rattle.rasta_core_recovery.proofs.Calls.{Lives, at_reading, entered_lives, ticking_calm, ticking_beats, opening_lives}
 use Rattle.rasta_core_recovery.proofs.Words.{IsSimple, Says}
@@ -18,9 +20,10 @@ pub record Utters (l k : LinkState) (qs : List Pdu) : Type 0 where
   pub says : Says IsSimple (header_of l) l.sent qs k.sent
   pub sent_at : ((qs ≡ []) × (k.sent_at ≡ l.sent_at)) ⊎ ((k.sent_at ≡ l.clock) × (qs ≡ [] → ⊥))
   pub mute : is_up l.phase ≡ false → qs ≡ []
+  pub grows : Grows l k
 
 pub utters_none : (l : LinkState) → Utters l l []
-utters_none l = record { same = refl; says = refl; sent_at = inl (refl, refl); mute = λ e. refl }
+utters_none l = record { same = refl; says = refl; sent_at = inl (refl, refl); mute = λ e. refl; grows = grows_none l }
 
 utters_as : (l : LinkState) (s t : Step) → s ≡ t → Utters l t.link t.pdus → Utters l s.link s.pdus
 utters_as l s t e u = subst (λ (x : Step). Utters l x.link x.pdus) (sym e) u
@@ -30,11 +33,23 @@ some_said e = cc
 
 utters_beat : (l : LinkState) → is_up l.phase ≡ true → Utters l (sending Heartbeat l).link (sending Heartbeat l).pdus
 unfolding sending pdu_of
-utters_beat l up = record { same = refl; says = (refl, tt, refl); sent_at = inr (refl, λ e. some_said e); mute = λ e. absurd (cc (e, up)) }
+utters_beat l up = record { same = refl; says = (refl, tt, refl); sent_at = inr (refl, λ e. some_said e); mute = λ e. absurd (cc (e, up)); grows = record { sent = omega arith; waits = λ few. (omega arith, λ number most. omega arith) } }
 
 utters_item : (item : List ℕ) (l : LinkState) → is_up l.phase ≡ true → Utters l (giving item l).link (giving item l).pdus
 unfolding giving sending pdu_of
-utters_item item l up = record { same = refl; says = (refl, tt, refl); sent_at = inr (refl, λ e. some_said e); mute = λ e. absurd (cc (e, up)) }
+utters_item item l up = record {
+  same = refl;
+  says = (refl, tt, refl);
+  sent_at = inr (refl, λ e. some_said e);
+  mute = λ e. absurd (cc (e, up));
+  grows = record {
+    sent = omega arith;
+    waits = λ few. let one = one_more l.given few in (omega (arith, one), λ number most. let more = one_more_waits number l.waiting (record { tag = l.sent; item = item }) in omega (arith, one, more));
+  };
+}
+  where
+    one_more : (given : ℕ) → stops_at_greatest (given + 1) < 2 ^ 32 → stops_at_greatest (given + 1) ≡ given + 1
+    one_more given few = grind (arith, few)
 
 pub lives_of : (now : ℕ) (l : LinkState) → Lively now l → HasRoom l → Lives now l
 lives_of now l is room = record { connected = is.connected; young = is.young; room = room is.connected }

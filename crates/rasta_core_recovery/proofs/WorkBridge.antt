@@ -13,7 +13,7 @@ use Rattle.rasta_core_run.specs.identity.Role.TheVariants as role
 use Rattle.rasta_core_run.specs.reason.Reason.{Reason}
 use Rattle.rasta_core_run.specs.pdu.Pdu.{Pdu}
 use Rattle.rasta_core_run.specs.Each.{Each}
-use Rattle.rasta_core_run.specs.Ends.{Sent, EndState, Call, Ticks, Opens, Closes, Sends, Receives, outcome, end_after, reading_of}
+use Rattle.rasta_core_run.specs.Ends.{Sent, EndState, Call, Ticks, Opens, Closes, Sends, Receives, outcome, end_after, end_later, reading_of}
 use Rattle.rasta_core_run.specs.Run.{Ends, called, later}
 use Rattle.rasta_core_run.specs.Events.{Event, Calls, Passes, Loses, Restarts, Elsewhere, MayRun, run}
 use Rattle.rasta_core_run.specs.Given.{is_same}
@@ -23,6 +23,8 @@ use Rattle.rasta_core_recovery.specs.Rounds.{Flow, can_come}
 use Rattle.rasta_core_recovery.specs.Work.{IsCall, called_in, calls_in, coming, all_coming, IsBeforeTick, IsBehindTick, LeavesOpen, clock_calls, IsWorkAt, due_to, HaveRoom, IsAtWork, work_round}
 use Rattle.rasta_core_recovery.proofs.Links.{Pair}
 use Rattle.rasta_core_recovery.proofs.Acts.{Act, Hears, Beats, Asks, Gives, did, all_did, acted, all_brought, clock_acts, IsBefore, IsGift, IsWork, HasRoom, Roomy, WorkRound, client_step, server_step, behind}
+use Rattle.rasta_core_recovery.proofs.Course.{Joined}
+use Rattle.rasta_core_recovery.proofs.Within.{Within, Continues, continues_none, continues_then, call_continues}
 use Rattle.rasta_core_recovery.proofs.Mirror.{Mirrors, AreRead, arriving, bytes_from}
 use Rattle.rasta_core_recovery.proofs.Bridge.{KeepsTime, WrittenIsRead, HandsOut, Sends as Posts, IsNow, sends_none, sends_then, client_calls, server_calls, read_back, client_link, server_link, client_alone, server_alone, now_arrives, drop_append, passed_on, ten_later}
 
@@ -132,15 +134,17 @@ record Done (names : Names) (old new : Ends) (client_calls server_calls : List C
   timely : Timely names new
   client_room : Roomy (reading_of old.client.clock) client_acts old.client.link
   server_room : Roomy (reading_of old.server.clock) server_acts old.server.link
+  client_on : Within (reading_of old.client.clock) client_acts old.client.link → Continues old.client new.client
+  server_on : Within (reading_of old.server.clock) server_acts old.server.link → Continues old.server new.server
 
 done_none : (names : Names) (ends : Ends) → Timely names ends → HaveRoom [] ends → Done names ends ends [] []
 unfolding all_did
-done_none names ends is room = record { client_acts = []; server_acts = []; client_as = tt; server_as = tt; client = refl; server = refl; sends = sends_none names ends; timely = is; client_room = room.0; server_room = room.1 }
+done_none names ends is room = record { client_acts = []; server_acts = []; client_as = tt; server_as = tt; client = refl; server = refl; sends = sends_none names ends; timely = is; client_room = room.0; server_room = room.1; client_on = λ in_it. continues_none ends.client; server_on = λ in_it. continues_none ends.server }
 
 done_client : (names : Names) (a b c : Ends) (call : Call) (act : Act) (cc cs : List Call) → ActsAs names.key call act → b.client.link ≡ (did (reading_of a.client.clock) act a.client.link).link → b.client.clock ≡ a.client.clock → b.server ≡ a.server
-    → Posts names a b [] (did (reading_of a.client.clock) act a.client.link).pdus → HasRoom a.client.link → Done names b c cc cs → Done names a c (call ∷ cc) cs
+    → Posts names a b [] (did (reading_of a.client.clock) act a.client.link).pdus → HasRoom a.client.link → (Joined (reading_of a.client.clock) a.client.link → Continues a.client b.client) → Done names b c cc cs → Done names a c (call ∷ cc) cs
 unfolding all_did
-done_client names a b c call act cc cs so_is link clock other sends room d = record {
+done_client names a b c call act cc cs so_is link clock other sends room goes d = record {
   client_acts = act ∷ d.client_acts;
   server_acts = d.server_acts;
   client_as = (so_is, d.client_as);
@@ -152,6 +156,8 @@ done_client names a b c call act cc cs so_is link clock other sends room d = rec
   timely = d.timely;
   client_room = (room, subst (λ (k : LinkState). Roomy now d.client_acts k) link (subst (λ (n : ℕ). Roomy (reading_of n) d.client_acts b.client.link) clock d.client_room));
   server_room = subst (λ (e : EndState). Roomy (reading_of e.clock) d.server_acts e.link) other d.server_room;
+  client_on = λ in_it. continues_then a.client b.client c.client (goes in_it.0) (d.client_on (subst (λ (n : ℕ). Within (reading_of n) d.client_acts b.client.link) (sym clock) (subst (λ (k : LinkState). Within now d.client_acts k) (sym link) in_it.1)));
+  server_on = subst (λ (e : EndState). Within (reading_of e.clock) d.server_acts e.link → Continues e c.server) other d.server_on;
 }
   where
     now : ℕ
@@ -161,9 +167,9 @@ done_client names a b c call act cc cs so_is link clock other sends room d = rec
     did_on x = ap (λ (n : ℕ). x (all_did (reading_of n) d.client_acts b.client.link)) clock ∙ ap (λ (k : LinkState). x (all_did now d.client_acts k)) link
 
 done_server : (names : Names) (a b c : Ends) (call : Call) (act : Act) (cc cs : List Call) → ActsAs names.key call act → b.server.link ≡ (did (reading_of a.server.clock) act a.server.link).link → b.server.clock ≡ a.server.clock → b.client ≡ a.client
-    → Posts names a b (did (reading_of a.server.clock) act a.server.link).pdus [] → HasRoom a.server.link → Done names b c cc cs → Done names a c cc (call ∷ cs)
+    → Posts names a b (did (reading_of a.server.clock) act a.server.link).pdus [] → HasRoom a.server.link → (Joined (reading_of a.server.clock) a.server.link → Continues a.server b.server) → Done names b c cc cs → Done names a c cc (call ∷ cs)
 unfolding all_did
-done_server names a b c call act cc cs so_is link clock other sends room d = record {
+done_server names a b c call act cc cs so_is link clock other sends room goes d = record {
   client_acts = d.client_acts;
   server_acts = act ∷ d.server_acts;
   client_as = d.client_as;
@@ -175,6 +181,8 @@ done_server names a b c call act cc cs so_is link clock other sends room d = rec
   timely = d.timely;
   client_room = subst (λ (e : EndState). Roomy (reading_of e.clock) d.client_acts e.link) other d.client_room;
   server_room = (room, subst (λ (k : LinkState). Roomy now d.server_acts k) link (subst (λ (n : ℕ). Roomy (reading_of n) d.server_acts b.server.link) clock d.server_room));
+  client_on = subst (λ (e : EndState). Within (reading_of e.clock) d.client_acts e.link → Continues e c.client) other d.client_on;
+  server_on = λ in_it. continues_then a.server b.server c.server (goes in_it.0) (d.server_on (subst (λ (n : ℕ). Within (reading_of n) d.server_acts b.server.link) (sym clock) (subst (λ (k : LinkState). Within now d.server_acts k) (sym link) in_it.1)));
 }
   where
     now : ℕ
@@ -207,7 +215,17 @@ done_elsewhere names count a c cc cs d = record {
   timely = d.timely;
   client_room = d.client_room;
   server_room = d.server_room;
+  client_on = d.client_on;
+  server_on = d.server_on;
 }
+
+client_continues : (call : Call) (ends : Ends) → Joined (reading_of ends.client.clock) ends.client.link → HasRoom ends.client.link → Continues ends.client (called role.Client call ends).client
+unfolding called
+client_continues call ends in_it room = call_continues call ends.moment ends.client in_it room
+
+server_continues : (call : Call) (ends : Ends) → Joined (reading_of ends.server.clock) ends.server.link → HasRoom ends.server.link → Continues ends.server (called role.Server call ends).server
+unfolding called
+server_continues call ends in_it room = call_continues call ends.moment ends.server in_it room
 
 key_of : (names : Names) (who : Role) (l : LinkState) (call : Call) (act : Act) → l.identity ≡ identity_of who names → ActsAs names.key call act → ActsAs l.identity.key call act
 key_of names who l call act identity so_is = subst (λ (i : Identity). ActsAs i.key call act) (sym identity) so_is
@@ -221,14 +239,14 @@ all_done keeps hands names are (Calls role.Client call ∷ calls) ends tc ts is 
     let does = one_client call t.act ends (key_of names role.Client ends.client.link call t.act is.client.identity t.so_is) in
     let mid : Ends = called role.Client call ends in
     done_client names ends mid (run calls mid) call t.act (calls_in role.Client calls) (calls_in role.Server calls) t.so_is does.0 (client_alone call ends).1 (client_alone call ends).0
-    (subst (λ (q : List Pdu). Posts names ends mid [] q) does.1 (client_calls hands names call ends is may.0)) room.0
+    (subst (λ (q : List Pdu). Posts names ends mid [] q) does.1 (client_calls hands names call ends is may.0)) room.0 (λ in_it. client_continues call ends in_it room.0)
     (all_done keeps hands names are calls mid t.left ts (keeps names (Calls role.Client call) ends are is may.0) only.1 oc.1 os t.rest rs may.1 room.2)
 all_done keeps hands names are (Calls role.Server call ∷ calls) ends tc ts is only oc os rc rs may room =
     let t = as_act names.key call (all_coming (calls_in role.Server calls)) ts os.0 rs in
     let does = one_server call t.act ends (key_of names role.Server ends.server.link call t.act is.server.identity t.so_is) in
     let mid : Ends = called role.Server call ends in
     done_server names ends mid (run calls mid) call t.act (calls_in role.Client calls) (calls_in role.Server calls) t.so_is does.0 (server_alone call ends).1 (server_alone call ends).0
-    (subst (λ (q : List Pdu). Posts names ends mid q []) does.1 (server_calls hands names call ends is may.0)) room.1
+    (subst (λ (q : List Pdu). Posts names ends mid q []) does.1 (server_calls hands names call ends is may.0)) room.1 (λ in_it. server_continues call ends in_it room.1)
     (all_done keeps hands names are calls mid tc t.left (keeps names (Calls role.Server call) ends are is may.0) only.1 oc os.1 rc t.rest may.1 room.2)
 all_done keeps hands names are (Elsewhere count ∷ calls) ends tc ts is only oc os rc rs may room = done_elsewhere names count ends (run calls (record ends { moment = ends.moment + count })) (calls_in role.Client calls) (calls_in role.Server calls)
     (all_done keeps hands names are calls (record ends { moment = ends.moment + count }) tc ts (keeps names (Elsewhere count) ends are is may.0) only.1 oc os rc rs may.1 room.2)
@@ -410,6 +428,12 @@ due_server time (d ∷ ds) = choose (can_come time d) d.sender refl (due_server 
 pub record Follows (names : Names) (f : Flow) (p : Pair) (calls : List Event) : Type 0 where
   pub round : WorkRound p
   pub mirrors : Mirrors names (work_round calls f) (behind p round)
+  pub client_on : Within (p.client.clock + 10) round.client_acts (settled (p.client.clock + 10) p.client) → Continues f.ends.client (work_round calls f).ends.client
+  pub server_on : Within (p.server.clock + 10) round.server_acts (settled (p.server.clock + 10) p.server) → Continues f.ends.server (work_round calls f).ends.server
+
+later_continues : (ends : Ends) → Continues ends.client (later 10000 10000 10000 ends).client × Continues ends.server (later 10000 10000 10000 ends).server
+unfolding later end_later
+later_continues ends = (record { connection = refl; more = []; given = sym (append-nil ends.client.given) }, record { connection = refl; more = []; given = sym (append-nil ends.server.given) })
 
 pub follows : KeepsTime → WrittenIsRead → HandsOut → (names : Names) → AreNames names → (f : Flow) (p : Pair) (calls : List Event) → Mirrors names f p → IsAtWork names f calls → Each LeavesOpen calls → HaveRoom calls (later 10000 10000 10000 f.ends) → Follows names f p calls
 unfolding acted
@@ -424,6 +448,10 @@ follows keeps written hands names are f p calls m w opens room = record {
     to_server = read_back written names.key (client_step p round_now).pdus _ (subst (Each IsPdu) (client_did (λ (s : Step). s.pdus)) d.sends.server_pdus)
         (ap (bytes_from role.Client) pending_is ∙ d.sends.of_client ∙ ap (λ (ps : List Pdu). spellings names.key ps) (client_did (λ (s : Step). s.pdus)));
   };
+  client_on = λ in_it. continues_then f.ends.client passed.client (run calls passed).client (later_continues f.ends).0
+      (d.client_on (subst (λ (n : ℕ). Within n d.client_acts passed.client.link) (sym client_now) (subst (λ (l : LinkState). Within nowc d.client_acts l) (sym settled_client) in_it)));
+  server_on = λ in_it. continues_then f.ends.server passed.server (run calls passed).server (later_continues f.ends).1
+      (d.server_on (subst (λ (n : ℕ). Within n d.server_acts passed.server.link) (sym server_now) (subst (λ (l : LinkState). Within nows d.server_acts l) (sym settled_server) in_it)));
 }
   where
     passed : Ends

@@ -17,18 +17,19 @@ use Rattle.rasta_core_recovery.proofs.Hale.{hale_up}
 use Rattle.rasta_core_recovery.proofs.WorkBridge.{Follows, follows}
 use Rattle.rasta_core_recovery.proofs.WorkFates.{Sound, Run, all_come}
 
-sound_of : (names : Names) (f : Flow) (p : Pair) → Holds names f.ends → Mirrors names f p → Sound names p
+pub sound_of : (names : Names) (f : Flow) (p : Pair) → Holds names f.ends → Mirrors names f p → Sound names p
 sound_of names f p holds m = record { facts = facts names f p m holds.ordered; client_past = subst Past m.client holds.pasts.client; server_past = subst Past m.server holds.pasts.server }
 
 -- rounds of two ends as rounds of two links
-record Leads (names : Names) (n : ℕ) (f : Flow) (p : Pair) : Type 0 where
-  last : Pair
-  is_run : Run names n p last
-  mirrors : Mirrors names f last
+pub record Leads (names : Names) (n : ℕ) (f : Flow) (p : Pair) : Type 0 where
+  pub last : Pair
+  pub is_run : Run names n p last
+  pub mirrors : Mirrors names f last
+  pub holds : Holds names f.ends
 
 module _ (laws : Laws) (names : Names) (are : AreNames names) where
-  leads : (rounds : List (List Event)) (f : Flow) (p : Pair) → Holds names f.ends → Mirrors names f p → AreAtWork names rounds f → Each (Each LeavesOpen) rounds → StayBelow rounds f → Leads names (length rounds) (work_rounds rounds f) p
-  leads [] f p holds m work opens room = record { last = p; is_run = refl; mirrors = m }
+  pub leads : (rounds : List (List Event)) (f : Flow) (p : Pair) → Holds names f.ends → Mirrors names f p → AreAtWork names rounds f → Each (Each LeavesOpen) rounds → StayBelow rounds f → Leads names (length rounds) (work_rounds rounds f) p
+  leads [] f p holds m work opens room = record { last = p; is_run = refl; mirrors = m; holds = holds }
   leads (calls ∷ others) f p holds m work opens room = on (leads others (work_round calls f) (behind p now.round) then_holds now.mirrors work.1 opens.1 room.1)
     where
       now : Follows names f p calls
@@ -38,7 +39,7 @@ module _ (laws : Laws) (names : Names) (are : AreNames names) where
       then_holds = holds_run laws names are (Passes 10000 10000 10000 ∷ calls) f.ends holds work.0.may
 
       on : Leads names (length others) (work_rounds others (work_round calls f)) (behind p now.round) → Leads names (length (calls ∷ others)) (work_rounds (calls ∷ others) f) p
-      on l = record { last = l.last; is_run = (now.round, sound_of names (work_round calls f) (behind p now.round) then_holds now.mirrors, l.is_run); mirrors = l.mirrors }
+      on l = record { last = l.last; is_run = (now.round, sound_of names (work_round calls f) (behind p now.round) then_holds now.mirrors, l.is_run); mirrors = l.mirrors; holds = l.holds }
 
 pub recovers_at_work : Laws → (names : Names) (start : Start) (events : List Event) (passed : ℕ) (rounds : List (List Event)) → AreNames names → MayRun names events (started names start)
     → AreAtWork names rounds (flow_after names start events passed) → Each (Each LeavesOpen) rounds → StayBelow rounds (flow_after names start events passed) → recovery_rounds_at_work ≤ length rounds → AreUp (work_rounds rounds (flow_after names start events passed)).ends

@@ -1,5 +1,5 @@
 -- Rounds of two ends at work: as good rounds, but that an end may be given items at any time, and may be closed.
-use Rattle.std.specs.Prelude.{◌≡◌, ℕ, ◌+◌, ◌<◌, ◌&&◌, true, List, [], ◌∷◌, ◌++◌, length, drop, if◌then◌else◌}
+use Rattle.std.specs.Prelude.{◌≡◌, ℕ, ◌+◌, ◌<◌, ◌&&◌, true, List, [], ◌∷◌, ◌++◌, length, drop, Some, if◌then◌else◌}
 use Rattle.rasta_core_run.specs.Parameters.{connection_limit}
 use Rattle.rasta_core_run.specs.State.{is_open}
 use Rattle.rasta_core_run.specs.identity.Role.{Role}
@@ -122,3 +122,19 @@ StayBelow (calls ∷ others) f = HaveRoom calls (later 10000 10000 10000 f.ends)
 -- from this round at work on both ends are up: 16,010 ms after the rounds began
 abbrev pub recovery_rounds_at_work : ℕ
 recovery_rounds_at_work = 1601
+
+-- all that an end gave its partner took: perhaps by a later moment
+pub record HasTaken (giver taker : EndState) : Type 0 where
+  pub rest : List (List ℕ)
+  pub taken : taker.taken ≡ giver.given ++ rest
+
+-- Two ends at two moments: they are in one connection at both, and by the later one each has taken all that the other gave by the
+-- earlier one.
+pub record HandOver (old new : Ends) : Type 0 where
+  pub connection : ℕ
+  pub old_client : old.client.connection ≡ Some connection
+  pub old_server : old.server.connection ≡ Some connection
+  pub new_client : new.client.connection ≡ Some connection
+  pub new_server : new.server.connection ≡ Some connection
+  pub to_client : HasTaken old.server new.client
+  pub to_server : HasTaken old.client new.server

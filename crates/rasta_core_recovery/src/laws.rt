@@ -4,8 +4,9 @@ ghost use Rattle.std.specs.Prelude.{◌≡◌, ℕ, ◌+◌, ◌≤◌, ◌<◌,
 ghost use Rattle.rasta_core_run.specs.Each.{Each};
 ghost use Rattle.rasta_core_run.specs.Events.{Event, MayRun, Start, run, started};
 ghost use Rattle.rasta_core_run.specs.Names.{AreNames, Names};
+ghost use Rattle.rasta_core_run.specs.Run.{later};
 ghost use Rattle.rasta_core_recovery.specs.Rounds.{AreUp, Flow, StayBelowLimit, calm_rounds, comings, events_of, flow_after, gap_rounds, good_round, good_rounds, own_work, recovery_rounds};
-ghost use Rattle.rasta_core_recovery.specs.Work.{AreAtWork, IsAtWork, LeavesOpen, StayBelow, recovery_rounds_at_work, work_round, work_rounds};
+ghost use Rattle.rasta_core_recovery.specs.Work.{AreAtWork, HandOver, HaveRoom, IsAtWork, LeavesOpen, StayBelow, recovery_rounds_at_work, work_round, work_rounds};
 ghost use Rattle.rasta_core_recovery.specs.WrongRounds.{NeverUp, RestsFor, asks_in_vain, asks_once, ends_at_limit, rounds_where};
 
 use rasta_core::{
@@ -73,6 +74,24 @@ pub fn two_ends_at_work_come_up()
         → AreAtWork names rounds (flow_after names start events passed) → Each (Each LeavesOpen) rounds → StayBelow rounds (flow_after names start events passed)
         → recovery_rounds_at_work ≤ length rounds
         → AreUp (work_rounds rounds (flow_after names start events passed)).ends }
+{
+    starts_in_time();
+    every_event_keeps_time();
+    every_event_keeps_order();
+    written_is_read();
+    calls_hand_out_pdus();
+}
+
+/// Two ends at work hand over what they are given: whatever has happened to them before, behind each round at work from the 1602nd
+/// on each end has taken all that the other had given behind the round before, in the connection that both are in. So
+/// nothing that is given is lost or waits for long, as long as nothing closes an end and none comes to the limit of PDUs.
+pub fn two_ends_at_work_hand_over()
+    ensures { (names : Names) (start : Start) (events : List Event) (passed : ℕ) (rounds : List (List Event)) (calls : List Event) → AreNames names
+        → MayRun names events (started names start) → AreAtWork names rounds (flow_after names start events passed) → Each (Each LeavesOpen) rounds
+        → StayBelow rounds (flow_after names start events passed) → recovery_rounds_at_work ≤ length rounds
+        → IsAtWork names (work_rounds rounds (flow_after names start events passed)) calls → Each LeavesOpen calls
+        → HaveRoom calls (later 10000 10000 10000 (work_rounds rounds (flow_after names start events passed)).ends)
+        → HandOver (work_rounds rounds (flow_after names start events passed)).ends (work_round calls (work_rounds rounds (flow_after names start events passed))).ends }
 {
     starts_in_time();
     every_event_keeps_time();

@@ -1,0 +1,165 @@
+-- What is given in a round at work is taken in the next.
+use Rattle.std.proofs.Common.{◌≡◌, ℕ, zero, suc, ◌∙◌, ◌+◌, ◌^◌, ◌≤◌, ◌<◌, Bool, true, false, nat_le, if◌then◌else◌, List, [], ◌∷◌, ◌++◌, length, take, refl, sym, ap, subst, arith, leb-true}
+use Rattle.rasta_core_run.specs.Parameters.{stops_at_greatest}
+use Rattle.rasta_core_run.specs.State.{LinkState, is_open, is_asking}
+use Rattle.rasta_core_run.specs.window.Unconfirmed.{Unconfirmed}
+use Rattle.rasta_core_run.specs.Ends.{EndState}
+use Rattle.rasta_core_run.specs.Run.{Ends, later}
+use Rattle.rasta_core_run.specs.Events.{Event, MayRun, Passes, Start, started}
+use Rattle.rasta_core_run.specs.Each.{Each}
+use Rattle.rasta_core_run.specs.Names.{Names, AreNames}
+use Rattle.rasta_core.specs.EndFlow.{EndFlow, sent, later as waiting_from}
+use Rattle.rasta_core.specs.LinkAndFlow.{Plays, joined, asking, left, HasJoined}
+use Rattle.rasta_core.specs.Order.{Rises, Way as Order}
+use Rattle.rasta_core.specs.Ordered.{AreTogether}
+use Rattle.rasta_core_recovery.specs.Rounds.{Flow, flow_after}
+use Rattle.rasta_core_recovery.specs.Work.{AreAtWork, HandOver, HasTaken, HaveRoom, IsAtWork, LeavesOpen, StayBelow, recovery_rounds_at_work, work_round, work_rounds}
+use Rattle.rasta_core_recovery.proofs.Links.{Pair}
+use Rattle.rasta_core_recovery.proofs.Acts.{behind}
+use Rattle.rasta_core_recovery.proofs.Given.{Grows}
+use Rattle.rasta_core_recovery.proofs.Course.{Joined}
+use Rattle.rasta_core_recovery.proofs.Mirror.{Mirrors}
+use Rattle.rasta_core_recovery.proofs.Bridge.{mirror_of}
+use Rattle.rasta_core_recovery.proofs.Facts.{are_together}
+use Rattle.rasta_core_recovery.proofs.Recovers.{Laws, Holds, holds_run, holds_after}
+use Rattle.rasta_core_recovery.proofs.Within.{Continues}
+use Rattle.rasta_core_recovery.proofs.Hale.{Closely, Hale, hale_on, client_level, server_level, client_within, server_within, client_grows, server_grows}
+use Rattle.rasta_core_recovery.proofs.WorkBridge.{Follows, follows}
+use Rattle.rasta_core_recovery.proofs.WorkFates.{all_come}
+use Rattle.rasta_core_recovery.proofs.WorkRecovers.{leads, sound_of}
+
+-- ---- lists
+
+none_wait : (low high : ℕ) (waiting : List Unconfirmed) → Rises low high waiting → waiting_from high waiting ≡ 0
+none_wait low high [] rises = refl
+none_wait low high (first ∷ others) rises = choose (nat_le high first.tag) refl (none_wait (first.tag + 1) high others rises.2)
+  where
+    choose : (a : Bool) → nat_le high first.tag ≡ a → waiting_from high others ≡ 0 → (if a then suc (waiting_from high others) else waiting_from high others) ≡ 0
+    choose true e none = absurd (omega (arith, leb-true _ _ e, rises.1))
+    choose false e none = none
+
+beginning_of : {X : Type 0} (n : ℕ) (xs ys : List X) → length xs ≤ n → (rest : List X) × (take n (xs ++ ys) ≡ xs ++ rest)
+beginning_of n [] ys most = (take n ys, refl)
+beginning_of zero (x ∷ xs) ys most = absurd (omega (arith, most))
+beginning_of (suc n) (x ∷ xs) ys most = let more = beginning_of n xs ys (omega (arith, most)) in (more.0, ap (λ l. x ∷ l) more.1)
+
+fits_in : (n : ℕ) → n < 2 ^ 31 → stops_at_greatest n ≡ n
+fits_in n few = grind (arith, few)
+
+-- ---- one direction
+
+module _ (old_giver new_giver new_taker : EndState) (a c b t : EndFlow)
+    (x : HasJoined old_giver.link a c) (before : Order a c) (few_before : length a.given ≤ length a.flow) (given_before : a.given ≡ old_giver.given)
+    (y : HasJoined new_giver.link b t) (z : HasJoined new_taker.link t b) (now : Order b t) (few_now : length b.given ≤ length b.flow) (given_now : b.given ≡ new_giver.given) (taken_now : t.taken ≡ new_taker.taken)
+    (level : new_taker.link.expected ≡ old_giver.link.sent) (grows : Grows old_giver.link new_giver.link) (goes : Continues old_giver new_giver) where
+  old_count : old_giver.link.given ≡ length a.given
+  old_count = x.inside.keeps.given ∙ fits_in (length a.given) (omega (arith, few_before, before.counts.fits))
+
+  new_count : new_giver.link.given ≡ length b.given
+  new_count = y.inside.keeps.given ∙ fits_in (length b.given) (omega (arith, few_now, now.counts.fits))
+
+  reached : t.reached ≡ old_giver.link.sent
+  reached = sym z.expected ∙ level
+
+  -- nothing waited under a PDU that wasn't sent yet
+  waited : waiting_from old_giver.link.sent old_giver.link.waiting ≡ 0
+  waited = ap (waiting_from old_giver.link.sent) x.inside.keeps.waiting ∙ ap (λ (n : ℕ). waiting_from n a.waiting) x.inside.counted ∙ none_wait 0 (sent a) a.waiting before.waits.rises
+
+  waits : waiting_from old_giver.link.sent new_giver.link.waiting + length a.given ≤ length b.given
+  waits = let few = (grows.waits (omega (arith, new_count, few_now, now.counts.fits))).1 old_giver.link.sent (omega arith) in omega (arith, few, old_count, new_count, waited)
+
+  level_now : b.passed t.reached + waiting_from old_giver.link.sent new_giver.link.waiting ≡ length b.given
+  level_now = ap (λ (n : ℕ). b.passed t.reached + n) (ap (λ (n : ℕ). waiting_from n new_giver.link.waiting) (sym reached) ∙ ap (waiting_from t.reached) y.inside.keeps.waiting) ∙ now.level
+
+  most : length old_giver.given ≤ b.passed t.reached
+  most = omega (arith, waits, level_now, ap length given_before)
+
+  all_taken : HasTaken old_giver new_taker
+  all_taken = let some = beginning_of (b.passed t.reached) old_giver.given goes.more most in record {
+    rest = some.0;
+    taken = sym taken_now ∙ now.taken ∙ ap (take (b.passed t.reached)) (given_now ∙ goes.given) ∙ some.1;
+  }
+
+-- ---- both
+
+plays_in : (l : LinkState) (own other : EndFlow) → is_open l.phase ≡ true → is_asking l ≡ false → Plays l own other → HasJoined l own other
+plays_in l own other is_in joined_is (joined h) = h
+plays_in l own other is_in joined_is (asking a) = absurd (cc (a.asking, joined_is))
+plays_in l own other is_in joined_is (left out keeps) = absurd (cc (out, is_in))
+
+-- both ends have joined
+record BothJoined (ends : Ends) : Type 0 where
+  client : Joined ends.client.link.clock ends.client.link
+  server : Joined ends.server.link.clock ends.server.link
+
+module _ (old new : Ends) (names : Names) (o : AreTogether names old) (n : AreTogether names new) (oj : BothJoined old) (nj : BothJoined new)
+    (client_goes : Continues old.client new.client) (server_goes : Continues old.server new.server)
+    (at_client : new.client.link.expected ≡ old.server.link.sent) (at_server : new.server.link.expected ≡ old.client.link.sent)
+    (of_client : Grows old.client.link new.client.link) (of_server : Grows old.server.link new.server.link) where
+  old_c : HasJoined old.client.link o.client o.server
+  old_c = plays_in old.client.link o.client o.server oj.client.connected oj.client.joined o.client_plays
+
+  old_s : HasJoined old.server.link o.server o.client
+  old_s = plays_in old.server.link o.server o.client oj.server.connected oj.server.joined o.server_plays
+
+  new_c : HasJoined new.client.link n.client n.server
+  new_c = plays_in new.client.link n.client n.server nj.client.connected nj.client.joined n.client_plays
+
+  new_s : HasJoined new.server.link n.server n.client
+  new_s = plays_in new.server.link n.server n.client nj.server.connected nj.server.joined n.server_plays
+
+  both_hand_over : HandOver old new
+  both_hand_over = record {
+    connection = o.connection;
+    old_client = o.of_client;
+    old_server = o.of_server;
+    new_client = client_goes.connection ∙ o.of_client;
+    new_server = server_goes.connection ∙ o.of_server;
+    to_client = all_taken old.server new.server new.client o.server o.client n.server n.client old_s o.order.back o.server_few o.server_given new_s new_c n.order.back n.server_few n.server_given n.client_taken at_client of_server server_goes;
+    to_server = all_taken old.client new.client new.server o.client o.server n.client n.server old_c o.order.there o.client_few o.client_given new_c new_s n.order.there n.client_few n.client_given n.server_taken at_server of_client client_goes;
+  }
+
+-- ---- a round of two ends that are healthy at work
+
+joined_both : (names : Names) (f : Flow) (p : Pair) → Mirrors names f p → Closely names p → BothJoined f.ends
+joined_both names f p m c = record {
+  client = subst (λ (l : LinkState). Joined l.clock l) (sym m.client) c.to_client.way.is;
+  server = subst (λ (l : LinkState). Joined l.clock l) (sym m.server) c.to_server.way.is;
+}
+
+module _ (names : Names) (f : Flow) (p : Pair) (calls : List Event) (m : Mirrors names f p) (now : Holds names f.ends) (later_on : Holds names (work_round calls f).ends) (h : Hale names p) (w : Follows names f p calls) where
+  client_young : p.client.clock + 10 < p.client.own_stamp + 1800
+  client_young = omega (arith, h.client.under)
+
+  server_young : p.server.clock + 10 < p.server.own_stamp + 1800
+  server_young = omega (arith, h.server.under)
+
+  oj : BothJoined f.ends
+  oj = joined_both names f p m h.near
+
+  nj : BothJoined (work_round calls f).ends
+  nj = joined_both names (work_round calls f) (behind p w.round) w.mirrors (hale_on names p w.round h).near
+
+  round_hands_over : HandOver f.ends (work_round calls f).ends
+  round_hands_over = both_hand_over f.ends (work_round calls f).ends names
+      (are_together names f.ends now.timely now.ordered oj.client.connected oj.server.connected)
+      (are_together names (work_round calls f).ends later_on.timely later_on.ordered nj.client.connected nj.server.connected) oj nj
+      (w.client_on (client_within names p w.round h.near client_young server_young)) (w.server_on (server_within names p w.round h.near client_young server_young))
+      (ap (λ (l : LinkState). l.expected) w.mirrors.client ∙ client_level names p w.round h.near client_young server_young ∙ ap (λ (l : LinkState). l.sent) (sym m.server))
+      (ap (λ (l : LinkState). l.expected) w.mirrors.server ∙ server_level names p w.round h.near client_young server_young ∙ ap (λ (l : LinkState). l.sent) (sym m.client))
+      (subst (Grows f.ends.client.link) (sym w.mirrors.client) (subst (λ (l : LinkState). Grows l (behind p w.round).client) (sym m.client) (client_grows names p w.round h.near client_young server_young)))
+      (subst (Grows f.ends.server.link) (sym w.mirrors.server) (subst (λ (l : LinkState). Grows l (behind p w.round).server) (sym m.server) (server_grows names p w.round h.near client_young server_young)))
+
+pub hands_over : Laws → (names : Names) (start : Start) (events : List Event) (passed : ℕ) (rounds : List (List Event)) (calls : List Event) → AreNames names → MayRun names events (started names start)
+    → AreAtWork names rounds (flow_after names start events passed) → Each (Each LeavesOpen) rounds → StayBelow rounds (flow_after names start events passed) → recovery_rounds_at_work ≤ length rounds
+    → IsAtWork names (work_rounds rounds (flow_after names start events passed)) calls → Each LeavesOpen calls → HaveRoom calls (later 10000 10000 10000 (work_rounds rounds (flow_after names start events passed)).ends)
+    → HandOver (work_rounds rounds (flow_after names start events passed)).ends (work_round calls (work_rounds rounds (flow_after names start events passed))).ends
+hands_over laws names start events passed rounds calls are may work opens room long last last_open last_room =
+    let first = holds_after laws names start events are may in
+    let f : Flow = flow_after names start events passed in
+    let m = mirror_of names f first.timely in
+    let l = leads laws names are rounds f m.0 first m.1 work opens room in
+    let g : Flow = work_rounds rounds f in
+    let hale = all_come names (length rounds) m.0 l.last long (sound_of names f m.0 first m.1) l.is_run in
+    round_hands_over names g l.last calls l.mirrors l.holds (holds_run laws names are (Passes 10000 10000 10000 ∷ calls) g.ends l.holds last.may) hale
+    (follows laws.time laws.written laws.hands names are g l.last calls l.mirrors last last_open last_room)
