@@ -29,16 +29,16 @@ use Rattle.simulator_recovery.specs.Conversation.{ClientHasActedOn, KeepsCount}
 use Rattle.simulator_recovery.proofs.Addressed.{found_at}
 
 -- how many items more were acted on, with the same peer
-record Counts (before after : ClientSoFar) : Type 0 where
-  peer : after.client.peer ≡ before.client.peer
-  more : ℕ
-  acted : length after.acted ≡ length before.acted + more
-  on : (count : ℕ) → ClientHasActedOn before.client.peer before.client.stage count → ClientHasActedOn before.client.peer after.client.stage (count + more)
+pub record Counts (before after : ClientSoFar) : Type 0 where
+  pub peer : after.client.peer ≡ before.client.peer
+  pub more : ℕ
+  pub acted : length after.acted ≡ length before.acted + more
+  pub on : (count : ℕ) → ClientHasActedOn before.client.peer before.client.stage count → ClientHasActedOn before.client.peer after.client.stage (count + more)
 
 none_more : (count : ℕ) → count + 0 ≡ count
 none_more count = omega arith
 
-counts_then : (one two three : ClientSoFar) → Counts one two → Counts two three → Counts one three
+pub counts_then : (one two three : ClientSoFar) → Counts one two → Counts two three → Counts one three
 counts_then one two three first second = record {
   peer = second.peer ∙ first.peer;
   more = first.more + second.more;
@@ -50,7 +50,7 @@ counts_then one two three first second = record {
 }
 
 -- a part that acts on nothing and leaves the stage
-counts_none : (before after : ClientSoFar) → after.client.peer ≡ before.client.peer → after.client.stage ≡ before.client.stage → after.acted ≡ before.acted → Counts before after
+pub counts_none : (before after : ClientSoFar) → after.client.peer ≡ before.client.peer → after.client.stage ≡ before.client.stage → after.acted ≡ before.acted → Counts before after
 counts_none before after peer stage_is acted = record {
   peer = peer;
   more = 0;
@@ -70,7 +70,7 @@ posting_none now told part = choose (is_refused_by_window (answer_to_send now pa
     choose false = counts_none part sent refl refl refl
 
 -- where a posted telegram comes with a stage
-posted_at : (now : ℕ) (told : Message) (how_far : Stage) (part : ClientSoFar) → (at_stage how_far (posting now told part)).client.peer ≡ part.client.peer
+pub posted_at : (now : ℕ) (told : Message) (how_far : Stage) (part : ClientSoFar) → (at_stage how_far (posting now told part)).client.peer ≡ part.client.peer
 unfolding posting calling
 posted_at now told how_far part = choose (is_refused_by_window (answer_to_send now part.client.link))
   where
@@ -81,7 +81,7 @@ posted_at now told how_far part = choose (is_refused_by_window (answer_to_send n
     choose true = refl
     choose false = refl
 
-posted_acted : (now : ℕ) (told : Message) (part : ClientSoFar) → (posting now told part).acted ≡ part.acted
+pub posted_acted : (now : ℕ) (told : Message) (part : ClientSoFar) → (posting now told part).acted ≡ part.acted
 unfolding posting calling
 posted_acted now told part = choose (is_refused_by_window (answer_to_send now part.client.link))
   where
@@ -92,7 +92,7 @@ posted_acted now told part = choose (is_refused_by_window (answer_to_send now pa
     choose true = refl
     choose false = refl
 
-count_one : (acted : List (List ℕ)) (item : List ℕ) → length (acted ++ item ∷ []) ≡ length acted + 1
+pub count_one : (acted : List (List ℕ)) (item : List ℕ) → length (acted ++ item ∷ []) ≡ length acted + 1
 count_one [] item = refl
 count_one (first ∷ acted) item = let e = count_one acted item in omega (arith, e)
 
@@ -192,11 +192,11 @@ module _ (now : ℕ) (item : List ℕ) (part : ClientSoFar) where
   read how_far (Ok telegram) is = either (λ what. On (following now item what part)) (is_for_client part.client.peer telegram) _ _ (λ e. told_by telegram.sender telegram.message how_far is) (closes_none reason.State)
   read how_far (Err fault) is = closes_none reason.State
 
-  acts : On (acting now item part)
+  pub acts : On (acting now item part)
   unfolding acting
   acts = read part.client.stage (reading item) refl
 
-all_act : (now : ℕ) (items : List (List ℕ)) (part : ClientSoFar) → Counts part (acting_all now items part)
+pub all_act : (now : ℕ) (items : List (List ℕ)) (part : ClientSoFar) → Counts part (acting_all now items part)
 unfolding acting_all
 all_act now [] part = counts_none part part refl refl refl
 all_act now (item ∷ others) part = choose (is_open part.client.link.phase) (counts_then part (acting now item part) (acting_all now others (acting now item part)) (acts now item part) (all_act now others (acting now item part)))
@@ -206,7 +206,7 @@ all_act now (item ∷ others) part = choose (is_open part.client.link.phase) (co
     choose false so = counts_none part part refl refl refl
 
 -- a connection that comes up
-rises : (now : ℕ) (part : ClientSoFar) → Counts part (rising now part)
+pub rises : (now : ℕ) (part : ClientSoFar) → Counts part (rising now part)
 unfolding rising
 rises now part = choose part.client.stage refl (is_up part.client.link.phase)
   where

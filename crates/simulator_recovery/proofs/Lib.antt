@@ -28,3 +28,9 @@ mod Network
 mod World
 mod Spent
 mod Shown
+pub mod LinkCounts
+pub mod HostLinks
+mod Telling
+pub mod ClientLinks
+pub mod IxlClients
+pub mod Standing

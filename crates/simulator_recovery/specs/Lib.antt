@@ -2,3 +2,4 @@ pub mod Rounds
 pub mod LinkRounds
 pub mod Conversation
 pub mod Silence
+pub mod Counts

@@ -4,6 +4,7 @@
 #![tactic(auto)]
 
 mod conversation;
+mod counts;
 mod laws;
 mod silence;
 
@@ -12,6 +13,9 @@ pub use conversation::{
     commands_are_expected, hosts_act_on_what_they_expect, hosts_count_what_they_act_on,
     hosts_expect_what_clients_say, hosts_say_their_whole_initialisation,
     hosts_stand_at_their_stage,
+};
+pub use counts::{
+    controllers_tell_as_many, hosts_stand_by_their_counts, stations_stand_by_their_counts,
 };
 pub use laws::{
     each_round_delivers_what_the_last_one_left, good_rounds_are_at_work_on_links,
