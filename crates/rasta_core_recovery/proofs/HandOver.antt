@@ -43,6 +43,15 @@ beginning_of n [] ys most = (take n ys, refl)
 beginning_of zero (x ∷ xs) ys most = absurd (omega (arith, most))
 beginning_of (suc n) (x ∷ xs) ys most = let more = beginning_of n xs ys (omega (arith, most)) in (more.0, ap (λ l. x ∷ l) more.1)
 
+no_more : {X : Type 0} (n : ℕ) (xs : List X) → length (take n xs) ≤ length xs
+no_more zero xs = omega arith
+no_more (suc n) [] = omega arith
+no_more (suc n) (x ∷ xs) = let more = no_more n xs in omega (arith, more)
+
+count_both : {X : Type 0} (xs ys : List X) → length xs ≤ length (xs ++ ys)
+count_both [] ys = omega arith
+count_both (x ∷ xs) ys = let more = count_both xs ys in omega (arith, more)
+
 fits_in : (n : ℕ) → n < 2 ^ 31 → stops_at_greatest n ≡ n
 fits_in n few = grind (arith, few)
 
@@ -74,10 +83,24 @@ module _ (old_giver new_giver new_taker : EndState) (a c b t : EndFlow)
   most : length old_giver.given ≤ b.passed t.reached
   most = omega (arith, waits, level_now, ap length given_before)
 
+  some : (rest : List (List ℕ)) × (take (b.passed t.reached) (old_giver.given ++ goes.more) ≡ old_giver.given ++ rest)
+  some = beginning_of (b.passed t.reached) old_giver.given goes.more most
+
+  taken_is : new_taker.taken ≡ old_giver.given ++ some.0
+  taken_is = sym taken_now ∙ now.taken ∙ ap (take (b.passed t.reached)) (given_now ∙ goes.given) ∙ some.1
+
+  few_taken : length t.taken < 2 ^ 31
+  few_taken = let fewer = no_more (b.passed t.reached) b.given in omega (arith, fewer, ap length now.taken, few_now, now.counts.fits)
+
+  taken_count : new_taker.link.taken ≡ length t.taken
+  taken_count = z.inside.keeps.taken ∙ fits_in (length t.taken) few_taken
+
   all_taken : HasTaken old_giver new_taker
-  all_taken = let some = beginning_of (b.passed t.reached) old_giver.given goes.more most in record {
+  all_taken = record {
     rest = some.0;
-    taken = sym taken_now ∙ now.taken ∙ ap (take (b.passed t.reached)) (given_now ∙ goes.given) ∙ some.1;
+    taken = taken_is;
+    counts = let more = count_both old_giver.given some.0 in omega (arith, old_count, ap length given_before, more, ap length taken_is, ap length taken_now, taken_count);
+    few = omega (arith, taken_count, few_taken);
   }
 
 -- ---- both

@@ -1,5 +1,5 @@
 -- Rounds of two ends at work: as good rounds, but that an end may be given items at any time, and may be closed.
-use Rattle.std.specs.Prelude.{◌≡◌, ℕ, ◌+◌, ◌<◌, ◌&&◌, true, List, [], ◌∷◌, ◌++◌, length, drop, Some, if◌then◌else◌}
+use Rattle.std.specs.Prelude.{◌≡◌, ℕ, ◌+◌, ◌^◌, ◌<◌, ◌≤◌, ◌&&◌, true, List, [], ◌∷◌, ◌++◌, length, drop, Some, if◌then◌else◌}
 use Rattle.rasta_core_run.specs.Parameters.{connection_limit}
 use Rattle.rasta_core_run.specs.State.{is_open}
 use Rattle.rasta_core_run.specs.identity.Role.{Role}
@@ -123,10 +123,12 @@ StayBelow (calls ∷ others) f = HaveRoom calls (later 10000 10000 10000 f.ends)
 abbrev pub recovery_rounds_at_work : ℕ
 recovery_rounds_at_work = 1601
 
--- all that an end gave its partner took: perhaps by a later moment
+-- All that an end gave its partner took: perhaps by a later moment. Their links count so.
 pub record HasTaken (giver taker : EndState) : Type 0 where
   pub rest : List (List ℕ)
   pub taken : taker.taken ≡ giver.given ++ rest
+  pub counts : giver.link.given ≤ taker.link.taken
+  pub few : taker.link.taken < 2 ^ 31
 
 -- Two ends at two moments: they are in one connection at both, and by the later one each has taken all that the other gave by the
 -- earlier one.

@@ -86,12 +86,12 @@ at_mapped f [] place old there = absurd (none-some old there)
 at_mapped f (first ∷ others) zero old there = ap (λ x. Some (f x)) (same_Some first old there)
 at_mapped f (first ∷ others) (suc place) old there = at_mapped f others place old there
 
-at_front : {X : Type 0} (list others : List X) (place : ℕ) (one : X) → slice_get list place ≡ Some one → slice_get (list ++ others) place ≡ Some one
+pub at_front : {X : Type 0} (list others : List X) (place : ℕ) (one : X) → slice_get list place ≡ Some one → slice_get (list ++ others) place ≡ Some one
 at_front [] others place one there = absurd (none-some one there)
 at_front (first ∷ list) others zero one there = there
 at_front (first ∷ list) others (suc place) one there = at_front list others place one there
 
-at_behind : {X : Type 0} (list others : List X) (count place : ℕ) → length list ≡ count → slice_get (list ++ others) (count + place) ≡ slice_get others place
+pub at_behind : {X : Type 0} (list others : List X) (count place : ℕ) → length list ≡ count → slice_get (list ++ others) (count + place) ≡ slice_get others place
 at_behind [] others count place long = let none : count + place ≡ place = omega (arith, long) in ap (slice_get others) none
 at_behind (first ∷ list) others zero place long = absurd (omega (arith, long))
 at_behind (first ∷ list) others (suc count) place long = let next : suc count + place ≡ suc (count + place) = omega arith in ap (slice_get (first ∷ (list ++ others))) next ∙ at_behind list others count place (omega (arith, long))

@@ -1,9 +1,9 @@
 -- While the link of a client is open it counts what the stage tells.
-use Rattle.std.proofs.Common.{◌≡◌, ℕ, zero, suc, ◌∙◌, ◌+◌, ◌-◌, ◌≤◌, ◌<◌, ◌⊎◌, inl, inr, Bool, true, false, not, ◌&&◌, ◌==◌, nat_lt, List, [], ◌∷◌, ◌++◌, length, Option, Some, None, Result, Ok, Err, if◌then◌else◌, refl, sym, ap, subst, arith}
+use Rattle.std.proofs.Common.{◌≡◌, ℕ, suc, ◌∙◌, ◌+◌, ◌⊎◌, inl, inr, Bool, true, false, not, ◌&&◌, ◌==◌, nat_lt, List, [], ◌∷◌, length, Option, Some, None, Result, Ok, Err, if◌then◌else◌, refl, sym, ap, subst, arith}
 use Rattle.std.specs.Prelude.{is_ok}
 use Rattle.std.specs.Str.{bytes_eq}
 use Rattle.std.proofs.lemmas.Bool.{false≢true}
-use Rattle.simulator_run.specs.rasta_core.Calls.{acceptance, answer_to_send, closing_by, created, opening, receiving, sending_item, ticking as link_ticking}
+use Rattle.simulator_run.specs.rasta_core.Calls.{acceptance, answer_to_send, created, opening, receiving, sending_item, ticking as link_ticking}
 use Rattle.simulator_run.specs.rasta_core.Clock.{settled}
 use Rattle.simulator_run.specs.rasta_core.Parameters.{window_size}
 use Rattle.simulator_run.specs.rasta_core.PdusHandedOut.{Step}
@@ -25,17 +25,17 @@ use Rattle.simulator_run.specs.sci_telegram.declared.message.Message.TheVariants
 use Rattle.simulator_run.specs.sci_telegram.declared.telegram.Telegram.{Telegram}
 use Rattle.simulator_run.specs.ixl_client.Client.{ClientState, PeerState, is_outside, new_client}
 use Rattle.simulator_run.specs.ixl_client.ClientSoFar.{ClientSoFar, Closes, Opens, Receives, Sends, Ticks, calling}
-use Rattle.simulator_run.specs.ixl_client.Meaning.{initial_meaning, is_for_client, is_in_turn, is_in_version, is_match, is_status, meaning, meaning_of, place_of, report_meaning, state_in}
-use Rattle.simulator_run.specs.ixl_client.Step.{acted_on, acting, acting_all, at_stage, clocked, commanding, ending, fallen, following, hearing, is_refused_by_window, meaning_of_item, message_of, posting, rising, saying, stage_after_command, stage_after_report, telegram_to, ticking}
+use Rattle.simulator_run.specs.ixl_client.Meaning.{initial_meaning, is_for_client, is_in_turn, is_in_version, is_match, meaning, meaning_of, place_of, report_meaning, state_in}
+use Rattle.simulator_run.specs.ixl_client.Step.{acted_on, acting, acting_all, at_stage, clocked, commanding, fallen, following, hearing, is_refused_by_window, meaning_of_item, message_of, posting, rising, saying, stage_after_command, stage_after_report, telegram_to, ticking}
 use Rattle.simulator_run.specs.ixl_client.declared.command.Command.{Command}
 use Rattle.simulator_run.specs.ixl_client.declared.command.Command.TheVariants as commands
 use Rattle.simulator_run.specs.ixl_client.declared.indication.ObjectState.{ObjectState}
 use Rattle.simulator_run.specs.ixl_client.declared.stage.Stage.{Stage}
 use Rattle.simulator_run.specs.ixl_client.declared.stage.Stage.TheVariants as stage
 use Rattle.simulator_recovery.specs.Conversation.{ClientHasActedOn}
-use Rattle.simulator_recovery.specs.Counts.{ClientCountsByStage, ClientHasGiven, ClientStandsByCounts, HasCounted}
-use Rattle.simulator_recovery.proofs.ClientCounts.{Counts, acts, all_act, count_one, counts_none, counts_then, posted_acted, posted_at, rises}
-use Rattle.simulator_recovery.proofs.LinkCounts.{AfterReceipt, AfterSend, close_closes, comes_in, open_counts, receipt_counts, send_counts, send_phase, send_was_open, settled_again, settled_open, stays_in, tick_counts, tick_was_open}
+use Rattle.simulator_recovery.specs.Counts.{ClientHasGiven, ClientStandsByCounts, HasCounted}
+use Rattle.simulator_recovery.proofs.ClientCounts.{Counts, acts, all_act, count_one, posted_acted, posted_at, rises}
+use Rattle.simulator_recovery.proofs.LinkCounts.{AfterReceipt, close_closes, comes_in, open_counts, receipt_counts, send_counts, send_phase, send_was_open, settled_again, settled_open, stays_in, tick_counts, tick_was_open}
 
 up_open : (phase : Phase) → is_up phase ≡ true → is_open phase ≡ true
 up_open phases.Closed up = absurd (false≢true up)
@@ -188,7 +188,7 @@ module _ (now : ℕ) where
           in let after = send_counts now item l taken given open_then has
           in let up_before : is_up l.phase ≡ true = ap is_up (sym after.phase_is) ∙ u
           in let ok : is_ok (answer_to_send now l) ≡ true = ap (λ (s : Step). is_ok (acceptance s.link)) before.0 ∙ answer_up (record l { clock = now }) up_before
-              ∙ ap not (ap (λ (s : Step). is_refused_by_window (acceptance s.link)) (sym before.0) ∙ e)
+          ∙ ap not (ap (λ (s : Step). is_refused_by_window (acceptance s.link)) (sym before.0) ∙ e)
           in (subst (λ (b : Bool). HasCounted taken (if b then given + 1 else given) (sending_item now item l).link) ok after.counts, up_before)
 
   is_up_before : (told : Message) (part : ClientSoFar) → is_up (posting now told part).client.link.phase ≡ true → is_up part.client.link.phase ≡ true

@@ -111,15 +111,15 @@ pub record ComeUpLaws : Type 0 where
       → AreUp (work_rounds rounds (flow_after names start events passed)).ends
 
 -- the rounds of a link
-abbrev lists_on : ℕ → List (List Event) → Flowing Played → Links → List (List LinkEvent)
+abbrev pub lists_on : ℕ → List (List Event) → Flowing Played → Links → List (List LinkEvent)
 lists_on link [] flowing before = []
 lists_on link (between ∷ later) flowing before = calls_on link between flowing before ∷ lists_on link later (all_tried between (round stations flowing)) (links_behind between flowing before)
 
-lists_length : (link : ℕ) (rounds : List (List Event)) (flowing : Flowing Played) (before : Links) → length (lists_on link rounds flowing before) ≡ length rounds
+pub lists_length : (link : ℕ) (rounds : List (List Event)) (flowing : Flowing Played) (before : Links) → length (lists_on link rounds flowing before) ≡ length rounds
 lists_length link [] flowing before = refl
 lists_length link (between ∷ later) flowing before = ap suc (lists_length link later (all_tried between (round stations flowing)) (links_behind between flowing before))
 
-rounds_open : (link : ℕ) (rounds : List (List Event)) (flowing : Flowing Played) (before : Links) → Each (Each IsWork) rounds → Each (Each (LeavesOpenOn link)) (calls_of_rounds rounds flowing) → Each (Each LeavesOpen) (lists_on link rounds flowing before)
+pub rounds_open : (link : ℕ) (rounds : List (List Event)) (flowing : Flowing Played) (before : Links) → Each (Each IsWork) rounds → Each (Each (LeavesOpenOn link)) (calls_of_rounds rounds flowing) → Each (Each LeavesOpen) (lists_on link rounds flowing before)
 rounds_open link [] flowing before work open_so = tt
 rounds_open link (between ∷ later) flowing before work open_so = (
   all_open link (calls_of_round between flowing) (run_links (time_of_round flowing) before) (round_called between flowing (after flowing.state (round_of_time flowing.state.sited.site)) work.0) open_so.0,
@@ -198,7 +198,7 @@ module _ (laws : ComeUpLaws) (sited : SitedTable) (station : IsStation sited.sit
       (through later_rounds new next (leaves_fresh between new work.0) (links_behind between new before) next_has next_is work.1
       (subst (Each (λ clock. clock + 10000 * length later_rounds ≤ 9000000000000000)) (sym goes_on.clocks) (each_later (length later_rounds) clocks can)))
 
-  up_on : (world : WorldState) (after_all : Links) → AreLinksOf sited.site world after_all → AreUp (seen link after_all) → IsUpOn link world
+  pub up_on : (world : WorldState) (after_all : Links) → AreLinksOf sited.site world after_all → AreUp (seen link after_all) → IsUpOn link world
   up_on world after_all are up =
       let id = at_place (partners sited.site) link (subst (λ (n : ℕ). link < n) (sym (partners_length sited.site)) there)
       in let client = are.clients link id.0 id.1
@@ -212,18 +212,26 @@ module _ (laws : ComeUpLaws) (sited : SitedTable) (station : IsStation sited.sit
         server_up = ap (λ l. is_up l.phase) (sym server.link_is) ∙ up.1;
       }
 
-  -- behind a first round, of which nothing is asked
-  come_up_behind : (first : List Event) (rounds : List (List Event)) (flowing : Flowing Played) → flowing.state.sited ≡ sited → IsReached sited.site sited.table flowing.state.run → Each IsWork first → Each (Each IsWork) rounds
-      → HasTime (suc (length rounds)) flowing.state.run → 1601 ≤ length rounds
-      → Each (Each (LeavesOpenOn link)) (calls_of_rounds rounds (all_tried first (round stations flowing)))
-      → StaysBelowLimit sited.site link rounds (all_tried first (round stations flowing)) → IsUpOn link (good_rounds (first ∷ rounds) flowing).state.run
-  come_up_behind first rounds flowing same reached work_first work can long open_so below =
-      up_on (good_rounds rounds next).state.run goes.after goes.are (subst AreUp (sym (goes.ends ∙ ap (λ (f : Flow). (work_rounds (lists_on link rounds next before) f).ends) is_flow))
-      (laws.up (names_at sited.site link) (start_of link starts_at_zero) is_run.events passed (lists_on link rounds next before) (named.each link there) is_run.may
-      (subst (AreAtWork (names_at sited.site link) (lists_on link rounds next before)) is_flow goes.work)
-      (rounds_open link rounds next before work open_so)
-      (subst (StayBelow (lists_on link rounds next before)) is_flow (goes.below (below before has.are)))
-      (omega (arith, long, many))))
+  -- What a first round leaves, of which nothing is asked: the links of the station, and what happened to this one before.
+  pub record Begun (first : List Event) (flowing : Flowing Played) : Type 0 where
+    pub before : Links
+    pub has : HasThese sited (all_tried first (round stations flowing)).state before
+    pub is : IsAt sited (all_tried first (round stations flowing)).state
+    pub is_run : IsRun (names_at sited.site link) (start_of link starts_at_zero) (seen link before)
+    pub later_can : (n : ℕ) → HasTime (suc n) flowing.state.run → HasTime n (all_tried first (round stations flowing)).state.run
+
+  pub begun_so : (first : List Event) (flowing : Flowing Played) → flowing.state.sited ≡ sited → IsReached sited.site sited.table flowing.state.run → Each IsWork first → Begun first flowing
+  begun_so first flowing same reached work_first = record {
+    before = before;
+    has = subst (λ (world : Played). HasThese sited world before) (sym (round_tried first flowing)) followed.has;
+    is = work_reached laws.link.times.reach sited first (round stations flowing) (round_reached laws.link.times.reach sited flowing (record { same = same; reached = reached }));
+    is_run = subst (λ (l : Links). IsRun (names_at sited.site link) (start_of link starts_at_zero) (seen link l)) (links_both standing.linked.events (all_events_tried tried flowing.state) (begun (names_at sited.site) starts_at_zero))
+        (laws.runs (links sited.site) (names_at sited.site) starts_at_zero (standing.linked.events ++ all_events_tried tried flowing.state) named
+        (may_both (links sited.site) (names_at sited.site) standing.linked.events (all_events_tried tried flowing.state) (begun (names_at sited.site) starts_at_zero) standing.linked.may followed.may) link there);
+    later_can = λ n can. subst (Each (λ clock. clock + 10000 * n ≤ 9000000000000000))
+        (sym (one_round first flowing work_first (subst (λ (s : SitedTable). HasAll s.site flowing.state.run) (sym same) all) (each_can n (clocks_of flowing.state.run) can)).clocks)
+        (each_later n (clocks_of flowing.state.run) can);
+  }
     where
       standing : IsStanding sited.site flowing.state.run
       standing = subst (IsStanding sited.site) (sym reached.after) (laws.link.times.standing sited.site sited.table reached.outset reached.events station once reached.lies reached.can)
@@ -240,9 +248,6 @@ module _ (laws : ComeUpLaws) (sited : SitedTable) (station : IsStation sited.sit
       before : Links
       before = run_links (all_events_tried tried flowing.state) these
 
-      next : Flowing Played
-      next = all_tried first (round stations flowing)
-
       these_timely : AreTimely (links sited.site) (names_at sited.site) these
       these_timely = laws.link.time (links sited.site) (names_at sited.site) standing.linked.events (begun (names_at sited.site) starts_at_zero) named
           (laws.arriving.begins (links sited.site) (names_at sited.site) starts_at_zero named) standing.linked.may
@@ -250,36 +255,49 @@ module _ (laws : ComeUpLaws) (sited : SitedTable) (station : IsStation sited.sit
       followed : Followed sited (all_events_tried tried flowing.state) these (after_each tried flowing.state)
       followed = all_followed laws.link sited station once tried flowing.state these (record { same = same; whole = standing.whole; timely = these_timely; are = standing.linked.are })
 
-      has : HasThese sited next.state before
-      has = subst (λ (world : Played). HasThese sited world before) (sym (round_tried first flowing)) followed.has
-
-      is : IsAt sited next.state
-      is = work_reached laws.link.times.reach sited first (round stations flowing) (round_reached laws.link.times.reach sited flowing (record { same = same; reached = reached }))
-
       all : HasAll sited.site flowing.state.run
       all = has_all laws.link.times sited flowing.state.run station once reached
 
-      later_can : HasTime (length rounds) next.state.run
-      later_can = subst (Each (λ clock. clock + 10000 * length rounds ≤ 9000000000000000))
-          (sym (one_round first flowing work_first (subst (λ (s : SitedTable). HasAll s.site flowing.state.run) (sym same) all) (each_can (length rounds) (clocks_of flowing.state.run) can)).clocks)
-          (each_later (length rounds) (clocks_of flowing.state.run) can)
+  -- The rounds behind it are rounds at work of this link, which has had a run of its own.
+  module _ (first : List Event) (flowing : Flowing Played) (work_first : Each IsWork first) (start : Begun first flowing) where
+    abbrev pub next : Flowing Played
+    next = all_tried first (round stations flowing)
 
-      passed : ℕ
-      passed = length (of_link link flowing.state.run.sent)
+    abbrev pub passed_then : ℕ
+    passed_then = length (of_link link flowing.state.run.sent)
 
-      goes : RoundsOn sited.site link rounds (flow_of link passed before) next before
-      goes = through rounds flowing next (leaves_fresh first flowing work_first) before has is work later_can
+    abbrev pub flow_then : Flow
+    flow_then = flow_after (names_at sited.site link) (start_of link starts_at_zero) start.is_run.events passed_then
 
-      is_run : IsRun (names_at sited.site link) (start_of link starts_at_zero) (seen link before)
-      is_run = subst (λ (l : Links). IsRun (names_at sited.site link) (start_of link starts_at_zero) (seen link l)) (links_both standing.linked.events (all_events_tried tried flowing.state) (begun (names_at sited.site) starts_at_zero))
-          (laws.runs (links sited.site) (names_at sited.site) starts_at_zero (standing.linked.events ++ all_events_tried tried flowing.state) named
-          (may_both (links sited.site) (names_at sited.site) standing.linked.events (all_events_tried tried flowing.state) (begun (names_at sited.site) starts_at_zero) standing.linked.may followed.may) link there)
+    is_flow : flow_of link passed_then start.before ≡ flow_then
+    is_flow = ap (λ (ends : Ends). record { ends = ends; passed = passed_then }) (sym start.is_run.same)
 
-      is_flow : flow_of link passed before ≡ flow_after (names_at sited.site link) (start_of link starts_at_zero) is_run.events passed
-      is_flow = ap (λ (ends : Ends). record { ends = ends; passed = passed }) (sym is_run.same)
+    abbrev pub lists_of : List (List Event) → List (List LinkEvent)
+    lists_of rounds = lists_on link rounds next start.before
 
-      many : length (lists_on link rounds next before) ≡ length rounds
-      many = lists_length link rounds next before
+    -- what so many rounds leave
+    pub record BehindRounds (rounds : List (List Event)) : Type 0 where
+      pub after : Links
+      pub are : AreLinksOf sited.site (good_rounds rounds next).state.run after
+      pub work : AreAtWork (names_at sited.site link) (lists_of rounds) flow_then
+      pub ends : seen link after ≡ (work_rounds (lists_of rounds) flow_then).ends
+      pub below : StaysBelowLimit sited.site link rounds next → StayBelow (lists_of rounds) flow_then
+
+    pub behind_rounds : (rounds : List (List Event)) → Each (Each IsWork) rounds → HasTime (length rounds) next.state.run → BehindRounds rounds
+    behind_rounds rounds work can = record {
+      after = goes.after;
+      are = goes.are;
+      work = subst (AreAtWork (names_at sited.site link) (lists_of rounds)) is_flow goes.work;
+      ends = goes.ends ∙ ap (λ (f : Flow). (work_rounds (lists_of rounds) f).ends) is_flow;
+      below = λ below. subst (StayBelow (lists_of rounds)) is_flow (goes.below (below start.before start.has.are));
+    }
+      where
+        goes : RoundsOn sited.site link rounds (flow_of link passed_then start.before) next start.before
+        goes = through rounds flowing next (leaves_fresh first flowing work_first) start.before start.has start.is work can
+
+    pub up_then : (rounds : List (List Event)) → (b : BehindRounds rounds) → Each (Each LeavesOpen) (lists_of rounds) → StayBelow (lists_of rounds) flow_then → 1601 ≤ length (lists_of rounds) → AreUp (seen link b.after)
+    up_then rounds b open_so below long = subst AreUp (sym b.ends)
+        (laws.up (names_at sited.site link) (start_of link starts_at_zero) start.is_run.events passed_then (lists_of rounds) ((are_links laws.link sited station once).each link there) start.is_run.may b.work open_so below long)
 
 pub come_up : ComeUpLaws → (between : List Event) (later_rounds : List (List Event)) (flowing : Flowing Played) (link : ℕ) → Once flowing.state.sited.site → IsStation flowing.state.sited.site
     → IsTableOf flowing.state.sited.site flowing.state.sited.table → IsReached flowing.state.sited.site flowing.state.sited.table flowing.state.run → Each IsWork between → Each (Each IsWork) later_rounds
@@ -287,4 +305,10 @@ pub come_up : ComeUpLaws → (between : List Event) (later_rounds : List (List E
     → Each (Each (LeavesOpenOn link)) (calls_of_rounds later_rounds (all_tried between (round stations flowing)))
     → StaysBelowLimit flowing.state.sited.site link later_rounds (all_tried between (round stations flowing)) → IsUpOn link (good_rounds (between ∷ later_rounds) flowing).state.run
 come_up laws between later_rounds flowing link once station is_table reached work works can there long open_so below =
-    come_up_behind laws flowing.state.sited station once is_table link there between later_rounds flowing refl reached work works can (omega (arith, long)) open_so below
+    let sited = flowing.state.sited
+    in let start = begun_so laws sited station once is_table link there between flowing refl reached work
+    in let next = all_tried between (round stations flowing)
+    in let b = behind_rounds laws sited station once is_table link there between flowing work start later_rounds works (start.later_can (length later_rounds) can)
+    in let many = lists_length link later_rounds next start.before
+    in up_on laws sited station once is_table link there (good_rounds later_rounds next).state.run b.after b.are
+    (up_then laws sited station once is_table link there between flowing work start later_rounds b (rounds_open link later_rounds next start.before works open_so) (b.below below) (omega (arith, long, many)))

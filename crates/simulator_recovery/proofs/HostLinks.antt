@@ -1,8 +1,8 @@
 -- While the link of a host is open it counts what the stage tells.
-use Rattle.std.proofs.Common.{◌≡◌, ℕ, zero, suc, ◌∙◌, ◌+◌, ◌≤◌, ◌<◌, ◌⊎◌, inl, inr, Bool, true, false, not, ◌&&◌, ◌==◌, List, [], ◌∷◌, ◌++◌, length, Option, Some, None, Result, Ok, Err, if◌then◌else◌, refl, sym, ap, subst, arith}
+use Rattle.std.proofs.Common.{◌≡◌, ℕ, zero, suc, ◌∙◌, ◌+◌, ◌≤◌, ◌<◌, ◌⊎◌, inl, inr, Bool, true, false, not, ◌&&◌, ◌==◌, List, [], ◌∷◌, length, Option, Some, None, Result, Ok, Err, if◌then◌else◌, refl, sym, ap, subst, arith}
 use Rattle.std.specs.Prelude.{is_ok}
 use Rattle.std.proofs.lemmas.Bool.{false≢true}
-use Rattle.simulator_run.specs.rasta_core.Calls.{answer_to_send, closing_by, created, receiving, sending_item, ticking}
+use Rattle.simulator_run.specs.rasta_core.Calls.{answer_to_send, created, receiving, sending_item, ticking}
 use Rattle.simulator_run.specs.rasta_core.Clock.{alive_until, settled}
 use Rattle.simulator_run.specs.rasta_core.Receipt.{Receipt}
 use Rattle.simulator_run.specs.rasta_core.State.{LinkState, is_open, is_up}
@@ -28,7 +28,7 @@ use Rattle.simulator_run.specs.object_host.declared.report.Report.{Report}
 use Rattle.simulator_run.specs.object_host.declared.stage.Stage.{Stage}
 use Rattle.simulator_run.specs.object_host.declared.stage.Stage.TheVariants as stage
 use Rattle.simulator_recovery.specs.Conversation.{HostHasActedOn}
-use Rattle.simulator_recovery.specs.Counts.{HostCountsByStage, HasCounted, HostHasGiven, HostStandsByCounts, TellsAsMany, objects_told}
+use Rattle.simulator_recovery.specs.Counts.{HasCounted, HostHasGiven, HostStandsByCounts, TellsAsMany, objects_told}
 use Rattle.simulator_recovery.proofs.LinkCounts.{AfterReceipt, AfterSend, close_closes, comes_in, receipt_counts, send_counts, send_was_open, settled_again, settled_open, stays_in, tick_counts, tick_was_open}
 
 module _ {Object : Type 0} (does : Behaviour Object) (many : TellsAsMany does) (objects : ℕ) (now : ℕ) where

@@ -1,5 +1,5 @@
 -- What is kept of every client in a step of an interlocking.
-use Rattle.std.proofs.Common.{◌≡◌, ℕ, zero, suc, ◌∙◌, ◌+◌, ◌==◌, ◌&&◌, ◌||◌, not, Bool, true, false, List, [], ◌∷◌, length, map, Option, Some, None, slice_get, ◌⊎◌, inl, inr, Result, Ok, Err, if◌then◌else◌, refl, sym, ap, subst}
+use Rattle.std.proofs.Common.{◌≡◌, ℕ, zero, suc, Bool, true, false, List, [], ◌∷◌, length, map, Option, Some, None, slice_get, ◌⊎◌, inl, inr, if◌then◌else◌, refl, sym, ap, subst}
 use Rattle.std.specs.FinSet.{empty}
 use Rattle.std.proofs.lemmas.Option.{none-some, same_Some}
 use Rattle.simulator_run.specs.bit_row.Places.{Places}
@@ -12,12 +12,11 @@ use Rattle.simulator_run.specs.ixl_client.ClientSoFar.{ClientSoFar, begun}
 use Rattle.simulator_run.specs.ixl_client.Step.{clocked, commanding, hearing, ticking}
 use Rattle.simulator_run.specs.ixl_client.declared.command.Command.{Command as ClientCommand}
 use Rattle.simulator_run.specs.ixl_client.declared.command.Command.TheVariants as client_commands
-use Rattle.simulator_run.specs.ixl_client.declared.indication.Indication.{Indication}
-use Rattle.simulator_run.specs.ixl_rules.Commands.{commanded_by, obeyed, refusal, route_set, unmoved_for}
+use Rattle.simulator_run.specs.ixl_rules.Commands.{commanded_by, obeyed, refusal, unmoved_for}
 use Rattle.simulator_run.specs.ixl_rules.Rules.{count, ended, ending_authority, freed_by_cancel, freed_by_passage, freeing_by_cancel, freeing_by_passage, freeing_next, is_move_due, is_proceed_due, is_stop_due, moved, moving, moving_one, proceeding, repeated, ruled, withdrawing, withdrawn}
 use Rattle.simulator_run.specs.ixl_rules.State.{IxlState, KnownDetectorState, KnownPointState, KnownSignalState, RouteState, changed}
-use Rattle.simulator_run.specs.ixl_rules.Step.{Commands, Datagram, Input, Tick, addressed, all_clocked, clocked_detector, clocked_known_point, clocked_known_signal, detector_hearing, detector_ticking, given, indicated_heard, known_point_hearing, known_point_ticking, known_signal_hearing, known_signal_ticking, looking, looking_by, looks, node_hearing, occupied_heard, side_heard, stepped, ticked, watching}
-use Rattle.simulator_run.specs.ixl_rules.StepSoFar.{Detector, Node, Point, Signal, StepSoFar, along, at_route, detector_after, giving_aspect, giving_move, known_point_after, known_signal_after, noted, over, with_detector, with_known_point, with_known_signal, with_one, with_route}
+use Rattle.simulator_run.specs.ixl_rules.Step.{Commands, Datagram, Input, Tick, addressed, all_clocked, clocked_detector, clocked_known_point, clocked_known_signal, detector_hearing, detector_ticking, given, known_point_hearing, known_point_ticking, known_signal_hearing, known_signal_ticking, looking, looking_by, looks, node_hearing, occupied_heard, stepped, ticked, watching}
+use Rattle.simulator_run.specs.ixl_rules.StepSoFar.{Detector, Node, Point, Signal, StepSoFar, along, at_route, detector_after, giving_aspect, giving_move, known_point_after, known_signal_after, noted, over, with_detector, with_one, with_route}
 use Rattle.simulator_run.specs.ixl_rules.Table.{Need, Row, Table}
 use Rattle.simulator_run.specs.ixl_rules.declared.command.Command.{Command}
 use Rattle.simulator_run.specs.ixl_rules.declared.command.Command.TheVariants as commands

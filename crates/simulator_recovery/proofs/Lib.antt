@@ -34,3 +34,6 @@ mod Telling
 pub mod ClientLinks
 pub mod IxlClients
 pub mod Standing
+pub mod Moments
+pub mod AtLink
+pub mod Ready

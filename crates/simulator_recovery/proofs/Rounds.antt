@@ -130,7 +130,7 @@ module _ (laws : ReachLaws) (sited : SitedTable) where
   work_reached [] flowing is = is
   work_reached (first ∷ others) flowing is = work_reached others (record flowing { state = after flowing.state first }) (tried_reached flowing.state first is)
 
-  rounds_reached : (between : List (List Event)) (flowing : Flowing Played) → IsAt sited flowing.state → IsAt sited (good_rounds between flowing).state
+  pub rounds_reached : (between : List (List Event)) (flowing : Flowing Played) → IsAt sited flowing.state → IsAt sited (good_rounds between flowing).state
   rounds_reached [] flowing is = is
   rounds_reached (first ∷ others) flowing is = rounds_reached others (all_tried first (round stations flowing)) (work_reached first (round stations flowing) (round_reached flowing is))
 

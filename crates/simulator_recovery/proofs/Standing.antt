@@ -31,7 +31,7 @@ use Rattle.simulator_run.specs.ixl_rules.Table.{Table}
 use Rattle.simulator_run.specs.simulator_event.declared.event.Event.{Event}
 use Rattle.simulator_run.specs.simulator_event.declared.event.Event.TheVariants as event
 use Rattle.simulator_run.specs.Controllers.{controller_after, controller_anew, controller_later, step_of}
-use Rattle.simulator_run.specs.First.{Beginning, IsOutsetOf, Outset, at_zero, first_controller, named_section, new_detector, new_detector_of, new_ixl, new_known_point_of, new_known_signal_of, new_point, new_signal, point_standing, world_at}
+use Rattle.simulator_run.specs.First.{Beginning, Outset, at_zero, named_section, new_detector, new_detector_of, new_ixl, new_known_point_of, new_known_signal_of, new_point, new_signal, point_standing, world_at}
 use Rattle.simulator_run.specs.Happens.{Stepped, all_later, coming, delivered_to, detector_anew, detector_stepped, happens, interlocking_stepped, made_anew, passed, point_anew, point_stepped, sensed_by, signal_anew, signal_stepped, stepped_at, ticked_at}
 use Rattle.simulator_run.specs.Network.{connection_of, copy_of}
 use Rattle.simulator_run.specs.Nodes as nodes
@@ -39,7 +39,7 @@ use Rattle.simulator_run.specs.Nodes.{key_of, node_at}
 use Rattle.simulator_run.specs.Run.{after_all}
 use Rattle.simulator_run.specs.State.{ClockedControllerState, WorldState}
 use Rattle.simulator_headline.specs.Reached.{IsReached}
-use Rattle.simulator_recovery.specs.Counts.{AllStandByCounts, ClientStandsAt, EachClient, HostStandsByCounts, IsToldAt, TellsAsMany, objects_told}
+use Rattle.simulator_recovery.specs.Counts.{AllStandByCounts, ClientStandsAt, EachClient, HostStandsByCounts, IsToldAt}
 use Rattle.simulator_recovery.proofs.ClientLinks.{ClockedStands, clocked_peer, clocked_stands, commanding_peer, commanding_stands, hearing_peer, hearing_stands, new_client_stands, ticking_peer, ticking_stands}
 use Rattle.simulator_recovery.proofs.HostLinks.{new_stands, step_stands}
 use Rattle.simulator_recovery.proofs.IxlClients.{ClientsKeep, changed_at, mapped_at, step_kept}
@@ -59,7 +59,7 @@ set_at (x ∷ xs) (suc place) new (suc k) y e = choose (set_at xs place new k y 
     choose (inl (f, g)) = inl (ap suc f, g)
     choose (inr f) = inr f
 
-all_at : {X : Type 0} (P : X → Type 0) (list : List X) → AllOf P list → (place : ℕ) (one : X) → slice_get list place ≡ Some one → P one
+pub all_at : {X : Type 0} (P : X → Type 0) (list : List X) → AllOf P list → (place : ℕ) (one : X) → slice_get list place ≡ Some one → P one
 all_at P list all place one e = subst P (get_or_from_slice_get list place one one e) (all place one (slice_get_within list place one e))
 
 -- ---- the clients

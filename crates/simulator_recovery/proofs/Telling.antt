@@ -1,18 +1,16 @@
 -- Of how many objects the controllers of a station tell.
-use Rattle.std.proofs.Common.{◌≡◌, ℕ, zero, suc, ◌+◌, ◌≤◌, Bool, true, false, List, [], ◌∷◌, length, map, Option, Some, None, slice_get, if◌then◌else◌, nat_le, ◌<◌, refl, sym, ap, ◌∙◌, arith, leb-true, leb-false}
+use Rattle.std.proofs.Common.{◌≡◌, ℕ, zero, suc, ◌+◌, ◌≤◌, Bool, true, false, List, [], ◌∷◌, length, Option, Some, None, slice_get, if◌then◌else◌, nat_le, ◌<◌, refl, sym, ap, ◌∙◌, arith, leb-true, leb-false}
 use Rattle.std.specs.Prelude.{option_map}
 use Rattle.std.proofs.lemmas.Option.{none-some, slice_get_within}
-use Rattle.simulator_run.specs.object_host.Behaviour.{Behaviour}
 use Rattle.simulator_run.specs.object_host.Object.{Keeps, Loses, ObjectCall, Pays, Senses, Takes, Ticks, object_after}
 use Rattle.simulator_run.specs.object_host.Step.{initial_status, report_then}
-use Rattle.simulator_run.specs.object_host.declared.report.Report.{Report}
 use Rattle.simulator_run.specs.object_host.declared.sense.Sense.{Sense}
 use Rattle.simulator_run.specs.object_host.declared.sense.Sense.TheVariants as sense
 use Rattle.simulator_run.specs.signal_ctl.Signal.{SignalState, signal_behaviour}
 use Rattle.simulator_run.specs.point_ctl.Controlled.{point_behaviour}
 use Rattle.simulator_run.specs.point_ctl.Drive.{PointState}
 use Rattle.simulator_run.specs.tds_ctl.Controlled.{detection_behaviour}
-use Rattle.simulator_run.specs.tds_ctl.Sections.{changed, losing, paying, sensing, settled, status_of, with_section}
+use Rattle.simulator_run.specs.tds_ctl.Sections.{changed, paying, sensing, settled, status_of, with_section}
 use Rattle.simulator_run.specs.tds_ctl.declared.section.Section.{Section}
 use Rattle.simulator_recovery.specs.Counts.{TellsAsMany, objects_told}
 use Rattle.simulator_recovery.proofs.Lists.{at_place, map_length}

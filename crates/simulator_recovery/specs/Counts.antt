@@ -36,8 +36,8 @@ objects_told does object = length (initial_status does most_objects 0 object)
 pub record TellsAsMany {Object : Type 0} (does : Behaviour Object) : Type 0 where
   pub same : (call : ObjectCall) (object : Object) → objects_told does (object_after does call object) ≡ objects_told does object
 
--- The stage of a host tells how many items it has given, where its object tells of so many: none, the answer of the version, or at least that and the
--- whole initialisation.
+-- The stage of a host tells how many items it has given, where its object tells of so many: none, the answer of the version, or at
+-- least that and the whole initialisation.
 abbrev pub HostHasGiven : ℕ → Stage → ℕ → Type 0
 HostHasGiven objects stage.Outside count = count ≡ 0
 HostHasGiven objects stage.AwaitsCheck count = count ≡ 0

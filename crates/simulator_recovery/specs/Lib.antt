@@ -3,3 +3,4 @@ pub mod LinkRounds
 pub mod Conversation
 pub mod Silence
 pub mod Counts
+pub mod Ready

@@ -18,9 +18,11 @@ ghost use Rattle.simulator_run.specs.State.{WorldState};
 ghost use Rattle.simulator_run.specs.Tried.{Played};
 ghost use Rattle.simulator_headline.specs.Reached.{IsReached};
 ghost use Rattle.simulator_recovery.specs.LinkRounds.{AreInOne, IsAtWorkOn, IsUpOn, LeavesOpenOn, StaysBelowLimit, calls_of_rounds, link_rounds};
+ghost use Rattle.simulator_recovery.specs.Ready.{IsReadyOn, ready_rounds};
 ghost use Rattle.simulator_recovery.specs.Rounds.{AllCome, HasTime, IsWork, LeavesFresh, all_tried, clocks_of, good_rounds, hold_rounds, rounds_later};
 
-use rasta_core_recovery::two_ends_at_work_come_up;
+use crate::stations_stand_by_their_counts;
+use rasta_core_recovery::{two_ends_at_work_come_up, two_ends_at_work_hand_over};
 use simulator_headline::reached_worlds_are_safe;
 use simulator_run::ixl_rules::rasta_core::{
     each_link_is_a_run, each_link_sees_its_events, links_keep_time, one_connection,
@@ -115,6 +117,30 @@ pub fn links_come_up()
     each_link_is_a_run();
     links_keep_time();
     two_ends_at_work_come_up();
+}
+
+/// The links of a station are ready: after any list of events, and behind each good round from the 1606th on, the link between the
+/// interlocking and each controller is ready at both ends, whatever requests and occupancies come between the rounds: both
+/// ends are up, and the initialisation of their connection is completed at both. So it is where neither of its ends closes it
+/// behind the first of these rounds, and none comes to the limit of PDUs in a connection.
+pub fn links_are_ready()
+    ensures { (between : List Event) (later : List (List Event)) (flowing : Flowing Played) (link : ℕ) → Once flowing.state.sited.site → IsStation flowing.state.sited.site
+        → IsTableOf flowing.state.sited.site flowing.state.sited.table → IsReached flowing.state.sited.site flowing.state.sited.table flowing.state.run
+        → Each IsWork between → Each (Each IsWork) later → HasTime (suc (length later)) flowing.state.run → link < links flowing.state.sited.site → ready_rounds ≤ suc (length later)
+        → Each (Each (LeavesOpenOn link)) (calls_of_rounds later (all_tried between (round stations flowing)))
+        → StaysBelowLimit flowing.state.sited.site link later (all_tried between (round stations flowing))
+        → IsReadyOn flowing.state.sited.site link (good_rounds (between ∷ later) flowing).state.run }
+{
+    reached_worlds_are_safe();
+    stations_have_links();
+    layouts_name_their_links();
+    events_are_those_of_the_links();
+    each_link_sees_its_events();
+    each_link_is_a_run();
+    links_keep_time();
+    two_ends_at_work_come_up();
+    two_ends_at_work_hand_over();
+    stations_stand_by_their_counts();
 }
 
 /// The two ends of a link that is up at both ends are in one connection. So what each took in it is a beginning of what the other

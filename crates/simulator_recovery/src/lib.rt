@@ -20,6 +20,6 @@ pub use counts::{
 pub use laws::{
     each_round_delivers_what_the_last_one_left, good_rounds_are_at_work_on_links,
     good_rounds_are_events, good_rounds_leave_fresh_datagrams, good_rounds_take_their_time,
-    links_come_up, links_that_are_up_are_in_one_connection, the_hold_ends,
+    links_are_ready, links_come_up, links_that_are_up_are_in_one_connection, the_hold_ends,
 };
 pub use silence::{connections_end_in_silence, lamps_fall_in_silence, points_rest_in_silence};
