@@ -25,8 +25,8 @@ pub fn controllers_tell_as_many()
     ensures detector { TellsAsMany detection_behaviour }
 {}
 
-/// While the link of a host is open it counts exactly as many items taken and given in its connection as the stage of the host
-/// tells: so a host has acted on each item that its link took, and has said all that belongs to its stage. A host
+/// While the link of a host is open it counts as many items taken and given in its connection as the stage of the host tells: none,
+/// one, or at least so many. So a host has acted on each item that its link took, and has said all that belongs to its stage. A host
 /// that was just made stands by its counts (*made*), and each step keeps that (*kept*), whatever comes.
 pub fn hosts_stand_by_their_counts<C: Controller>()
     ensures made { (identity : Identity) (own_name peer_name : List ℕ) (first now : ℕ) (object : C) (version objects : ℕ) → TellsAsMany C.behaviour → objects_told C.behaviour object ≡ objects
@@ -36,8 +36,8 @@ pub fn hosts_stand_by_their_counts<C: Controller>()
 {}
 
 /// All ends of the links of a station stand by their counts, after every list of events, on any network: while a controller's link
-/// is open, and while the interlocking's link to it is, the link counts exactly as many items taken and given in its
-/// connection as the stage tells. And the interlocking awaits the states of as many objects as the controller tells of.
+/// is open, and while the interlocking's link to it is, the link counts as many items taken and given in its connection as
+/// the stage tells. And the interlocking awaits the states of as many objects as the controller tells of.
 pub fn stations_stand_by_their_counts()
     ensures { (site : Site) (table : Table) (world : WorldState) → IsStation site → IsReached site table world → AllStandByCounts site world }
 {}
