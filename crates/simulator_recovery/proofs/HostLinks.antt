@@ -32,33 +32,33 @@ use Rattle.simulator_recovery.specs.Counts.{HasCounted, HostHasGiven, HostStands
 use Rattle.simulator_recovery.proofs.LinkCounts.{AfterReceipt, AfterSend, close_closes, comes_in, receipt_counts, send_counts, send_was_open, settled_again, settled_open, stays_in, tick_counts, tick_was_open}
 
 module _ {Object : Type 0} (does : Behaviour Object) (many : TellsAsMany does) (objects : ℕ) (now : ℕ) where
-  abbrev Tells : Object → Type 0
+  abbrev pub Tells : Object → Type 0
   Tells object = objects_told does object ≡ objects
 
   -- in the middle of a step: so many items that were taken are still to be acted on
-  record Midway (left : ℕ) (host : HostState Object) : Type 0 where
-    taken : ℕ
-    given : ℕ
-    counts : HasCounted (taken + left) given host.link
-    acted : HostHasActedOn host.stage taken
-    gave : HostHasGiven objects host.stage given
-    up : (left ≡ 0) ⊎ (is_up host.link.phase ≡ true)
+  pub record Midway (left : ℕ) (host : HostState Object) : Type 0 where
+    pub taken : ℕ
+    pub given : ℕ
+    pub counts : HasCounted (taken + left) given host.link
+    pub acted : HostHasActedOn host.stage taken
+    pub gave : HostHasGiven objects host.stage given
+    pub up : (left ≡ 0) ⊎ (is_up host.link.phase ≡ true)
 
-  record Mid (left : ℕ) (host : HostState Object) : Type 0 where
-    tells : Tells host.object
-    midway : is_open host.link.phase ≡ true → Midway left host
+  pub record Mid (left : ℕ) (host : HostState Object) : Type 0 where
+    pub tells : Tells host.object
+    pub midway : is_open host.link.phase ≡ true → Midway left host
 
-  none_more : (n : ℕ) → n + 0 ≡ n
+  pub none_more : (n : ℕ) → n + 0 ≡ n
   none_more n = omega arith
 
   -- ---- reports
 
   -- what a host says, one report after another, where it is up and the window has room
-  record Said (taken given : ℕ) (link : LinkState) : Type 0 where
-    counts : HasCounted taken given link
-    up : is_up link.phase ≡ true
+  pub record Said (taken given : ℕ) (link : LinkState) : Type 0 where
+    pub counts : HasCounted taken given link
+    pub up : is_up link.phase ≡ true
 
-  post_one : (report : Report) (host : HostState Object) (taken given : ℕ) → is_open (posting now report host).host.link.phase ≡ true → given < 20 → Said taken given host.link → Said taken (given + 1) (posting now report host).host.link
+  pub post_one : (report : Report) (host : HostState Object) (taken given : ℕ) → is_open (posting now report host).host.link.phase ≡ true → given < 20 → Said taken given host.link → Said taken (given + 1) (posting now report host).host.link
   unfolding posting
   post_one report host taken given e few said_so =
       let after = send_counts now (item_of host report) host.link taken given e said_so.counts
@@ -69,16 +69,20 @@ module _ {Object : Type 0} (does : Behaviour Object) (many : TellsAsMany does) (
         up = ap is_up after.phase_is ∙ said_so.up;
       }
 
-  posted_open : (report : Report) (host : HostState Object) → is_open (posting now report host).host.link.phase ≡ true → is_open host.link.phase ≡ true
+  pub was_accepted : (report : Report) (host : HostState Object) (taken given : ℕ) → is_open (posting now report host).host.link.phase ≡ true → given < 20 → Said taken given host.link → is_ok (answer_to_send now host.link) ≡ true
+  unfolding posting
+  was_accepted report host taken given e few said_so = let waiting = said_so.counts.waiting in (send_counts now (item_of host report) host.link taken given e said_so.counts).surely said_so.up (omega (arith, few, waiting))
+
+  pub posted_open : (report : Report) (host : HostState Object) → is_open (posting now report host).host.link.phase ≡ true → is_open host.link.phase ≡ true
   unfolding posting
   posted_open report host e = (send_was_open now (item_of host report) host.link e).1
 
-  all_posted_open : (reports : List Report) (host : HostState Object) → is_open (posting_all now reports host).host.link.phase ≡ true → is_open host.link.phase ≡ true
+  pub all_posted_open : (reports : List Report) (host : HostState Object) → is_open (posting_all now reports host).host.link.phase ≡ true → is_open host.link.phase ≡ true
   unfolding posting_all
   all_posted_open [] host e = e
   all_posted_open (first ∷ others) host e = posted_open first host (all_posted_open others (posting now first host).host e)
 
-  post_all : (reports : List Report) (host : HostState Object) (taken given : ℕ) → is_open (posting_all now reports host).host.link.phase ≡ true → given + length reports ≤ 20 → Said taken given host.link
+  pub post_all : (reports : List Report) (host : HostState Object) (taken given : ℕ) → is_open (posting_all now reports host).host.link.phase ≡ true → given + length reports ≤ 20 → Said taken given host.link
       → Said taken (given + length reports) (posting_all now reports host).host.link
   unfolding posting_all
   post_all [] host taken given e few said_so = subst (λ (n : ℕ). Said taken n host.link) (sym (none_more given)) said_so
@@ -88,12 +92,12 @@ module _ {Object : Type 0} (does : Behaviour Object) (many : TellsAsMany does) (
       in subst (λ (n : ℕ). Said taken n (posting_all now others (posting now first host).host).host.link) sum
       (post_all others (posting now first host).host taken (given + 1) e (omega (arith, few)) one)
 
-  same_object : (reports : List Report) (host : HostState Object) → (posting_all now reports host).host.object ≡ host.object
+  pub same_object : (reports : List Report) (host : HostState Object) → (posting_all now reports host).host.object ≡ host.object
   unfolding posting_all posting
   same_object [] host = refl
   same_object (first ∷ others) host = same_object others (posting now first host).host
 
-  status_few : (more place : ℕ) (object : Object) → length (initial_status does more place object) ≤ more
+  pub status_few : (more place : ℕ) (object : Object) → length (initial_status does more place object) ≤ more
   unfolding initial_status
   status_few zero place object = omega arith
   status_few (suc more) place object = choose (does.status place object) (status_few more (place + 1) object)
@@ -109,7 +113,7 @@ module _ {Object : Type 0} (does : Behaviour Object) (many : TellsAsMany does) (
   closes left host tells = record { tells = tells; midway = λ e. absurd (false≢true (sym (close_closes now reason.State host.link) ∙ e)) }
 
   -- it is up, since some item is left
-  is_up_there : (left : ℕ) (host : HostState Object) → Midway (suc left) host → is_up host.link.phase ≡ true
+  pub is_up_there : (left : ℕ) (host : HostState Object) → Midway (suc left) host → is_up host.link.phase ≡ true
   is_up_there left host m = choose m.up
     where
       choose : (suc left ≡ 0) ⊎ (is_up host.link.phase ≡ true) → is_up host.link.phase ≡ true
@@ -120,7 +124,7 @@ module _ {Object : Type 0} (does : Behaviour Object) (many : TellsAsMany does) (
   one_fewer taken left = omega arith
 
   -- the version is answered
-  answers : (left version : ℕ) (host : HostState Object) → host.stage ≡ stage.AwaitsCheck → Mid (suc left) host → Mid left (answering does now version host).host
+  pub answers : (left version : ℕ) (host : HostState Object) → host.stage ≡ stage.AwaitsCheck → Mid (suc left) host → Mid left (answering does now version host).host
   unfolding answering posting
   answers left version host is mid = choose (version == host.version)
     where
@@ -147,7 +151,7 @@ module _ {Object : Type 0} (does : Behaviour Object) (many : TellsAsMany does) (
       choose false = answer (said does (VersionAnswer NoMatch host.version)) stage.Refused (λ n e. e) (λ n e. e)
 
   -- the initialisation
-  initialises : (left : ℕ) (host : HostState Object) → host.stage ≡ stage.AwaitsRequest → Mid (suc left) host → Mid left (initialising does now host).host
+  pub initialises : (left : ℕ) (host : HostState Object) → host.stage ≡ stage.AwaitsRequest → Mid (suc left) host → Mid left (initialising does now host).host
   unfolding initialising posting
   initialises left host is mid = record {
     tells = same ∙ mid.tells;
@@ -237,7 +241,7 @@ module _ {Object : Type 0} (does : Behaviour Object) (many : TellsAsMany does) (
   follows left item telegram (message.Signal what) how_far host is mid = commanded left item telegram how_far host is mid
   follows left item telegram (message.Detection what) how_far host is mid = commanded left item telegram how_far host is mid
 
-  acts : (left : ℕ) (item : List ℕ) (read : Result Telegram SciFault) (host : HostState Object) → Mid (suc left) host → Mid left (acting does now item read host).host
+  pub acts : (left : ℕ) (item : List ℕ) (read : Result Telegram SciFault) (host : HostState Object) → Mid (suc left) host → Mid left (acting does now item read host).host
   unfolding acting
   acts left item (Err fault) host mid = closes left host mid.tells
   acts left item (Ok telegram) host mid = choose (is_admitted does telegram host)
@@ -246,7 +250,7 @@ module _ {Object : Type 0} (does : Behaviour Object) (many : TellsAsMany does) (
       choose true = follows left item telegram telegram.message host.stage host refl mid
       choose false = closes left host mid.tells
 
-  all_acts : (items : List (List ℕ)) (host : HostState Object) → Mid (length items) host → Mid 0 (acting_all does now items host).host
+  pub all_acts : (items : List (List ℕ)) (host : HostState Object) → Mid (length items) host → Mid 0 (acting_all does now items host).host
   unfolding acting_all
   all_acts [] host mid = mid
   all_acts (item ∷ others) host mid = choose (is_open host.link.phase) refl (all_acts others (acting does now item (reading item) host).host (acts (length others) item (reading item) host mid))
@@ -259,11 +263,11 @@ module _ {Object : Type 0} (does : Behaviour Object) (many : TellsAsMany does) (
   -- ---- how a step begins
 
   -- the clock rules are applied; a host out of any connection is outside
-  record Begun (host : HostState Object) : Type 0 where
-    mid : Mid 0 host
-    outside : is_open host.link.phase ≡ false → host.stage ≡ stage.Outside
-    link : LinkState
-    link_is : host.link ≡ settled now link
+  pub record Begun (host : HostState Object) : Type 0 where
+    pub mid : Mid 0 host
+    pub outside : is_open host.link.phase ≡ false → host.stage ≡ stage.Outside
+    pub link : LinkState
+    pub link_is : host.link ≡ settled now link
 
   outside_is : (s : Stage) → is_outside s ≡ true → s ≡ stage.Outside
   outside_is stage.Outside e = refl
@@ -272,7 +276,7 @@ module _ {Object : Type 0} (does : Behaviour Object) (many : TellsAsMany does) (
   outside_is stage.Completed e = absurd (false≢true e)
   outside_is stage.Refused e = absurd (false≢true e)
 
-  begins : (host : HostState Object) → HostStandsByCounts does objects host → Begun (beginning does now host)
+  pub begins : (host : HostState Object) → HostStandsByCounts does objects host → Begun (beginning does now host)
   unfolding beginning fallen
   begins host stands = choose (is_outside host.stage) refl (is_open (settled now host.link).phase) refl
     where
@@ -335,11 +339,11 @@ module _ {Object : Type 0} (does : Behaviour Object) (many : TellsAsMany does) (
       at_stages stage.Completed e b = has
       at_stages stage.Refused e b = has
 
-  record Same (host after : HostState Object) : Type 0 where
-    link : after.link ≡ host.link
-    object : after.object ≡ host.object
+  pub record Same (host after : HostState Object) : Type 0 where
+    pub link : after.link ≡ host.link
+    pub object : after.object ≡ host.object
 
-  risen_same : (host : HostState Object) → Same host (risen host)
+  pub risen_same : (host : HostState Object) → Same host (risen host)
   unfolding risen
   risen_same host = choose (is_outside host.stage && is_open host.link.phase)
     where
@@ -347,9 +351,9 @@ module _ {Object : Type 0} (does : Behaviour Object) (many : TellsAsMany does) (
       choose true = record { link = refl; object = refl }
       choose false = record { link = refl; object = refl }
 
-  hears : (bytes : List ℕ) (host : HostState Object) → Begun host → Mid 0 (hearing does now bytes host).host
-  unfolding hearing received
-  hears bytes host begun = all_acts receipt.items (risen came) (record { tells = ap (objects_told does) same.object ∙ begun.mid.tells; midway = λ e. came_midway (ap (λ (l : LinkState). is_open l.phase) (sym same.link) ∙ e) })
+  pub comes : (bytes : List ℕ) (host : HostState Object) → Begun host → Mid (length (receiving now bytes host.link).items) (received now bytes (receiving now bytes host.link) host).host
+  unfolding received
+  comes bytes host begun = record { tells = ap (objects_told does) same.object ∙ begun.mid.tells; midway = λ e. came_midway (ap (λ (l : LinkState). is_open l.phase) (sym same.link) ∙ e) }
     where
       receipt : Receipt
       receipt = receiving now bytes host.link
@@ -394,7 +398,11 @@ module _ {Object : Type 0} (does : Behaviour Object) (many : TellsAsMany does) (
           by_cases true f = let m = begun.mid.midway f in kept_in m (receipt_counts now bytes m.taken m.given host.link e (λ g. subst (λ (n : ℕ). HasCounted n m.given host.link) (none_more m.taken) m.counts)) f
           by_cases false f = entered f (receipt_counts now bytes 0 0 host.link e (λ g. absurd (false≢true (sym f ∙ g))))
 
-  gives : (input : Input) (host : HostState Object) → Begun host → Mid 0 (given_in does now input host).host
+  hears : (bytes : List ℕ) (host : HostState Object) → Begun host → Mid 0 (hearing does now bytes host).host
+  unfolding hearing
+  hears bytes host begun = all_acts (receiving now bytes host.link).items (received now bytes (receiving now bytes host.link) host).host (comes bytes host begun)
+
+  pub gives : (input : Input) (host : HostState Object) → Begun host → Mid 0 (given_in does now input host).host
   unfolding given_in
   gives inputs.Tick host begun = begun.mid
   gives (inputs.Datagram bytes) host begun = hears bytes.now host begun
@@ -406,7 +414,7 @@ module _ {Object : Type 0} (does : Behaviour Object) (many : TellsAsMany does) (
   paid_mid host mid = record { tells = many.same Pays host.object ∙ mid.tells; midway = λ e. let m = mid.midway e in record { taken = m.taken; given = m.given; counts = m.counts; acted = m.acted; gave = m.gave; up = m.up } }
 
   -- a report more, once the initialisation was completed
-  reports : (report : Report) (host : HostState Object) → is_completed host.stage ≡ true → Mid 0 host → Mid 0 (posting now report host).host
+  pub reports : (report : Report) (host : HostState Object) → is_completed host.stage ≡ true → Mid 0 host → Mid 0 (posting now report host).host
   unfolding posting
   reports report host done mid = record {
     tells = mid.tells;
@@ -434,7 +442,7 @@ module _ {Object : Type 0} (does : Behaviour Object) (many : TellsAsMany does) (
         up = inl refl;
       }
 
-  pays_first : (report : Option Report) (host : HostState Object) → Mid 0 host → Mid 0 (paying_first does now report host).host
+  pub pays_first : (report : Option Report) (host : HostState Object) → Mid 0 host → Mid 0 (paying_first does now report host).host
   pays_first None host mid = mid
   pays_first (Some report) host mid = choose (is_completed host.stage) refl (is_ok (answer_to_send now host.link))
     where
@@ -446,7 +454,7 @@ module _ {Object : Type 0} (does : Behaviour Object) (many : TellsAsMany does) (
       choose true e true = paid_mid sent.host (reports report host e mid)
       choose true e false = reports report host e mid
 
-  pays : (most : ℕ) (host : HostState Object) → Mid 0 host → Mid 0 (paying does now most host).host
+  pub pays : (most : ℕ) (host : HostState Object) → Mid 0 host → Mid 0 (paying does now most host).host
   unfolding paying
   pays zero host mid = mid
   pays (suc most) host mid = choose (goes_on now (does.owed host.object) host) (pays most (paying_first does now (does.owed host.object) host).host (pays_first (does.owed host.object) host mid))

@@ -37,3 +37,4 @@ pub mod Standing
 pub mod Moments
 pub mod AtLink
 pub mod Ready
+pub mod HostSaid

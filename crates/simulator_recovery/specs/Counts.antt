@@ -1,9 +1,14 @@
 -- How many items an end of a link of a station has taken and given in its connection, and what its stage tells of that.
-use Rattle.std.specs.Prelude.{◌≡◌, ℕ, ◌+◌, ◌≤◌, not, true, List, length, Some, slice_get}
+use Rattle.std.specs.Prelude.{◌≡◌, ℕ, ◌+◌, ◌≤◌, not, Bool, true, false, List, [], ◌∷◌, ◌++◌, length, map, Some, slice_get}
 use Rattle.simulator_run.specs.rasta_core.Parameters.{stops_at_greatest}
 use Rattle.simulator_run.specs.rasta_core.State.{LinkState, is_open, is_up}
 use Rattle.simulator_run.specs.object_host.Behaviour.{Behaviour}
-use Rattle.simulator_run.specs.object_host.Host.{HostState}
+use Rattle.simulator_run.specs.rasta_core.Each.{Each}
+use Rattle.simulator_run.specs.sci_telegram.declared.message.Agreement.TheVariants.{NoMatch, Match}
+use Rattle.simulator_run.specs.sci_telegram.declared.message.Initialisation.TheVariants.{VersionAnswer}
+use Rattle.simulator_run.specs.object_host.Host.{HostState, said}
+use Rattle.simulator_run.specs.object_host.Told.{initialisation}
+use Rattle.simulator_run.specs.object_host.declared.report.Report.{Report}
 use Rattle.simulator_run.specs.object_host.Object.{ObjectCall, object_after}
 use Rattle.simulator_run.specs.object_host.Step.{initial_status, most_objects}
 use Rattle.simulator_run.specs.object_host.declared.stage.Stage.{Stage}
@@ -80,6 +85,35 @@ pub record ClientCountsByStage (client : ClientState) : Type 0 where
 pub record ClientStandsByCounts (client : ClientState) : Type 0 where
   pub outside : is_outside client.stage ≡ not (is_up client.link.phase)
   pub stands : is_open client.link.phase ≡ true → ClientCountsByStage client
+
+-- ---- what a host says
+
+-- a report that some object of this kind owes
+pub record IsOwed {Object : Type 0} (does : Behaviour Object) (report : Report) : Type 0 where
+  pub object : Object
+  pub owes : does.owed object ≡ Some report
+
+-- behind the whole initialisation come reports that were owed
+pub record HasSaidAll {Object : Type 0} (does : Behaviour Object) (item : Report → List ℕ) (version : ℕ) (items : List (List ℕ)) : Type 0 where
+  -- some object of this kind, of which the initialisation tells
+  pub object : Object
+  pub reports : List Report
+  pub owed : Each (IsOwed does) reports
+  pub are : items ≡ item (said does (VersionAnswer Match version)) ∷ (map item (initialisation does object) ++ map item reports)
+
+-- The items that a host has given in its connection, by its stage, and in this order: the answer of the version, the whole
+-- initialisation, and reports.
+abbrev pub HostHasSaid : {Object : Type 0} → Behaviour Object → (Report → List ℕ) → ℕ → Stage → List (List ℕ) → Type 0
+HostHasSaid does item version stage.Outside items = items ≡ []
+HostHasSaid does item version stage.AwaitsCheck items = items ≡ []
+HostHasSaid does item version stage.AwaitsRequest items = items ≡ item (said does (VersionAnswer Match version)) ∷ []
+HostHasSaid does item version stage.Completed items = HasSaidAll does item version items
+HostHasSaid does item version stage.Refused items = items ≡ item (said does (VersionAnswer NoMatch version)) ∷ []
+
+-- what a host gave in its connection before a step: nothing, where its link is in none by the clock rules
+abbrev pub given_before : Bool → List (List ℕ) → List (List ℕ)
+given_before true items = items
+given_before false items = []
 
 -- ---- a station
 

@@ -1,11 +1,15 @@
 //! How many items the ends of the links of a station take and give.
 
-ghost use Rattle.std.specs.Prelude.{◌≡◌, ℕ, List};
+ghost use Rattle.std.specs.Prelude.{◌≡◌, ℕ, ◌++◌, true, List};
 ghost use Rattle.simulator_run.specs.object_host.Host.{HostState};
 ghost use Rattle.simulator_run.specs.object_host.Hosted.{new_host};
+ghost use Rattle.simulator_run.specs.object_host.Made.{items_given};
 ghost use Rattle.simulator_run.specs.object_host.Step.{host_step};
+ghost use Rattle.simulator_run.specs.object_host.Told.{item_of};
 ghost use Rattle.simulator_run.specs.object_host.declared.input.Input.{Input};
 ghost use Rattle.simulator_run.specs.point_ctl.Controlled.{point_behaviour};
+ghost use Rattle.simulator_run.specs.rasta_core.Clock.{settled};
+ghost use Rattle.simulator_run.specs.rasta_core.State.{is_open};
 ghost use Rattle.simulator_run.specs.rasta_core.identity.Identity.{Identity};
 ghost use Rattle.simulator_run.specs.signal_ctl.Signal.{signal_behaviour};
 ghost use Rattle.simulator_run.specs.tds_ctl.Controlled.{detection_behaviour};
@@ -14,7 +18,7 @@ ghost use Rattle.simulator_run.specs.layout.Station.{IsStation};
 ghost use Rattle.simulator_run.specs.ixl_rules.Table.{Table};
 ghost use Rattle.simulator_run.specs.State.{WorldState};
 ghost use Rattle.simulator_headline.specs.Reached.{IsReached};
-ghost use Rattle.simulator_recovery.specs.Counts.{AllStandByCounts, HostStandsByCounts, TellsAsMany, objects_told};
+ghost use Rattle.simulator_recovery.specs.Counts.{AllStandByCounts, HostHasSaid, HostStandsByCounts, TellsAsMany, given_before, objects_told};
 
 use simulator_run::object_host::Controller;
 
@@ -33,6 +37,18 @@ pub fn hosts_stand_by_their_counts<C: Controller>()
         → HostStandsByCounts C.behaviour objects (new_host C.behaviour identity own_name peer_name first now object version) }
     ensures kept { (now : ℕ) (input : Input) (host : HostState C) (objects : ℕ) → TellsAsMany C.behaviour → HostStandsByCounts C.behaviour objects host
         → HostStandsByCounts C.behaviour objects (host_step C.behaviour now input host).host }
+{}
+
+/// What a host has given in its connection are, in this order and by its stage: the answer of the version, the whole initialisation, and
+/// reports. The initialisation tells of an object of its kind, and each report is one that such an object owes; which object that is, is
+/// left open. Each step keeps that while the link is open, whatever comes, of a host that stands by its counts: behind the items of
+/// before stand those that the step gives. In a connection that opens in the step none were given before.
+pub fn hosts_say_in_their_order<C: Controller>()
+    ensures { (now : ℕ) (input : Input) (host : HostState C) (items : List (List ℕ)) (objects : ℕ) → TellsAsMany C.behaviour → HostStandsByCounts C.behaviour objects host
+        → (is_open (settled now host.link).phase ≡ true → HostHasSaid C.behaviour (item_of host) host.version host.stage items)
+        → is_open (host_step C.behaviour now input host).host.link.phase ≡ true
+        → HostHasSaid C.behaviour (item_of host) host.version (host_step C.behaviour now input host).host.stage
+        (given_before (is_open (settled now host.link).phase) items ++ items_given now (host_step C.behaviour now input host).calls (settled now host.link)) }
 {}
 
 /// All ends of the links of a station stand by their counts, after every list of events, on any network: while a controller's link
