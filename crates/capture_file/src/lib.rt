@@ -6,7 +6,11 @@ mod checksum;
 mod internet;
 mod journey;
 mod laws;
+mod node_end;
+mod out_file;
 
 pub use block::{begin, push_datagram};
 pub use journey::{Endpoint, Journey, MOST_BYTES};
 pub use laws::carries_go_around;
+pub use node_end::end_of;
+pub use out_file::write_file;
