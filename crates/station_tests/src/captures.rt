@@ -17,6 +17,7 @@ const SESSION: &str = "time 6000000 = ok\ntick IXL1 = ok\n";
 const FAULTY: Asked<'static> = Asked {
     layout: SMALL,
     recording: "tick IXL1",
+    endpoints: &[],
     out: OUT,
     force: true,
 };
@@ -31,6 +32,7 @@ const fn asked(out: &str, force: bool) -> Asked<'_> {
     Asked {
         layout: SMALL,
         recording: SESSION,
+        endpoints: &[],
         out,
         force,
     }
@@ -46,7 +48,7 @@ fn ends(rt: &HostRuntime, asked: &Asked<'_>, status: u8, text: &str) -> bool {
 /// The bytes of a session's capture.
 fn capture(alloc: Global, layout: &str, session: &str) -> Vec<u8> {
     let (mut out, mut err) = (Vec::new(alloc), Vec::new(alloc));
-    capture_session(alloc, layout, session, &mut out, &mut err);
+    capture_session(alloc, layout, session, &[], &mut out, &mut err);
     out
 }
 

@@ -1,9 +1,10 @@
 -- What a recorded session comes to as a capture.
-use Rattle.std.specs.Prelude.{◌≡◌, ◌<◌, ◌+◌, ◌/◌, ◌%◌, ℕ, Bool, true, false, List, [], ◌∷◌, ◌++◌, length, map, take, codes, slice_get, Option, Some, Ok}
+use Rattle.std.specs.Prelude.{◌≡◌, ◌<◌, ℕ, Bool, true, false, List, [], ◌∷◌, ◌++◌, length, map, take, codes, slice_get, Option, Some, Ok}
 use Rattle.std.specs.Io.KnownBytes.{Appends}
 use Rattle.std.specs.List.{flat_map}
 use Rattle.capture_file.specs.Blocks.{head, packet_block}
 use Rattle.capture_file.specs.Captures.{IsCapture}
+use Rattle.capture_file.specs.NodeEnds.{end_of}
 use Rattle.capture_file.specs.Journeys.{Sent}
 use Rattle.capture_file.specs.declared.journey.Endpoint.{Endpoint}
 use Rattle.capture_file.specs.declared.journey.Journey.{Journey}
@@ -13,7 +14,6 @@ use Rattle.station_run.specs.station_sim.layout.Entries.{Site}
 use Rattle.station_run.specs.station_sim.rasta_core.Links.{OnLink}
 use Rattle.station_run.specs.station_sim.replay_lines.Session.{session}
 use Rattle.station_run.specs.station_sim.replay_lines.declared.session.Entry.{Entry}
-use Rattle.station_run.specs.station_sim.simulator_event.declared.event.NodeId.{NodeId}
 use Rattle.station_run.specs.station_sim.station_check.Failures.{told_line as station_line}
 use Rattle.station_run.specs.station_sim.station_check.Report.{IsSound}
 use Rattle.station_run.specs.station_sim.station_check.declared.failure.Failure.TheVariants as station
@@ -23,16 +23,12 @@ use Rattle.station_traffic.specs.declared.capture_failure.Failure.TheVariants.{S
 
 -- ---- datagrams
 
--- where a node is found: an address that is made of its place, and the port of all
-abbrev pub endpoint : NodeId → Endpoint
-endpoint node = record { address = 10 ∷ 0 ∷ node.0 / 250 % 250 ∷ (node.0 % 250 + 1) ∷ []; port = 40100 }
-
 -- when a datagram was sent, from where and to where
-abbrev pub journey : OnLink → Journey
-journey one = record {
+abbrev pub journey : List Endpoint → OnLink → Journey
+journey given one = record {
   time = one.datagram.at;
-  sender = endpoint (sender one.datagram.sender one.link);
-  receiver = endpoint (receiver one.datagram.sender one.link);
+  sender = end_of given (sender one.datagram.sender one.link).0;
+  receiver = end_of given (receiver one.datagram.sender one.link).0;
 }
 
 -- what is remarked of it
@@ -40,13 +36,13 @@ abbrev pub comment : Bool → List ℕ
 comment true = codes "lost"
 comment false = []
 
-abbrev pub captured : OnLink → Sent
-captured one = record { journey = journey one; payload = one.datagram.bytes; comment = comment one.datagram.is_lost }
+abbrev pub captured : List Endpoint → OnLink → Sent
+captured given one = record { journey = journey given one; payload = one.datagram.bytes; comment = comment one.datagram.is_lost }
 
 -- Bytes are a capture of the datagrams that were sent, in their order, and they are exactly these.
-pub record IsCaptureOf (sent : List OnLink) (bytes : List ℕ) : Type 0 where
-  pub is : IsCapture (map captured sent) bytes
-  pub exact : bytes ≡ head ++ flat_map (λ one. packet_block (captured one)) sent
+pub record IsCaptureOf (given : List Endpoint) (sent : List OnLink) (bytes : List ℕ) : Type 0 where
+  pub is : IsCapture (map (captured given) sent) bytes
+  pub exact : bytes ≡ head ++ flat_map (λ one. packet_block (captured given one)) sent
 
 -- a datagram among these has more bytes than a capture takes
 pub record HasTooLong (sent : List OnLink) : Type 0 where
@@ -58,10 +54,10 @@ pub record HasTooLong (sent : List OnLink) : Type 0 where
 -- ---- sessions
 
 -- Bytes are a capture of all that is sent on the network of a first world of a site, as a session is applied to it.
-pub record IsFileOf (site : Site) (entries : List Entry) (file : List ℕ) : Type 0 where
+pub record IsFileOf (site : Site) (entries : List Entry) (given : List Endpoint) (file : List ℕ) : Type 0 where
   pub first : Played
   pub begins : IsFirst site first
-  pub is : IsCaptureOf (left_by first entries).run.sent file
+  pub is : IsCaptureOf given (left_by first entries).run.sent file
 
 -- a datagram that is sent so has more bytes than a capture takes
 pub record SendsTooLong (site : Site) (entries : List Entry) : Type 0 where
@@ -70,12 +66,12 @@ pub record SendsTooLong (site : Site) (entries : List Entry) : Type 0 where
   pub has : HasTooLong (left_by first entries).run.sent
 
 -- The layout is sound, no line of the record is faulty, and bytes are a capture of what its session sends.
-pub record IsSessionCapture (layout text file : List ℕ) : Type 0 where
+pub record IsSessionCapture (layout text : List ℕ) (given : List Endpoint) (file : List ℕ) : Type 0 where
   pub site : Site
   pub sound : IsSound layout site
   pub entries : List Entry
   pub says : session site text ≡ Ok entries
-  pub is : IsFileOf site entries file
+  pub is : IsFileOf site entries given file
 
 -- so long is a datagram that the session of a record sends
 pub record IsTooLong (layout text : List ℕ) : Type 0 where
@@ -86,9 +82,9 @@ pub record IsTooLong (layout text : List ℕ) : Type 0 where
   pub sends : SendsTooLong site entries
 
 -- such a capture was written
-pub record IsCaptured (layout text : List ℕ) (before now : Option (List ℕ)) : Type 0 where
+pub record IsCaptured (layout text : List ℕ) (given : List Endpoint) (before now : Option (List ℕ)) : Type 0 where
   pub file : List ℕ
-  pub is : IsSessionCapture layout text file
+  pub is : IsSessionCapture layout text given file
   pub appended : Appends before now file
 
 -- ---- what fails

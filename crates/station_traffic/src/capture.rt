@@ -9,6 +9,7 @@ use crate::capture_failure::{Failure, tell_failure};
 use crate::replayed::world_behind;
 use crate::sent_captured::capture_of;
 use crate::texts::{Texts, read_texts};
+use capture_file::Endpoint;
 use control_table::Checked;
 use station_run::station_sim::replay::Entry;
 use std::alloc::Global;
@@ -16,24 +17,26 @@ use std::io::Write;
 
 /// Applies a recorded session again to a new world of this layout, and writes to `out` a capture of the datagrams that are
 /// sent, each at its true time from its sender to its receiver, those that are lost with a comment that says so. The
-/// recorded answers aren't looked at. Both texts are judged before the first event, the layout first. The status is 0, or 1
+/// recorded answers aren't looked at. The first nodes are found where that is given, and an address of each other is made of
+/// its place. Both texts are judged before the first event, the layout first. The status is 0, or 1
 /// where anything failed; then `err` is told why, unless the capture couldn't be written, and `out` stays as it is, unless
 /// the capture was begun.
 pub fn capture_session<W: Write, E: Write>(
     alloc: Global,
     layout: &str,
     recording: &str,
+    endpoints: &[Endpoint],
     out: &mut W,
     err: &mut E,
 ) -> u8
     ensures status { result ≤ 1 }
-    ensures done { result ≡ 0 → IsCaptured layout.now recording.now (W.contents out.old) (W.contents out.new) }
+    ensures done { result ≡ 0 → IsCaptured layout.now recording.now endpoints.now (W.contents out.old) (W.contents out.new) }
     ensures faulty { (CanReplay layout.now recording.now → ⊥) → (result ≡ 1) × (out.new ≡ out.old) }
     ensures silent { result ≡ 0 → err.new ≡ err.old }
     // Only a beginning of the line was told where a write to `err` failed.
     ensures explains { result ≡ 1 → Explained layout.now recording.now out.old out.new (E.contents err.old) (E.contents err.new) }
 {
-    match capture(alloc, layout, recording, out) {
+    match capture(alloc, layout, recording, endpoints, out) {
         Ok(()) => 0,
         Err(failure) => {
             tell_failure(&failure, err);
@@ -47,13 +50,14 @@ fn capture<W: Write>(
     alloc: Global,
     layout: &str,
     recording: &str,
+    endpoints: &[Endpoint],
     out: &mut W,
 ) -> Result<(), Failure>
-    ensures done { OnOk result (IsCaptured layout.now recording.now (W.contents out.old) (W.contents out.new)) }
+    ensures done { OnOk result (IsCaptured layout.now recording.now endpoints.now (W.contents out.old) (W.contents out.new)) }
     ensures faulty { (CanReplay layout.now recording.now → ⊥) → IsErr result × (out.new ≡ out.old) }
     ensures explains { IfErr result (λ failure. Explains layout.now recording.now failure × Leaves failure out.old out.new) }
 {
-    let file = session_capture(alloc, layout, recording)?;
+    let file = session_capture(alloc, layout, recording, endpoints)?;
     out.write_all(&file)?;
     out.flush()?;
     Ok(())
@@ -64,24 +68,30 @@ pub(crate) fn session_capture(
     alloc: Global,
     layout: &str,
     recording: &str,
+    endpoints: &[Endpoint],
 ) -> Result<Vec<u8>, Failure>
-    ensures done { IfOk result (λ file. IsSessionCapture layout.now recording.now file.items) }
+    ensures done { IfOk result (λ file. IsSessionCapture layout.now recording.now endpoints.now file.items) }
     ensures replays { OnOk result (CanReplay layout.now recording.now) }
     ensures faulty { (CanReplay layout.now recording.now → ⊥) → IsErr result }
     ensures explains { IfErr result (Explains layout.now recording.now) }
 {
     let texts = read_texts(alloc, layout, recording)?;
     let Texts { table, entries } = texts;
-    let file = file_of(alloc, table, &entries)?;
+    let file = file_of(alloc, table, &entries, endpoints)?;
     Ok(file)
 }
 
 /// The capture of what is sent on the network of a new world of this table as a session is applied to it.
-fn file_of(alloc: Global, table: Checked, entries: &[Entry]) -> Result<Vec<u8>, Failure>
-    ensures is { IfOk result (λ file. IsFileOf table entries.now file.items) }
+fn file_of(
+    alloc: Global,
+    table: Checked,
+    entries: &[Entry],
+    endpoints: &[Endpoint],
+) -> Result<Vec<u8>, Failure>
+    ensures is { IfOk result (λ file. IsFileOf table entries.now endpoints.now file.items) }
     ensures failed { IfErr result (IsNoFile table entries.now) }
 {
     let world = world_behind(alloc, table, entries)?;
-    let file = capture_of(alloc, world.network())?;
+    let file = capture_of(alloc, world.network(), endpoints)?;
     Ok(file)
 }

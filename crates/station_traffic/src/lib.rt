@@ -16,6 +16,7 @@ mod sent_captured;
 mod texts;
 
 pub use capture::capture_session;
+pub use capture_file::Endpoint;
 pub use decode::decode_session_text;
 pub use fate::Fate;
 pub use out_file::{Asked, capture_to_file};

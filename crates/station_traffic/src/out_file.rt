@@ -6,16 +6,19 @@ ghost use Rattle.station_traffic.specs.CaptureFiles.{Explained, Explains, HasCap
 
 use crate::capture::session_capture;
 use crate::file_failure::{FileFailure, tell_file_failure};
-use std::fs::{File, Files};
+use capture_file::{Endpoint, write_file};
+use std::fs::Files;
+use std::io;
 use std::io::Write;
-use std::{fs, io};
 
-/// What `station capture` is asked: the texts of the layout and of the record, where the capture goes, and whether a file
-/// that is there is written over.
+/// What `station capture` is asked: the texts of the layout and of the record, where the nodes are found, where the capture
+/// goes, and whether a file that is there is written over.
 #[derive(Clone, Copy, Debug)]
 pub struct Asked<'a> {
     pub layout: &'a str,
     pub recording: &'a str,
+    /// Where the first nodes are found; an address of each other is made of its place.
+    pub endpoints: &'a [Endpoint],
     /// The path of the capture.
     pub out: &'a str,
     pub force: bool,
@@ -30,11 +33,11 @@ pub fn capture_to_file<R: Files + AllocGlobal, E: Write>(
     err: &mut E,
 ) -> u8
     ensures status { result ≤ 1 }
-    ensures done { result ≡ 0 → HasCapture asked.now.layout.now asked.now.recording.now }
+    ensures done { result ≡ 0 → HasCapture asked.now.layout.now asked.now.recording.now asked.now.endpoints.now }
     ensures faulty { (CanReplay asked.now.layout.now asked.now.recording.now → ⊥) → result ≡ 1 }
     ensures silent { result ≡ 0 → err.new ≡ err.old }
     // Only a beginning of the line was told where a write to `err` failed.
-    ensures explains { result ≡ 1 → Explained asked.now.layout.now asked.now.recording.now (E.contents err.old) (E.contents err.new) }
+    ensures explains { result ≡ 1 → Explained asked.now.layout.now asked.now.recording.now asked.now.endpoints.now (E.contents err.old) (E.contents err.new) }
 {
     match write_capture(rt, asked) {
         Ok(()) => 0,
@@ -47,25 +50,14 @@ pub fn capture_to_file<R: Files + AllocGlobal, E: Write>(
 
 /// Makes the capture, and then writes its file.
 fn write_capture<R: Files + AllocGlobal>(rt: &R, asked: &Asked<'_>) -> Result<(), FileFailure>
-    ensures done { OnOk result (HasCapture asked.now.layout.now asked.now.recording.now) }
+    ensures done { OnOk result (HasCapture asked.now.layout.now asked.now.recording.now asked.now.endpoints.now) }
     ensures faulty { (CanReplay asked.now.layout.now asked.now.recording.now → ⊥) → IsErr result }
-    ensures explains { IfErr result (Explains asked.now.layout.now asked.now.recording.now) }
+    ensures explains { IfErr result (Explains asked.now.layout.now asked.now.recording.now asked.now.endpoints.now) }
 {
-    let capture = session_capture(rt.alloc(), asked.layout, asked.recording)?;
-    match write_file(rt, asked, &capture) {
+    let capture = session_capture(rt.alloc(), asked.layout, asked.recording, asked.endpoints)?;
+    match write_file(rt, asked.out, asked.force, &capture) {
         Ok(()) => Ok(()),
         Err(error) if error.kind() == io::ErrorKind::AlreadyExists => Err(FileFailure::Exists),
         Err(_) => Err(FileFailure::CannotWrite),
     }
-}
-
-/// Writes these bytes to the file that is asked for, and nothing else.
-fn write_file<R: Files>(rt: &R, asked: &Asked<'_>, bytes: &[u8]) -> io::Result<()> {
-    let mut file = if asked.force {
-        fs::create(rt, asked.out)?
-    } else {
-        File::create_new(rt, asked.out)?
-    };
-    file.write_all(bytes)?;
-    file.flush()
 }

@@ -1,32 +1,16 @@
 //! The capture of the datagrams of a network.
 
 ghost use Rattle.std.specs.Prelude.{◌≡◌, IfErr, IfOk, OnOk, slice_get};
-ghost use Rattle.station_traffic.specs.CapturedSession.{IsCaptureOf, comment, endpoint, journey};
+ghost use Rattle.station_traffic.specs.CapturedSession.{IsCaptureOf, comment, journey};
 ghost use Rattle.station_run.specs.station_sim.simulator.simulator_field.Network.{lent};
 ghost use Rattle.station_traffic.specs.inside.CapturesSoFar.{Captures, IsNoCapture};
 
 use crate::capture_failure::Failure;
 use crate::ends::sender;
-use capture_file::{Endpoint, Journey, MOST_BYTES, begin, push_datagram};
+use capture_file::{Endpoint, Journey, MOST_BYTES, begin, end_of, push_datagram};
 use station_run::station_sim::receiver;
-use station_run::station_sim::replay::simulator::NodeId;
 use station_run::station_sim::replay::simulator::simulator_field::{Network, SentOn};
 use std::alloc::Global;
-
-/// The port of every node.
-const PORT: u16 = 40100;
-
-/// Where a node is found. Its address is made of its place.
-fn endpoint(node: NodeId) -> Endpoint
-    ensures { result ≡ endpoint node }
-{
-    let high = node.0 / 250 % 250;
-    let low = node.0 % 250 + 1;
-    Endpoint {
-        address: [10, 0, high as u8, low as u8],
-        port: PORT,
-    }
-}
 
 /// What is remarked of a datagram.
 fn comment(is_lost: bool) -> &'static str
@@ -36,13 +20,13 @@ fn comment(is_lost: bool) -> &'static str
 }
 
 /// When a datagram was sent, from where and to where.
-fn journey(one: &SentOn<'_>) -> Journey
-    ensures { result ≡ journey (lent one.now) }
+fn journey(given: &[Endpoint], one: &SentOn<'_>) -> Journey
+    ensures { result ≡ journey given.now (lent one.now) }
 {
     Journey {
         time: one.at,
-        sender: endpoint(sender(one.sender, one.link)),
-        receiver: endpoint(receiver(one.sender, one.link)),
+        sender: end_of(given, sender(one.sender, one.link).0),
+        receiver: end_of(given, receiver(one.sender, one.link).0),
     }
 }
 
@@ -50,10 +34,11 @@ fn journey(one: &SentOn<'_>) -> Journey
 fn push_sent(
     alloc: Global,
     network: &Network,
+    given: &[Endpoint],
     place: usize,
     file: &mut Vec<u8>,
 ) -> Result<(), Failure>
-    ensures added { OnOk result (Captures (slice_get network.now.sent place) file.old.items file.new.items) }
+    ensures added { OnOk result (Captures given.now (slice_get network.now.sent place) file.old.items file.new.items) }
     ensures failed { IfErr result (IsNoCapture network.now.sent) }
 {
     let Some(one) = network.get(place) else {
@@ -62,18 +47,28 @@ fn push_sent(
     if one.bytes.len() > MOST_BYTES {
         return Err(Failure::TooLong);
     }
-    push_datagram(alloc, file, &journey(&one), one.bytes, comment(one.is_lost))?;
+    push_datagram(
+        alloc,
+        file,
+        &journey(given, &one),
+        one.bytes,
+        comment(one.is_lost),
+    )?;
     Ok(())
 }
 
 /// A capture of all datagrams that were sent on a network.
-pub(crate) fn capture_of(alloc: Global, network: &Network) -> Result<Vec<u8>, Failure>
-    ensures is { IfOk result (λ file. IsCaptureOf network.now.sent file.items) }
+pub(crate) fn capture_of(
+    alloc: Global,
+    network: &Network,
+    given: &[Endpoint],
+) -> Result<Vec<u8>, Failure>
+    ensures is { IfOk result (λ file. IsCaptureOf given.now network.now.sent file.items) }
     ensures failed { IfErr result (IsNoCapture network.now.sent) }
 {
     let mut file = begin(alloc)?;
     for place in 0..network.len() {
-        push_sent(alloc, network, place, &mut file)?;
+        push_sent(alloc, network, given, place, &mut file)?;
     }
     Ok(file)
 }

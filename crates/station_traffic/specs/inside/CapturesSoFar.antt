@@ -3,6 +3,7 @@ use Rattle.std.specs.Prelude.{◌≡◌, ℕ, List, [], ◌∷◌, ◌++◌, Opt
 use Rattle.capture_file.specs.Blocks.{packet_block}
 use Rattle.capture_file.specs.Captures.{IsCapture}
 use Rattle.capture_file.specs.Journeys.{Sent}
+use Rattle.capture_file.specs.declared.journey.Endpoint.{Endpoint}
 use Rattle.station_run.specs.station_sim.replay_lines.declared.session.Entry.{Entry}
 use Rattle.station_run.specs.station_sim.layout.Entries.{Site}
 use Rattle.station_run.specs.station_sim.rasta_core.Links.{OnLink}
@@ -12,14 +13,14 @@ use Rattle.station_traffic.specs.declared.capture_failure.Failure.{Failure}
 use Rattle.station_traffic.specs.declared.capture_failure.Failure.TheVariants.{Station, TooLong}
 
 -- a datagram was added to a capture
-pub record Adds (one : OnLink) (old new : List ℕ) : Type 0 where
-  pub exact : new ≡ old ++ packet_block (captured one)
-  pub is : (sent : List Sent) → IsCapture sent old → IsCapture (sent ++ captured one ∷ []) new
+pub record Adds (given : List Endpoint) (one : OnLink) (old new : List ℕ) : Type 0 where
+  pub exact : new ≡ old ++ packet_block (captured given one)
+  pub is : (sent : List Sent) → IsCapture sent old → IsCapture (sent ++ captured given one ∷ []) new
 
 -- so it was, if there is one
-abbrev pub Captures : Option OnLink → List ℕ → List ℕ → Type 0
-Captures None old new = new ≡ old
-Captures (Some one) old new = Adds one old new
+abbrev pub Captures : List Endpoint → Option OnLink → List ℕ → List ℕ → Type 0
+Captures given None old new = new ≡ old
+Captures given (Some one) old new = Adds given one old new
 
 abbrev pub IsNoCapture : List OnLink → Failure → Type 0
 IsNoCapture sent (Station OutOfMemory) = Unit {0}

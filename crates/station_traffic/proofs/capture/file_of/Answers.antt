@@ -7,7 +7,7 @@ use Rattle.station_traffic.proofs.capture.file_of.Goals as goal
 
 pub returns-clause-is : goal.returns-clause-is
 returns-clause-is c =
-    file_is c.args.table c.args.entries.now (played c.in_ok-world.world) c.network.result.now.sent c.in_ok-file.file.items
+    file_is c.args.endpoints.now c.args.table c.args.entries.now (played c.in_ok-world.world) c.network.result.now.sent c.in_ok-file.file.items
     c.in_ok-world.ensures c.network.ensures.sent c.in_ok-file.ensures.is
 
 pub returns-in_err-file-clause-failed : goal.returns-in_err-file-clause-failed
