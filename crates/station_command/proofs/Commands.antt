@@ -369,7 +369,13 @@ decode_layout_file = record { found = refl; same = refl; fault = λ text rs. ref
 decode_record : TakesOne decode_rules (rule_at 3 decode_rules)
 decode_record = record { found = refl; same = refl; fault = λ text rs. refl; empty = λ rs. tt; leaves = λ text rs. refl; most = refl; alone = refl; once = refl; further = refl }
 
-decode_help : IsHelp (rule_at 4 decode_rules)
+decode_node : IsOption decode_rules (rule_at 4 decode_rules)
+decode_node = record {
+  one = record { found = refl; same = refl; fault = λ text rs. refl; empty = λ rs. tt; leaves = λ text rs. refl; most = refl; alone = refl; once = refl; further = refl };
+  long = refl;
+}
+
+decode_help : IsHelp (rule_at 5 decode_rules)
 decode_help = record { valueless = refl; fails = λ rs. tt }
 
 decode_file : (n : Files) → IsFile decode_usage.files decode_rules n
@@ -378,23 +384,24 @@ decode_file second_due = inl (rule_at 3 decode_rules, record { one = decode_reco
 decode_file third_due = inr (refl, refl)
 decode_file none_due = inr (refl, refl)
 
-decode_named : (name : Text) (is_hex is_layout is_help : Bool) → bytes_eq (codes "hex") name ≡ is_hex → bytes_eq (codes "layout") name ≡ is_layout → bytes_eq (codes "help") name ≡ is_help
-    → IsNamed decode_usage decode_rules name
-decode_named name true is_layout is_help a b d = inl (rule_at 0 decode_rules, decode_hex, (bytes_eq-Decides (codes "hex") name).0 a, refl)
-decode_named name false true is_help a b d = inl (rule_at 1 decode_rules, decode_layout, (bytes_eq-Decides (codes "layout") name).0 b, refl)
-decode_named name false false true a b d = inr (inr (rw (a, b) refl, refl, names_help decode_rules name (rule_at 4 decode_rules) (rw (a, b, d) refl) decode_help))
-decode_named name false false false a b d = inr (inr (rw (a, b) refl, refl, names_nothing decode_rules name (rw (a, b, d) refl)))
+decode_named : (name : Text) (is_hex is_layout is_node is_help : Bool) → bytes_eq (codes "hex") name ≡ is_hex → bytes_eq (codes "layout") name ≡ is_layout
+    → bytes_eq (codes "node") name ≡ is_node → bytes_eq (codes "help") name ≡ is_help → IsNamed decode_usage decode_rules name
+decode_named name true is_layout is_node is_help a b n d = inl (rule_at 0 decode_rules, decode_hex, (bytes_eq-Decides (codes "hex") name).0 a, refl)
+decode_named name false true is_node is_help a b n d = inl (rule_at 1 decode_rules, decode_layout, (bytes_eq-Decides (codes "layout") name).0 b, refl)
+decode_named name false false true is_help a b n d = inl (rule_at 4 decode_rules, decode_node, (bytes_eq-Decides (codes "node") name).0 n, refl)
+decode_named name false false false true a b n d = inr (inr (rw (a, b, n) refl, refl, names_help decode_rules name (rule_at 5 decode_rules) (rw (a, b, n, d) refl) decode_help))
+decode_named name false false false false a b n d = inr (inr (rw (a, b, n) refl, refl, names_nothing decode_rules name (rw (a, b, n, d) refl)))
 
 decode_short : (x : ℕ) (is_help : Bool) → nat_eq 104 x ≡ is_help → (rest : Text) (h : Held) (after : Held → Kinds) → Fails (short_fault decode_rules false (arg_by_short decode_rules x) rest h after)
-decode_short x true e = short_help decode_rules x (rule_at 4 decode_rules) (rw e refl) decode_help
+decode_short x true e = short_help decode_rules x (rule_at 5 decode_rules) (rw e refl) decode_help
 decode_short x false e = short_nothing decode_rules x (rw e refl)
 
 decode_is : IsLine decode_usage decode_rules
 decode_is = record {
   file = decode_file;
-  named = λ name. decode_named name (bytes_eq (codes "hex") name) (bytes_eq (codes "layout") name) (bytes_eq (codes "help") name) refl refl refl;
+  named = λ name. decode_named name (bytes_eq (codes "hex") name) (bytes_eq (codes "layout") name) (bytes_eq (codes "node") name) (bytes_eq (codes "help") name) refl refl refl refl;
   short = λ x. decode_short x (nat_eq 104 x) refl;
-  defaults = (refl, (refl, (refl, (refl, (refl, tt)))));
+  defaults = (refl, (refl, (refl, (refl, (refl, (refl, tt))))));
 }
 
 -- ---- `capture`
@@ -408,10 +415,22 @@ capture_record = record { found = refl; same = refl; fault = λ text rs. refl; e
 capture_out : TakesOne capture_rules (rule_at 2 capture_rules)
 capture_out = record { found = refl; same = refl; fault = λ text rs. refl; empty = λ rs. tt; leaves = λ text rs. refl; most = refl; alone = refl; once = refl; further = refl }
 
-capture_force : IsSwitch capture_rules (rule_at 3 capture_rules)
+capture_addresses : IsOption capture_rules (rule_at 3 capture_rules)
+capture_addresses = record {
+  one = record { found = refl; same = refl; fault = λ text rs. refl; empty = λ rs. tt; leaves = λ text rs. refl; most = refl; alone = refl; once = refl; further = refl };
+  long = refl;
+}
+
+capture_node : IsOption capture_rules (rule_at 4 capture_rules)
+capture_node = record {
+  one = record { found = refl; same = refl; fault = λ text rs. refl; empty = λ rs. tt; leaves = λ text rs. refl; most = refl; alone = refl; once = refl; further = refl };
+  long = refl;
+}
+
+capture_force : IsSwitch capture_rules (rule_at 5 capture_rules)
 capture_force = record { long = refl; valueless = refl; fault = λ rs. refl; leaves = λ rs. refl }
 
-capture_help : IsHelp (rule_at 4 capture_rules)
+capture_help : IsHelp (rule_at 6 capture_rules)
 capture_help = record { valueless = refl; fails = λ rs. tt }
 
 capture_file : (n : Files) → IsFile capture_usage.files capture_rules n
@@ -420,21 +439,24 @@ capture_file second_due = inl (rule_at 1 capture_rules, record { one = capture_r
 capture_file third_due = inl (rule_at 2 capture_rules, record { one = capture_out; found = refl; left = refl; steps = refl })
 capture_file none_due = inr (refl, refl)
 
-capture_named : (name : Text) (is_force is_help : Bool) → bytes_eq (codes "force") name ≡ is_force → bytes_eq (codes "help") name ≡ is_help → IsNamed capture_usage capture_rules name
-capture_named name true is_help a e = inr (inl (rule_at 3 capture_rules, capture_force, (bytes_eq-Decides (codes "force") name).0 a, refl, refl))
-capture_named name false true a e = inr (inr (refl, rw a refl, names_help capture_rules name (rule_at 4 capture_rules) (rw (a, e) refl) capture_help))
-capture_named name false false a e = inr (inr (refl, rw a refl, names_nothing capture_rules name (rw (a, e) refl)))
+capture_named : (name : Text) (is_addresses is_node is_force is_help : Bool) → bytes_eq (codes "addresses") name ≡ is_addresses → bytes_eq (codes "node") name ≡ is_node
+    → bytes_eq (codes "force") name ≡ is_force → bytes_eq (codes "help") name ≡ is_help → IsNamed capture_usage capture_rules name
+capture_named name true is_node is_force is_help d n a e = inl (rule_at 3 capture_rules, capture_addresses, (bytes_eq-Decides (codes "addresses") name).0 d, refl)
+capture_named name false true is_force is_help d n a e = inl (rule_at 4 capture_rules, capture_node, (bytes_eq-Decides (codes "node") name).0 n, refl)
+capture_named name false false true is_help d n a e = inr (inl (rule_at 5 capture_rules, capture_force, (bytes_eq-Decides (codes "force") name).0 a, refl, refl))
+capture_named name false false false true d n a e = inr (inr (rw (d, n) refl, rw a refl, names_help capture_rules name (rule_at 6 capture_rules) (rw (d, n, a, e) refl) capture_help))
+capture_named name false false false false d n a e = inr (inr (rw (d, n) refl, rw a refl, names_nothing capture_rules name (rw (d, n, a, e) refl)))
 
 capture_short : (x : ℕ) (is_help : Bool) → nat_eq 104 x ≡ is_help → (rest : Text) (h : Held) (after : Held → Kinds) → Fails (short_fault capture_rules false (arg_by_short capture_rules x) rest h after)
-capture_short x true e = short_help capture_rules x (rule_at 4 capture_rules) (rw e refl) capture_help
+capture_short x true e = short_help capture_rules x (rule_at 6 capture_rules) (rw e refl) capture_help
 capture_short x false e = short_nothing capture_rules x (rw e refl)
 
 capture_is : IsLine capture_usage capture_rules
 capture_is = record {
   file = capture_file;
-  named = λ name. capture_named name (bytes_eq (codes "force") name) (bytes_eq (codes "help") name) refl refl;
+  named = λ name. capture_named name (bytes_eq (codes "addresses") name) (bytes_eq (codes "node") name) (bytes_eq (codes "force") name) (bytes_eq (codes "help") name) refl refl refl refl;
   short = λ x. capture_short x (nat_eq 104 x) refl;
-  defaults = (refl, (refl, (refl, (refl, (refl, tt)))));
+  defaults = (refl, (refl, (refl, (refl, (refl, (refl, (refl, tt)))))));
 }
 
 -- ---- `node`
@@ -678,14 +700,15 @@ chart_reads = command_reads (codes "chart") chart_usage chart_rules chart_is cha
         subst (λ r. Settles chart_rules (chart_by given) r given) (λ i. chart_of (sym first_is i) (sym second_is i) (option_and_then number_of (sym from_is i)) (option_and_then number_of (sym to_is i)))
         (chart_ends (value_of (codes "FILE") given) (value_of (codes "SECOND") given) (value_of (codes "from") given) (value_of (codes "to") given) (are.taken (codes "from")) (are.taken (codes "to")))
 
-decode_ends : (hex layout file recording : Option Text) → Ends (decode_of hex layout file recording) (decode_of hex layout file recording) []
-decode_ends (Some hex) layout None None = inl (Decode hex layout, (refl, (refl, refl)))
-decode_ends (Some hex) layout None (Some recording) = inr (inl (refl, (refl, refl)))
-decode_ends (Some hex) layout (Some file) recording = inr (inl (refl, (refl, refl)))
-decode_ends None None (Some file) (Some recording) = inl (DecodeSession file recording, (refl, (refl, refl)))
-decode_ends None None (Some file) None = inr (inl (refl, (refl, refl)))
-decode_ends None None None recording = inr (inl (refl, (refl, refl)))
-decode_ends None (Some layout) file recording = inr (inl (refl, (refl, refl)))
+decode_ends : (hex layout file recording name : Option Text) → Ends (decode_of hex layout file recording name) (decode_of hex layout file recording name) []
+decode_ends (Some hex) layout None None None = inl (Decode hex layout, (refl, (refl, refl)))
+decode_ends (Some hex) layout None None (Some name) = inr (inl (refl, (refl, refl)))
+decode_ends (Some hex) layout None (Some recording) name = inr (inl (refl, (refl, refl)))
+decode_ends (Some hex) layout (Some file) recording name = inr (inl (refl, (refl, refl)))
+decode_ends None None (Some file) (Some recording) name = inl (DecodeSession file recording name, (refl, (refl, refl)))
+decode_ends None None (Some file) None name = inr (inl (refl, (refl, refl)))
+decode_ends None None None recording name = inr (inl (refl, (refl, refl)))
+decode_ends None (Some layout) file recording name = inr (inl (refl, (refl, refl)))
 
 pub decode_reads : (words : List Text) → CommandReads (codes "decode") decode_usage decode_rules decode_by decode_of_rows words
 decode_reads = command_reads (codes "decode") decode_usage decode_rules decode_is decode_by decode_of_rows settles
@@ -696,17 +719,18 @@ decode_reads = command_reads (codes "decode") decode_usage decode_rules decode_i
         let layout_is = no_default given found (codes "layout") (are.values (codes "layout")) in
         let file_is = no_default given found (codes "FILE") (are.values (codes "FILE")) in
         let record_is = no_default given found (codes "SECOND") (are.values (codes "SECOND")) in
-        subst (λ r. Settles decode_rules (decode_by given) r given) (λ i. decode_of (sym hex_is i) (sym layout_is i) (sym file_is i) (sym record_is i))
-        (decode_ends (value_of (codes "hex") given) (value_of (codes "layout") given) (value_of (codes "FILE") given) (value_of (codes "SECOND") given))
+        let node_is = no_default given found (codes "node") (are.values (codes "node")) in
+        subst (λ r. Settles decode_rules (decode_by given) r given) (λ i. decode_of (sym hex_is i) (sym layout_is i) (sym file_is i) (sym record_is i) (sym node_is i))
+        (decode_ends (value_of (codes "hex") given) (value_of (codes "layout") given) (value_of (codes "FILE") given) (value_of (codes "SECOND") given) (value_of (codes "node") given))
 
 abbrev three_missing : Option Text → Option Text → Option Text → Kinds
 three_missing a b c = check_kinds false false (not (is_some a) || (not (is_some b) || (not (is_some c) || false)))
 
-capture_ends : (a b c : Option Text) (force : Bool) → Ends (capture_of a b c force) (capture_of a b c force) (three_missing a b c)
-capture_ends (Some a) (Some b) (Some c) force = inl (Capture a b c force, (refl, (refl, refl)))
-capture_ends (Some a) (Some b) None force = inr (inr (refl, tt))
-capture_ends (Some a) None c force = inr (inr (refl, tt))
-capture_ends None b c force = inr (inr (refl, tt))
+capture_ends : (a b c addresses name : Option Text) (force : Bool) → Ends (capture_of a b c addresses name force) (capture_of a b c addresses name force) (three_missing a b c)
+capture_ends (Some a) (Some b) (Some c) addresses name force = inl (Capture a b c addresses name force, (refl, (refl, refl)))
+capture_ends (Some a) (Some b) None addresses name force = inr (inr (refl, tt))
+capture_ends (Some a) None c addresses name force = inr (inr (refl, tt))
+capture_ends None b c addresses name force = inr (inr (refl, tt))
 
 pub capture_reads : (words : List Text) → CommandReads (codes "capture") capture_usage capture_rules capture_by capture_of_rows words
 capture_reads = command_reads (codes "capture") capture_usage capture_rules capture_is capture_by capture_of_rows settles
@@ -716,9 +740,12 @@ capture_reads = command_reads (codes "capture") capture_usage capture_rules capt
         let first_is = no_default given found (codes "FILE") (are.values (codes "FILE")) in
         let second_is = no_default given found (codes "SECOND") (are.values (codes "SECOND")) in
         let out_is = no_default given found (codes "OUT") (are.values (codes "OUT")) in
+        let addresses_are = no_default given found (codes "addresses") (are.values (codes "addresses")) in
+        let node_is = no_default given found (codes "node") (are.values (codes "node")) in
         let force_is : is_on (first_of (codes "force") found) ≡ is_on (value_of (codes "force") given) = ap is_on (are.values (codes "force")) ∙ off (value_of (codes "force") given) in
-        subst (λ r. Settles capture_rules (capture_by given) r given) (λ i. capture_of (sym first_is i) (sym second_is i) (sym out_is i) (sym force_is i))
-        (capture_ends (value_of (codes "FILE") given) (value_of (codes "SECOND") given) (value_of (codes "OUT") given) (is_on (value_of (codes "force") given)))
+        subst (λ r. Settles capture_rules (capture_by given) r given) (λ i. capture_of (sym first_is i) (sym second_is i) (sym out_is i) (sym addresses_are i) (sym node_is i) (sym force_is i))
+        (capture_ends (value_of (codes "FILE") given) (value_of (codes "SECOND") given) (value_of (codes "OUT") given) (value_of (codes "addresses") given) (value_of (codes "node") given)
+        (is_on (value_of (codes "force") given)))
 
 node_ends : (a b c operator recording clock time : Option Text) → InRange 0 9000000000000 clock → InRange 1000 600000 time
     → Ends (node_of a b c operator recording (clock_of (option_map time_of clock)) (option_map time_of time)) (node_of a b c operator recording (clock_of (option_and_then number_of clock)) (option_and_then number_of time))

@@ -170,31 +170,39 @@ module _ (m : ArgMatches) where
 
   -- ---- `decode`
 
-  pub decode_found : (hex layout file recording : Option Text) (asked : Option Request) → asked ≡ decode_of hex layout file recording → hex ≡ first_value (found_of m) (codes "hex")
+  pub decode_found : (hex layout file recording node : Option Text) (asked : Option Request) → asked ≡ decode_of hex layout file recording node → hex ≡ first_value (found_of m) (codes "hex")
       → layout ≡ first_value (found_of m) (codes "layout") → file ≡ first_value (found_of m) (codes "FILE") → recording ≡ first_value (found_of m) (codes "SECOND")
-      → asked ≡ decode_of_rows (rows_of (found_of m))
-  decode_found hex layout file recording asked is e f g h =
+      → node ≡ first_value (found_of m) (codes "node") → asked ≡ decode_of_rows (rows_of (found_of m))
+  decode_found hex layout file recording node asked is e f g h k =
       let hex_is = value_found (codes "hex") hex e in
       let layout_is = value_found (codes "layout") layout f in
       let file_is = value_found (codes "FILE") file g in
       let record_is = value_found (codes "SECOND") recording h in
-      is ∙ (λ i. decode_of (hex_is i) (layout_is i) (file_is i) (record_is i))
+      let node_is = value_found (codes "node") node k in
+      is ∙ (λ i. decode_of (hex_is i) (layout_is i) (file_is i) (record_is i) (node_is i))
 
   -- ---- `capture`
 
-  pub capture_found : (a b out : Text) (force : Bool) → Some (a, b) ≡ files_of (rows_of (found_of m)) → Some out ≡ first_value (found_of m) (codes "OUT")
-      → force ≡ is_on (first_of (codes "force") (rows_of (found_of m))) → Some (Capture a b out force) ≡ capture_of_rows (rows_of (found_of m))
-  capture_found a b out force e f g =
+  pub capture_found : (a b out : Text) (addresses node : Option Text) (force : Bool) → Some (a, b) ≡ files_of (rows_of (found_of m)) → Some out ≡ first_value (found_of m) (codes "OUT")
+      → addresses ≡ first_value (found_of m) (codes "addresses") → node ≡ first_value (found_of m) (codes "node")
+      → force ≡ is_on (first_of (codes "force") (rows_of (found_of m))) → Some (Capture a b out addresses node force) ≡ capture_of_rows (rows_of (found_of m))
+  capture_found a b out addresses node force e f g h k =
       let out_is = value_found (codes "OUT") (Some out) f in
-      λ i. captured (e i) (out_is i) (g i)
+      let addresses_are = value_found (codes "addresses") addresses g in
+      let node_is = value_found (codes "node") node h in
+      λ i. captured (e i) (out_is i) (addresses_are i) (node_is i) (k i)
+
+  -- the capture by what was found
+  abbrev found_capture : Option (Text × Text) → Option Text → Option Request
+  found_capture files out = captured files out (FirstOf (codes "addresses")) (FirstOf (codes "node")) (is_on (FirstOf (codes "force")))
 
   pub no_files : None ≡ files_of (rows_of (found_of m)) → None ≡ capture_of_rows (rows_of (found_of m))
-  no_files e = ap (λ o. captured o (FirstOf (codes "OUT")) (is_on (FirstOf (codes "force")))) e
+  no_files e = ap (λ o. found_capture o (FirstOf (codes "OUT"))) e
 
   pub no_out : (a b : Text) → Some (a, b) ≡ files_of (rows_of (found_of m)) → None ≡ first_value (found_of m) (codes "OUT") → None ≡ capture_of_rows (rows_of (found_of m))
   no_out a b e f =
       let out_is = value_found (codes "OUT") None f in
-      λ i. captured (e i) (out_is i) (is_on (FirstOf (codes "force")))
+      λ i. found_capture (e i) (out_is i)
 
   -- ---- `node`
 

@@ -112,8 +112,8 @@ pub data Request : Type 0 where
   Replay : List ℕ → List ℕ → Option (List ℕ) → Request
   Chart : List ℕ → List ℕ → Option ℕ → Option ℕ → Request
   Decode : List ℕ → Option (List ℕ) → Request
-  DecodeSession : List ℕ → List ℕ → Request
-  Capture : List ℕ → List ℕ → List ℕ → Bool → Request
+  DecodeSession : List ℕ → List ℕ → Option (List ℕ) → Request
+  Capture : List ℕ → List ℕ → List ℕ → Option (List ℕ) → Option (List ℕ) → Bool → Request
   Node : List ℕ → List ℕ → List ℕ → Option (List ℕ) → Option (List ℕ) → ℕ → Option ℕ → Request
 
 -- a switch is on
@@ -179,25 +179,29 @@ chart_usage = record { files = codes "FILE" ∷ codes "SECOND" ∷ []; options =
 abbrev pub chart_of : Option (List ℕ) → Option (List ℕ) → Option ℕ → Option ℕ → Option Request
 chart_of layout recording from to = option_map (λ files. Chart files.0 files.1 from to) (both_of layout recording)
 
--- `decode --hex HEX [--layout FILE]`, or `decode FILE RECORD`
+-- `decode --hex HEX [--layout FILE]`, or `decode FILE RECORD [--node NAME]`
 abbrev pub decode_usage : Usage
-decode_usage = record { files = codes "FILE" ∷ codes "SECOND" ∷ []; options = codes "hex" ∷ codes "layout" ∷ []; switches = [] }
+decode_usage = record { files = codes "FILE" ∷ codes "SECOND" ∷ []; options = codes "hex" ∷ codes "layout" ∷ codes "node" ∷ []; switches = [] }
 
-abbrev pub decode_of : Option (List ℕ) → Option (List ℕ) → Option (List ℕ) → Option (List ℕ) → Option Request
-decode_of (Some hex) layout None None = Some (Decode hex layout)
-decode_of None None (Some file) (Some recording) = Some (DecodeSession file recording)
-decode_of _ _ _ _ = None
+abbrev pub decode_of : Option (List ℕ) → Option (List ℕ) → Option (List ℕ) → Option (List ℕ) → Option (List ℕ) → Option Request
+decode_of (Some hex) layout None None None = Some (Decode hex layout)
+decode_of None None (Some file) (Some recording) name = Some (DecodeSession file recording name)
+decode_of _ _ _ _ _ = None
 
--- `capture FILE RECORD OUT [--force]`
+-- `capture FILE RECORD OUT [--addresses ADDRESSES] [--node NAME] [--force]`
 abbrev pub capture_usage : Usage
-capture_usage = record { files = codes "FILE" ∷ codes "SECOND" ∷ codes "OUT" ∷ []; options = []; switches = codes "force" ∷ [] }
+capture_usage = record {
+  files = codes "FILE" ∷ codes "SECOND" ∷ codes "OUT" ∷ [];
+  options = codes "addresses" ∷ codes "node" ∷ [];
+  switches = codes "force" ∷ [];
+}
 
-abbrev pub captured : Option (List ℕ × List ℕ) → Option (List ℕ) → Bool → Option Request
-captured (Some files) (Some out) force = Some (Capture files.0 files.1 out force)
-captured _ _ force = None
+abbrev pub captured : Option (List ℕ × List ℕ) → Option (List ℕ) → Option (List ℕ) → Option (List ℕ) → Bool → Option Request
+captured (Some files) (Some out) addresses name force = Some (Capture files.0 files.1 out addresses name force)
+captured _ _ addresses name force = None
 
-abbrev pub capture_of : Option (List ℕ) → Option (List ℕ) → Option (List ℕ) → Bool → Option Request
-capture_of layout recording out force = captured (both_of layout recording) out force
+abbrev pub capture_of : Option (List ℕ) → Option (List ℕ) → Option (List ℕ) → Option (List ℕ) → Option (List ℕ) → Bool → Option Request
+capture_of layout recording out addresses name force = captured (both_of layout recording) out addresses name force
 
 -- `node FILE NAME --addresses ADDRESSES [--operator ADDRESS] [--record R] [--clock MS] [--for MS]`
 abbrev pub node_usage : Usage
@@ -238,10 +242,13 @@ abbrev pub chart_by : List Given → Option Request
 chart_by given = chart_of (value_of (codes "FILE") given) (value_of (codes "SECOND") given) (option_map time_of (value_of (codes "from") given)) (option_map time_of (value_of (codes "to") given))
 
 abbrev pub decode_by : List Given → Option Request
-decode_by given = decode_of (value_of (codes "hex") given) (value_of (codes "layout") given) (value_of (codes "FILE") given) (value_of (codes "SECOND") given)
+decode_by given =
+    decode_of (value_of (codes "hex") given) (value_of (codes "layout") given) (value_of (codes "FILE") given) (value_of (codes "SECOND") given) (value_of (codes "node") given)
 
 abbrev pub capture_by : List Given → Option Request
-capture_by given = capture_of (value_of (codes "FILE") given) (value_of (codes "SECOND") given) (value_of (codes "OUT") given) (is_on (value_of (codes "force") given))
+capture_by given =
+    capture_of (value_of (codes "FILE") given) (value_of (codes "SECOND") given) (value_of (codes "OUT") given) (value_of (codes "addresses") given) (value_of (codes "node") given)
+    (is_on (value_of (codes "force") given))
 
 abbrev pub node_by : List Given → Option Request
 node_by given =
@@ -273,8 +280,8 @@ request_of (asked.Run layout script recording for_ms) = Run layout.now script.no
 request_of (asked.Replay layout recording node) = Replay layout.now recording.now (option_copied node)
 request_of (asked.Chart layout recording from to) = Chart layout.now recording.now from to
 request_of (asked.Decode word layout) = Decode word.now (option_copied layout)
-request_of (asked.DecodeSession layout recording) = DecodeSession layout.now recording.now
-request_of (asked.Capture layout recording out force) = Capture layout.now recording.now out.now force
+request_of (asked.DecodeSession layout recording node) = DecodeSession layout.now recording.now (option_copied node)
+request_of (asked.Capture layout recording out addresses node force) = Capture layout.now recording.now out.now (option_copied addresses) (option_copied node) force
 request_of (asked.Node layout name addresses operator recording clock time) = Node layout.now name.now addresses.now (option_copied operator) (option_copied recording) clock time
 
 -- What is asked is what the words say.

@@ -68,9 +68,9 @@ optional_rule name = record (new_rule name) { value_names = 1 }
 abbrev pub datagram_line : App
 datagram_line = with_rule (with_rule (new_app (codes "decode")) (option_rule (codes "hex"))) (option_rule (codes "layout"))
 
--- `decode --hex HEX [--layout FILE]`, or `decode FILE RECORD`
+-- `decode --hex HEX [--layout FILE]`, or `decode FILE RECORD [--node NAME]`
 abbrev pub decode_line : App
-decode_line = with_rule (with_rule datagram_line (optional_rule (codes "FILE"))) (optional_rule (codes "SECOND"))
+decode_line = with_rule (with_rule (with_rule datagram_line (optional_rule (codes "FILE"))) (optional_rule (codes "SECOND"))) (option_rule (codes "node"))
 
 -- a command with a layout and a session
 abbrev pub session_line : List ℕ → App
@@ -84,9 +84,13 @@ replay_line = with_rule (session_line (codes "replay")) (option_rule (codes "nod
 abbrev pub out_rule : Rule
 out_rule = record (new_rule (codes "OUT")) { required = true }
 
--- `capture FILE RECORD OUT [--force]`
+-- `capture`, with the file to which it goes, and where nodes are found
+abbrev pub going_line : App
+going_line = with_rule (with_rule (session_line (codes "capture")) out_rule) (option_rule (codes "addresses"))
+
+-- `capture FILE RECORD OUT [--addresses ADDRESSES] [--node NAME] [--force]`
 abbrev pub capture_line : App
-capture_line = with_rule (with_rule (session_line (codes "capture")) out_rule) (switch_rule (codes "force"))
+capture_line = with_rule (with_rule going_line (option_rule (codes "node"))) (switch_rule (codes "force"))
 
 -- `chart FILE RECORD [--from MS] [--to MS]`
 abbrev pub chart_line : App

@@ -68,16 +68,21 @@ pub enum Asked<'a> {
         word: &'a str,
         layout: Option<&'a str>,
     },
-    /// `decode FILE RECORD`: the datagrams of a recorded session on the layout in a file, in words.
+    /// `decode FILE RECORD [--node NAME]`: the datagrams of a recorded session on the layout in a file, in words, or those in the record of the node of this name.
     DecodeSession {
         layout: &'a str,
         recording: &'a str,
+        node: Option<&'a str>,
     },
-    /// `capture FILE RECORD OUT [--force]`: the datagrams of a recorded session on the layout in a file, as a capture in a third file, which is written over if that is wanted.
+    /// `capture FILE RECORD OUT [--addresses ADDRESSES] [--node NAME] [--force]`: the same datagrams as a capture in a third file, which is written over if that is wanted.
+    ///
+    /// `addresses` is the file with the addresses of the nodes, where these aren't made of the nodes' places.
     Capture {
         layout: &'a str,
         recording: &'a str,
         out: &'a str,
+        addresses: Option<&'a str>,
+        node: Option<&'a str>,
         force: bool,
     },
     /// `node FILE NAME --addresses ADDRESSES [--operator ADDRESS] [--record R] [--clock MS] [--for MS]`: the node of this name of a station of the layout in a file, as a process of its own.
@@ -98,7 +103,7 @@ pub enum Asked<'a> {
 
 /// What is told of words that are read and ask for nothing.
 const ASKS_NOTHING: &str =
-    "decode takes either --hex HEX, with or without --layout FILE, or FILE and RECORD";
+    "decode takes either --hex HEX, with or without --layout FILE, or FILE and RECORD, with or without --node NAME";
 
 /// The value of a switch that is on.
 const ON: &str = "true";
@@ -251,7 +256,8 @@ fn asked_decode<'a>(matches: &ArgMatches<'a>) -> Option<Asked<'a>>
     let layout = matches.get_str(LAYOUT);
     let file = matches.get_str(FILE);
     let record = matches.get_str(SECOND);
-    decode_of(hex, layout, file, record)
+    let name = matches.get_str(NODE);
+    decode_of(hex, layout, file, record, name)
 }
 
 /// What the values of `decode` ask for, if for anything.
@@ -260,30 +266,37 @@ fn decode_of<'a>(
     layout: Option<&'a str>,
     file: Option<&'a str>,
     recording: Option<&'a str>,
+    node: Option<&'a str>,
 ) -> Option<Asked<'a>>
-    ensures { option_map request_of result ≡ decode_of (option_copied hex.entry) (option_copied layout.entry) (option_copied file.entry) (option_copied recording.entry) }
+    ensures { option_map request_of result ≡ decode_of (option_copied hex.entry) (option_copied layout.entry) (option_copied file.entry) (option_copied recording.entry) (option_copied node.entry) }
 {
-    match (hex, layout, file, recording) {
-        (Some(word), layout, None, None) => Some(Asked::Decode { word, layout }),
-        (None, None, Some(layout), Some(recording)) => {
-            Some(Asked::DecodeSession { layout, recording })
-        }
+    match (hex, layout, file, recording, node) {
+        (Some(word), layout, None, None, None) => Some(Asked::Decode { word, layout }),
+        (None, None, Some(layout), Some(recording), node) => Some(Asked::DecodeSession {
+            layout,
+            recording,
+            node,
+        }),
         _ => None,
     }
 }
 
 /// The capture that is asked for.
-#[tactic(auto, using(crate::proofs::Found::capture_found, crate::proofs::Found::no_files, crate::proofs::Found::no_out))]
+#[tactic(auto, using(crate::proofs::Found::no_files, crate::proofs::Found::no_out))]
 fn asked_capture<'a>(matches: &ArgMatches<'a>) -> Option<Asked<'a>>
     ensures { option_map request_of result ≡ capture_of_rows (rows_of (found_of matches.now)) }
 {
     let (layout, recording) = files(matches)?;
     let out = matches.get_str(OUT)?;
+    let addresses = matches.get_str(ADDRESSES);
+    let recorded = matches.get_str(NODE);
     let force = is_on(matches, FORCE);
     Some(Asked::Capture {
         layout,
         recording,
         out,
+        addresses,
+        node: recorded,
         force,
     })
 }

@@ -15,8 +15,8 @@ pub fn text_of(rt: &HostRuntime, file: &str) -> Result<String, Failure> {
     read(rt, file, Content::Layout)
 }
 
-/// The text of a file of lines: events, a session or a script.
-fn lines_of(rt: &HostRuntime, file: &str) -> Result<String, Failure> {
+/// The text of a file of lines: events, a session, a script or addresses.
+pub fn lines_of(rt: &HostRuntime, file: &str) -> Result<String, Failure> {
     read(rt, file, Content::Lines)
 }
 

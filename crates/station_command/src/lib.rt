@@ -11,5 +11,5 @@ mod texts;
 pub use clap::Error;
 pub use command::{Asked, is_memory, read_words};
 pub use failure::Failure;
-pub use files::{text_of, texts_of};
+pub use files::{lines_of, text_of, texts_of};
 pub use line_words::words;

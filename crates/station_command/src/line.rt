@@ -3,7 +3,7 @@
 ghost use Rattle.std.specs.Prelude.{◌≡◌, IfOk, false};
 ghost use Rattle.clap.specs.Words.{app_of, new_app, rule_of};
 ghost use Rattle.clap.specs.declared.builder.command.Command.TheViews.{out-Command};
-ghost use Rattle.station_command.specs.Line.{alone_line, capture_line, chart_line, check_line, datagram_line, decode_line, doing_line, layout_line, needed_rule, node_line, option_rule, optional_rule, plan_line, ranged_rule, reached_line, reading_line, replay_line, run_line, second_rule, session_line, sim_line, station_line, switch_rule, table_line, time_rule};
+ghost use Rattle.station_command.specs.Line.{alone_line, capture_line, chart_line, check_line, datagram_line, decode_line, doing_line, going_line, layout_line, needed_rule, node_line, option_rule, optional_rule, plan_line, ranged_rule, reached_line, reading_line, replay_line, run_line, second_rule, session_line, sim_line, station_line, switch_rule, table_line, time_rule};
 ghost use Rattle.station_command.specs.inside.Lines.{Joins, Takes, file_line, needed_file_rule};
 
 use crate::texts;
@@ -30,7 +30,7 @@ pub(crate) const DECODE: &str = "decode";
 
 pub(crate) const CAPTURE: &str = "capture";
 
-/// This is also the word of a replay's option.
+/// This is also the word of an option for records.
 pub(crate) const NODE: &str = "node";
 
 /// The file of the layout, and the one that is applied to it.
@@ -339,7 +339,7 @@ fn decode_alone<'a>(alloc: Global) -> Result<Command<'a>, AllocError>
     taking(line, option(alloc, LAYOUT, "FILE", texts::LAYOUT))
 }
 
-/// `decode --hex HEX [--layout FILE]`, or `decode FILE RECORD`.
+/// `decode --hex HEX [--layout FILE]`, or `decode FILE RECORD [--node NAME]`.
 fn decode<'a>(alloc: Global) -> Result<Command<'a>, AllocError>
     ensures { IfOk result (λ line. (app_of line ≡ decode_line) × ((out-Command line).has_globals ≡ false)) }
 {
@@ -347,7 +347,8 @@ fn decode<'a>(alloc: Global) -> Result<Command<'a>, AllocError>
         decode_alone(alloc),
         valued(alloc, FILE, "FILE", texts::FILE),
     );
-    taking(line, valued(alloc, SECOND, "RECORD", texts::RECORD))
+    let line = taking(line, valued(alloc, SECOND, "RECORD", texts::RECORD));
+    taking(line, option(alloc, NODE, "NAME", texts::RECORDED_NODE))
 }
 
 /// `chart FILE RECORD [--from MS] [--to MS]`.
@@ -359,12 +360,26 @@ fn chart<'a>(alloc: Global) -> Result<Command<'a>, AllocError>
     taking(line, ranged(alloc, TO, texts::TO, 0, LATEST))
 }
 
-/// `capture FILE RECORD OUT [--force]`.
-fn capture<'a>(alloc: Global) -> Result<Command<'a>, AllocError>
-    ensures { IfOk result (λ line. (app_of line ≡ capture_line) × ((out-Command line).has_globals ≡ false)) }
+/// `capture`, with the file to which it goes, and where nodes are found.
+fn capture_alone<'a>(alloc: Global) -> Result<Command<'a>, AllocError>
+    ensures { IfOk result (λ line. (app_of line ≡ going_line) × ((out-Command line).has_globals ≡ false)) }
 {
     let line = on_session(alloc, CAPTURE, texts::CAPTURE, texts::CAPTURE_DETAILS);
     let line = taking(line, file(alloc, OUT, texts::OUT));
+    taking(
+        line,
+        option(alloc, ADDRESSES, "ADDRESSES", texts::ADDRESSES_OF_CAPTURE),
+    )
+}
+
+/// `capture FILE RECORD OUT [--addresses ADDRESSES] [--node NAME] [--force]`.
+fn capture<'a>(alloc: Global) -> Result<Command<'a>, AllocError>
+    ensures { IfOk result (λ line. (app_of line ≡ capture_line) × ((out-Command line).has_globals ≡ false)) }
+{
+    let line = taking(
+        capture_alone(alloc),
+        option(alloc, NODE, "NAME", texts::RECORDED_NODE),
+    );
     taking(line, switch(alloc, FORCE, texts::FORCE))
 }
 

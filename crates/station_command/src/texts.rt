@@ -155,6 +155,9 @@ with status 0 all the same.
 With a layout and a session, the session is applied again, as by replay. A line for each datagram
 that is sent, delivered or lost tells true time in milliseconds, what becomes of it, and its words.
 
+With --node the record is that of one node, as node writes it with --record. A line for each datagram
+that came or was sent tells the reading of the node's clock, what became of it, and its words.
+
 Examples: station decode examples/small.toml examples/traffic.session
           station decode --hex 32003818020000000100000000000000000000007017000000000000303330331400000000000000000023e6b5e69928e086 --layout examples/small.toml";
 
@@ -162,15 +165,22 @@ pub(crate) const OUT: &str = "The capture, a file that Wireshark reads";
 
 pub(crate) const FORCE: &str = "Writes over the capture, if it is there already";
 
+pub(crate) const ADDRESSES_OF_CAPTURE: &str =
+    "The addresses of the nodes, a TOML file as for node, else made of their places";
+
 pub(crate) const CAPTURE: &str = "Writes the datagrams of a session as a capture";
 
 pub(crate) const CAPTURE_DETAILS: &str =
     "Writes the datagrams of a session as a capture, a file that Wireshark reads.
 
 The session is applied again, as by replay. Each datagram that is sent stands in the capture at its
-true time, with addresses that are made of the places of its two nodes in the layout. One that is
-lost has the comment lost. The file is written when the session has been applied to its end. A file
-that is there already stays as it is, unless --force stands.
+true time, with the addresses of its two nodes: those of --addresses, else such as are made of the
+places of the nodes in the layout. One that is lost has the comment lost. The file is written when the
+session has been applied to its end. A file that is there already stays as it is, unless --force stands.
+
+With --node the record is that of one node, as node writes it with --record. Each datagram that came
+or was sent stands in the capture at the reading of the node's clock. One that came and wasn't
+delivered to the node has a comment that says why.
 docs/WIRE.md tells how a capture is looked at.
 
 Example: station capture examples/small.toml examples/traffic.session traffic.pcapng";

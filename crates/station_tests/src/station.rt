@@ -263,6 +263,7 @@ Arguments:
 Options:
       --hex <HEX>      The bytes of the datagram in hexadecimal digits, a hyphen for none
       --layout <FILE>  The layout whose key and names are used, a TOML file
+      --node <NAME>    The name of the node whose record it is, as node writes one with --record
   -h, --help           Print help (see more with '--help')
 ";
 
@@ -270,9 +271,13 @@ const CAPTURE_HELP: &str =
     "Writes the datagrams of a session as a capture, a file that Wireshark reads.
 
 The session is applied again, as by replay. Each datagram that is sent stands in the capture at its
-true time, with addresses that are made of the places of its two nodes in the layout. One that is
-lost has the comment lost. The file is written when the session has been applied to its end. A file
-that is there already stays as it is, unless --force stands.
+true time, with the addresses of its two nodes: those of --addresses, else such as are made of the
+places of the nodes in the layout. One that is lost has the comment lost. The file is written when the
+session has been applied to its end. A file that is there already stays as it is, unless --force stands.
+
+With --node the record is that of one node, as node writes it with --record. Each datagram that came
+or was sent stands in the capture at the reading of the node's clock. One that came and wasn't
+delivered to the node has a comment that says why.
 docs/WIRE.md tells how a capture is looked at.
 
 Example: station capture examples/small.toml examples/traffic.session traffic.pcapng
@@ -290,6 +295,12 @@ Arguments:
           The capture, a file that Wireshark reads
 
 Options:
+      --addresses <ADDRESSES>
+          The addresses of the nodes, a TOML file as for node, else made of their places
+
+      --node <NAME>
+          The name of the node whose record it is, as node writes one with --record
+
       --force
           Writes over the capture, if it is there already
 
@@ -426,7 +437,7 @@ For more information, try '--help'.
 ";
 
 const NOTHING_TO_DECODE: &str =
-    "error: decode takes either --hex HEX, with or without --layout FILE, or FILE and RECORD
+    "error: decode takes either --hex HEX, with or without --layout FILE, or FILE and RECORD, with or without --node NAME
 
 Usage: station <COMMAND>
 
@@ -480,6 +491,7 @@ const REFUSED: &[Printed] = &[
     ("station decode --layout f", 2, NOTHING_TO_DECODE),
     ("station decode f", 2, NOTHING_TO_DECODE),
     ("station decode --hex - f r", 2, NOTHING_TO_DECODE),
+    ("station decode --hex - --node S1", 2, NOTHING_TO_DECODE),
 ];
 
 /// The words of a command line, which spaces part.

@@ -40,10 +40,13 @@ abbrev pub chart_of_rows : List Row → Option Request
 chart_of_rows rows = chart_of (first_of (codes "FILE") rows) (first_of (codes "SECOND") rows) (option_and_then number_of (first_of (codes "from") rows)) (option_and_then number_of (first_of (codes "to") rows))
 
 abbrev pub decode_of_rows : List Row → Option Request
-decode_of_rows rows = decode_of (first_of (codes "hex") rows) (first_of (codes "layout") rows) (first_of (codes "FILE") rows) (first_of (codes "SECOND") rows)
+decode_of_rows rows =
+    decode_of (first_of (codes "hex") rows) (first_of (codes "layout") rows) (first_of (codes "FILE") rows) (first_of (codes "SECOND") rows) (first_of (codes "node") rows)
 
 abbrev pub capture_of_rows : List Row → Option Request
-capture_of_rows rows = capture_of (first_of (codes "FILE") rows) (first_of (codes "SECOND") rows) (first_of (codes "OUT") rows) (is_on (first_of (codes "force") rows))
+capture_of_rows rows =
+    capture_of (first_of (codes "FILE") rows) (first_of (codes "SECOND") rows) (first_of (codes "OUT") rows) (first_of (codes "addresses") rows) (first_of (codes "node") rows)
+    (is_on (first_of (codes "force") rows))
 
 abbrev pub node_of_rows : List Row → Option Request
 node_of_rows rows =
