@@ -3,17 +3,22 @@
 //! station of it, `station run FILE --script S --record R --for MS` runs one over sockets, and `station replay FILE RECORD`
 //! applies a recorded session, and `station chart FILE RECORD` draws it; `station decode --hex HEX` puts a datagram into
 //! words, and `station decode FILE RECORD` those of a session, which `station capture FILE RECORD OUT` writes to a file for
-//! Wireshark. `station node FILE NAME --addresses ADDRESSES` runs a node of it as a process of its own. The status is 0 where this was done, 1 at a fault, 2 where the command line is wrong, and 3 where a session
+//! Wireshark; with `--node NAME` they do so with the record of a node. `station node FILE NAME --addresses ADDRESSES` runs a node of it as a process of its own. The status is 0 where this was done, 1 at a fault, 2 where the command line is wrong, and 3 where a session
 //! answers otherwise than it was recorded.
 #![tactic(auto)]
 
+use node_traffic::{Asked as NodeCapture, capture_node_to_file, decode_node_text, ends_text};
 use station_chart::station_traffic::station_decode::decode_text;
 use station_chart::station_traffic::station_run::station_sim::station_check::check_text;
 use station_chart::station_traffic::station_run::station_sim::{replay_text, sim_text};
 use station_chart::station_traffic::station_run::{self, Asked as Run};
-use station_chart::station_traffic::{Asked as Capture, capture_to_file, decode_session_text};
+use station_chart::station_traffic::{
+    Asked as Capture, Endpoint, capture_to_file, decode_session_text,
+};
 use station_chart::{Cut, chart_text};
-use station_command::{Asked, Error, Failure, is_memory, read_words, text_of, texts_of, words};
+use station_command::{
+    Asked, Error, Failure, is_memory, lines_of, read_words, text_of, texts_of, words,
+};
 use station_explain::explain_text;
 use station_node::node_network::WaitedStream;
 use station_node::{self, Asked as Node, layout_digest, replay_node_text};
@@ -65,15 +70,32 @@ fn main(rt: HostRuntime) -> ExitCode {
                 },
             ) => chart_files(&rt, layout, recording, Cut { from, to }),
             Ok(Asked::Decode { word, layout }) => decode_word(&rt, layout, word),
-            Ok(Asked::DecodeSession { layout, recording }) => decode_files(&rt, layout, recording),
+            Ok(
+                Asked::DecodeSession {
+                    layout,
+                    recording,
+                    node,
+                },
+            ) => decode_files(&rt, layout, recording, node),
             Ok(
                 Asked::Capture {
                     layout,
                     recording,
                     out,
+                    addresses,
+                    node,
                     force,
                 },
-            ) => capture_files(&rt, layout, recording, out, force),
+            ) => {
+                let files = Capture {
+                    layout,
+                    recording,
+                    endpoints: &[],
+                    out,
+                    force,
+                };
+                capture_files(&rt, files, addresses, node)
+            }
             Ok(
                 Asked::Node {
                     layout,
@@ -213,27 +235,70 @@ fn chart_files(rt: &HostRuntime, layout: &str, recording: &str, cut: Cut) -> u8 
     }
 }
 
-/// `decode FILE RECORD`.
-fn decode_files(rt: &HostRuntime, layout: &str, recording: &str) -> u8 {
+/// `decode FILE RECORD [--node NAME]`.
+fn decode_files(rt: &HostRuntime, layout: &str, recording: &str, node: Option<&str>) -> u8 {
     match texts_of(rt, layout, recording) {
-        Ok((layout, recording)) => decode_session(rt, layout.as_str(), recording.as_str()),
+        Ok((layout, recording)) => match node {
+            Some(name) => decode_node(rt, layout.as_str(), name, recording.as_str()),
+            None => decode_session(rt, layout.as_str(), recording.as_str()),
+        },
         Err(failure) => fail(rt, &failure),
     }
 }
 
-/// `capture FILE RECORD OUT [--force]`.
-fn capture_files(rt: &HostRuntime, layout: &str, recording: &str, out: &str, force: bool) -> u8 {
-    match texts_of(rt, layout, recording) {
-        Ok((layout, recording)) => {
-            let asked = Capture {
-                layout: layout.as_str(),
-                recording: recording.as_str(),
-                out,
-                force,
-            };
-            capture_to_file(rt, &asked, &mut rt.stderr())
-        }
+/// `capture FILE RECORD OUT [--addresses ADDRESSES] [--node NAME] [--force]`, by the names of its files.
+fn capture_files(
+    rt: &HostRuntime,
+    files: Capture<'_>,
+    addresses: Option<&str>,
+    node: Option<&str>,
+) -> u8 {
+    match texts_of(rt, files.layout, files.recording) {
+        Ok((layout, recording)) => match ends_of(rt, layout.as_str(), addresses) {
+            Ok(ends) => {
+                let asked = Capture {
+                    layout: layout.as_str(),
+                    recording: recording.as_str(),
+                    endpoints: &ends,
+                    ..files
+                };
+                capture(rt, &asked, node)
+            }
+            Err(status) => status,
+        },
         Err(failure) => fail(rt, &failure),
+    }
+}
+
+/// Where the nodes are found, by the file with their addresses, if there is one.
+fn ends_of(rt: &HostRuntime, layout: &str, addresses: Option<&str>) -> Result<Vec<Endpoint>, u8> {
+    let Some(file) = addresses else {
+        return Ok(Vec::new(rt.alloc()));
+    };
+    match lines_of(rt, file) {
+        Ok(text) => match ends_text(rt.alloc(), layout, text.as_str(), &mut rt.stderr()) {
+            Some(ends) => Ok(ends),
+            None => Err(1),
+        },
+        Err(failure) => Err(fail(rt, &failure)),
+    }
+}
+
+/// Writes the capture of a session, or of the record of the node of this name.
+fn capture(rt: &HostRuntime, asked: &Capture<'_>, node: Option<&str>) -> u8 {
+    match node {
+        Some(name) => {
+            let asked = NodeCapture {
+                layout: asked.layout,
+                name,
+                recording: asked.recording,
+                endpoints: asked.endpoints,
+                out: asked.out,
+                force: asked.force,
+            };
+            capture_node_to_file(rt, &asked, &mut rt.stderr())
+        }
+        None => capture_to_file(rt, asked, &mut rt.stderr()),
     }
 }
 
@@ -340,6 +405,21 @@ fn decode_session(rt: &HostRuntime, layout: &str, recording: &str) -> u8 {
         Ok(mut out) => {
             decode_session_text(rt.alloc(), layout, recording, &mut out, &mut rt.stderr())
         }
+        Err(_) => fail(rt, &Failure::OutOfMemory),
+    }
+}
+
+/// Writes the datagrams of a node's record in words to standard output.
+fn decode_node(rt: &HostRuntime, layout: &str, name: &str, recording: &str) -> u8 {
+    match BufWriter::new(rt.alloc(), rt.stdout()) {
+        Ok(mut out) => decode_node_text(
+            rt.alloc(),
+            layout,
+            name,
+            recording,
+            &mut out,
+            &mut rt.stderr(),
+        ),
         Err(_) => fail(rt, &Failure::OutOfMemory),
     }
 }
