@@ -3,7 +3,7 @@
 use crate::failure::Failure;
 use crate::files::{parts, read};
 use crate::restarts::lists;
-use crate::{cases, charts, datagrams, pairs, plans, stations, tables};
+use crate::{cases, charts, datagrams, nodes, pairs, plans, stations, tables};
 use station_table::Form;
 use std::io::{BufWriter, Write};
 
@@ -33,6 +33,7 @@ fn carry_out<W: Write>(rt: &HostRuntime, run: &str, out: &mut W) -> Result<(), F
         "plan" => plans::draw(rt, files, out),
         "restarts" => lists::carry_out(rt, files, out),
         "decode" => datagrams::decode_named(rt, files, out),
+        "decode-node" | "capture-node" => nodes::carry_out(rt, kind, files, out),
         "plain-decode" => datagrams::decode_plain(rt, files, out),
         "pair" => pairs::run_file(rt, files, out),
         "each-pair" => pairs::run_each(rt, files, out),

@@ -74,13 +74,13 @@ fn decode<W: Write>(alloc: Global, layout: &str, session: &str, out: &mut W) -> 
 fn capture<W: Write>(alloc: Global, layout: &str, session: &str, out: &mut W) -> io::Result<()> {
     let mut file = Vec::new(alloc);
     let mut fault = Vec::new(alloc);
-    let status = capture_session(alloc, layout, session, &mut file, &mut fault);
+    let status = capture_session(alloc, layout, session, &[], &mut file, &mut fault);
     write_digits(file.as_slice(), out)?;
     write_told(fault.as_slice(), status, out)
 }
 
 /// Writes bytes in hexadecimal digits, 32 bytes in a line.
-fn write_digits<W: Write>(bytes: &[u8], out: &mut W) -> io::Result<()> {
+pub(crate) fn write_digits<W: Write>(bytes: &[u8], out: &mut W) -> io::Result<()> {
     for row in bytes.chunks(ROW) {
         for byte in row {
             let byte = *byte;
