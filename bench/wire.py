@@ -8,14 +8,19 @@ crates/station/out.
    `station decode`. The same without a layout. The checksums of IPv4 and UDP are right, and no packet is malformed.
 2. Every stored session, as `station capture` writes it: its packets are the datagrams that `station decode FILE RECORD` says
    were sent, in their order, each at its time, from the address of its sender to that of its receiver, with its words as under 1.
-   Those that were lost have a comment, and no others. A file that is there is written over with `--force` alone.
+   Those that were lost have a comment, and no others. A file that is there is written over with `--force` alone. With an addresses
+   file the packets go between its addresses and ports; what is wrong with one is told, and no capture made.
+   And ten filters of docs/WIRE.md show those datagrams alone whose words say so.
 3. Damaged datagrams: bits turned, cut off, lengthened, two joined, fields of another value under a right code. In none does
    the dissector run into an error, none is malformed, and the line is that of `station decode`.
 4. A station that runs on loopback sockets while tshark captures there: every datagram that came to a node, as the record of
    the run has it, was captured, and each is read with its words. For this the user must be allowed to capture on `lo`.
+5. Nodes that run as processes (`examples/machines/start.py`), each with a record, while tshark captures on `lo`. The record of each
+   replays as the same. Its lines by `station decode --node` and its capture by `station capture --node` are those that this script
+   reads in the record. All that a node sent was captured on `lo`, between the addresses of the file, and is read with its words.
 
-usage: python3 bench/wire.py [--damaged N] [--live MS] [STATION]. N is 10000 where none is told, and MS 4000; 0 leaves a part
-out. STATION is the program. The status is 1 where anything differs."""
+usage: python3 bench/wire.py [--damaged N] [--live MS] [--nodes 0] [STATION]. N is 10000 where none is told, and MS 4000; 0 leaves a
+part out. STATION is the program. The status is 1 where anything differs."""
 import argparse
 import collections
 import decimal
@@ -351,6 +356,37 @@ def compare_damaged(report, words, folder, count):
     print(f"damaged: {read} datagrams: {told(counts)}")
 
 
+# Filters of docs/WIRE.md, each with what stands in the words of the datagrams that it shows.
+FILTERS = {
+    "rasta.type == 6216": " disconnection request ",
+    "rasta.type == 6212": " retransmission request ",
+    "rasta.sn": " SN ",
+    "rasta.fault": "no PDU: ",
+    'rasta.sender.name == "S1"': "S1 > ",
+    'sci.name == "indicate aspect"': "indicate aspect ",
+    'sci.name == "indicated aspect"': "indicated aspect ",
+    'sci.name == "indicate aspect" && sci.aspect == "proceed"': "indicate aspect proceed",
+    'sci.sender == "GP" && sci.occupancy == "occupied"': "occupancy status occupied from GP",
+    'sci.position == "left"': "point position left",
+}
+
+
+def compare_filters(report, words, folder):
+    """How many datagrams each filter shows of those of two sessions, with a train and with a lost one, and of damaged ones."""
+    layout, capture, some = DATA / "small.toml", folder / "filtered.pcapng", []
+    for session in ("passage.session", "lost_stop.session", "traffic.session"):
+        some += re.findall(r"^(?:deliver \S+|lose) ((?:[0-9a-f]{2})+)\b", (DATA / session).read_text(), re.MULTILINE)
+    datagrams = [bytes.fromhex(word) for word in some]
+    write_capture(capture, datagrams)
+    lines = words.of(layout, datagrams)
+    for asked, text in FILTERS.items():
+        command = tshark("-r", str(capture), "-d", f"udp.port=={PORT},rasta", "-o", f"rasta.layout:{layout}", "-Y", asked)
+        shows = len(subprocess.run(command, capture_output=True, text=True, check=True).stdout.splitlines())
+        if shows != sum(text in line for line in lines):
+            report.differs(f"{asked}: {shows}", sum(text in line for line in lines))
+    print(f"filters: {len(FILTERS)} on {len(datagrams)} datagrams")
+
+
 # ---- sessions
 
 
@@ -436,6 +472,128 @@ def compare_sessions(report, words, folder):
 # ---- a station that runs
 
 
+ADDRESSES = TOP / "examples/machines/halden.addresses"
+
+
+def given_addresses(layout, file):
+    """Writes an addresses file for all nodes of a layout, and answers the addresses by name."""
+    found = {name: f"192.0.2.{place + 1}" for place, name in enumerate(addresses(layout))}
+    file.write_text("".join(f'{name} = "{address}:{5000 + place}"\n' for place, (name, address) in enumerate(found.items())))
+    return found
+
+
+def try_addresses(report, station, folder):
+    """A capture between the addresses of a file, and what is told of faulty ones."""
+    layout, session, capture = DATA / "small.toml", DATA / "traffic.session", folder / "addressed.pcapng"
+    file = folder / "small.addresses"
+    found = given_addresses(layout, file)
+    good, own = file.read_text(), {address: name for name, address in addresses(layout).items()}
+    for out, more in ((folder / "placed.pcapng", []), (capture, ["--addresses", str(file)])):
+        subprocess.run([station, "capture", str(layout), str(session), str(out), *more], check=True)
+    for here, there in zip(shown(folder / "placed.pcapng", layout), shown(capture, layout, range(5000, 5000 + len(found))), strict=True):
+        wanted = here.beside[0], found[own[here.beside[1]]], found[own[here.beside[2]]], here.beside[3]
+        if (there.beside, there.payload) != (wanted, here.payload):
+            report.differs("between given addresses", there.beside, wanted)
+    first, second = list(found)[:2]
+    for text, fault in (
+        (good.replace("192.0.2.2:", "[2001:db8::2]:"), f"capture fault 3 NoIpv4 at {second}\n"),
+        (good.replace(f"{second} =", "nobody ="), f"2 MissingNode at {second}\n"),
+        (good.replace("192.0.2.2:5001", "192.0.2.1:5000"), f"4 DoubleAddress at {second}\n"),
+        ("=", "1 Toml\n"),
+    ):
+        capture.unlink(missing_ok=True)
+        file.write_text(text)
+        words = [station, "capture", str(layout), str(session), str(capture), "--addresses", str(file)]
+        told = subprocess.run(words, capture_output=True, text=True)
+        if (told.returncode, told.stderr, capture.exists()) != (1, fault, False):
+            report.differs("faulty addresses", told.returncode, told.stderr, fault)
+    print("addresses: a capture between given ones, and four faults")
+
+
+# ---- the records of nodes
+
+# A datagram in a record: the reading, its ends (none where no node has the address), the reason why it wasn't delivered, its bytes.
+Passed = collections.namedtuple("Passed", "reading sender receiver why payload")
+
+
+def passed(record, name, station_name):
+    """The datagrams in the record of a node, as this script reads it."""
+    text = record.read_text()
+    lines = text[: text.rfind("\n")].split("\n")
+    latest, found = 0, []
+    for place, line in enumerate(lines):
+        kind, *more = line.split(" ")
+        if kind == "at":
+            latest = int(more[0])
+        elif kind == "sends":
+            found.append(Passed(latest, name, more[0], None, bytes.fromhex(more[1].replace("-", ""))))
+        elif kind == "from":
+            behind = lines[place + 1 : place + 3] + ["", ""]
+            read = behind[0].startswith("at ")
+            partner = more[0] != "-" and (more[0] == station_name) != (name == station_name)
+            why = "not read" if not read else "thrown away" if behind[1] == "throws away" else None if partner else "from no partner"
+            reading = int(behind[0].split(" ")[1]) if read else latest
+            found.append(Passed(reading, None if more[0] == "-" else more[0], name, why, bytes.fromhex(more[1].replace("-", ""))))
+    return found
+
+
+def line_for(one, name, words):
+    if one.sender == name:
+        return f"{one.reading}.000 sent by {name} to {one.receiver}: {words}"
+    fate = f"not delivered to {name}, {one.why}" if one.why else f"delivered to {name}"
+    return f"{one.reading}.000 {fate}: {words}"
+
+
+def compare_record(report, words, layout, record, name, found, capture):
+    """Compares what is told and captured of a node's record with what this script reads in it."""
+    station_name = tomllib.loads(layout.read_text())["station"]["name"]
+    all_passed = passed(record, name, station_name)
+    told = words.of(layout, [one.payload for one in all_passed])
+    files = [str(layout), str(record)]
+    replayed = subprocess.run([words.station, "replay", *files, "--node", name], capture_output=True, text=True)
+    if replayed.stdout != "same\n":
+        report.differs(f"{name}: replayed", replayed.stdout, replayed.stderr)
+    lines = subprocess.run([words.station, "decode", *files, "--node", name], capture_output=True, text=True, check=True).stdout
+    wanted = [line_for(one, name, line) for one, line in zip(all_passed, told)]
+    if lines.splitlines() != wanted:
+        report.differs(f"{name}: {len(lines.splitlines())} lines, {len(wanted)} wanted")
+    command = [words.station, "capture", *files, str(capture), "--node", name, "--addresses", str(ADDRESSES), "--force"]
+    subprocess.run(command, check=True)
+    ports = [int(address.split(":")[1]) for address in found.values()]
+    for one, line, it in zip(all_passed, told, shown(capture, layout, ports), strict=True):
+        compare_one(report, it, line)
+        ends = [found[end].split(":")[0] if end else "0.0.0.0" for end in (one.sender, one.receiver)]
+        if (it.payload, it.beside) != (one.payload, (1000 * one.reading, *ends, one.why)):
+            report.differs(f"{name}: captured", it.beside, one)
+    return all_passed
+
+
+def compare_nodes(report, words, folder):
+    """Runs the nodes of Halden, each with a record, and compares their records with what goes over the loopback interface."""
+    layout, capture = TOP / "examples/halden.toml", folder / "nodes.pcapng"
+    recording = folder / "recording"
+    recording.write_text(f'#!/bin/sh\nexec {Path(words.station).resolve()} "$@" --record {folder}/$3.record\n')
+    recording.chmod(0o755)
+    process = started_capture(capture)
+    start = [sys.executable, str(TOP / "examples/machines/start.py"), str(recording), str(layout), str(ADDRESSES), "A-N1"]
+    subprocess.run(start, check=True, stdout=subprocess.DEVNULL)
+    time.sleep(1)
+    process.send_signal(signal.SIGINT)
+    process.wait()
+    found = tomllib.loads(ADDRESSES.read_text())
+    ports = {int(address.split(":")[1]) for address in found.values()}
+    read = [it for it in shown(capture, layout, ports) if it.tree is not None]
+    for it, line in zip(read, words.of(layout, [it.payload for it in read])):
+        compare_one(report, it._replace(failed=[name for name in it.failed if name != "udp.checksum.status"]), line)
+    sent = collections.Counter()
+    for name in found:
+        all_passed = compare_record(report, words, layout, folder / f"{name}.record", name, found, folder / "record.pcapng")
+        sent.update(one.payload for one in all_passed if one.sender == name)
+    for missing in sent - collections.Counter(it.payload for it in read):
+        report.differs("nodes: it was sent and wasn't captured", missing.hex())
+    print(f"nodes: {len(found)} records with {sum(sent.values())} datagrams sent; {len(read)} captured")
+
+
 def started_capture(file):
     """tshark at work on the loopback interface."""
     process = subprocess.Popen(
@@ -479,6 +637,7 @@ def main():
     parser = argparse.ArgumentParser(description=__doc__, formatter_class=argparse.RawDescriptionHelpFormatter)
     parser.add_argument("--damaged", type=int, default=10_000)
     parser.add_argument("--live", type=int, default=4_000)
+    parser.add_argument("--nodes", type=int, default=1)
     parser.add_argument("station", nargs="?", default=str(TOP / "crates/station/out/station"))
     asked = parser.parse_args()
     if not shutil.which("tshark"):
@@ -491,11 +650,15 @@ def main():
     with tempfile.TemporaryDirectory() as folder:
         folder = Path(folder)
         compare_stored(report, words, folder)
+        compare_filters(report, words, folder)
         compare_sessions(report, words, folder)
+        try_addresses(report, words.station, folder)
         if asked.damaged:
             compare_damaged(report, words, folder, asked.damaged)
         if asked.live:
             compare_live(report, words, folder, asked.live)
+        if asked.nodes:
+            compare_nodes(report, words, folder)
     print("all as `station decode` says" if not report.wrong else f"{report.wrong} differ")
     return 1 if report.wrong else 0
 
