@@ -279,8 +279,8 @@ function layoutOf(text) {
   const signals = new Map(told.signal.map(one => [one.name, one.at]));
   const signalAt = new Map(told.signal.map(one => [one.at, one.name]));
   const all = {name: told.station.name, sections: told.section, borders: told.border, points: named(told.point), elements, joints, signals, signalAt};
-  all.detectors = new Map(told.detector.map(one => [one.name, one.sections]));
-  all.nodes = [told.station.name, ...signals.keys(), ...all.points, ...all.detectors.keys()];
+  all.detectorOf = new Map(told.detector.flatMap(one => one.sections.map(section => [section, one.name])));
+  all.nodes = [told.station.name, ...signals.keys(), ...all.points, ...named(told.detector)];
   all.routes = told.route.map(one => routeOf(all, one));
   return all;
 }
@@ -309,6 +309,8 @@ const held = name => first("route", name) === "set";
 // What a signal shows; of a node, what it indicates, as long as its link is up.
 const aspect = name => first("shows", name) || (first("link", name) === "ready" && first("indicates", name)) || "unknown";
 const occupancy = name => first("stands", name) || first("section", name);
+// What the interlocking knows of a section: what is told of that, or what its detector tells as long as its link is up.
+const reported = name => first("section", name) || (first("link", layout.detectorOf.get(name)) === "ready" ? first("stands", name) : "unknown");
 const authority = name => { const said = words("signal", name); return said[0] === "stop" || said.length < 2 ? null : said[1]; };
 const isWorld = () => station.kind === "world";
 
@@ -460,7 +462,7 @@ function paintPoint(name) {
 function paintSection(name) {
   const of = group("section", name);
   setClasses(of, ["occupied", "clear"], [occupancy(name)]);
-  of?.classList.toggle("unknown", first("section", name) === "unknown");
+  of?.classList.toggle("unknown", reported(name) === "unknown");
   of?.setAttribute("aria-label", "section " + name + " " + occupancy(name));
 }
 
@@ -486,7 +488,7 @@ const isExit = (one, kind, name) => one.kind === kind ? one.exit === name : kind
 // Whether a route could be set, as far as the page sees it. The interlocking decides.
 function isPossible(one) {
   if (first("ixl", "") !== "ready" || held(one.name) || first("link", one.entry) === "lost") return false;
-  if (one.sections.some(section => first("section", section) !== "clear")) return false;
+  if (one.sections.some(section => reported(section) !== "clear")) return false;
   if (Object.keys(one.points).some(point => first("link", point) === "lost")) return false;
   return !layout.routes.some(other => held(other.name) && inTheWay(other, one));
 }
@@ -673,6 +675,7 @@ const REPORTS = {
   shows: (name, said) => "signal " + name + " shows " + said,
   indicates: (name, said) => isWorld() ? null : "signal " + name + " indicates " + said,
   section: (name, said) => "section " + name + " is reported " + said,
+  stands: (name, said) => known.has("section " + name) ? null : "section " + name + " is " + said,
   lies: (name, said) => "point " + name + (said.includes("driven") ? " is driven " + said.split(" ")[2] : said === "none" ? " lies at no end" : " lies " + said),
   point: (name, said) => "point " + name + " is known " + (said === "unknown" ? "at no side" : said),
   route: (name, said) => "route " + name + " is " + said,
@@ -1045,10 +1048,10 @@ function paint(kinds) {
   const any = (...some) => some.some(kind => kinds.has(kind));
   if (any("shows", "indicates", "signal", "link")) [...layout.signals.keys()].forEach(paintSignal);
   if (any("lies", "point", "jam", "link")) layout.points.forEach(paintPoint);
-  if (any("stands", "section")) layout.sections.forEach(paintSection);
+  if (any("stands", "section", "link")) layout.sections.forEach(paintSection);
   if (any("route", "locked", "signal")) { paintRoutes(); paintList(); }
   if (any("cut", "jam", "link", "drop", "delay")) paintFaults();
-  if (entry && any("route", "locked", "section", "link", "ixl")) paintChoice();
+  if (entry && any("route", "locked", "section", "stands", "link", "ixl")) paintChoice();
   paintHeader();
 }
 
