@@ -572,7 +572,7 @@ function drawRoutes() {
 
 function paintList() {
   for (const one of layout.routes) {
-    const button = by("p-route-" + one.name), lit = authority(one.entry) === one.name;
+    const button = by("p-route-" + one.name), lit = held(one.name) && authority(one.entry) === one.name;
     button.setAttribute("aria-pressed", held(one.name));
     button.children[0].textContent = lit ? "\u25b6" : held(one.name) ? "\u25a3" : "\u25a1";
     button.title = held(one.name) ? (lit ? "set, with authority: a click cancels" : "set, without authority: a click cancels") : "free: a click sets";
@@ -906,7 +906,8 @@ function paintFaults() {
   const disturbed = kind => [...known].filter(([key, said]) => key.startsWith(kind + " ") && said === "yes").map(([key]) => key.slice(kind.length + 1));
   for (const name of disturbed("cut")) row("\u2702 " + name + " is cut off", "Mend", "mend " + name);
   for (const name of disturbed("jam")) row("\u25b2 " + name + " doesn't arrive", "Free", "unjam " + name);
-  for (const name of lostLinks()) row("\u2715 the link of " + name + " isn't ready");
+  const lost = lostLinks();
+  if (lost.length) rows.push(html("li", {textContent: "\u2715 links down: " + lost.join(", ")}));
   if (by("p-faults").textContent !== rows.map(row => row.textContent).join("")) by("p-faults").replaceChildren(...rows);
   const one = first("drop", ""), late = first("delay", "");
   by("p-drop-now").textContent = one === "" || one === "0" ? "now none" : "now one in " + one;
@@ -949,7 +950,8 @@ function liveStrips(until, room) {
     while (strip.length > 1 && strip[1].at < until - WINDOW) strip.shift();
     if (strip.length > 1 || !RESTS.includes(strip[0].value)) all.push([key, strip]);
   }
-  const latest = all.sort((one, other) => other[1].at(-1).at - one[1].at(-1).at).slice(0, room);
+  const weight = ([key, strip]) => strip.at(-1).at - (key.startsWith("link ") ? LEAST : 0);
+  const latest = all.sort((one, other) => weight(other) - weight(one)).slice(0, room);
   const place = key => ORDER.indexOf(key.split(" ")[0]);
   return latest.sort((one, other) => place(one[0]) - place(other[0]) || one[0].localeCompare(other[0], "en", {numeric: true}));
 }
