@@ -1,7 +1,7 @@
 //! Datagrams that wait for their receivers.
 
-use simulator_event::NodeId;
 use station_drive::Received;
+use station_drive::simulator_event::NodeId;
 use std::alloc::{AllocError, Global};
 
 /// The longest datagram that a node receives whole.

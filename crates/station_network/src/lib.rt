@@ -16,3 +16,6 @@ pub use memory_clock::SteppingClock;
 pub use network::MemoryNetwork;
 pub use round_clock::RoundClock;
 pub use sockets::{OpenFault, Sockets};
+
+// What crates above need of the crates below.
+pub use station_drive;

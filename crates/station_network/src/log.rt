@@ -4,7 +4,7 @@ ghost use Rattle.std.specs.Prelude.{◌≡◌, [], ◌∷◌, IfOk, map};
 ghost use Rattle.station_drive.specs.Told.{Call, Grows};
 ghost use Rattle.station_network.specs.Log.{call_of, told};
 
-use simulator_event::NodeId;
+use station_drive::simulator_event::NodeId;
 use std::alloc::AllocError;
 
 /// A call of a network.

@@ -7,7 +7,7 @@ ghost use Rattle.station_network.specs.Log.{call_of, told};
 use crate::datagrams_waiting::Waiting;
 use crate::failures_counted::Counting;
 use crate::log::{Log, NetCall};
-use simulator_event::NodeId;
+use station_drive::simulator_event::NodeId;
 use station_drive::{Datagrams, NetFault, Received};
 use std::alloc::{AllocError, Global};
 

@@ -5,7 +5,7 @@ ghost use Rattle.std.specs.Option.{option_map};
 ghost use Rattle.station_drive.specs.Told.{Counts};
 
 use crate::port::Port;
-use simulator_event::NodeId;
+use station_drive::simulator_event::NodeId;
 use station_drive::{Datagrams, NetFault, Received};
 use std::alloc::Global;
 use std::io;
