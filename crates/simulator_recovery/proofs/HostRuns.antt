@@ -32,7 +32,7 @@ pub record RunLaws {Object : Type 0} (does : Behaviour Object) : Type 0 where
 
 module _ {Object : Type 0} (does : Behaviour Object) (laws : RunLaws does) (names : Names) (are : AreNames names) where
   -- an event, as events of the two ends
-  link_events : Event Object → World Object → List links.Event
+  pub link_events : Event Object → World Object → List links.Event
   link_events (Commands call) world = Calls role.Client call ∷ []
   link_events (Steps input connection) world = calls_at role.Server (map (as_call connection) (step_of does input world).calls)
   link_events (Passes elapsed of_client of_server) world = links.Passes elapsed of_client of_server ∷ []
@@ -54,7 +54,7 @@ module _ {Object : Type 0} (does : Behaviour Object) (laws : RunLaws does) (name
   calls_may (inputs.Datagram bytes) connection ends calls (others, is, own) items hears = subst (λ (l : List LinkCall). Each (λ call. MayCall names role.Server call ends) (map (as_call connection) l)) (sym is)
       (hears, own_may connection ends others own (subst AreItems is items))
 
-  event_may : (event : Event Object) (world : World Object) → May does names event world → links.MayRun names (link_events event world) world.ends
+  pub event_may : (event : Event Object) (world : World Object) → May does names event world → links.MayRun names (link_events event world) world.ends
   unfolding link_events
   event_may (Commands call) world may = (may, tt)
   event_may (Steps input connection) world (hears, items) = laws.follow names role.Server (map (as_call connection) (step_of does input world).calls) world.ends
@@ -70,7 +70,7 @@ module _ {Object : Type 0} (does : Behaviour Object) (laws : RunLaws does) (name
   all_called connection [] ends = refl
   all_called connection (first ∷ others) ends = all_called connection others (called role.Server (as_call connection first) ends)
 
-  event_is : (event : Event Object) (world : World Object) → (happened does event world).ends ≡ links.run (link_events event world) world.ends
+  pub event_is : (event : Event Object) (world : World Object) → (happened does event world).ends ≡ links.run (link_events event world) world.ends
   unfolding happened stepped host_restarted link_events
   event_is (Commands call) world = refl
   event_is (Steps input connection) world = all_called connection (step_of does input world).calls world.ends

@@ -38,3 +38,4 @@ pub mod Moments
 pub mod AtLink
 pub mod Ready
 pub mod HostSaid
+pub mod HostWorld

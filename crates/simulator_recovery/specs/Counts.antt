@@ -1,5 +1,6 @@
 -- How many items an end of a link of a station has taken and given in its connection, and what its stage tells of that.
 use Rattle.std.specs.Prelude.{◌≡◌, ℕ, ◌+◌, ◌≤◌, not, Bool, true, false, List, [], ◌∷◌, ◌++◌, length, map, Some, slice_get}
+use Rattle.object_host_theorem.specs.World.{Event, HostRestarts, World, host_of}
 use Rattle.simulator_run.specs.rasta_core.Parameters.{stops_at_greatest}
 use Rattle.simulator_run.specs.rasta_core.State.{LinkState, is_open, is_up}
 use Rattle.simulator_run.specs.object_host.Behaviour.{Behaviour}
@@ -7,7 +8,7 @@ use Rattle.simulator_run.specs.rasta_core.Each.{Each}
 use Rattle.simulator_run.specs.sci_telegram.declared.message.Agreement.TheVariants.{NoMatch, Match}
 use Rattle.simulator_run.specs.sci_telegram.declared.message.Initialisation.TheVariants.{VersionAnswer}
 use Rattle.simulator_run.specs.object_host.Host.{HostState, said}
-use Rattle.simulator_run.specs.object_host.Told.{initialisation}
+use Rattle.simulator_run.specs.object_host.Told.{initialisation, item_of}
 use Rattle.simulator_run.specs.object_host.declared.report.Report.{Report}
 use Rattle.simulator_run.specs.object_host.Object.{ObjectCall, object_after}
 use Rattle.simulator_run.specs.object_host.Step.{initial_status, most_objects}
@@ -114,6 +115,17 @@ HostHasSaid does item version stage.Refused items = items ≡ item (said does (V
 abbrev pub given_before : Bool → List (List ℕ) → List (List ℕ)
 given_before true items = items
 given_before false items = []
+
+-- In a world of a commanding client and a host, this stands by its counts; and while its link is open, what its end has given in the
+-- connection is what its stage tells.
+pub record StandsByWhatItSaid {Object : Type 0} (does : Behaviour Object) (objects : ℕ) (world : World Object) : Type 0 where
+  pub counts : HostStandsByCounts does objects (host_of world)
+  pub said : is_open world.ends.server.link.phase ≡ true → HostHasSaid does (item_of (host_of world)) world.version world.stage world.ends.server.given
+
+-- a host that is made anew has an object that tells of so many
+abbrev pub MakesAsMany : {Object : Type 0} → Behaviour Object → ℕ → Event Object → Type 0
+MakesAsMany does objects (HostRestarts clock first object) = objects_told does object ≡ objects
+MakesAsMany does objects _ = Unit {0}
 
 -- ---- a station
 

@@ -1,6 +1,7 @@
 //! How many items the ends of the links of a station take and give.
 
 ghost use Rattle.std.specs.Prelude.{◌≡◌, ℕ, ◌++◌, true, List};
+ghost use Rattle.object_host_theorem.specs.World.{Event as WorldEvent, MayRun, World, begun, happened, run};
 ghost use Rattle.simulator_run.specs.object_host.Host.{HostState};
 ghost use Rattle.simulator_run.specs.object_host.Hosted.{new_host};
 ghost use Rattle.simulator_run.specs.object_host.Made.{items_given};
@@ -9,6 +10,9 @@ ghost use Rattle.simulator_run.specs.object_host.Told.{item_of};
 ghost use Rattle.simulator_run.specs.object_host.declared.input.Input.{Input};
 ghost use Rattle.simulator_run.specs.point_ctl.Controlled.{point_behaviour};
 ghost use Rattle.simulator_run.specs.rasta_core.Clock.{settled};
+ghost use Rattle.simulator_run.specs.rasta_core.Each.{Each};
+ghost use Rattle.simulator_run.specs.rasta_core.Events.{Start};
+ghost use Rattle.simulator_run.specs.rasta_core.Names.{AreNames, Names};
 ghost use Rattle.simulator_run.specs.rasta_core.State.{is_open};
 ghost use Rattle.simulator_run.specs.rasta_core.identity.Identity.{Identity};
 ghost use Rattle.simulator_run.specs.signal_ctl.Signal.{signal_behaviour};
@@ -18,9 +22,15 @@ ghost use Rattle.simulator_run.specs.layout.Station.{IsStation};
 ghost use Rattle.simulator_run.specs.ixl_rules.Table.{Table};
 ghost use Rattle.simulator_run.specs.State.{WorldState};
 ghost use Rattle.simulator_headline.specs.Reached.{IsReached};
-ghost use Rattle.simulator_recovery.specs.Counts.{AllStandByCounts, HostHasSaid, HostStandsByCounts, TellsAsMany, given_before, objects_told};
+ghost use Rattle.simulator_recovery.specs.Conversation.{IsSettled};
+ghost use Rattle.simulator_recovery.specs.Counts.{AllStandByCounts, HostHasSaid, HostStandsByCounts, MakesAsMany, StandsByWhatItSaid, TellsAsMany, given_before, objects_told};
 
-use simulator_run::object_host::Controller;
+use object_host_theorem::step_takes_and_gives;
+use simulator_machine_links::calls_may_follow_calls;
+use simulator_run::ixl_rules::rasta_core::{
+    every_run_keeps_time, links_are_settled, starts_in_time,
+};
+use simulator_run::object_host::{Controller, step_is_calls};
 
 /// Nothing that a signal, a point or a detector is told changes of how many objects its initialisation tells.
 pub fn controllers_tell_as_many()
@@ -50,6 +60,26 @@ pub fn hosts_say_in_their_order<C: Controller>()
         → HostHasSaid C.behaviour (item_of host) host.version (host_step C.behaviour now input host).host.stage
         (given_before (is_open (settled now host.link).phase) items ++ items_given now (host_step C.behaviour now input host).calls (settled now host.link)) }
 {}
+
+/// So it is in a world of a commanding client and a host, from its beginning on: while the host's link is open, what its end has given in
+/// the connection is what its stage tells, in order. Every event keeps that, where the clock rules of the host's end are applied (*kept*);
+/// and so it is after every list of events (*always*). Where the host is made anew, its new object tells of as many as the old one.
+pub fn hosts_have_said_what_their_stage_tells<C: Controller>()
+    ensures starts { (names : Names) (start : Start) (own_name peer_name : List ℕ) (object : C) (version objects : ℕ) → TellsAsMany C.behaviour → objects_told C.behaviour object ≡ objects
+        → StandsByWhatItSaid C.behaviour objects (begun C.behaviour names start own_name peer_name object version) }
+    ensures kept { (event : WorldEvent C) (world : World C) (objects : ℕ) → TellsAsMany C.behaviour → IsSettled world → MakesAsMany C.behaviour objects event → StandsByWhatItSaid C.behaviour objects world
+        → StandsByWhatItSaid C.behaviour objects (happened C.behaviour event world) }
+    ensures always { (names : Names) (start : Start) (own_name peer_name : List ℕ) (object : C) (version objects : ℕ) (events : List (WorldEvent C)) → TellsAsMany C.behaviour → AreNames names
+        → objects_told C.behaviour object ≡ objects → Each (MakesAsMany C.behaviour objects) events → MayRun C.behaviour names events (begun C.behaviour names start own_name peer_name object version)
+        → StandsByWhatItSaid C.behaviour objects (run C.behaviour events (begun C.behaviour names start own_name peer_name object version)) }
+{
+    step_takes_and_gives::<C>();
+    step_is_calls::<C>();
+    starts_in_time();
+    every_run_keeps_time();
+    links_are_settled();
+    calls_may_follow_calls();
+}
 
 /// All ends of the links of a station stand by their counts, after every list of events, on any network: while a controller's link
 /// is open, and while the interlocking's link to it is, the link counts as many items taken and given in its connection as
