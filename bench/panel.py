@@ -480,24 +480,40 @@ def memory(pid):
     return next(int(it.split()[1]) for it in pathlib.Path(f"/proc/{pid}/status").read_text().splitlines() if it.startswith("VmRSS"))
 
 
+def in_time(rounds):
+    """The share of rounds that were over when the next was due."""
+    return sum(it <= ROUND + WAKING for it in rounds) / len(rounds)
+
+
+def lasted(rounds):
+    tail = statistics.quantiles(rounds, n=100)
+    return (f"{len(rounds)}: {in_time(rounds):.2%} within {ROUND / 1000:.0f} ms (and {WAKING / 1000:.0f} to wake), 99 of 100 within {tail[98] / 1000:.1f} ms, "
+            f"the longest {max(rounds) / 1000:.1f} ms")
+
+
+def ticks(pid):
+    """The hundredths of a second that a process has taken of processors."""
+    return sum(int(it) for it in pathlib.Path(f"/proc/{pid}/stat").read_text().rsplit(")", 1)[1].split()[11:13])
+
+
 def load(program, layout, size, folder, seconds=60):
     with tempfile.TemporaryDirectory() as place:
         panel, answers, closed = Panel(program, layout, place), [], []
         try:
-            time.sleep(3)
-            before = len(rounds(panel.record)), int(told(panel, "memory")[0])
+            time.sleep(12)
+            before, had, took = len(rounds(panel.record)), int(told(panel, "memory")[0]), ticks(panel.process.pid)
             asyncio.run(crowd(panel, seconds, answers, closed))
-            after, said, resident = rounds(panel.record)[before[0]:], int(told(panel, "memory")[0]), memory(panel.process.pid)
+            all_rounds, has, takes, resident = rounds(panel.record), int(told(panel, "memory")[0]), ticks(panel.process.pid), memory(panel.process.pid)
         finally:
             panel.end()
-    in_time = sum(it <= ROUND + WAKING for it in after) / len(after)
-    tail = statistics.quantiles(after, n=100)
+    rest, after = all_rounds[1:before], all_rounds[before:]
     rows = [("answers", f"{len(answers)}, the median after {statistics.median(answers) * 1000:.1f} ms, the last after {max(answers) * 1000:.1f} ms"),
             ("half-open connections closed", str(len(closed))),
-            ("rounds", f"{len(after)}: {in_time:.2%} within {ROUND / 1000:.0f} ms (and {WAKING / 1000:.0f} to wake), 99 of 100 within {tail[98] / 1000:.1f} ms, the longest {max(after) / 1000:.1f} ms"),
-            ("memory of datagrams", f"{(said - before[1]) / seconds * 60 / 1e6:.2f} MB a minute; the process has {resident / 1000:.0f} MB")]
+            ("rounds before that", lasted(rest)), ("rounds", lasted(after)),
+            ("processor", f"{(takes - took) / seconds:.0f} % of one, {(takes - took) * 10 / len(after):.2f} ms a round"),
+            ("memory of datagrams", f"{(has - had) / seconds * 60 / 1e6:.2f} MB a minute; the process has {resident / 1000:.0f} MB")]
     print(f"\n{pathlib.Path(layout).stem}: 50 clients and 100 half-open connections for {seconds} s\n\n{table(('', ''), rows)}", flush=True)
-    return in_time >= 0.99
+    return in_time(after) >= 0.99
 
 
 def main():

@@ -30,7 +30,7 @@ header .p-right{margin-left:auto;display:flex;gap:14px;align-items:center;font-v
 #p-mode[data-mode=resume]{background:#fff;outline:2px dashed #f7d36b}
 #p-mode[data-mode=gone]{background:#000;color:#fff;outline:2px solid #fff}
 #p-resume{background:#f7d36b;font-weight:600}
-#p-plan{position:relative;min-height:0;background:#fff;border-bottom:1px solid #b6c1c9;overflow:hidden}
+#p-plan{position:relative;min-height:0;background:#fff;border-bottom:1px solid #b6c1c9;overflow:auto hidden}
 #p-plan>svg{display:block;width:100%;height:100%}
 .p-gone #p-plan,.p-gone main{opacity:.45;filter:grayscale(1)}
 #p-word{min-height:30px;padding:4px 12px;background:#fff;border-bottom:1px solid #b6c1c9;display:flex;gap:10px;align-items:baseline}
@@ -372,11 +372,17 @@ function drawPlan() {
   if (leader) leader.setAttribute("tabindex", "0");
 }
 
-// The plan without the paper that its notes took.
+// The plan without the paper that its notes took. A long one, which is printed in strips, is one strip here, and scrolls.
 function fitPlan(plan) {
+  const whole = plan.querySelector("defs>g");
+  if (whole) {
+    plan.querySelectorAll("svg,defs").forEach(of => of.remove());
+    plan.append(whole);
+  }
   plan.querySelector("rect")?.remove();
   const box = plan.getBBox();
   plan.setAttribute("viewBox", [box.x - 10, box.y - 6, box.width + 20, box.height + 12].join(" "));
+  plan.style.minWidth = box.width * 1.1 + "px";
 }
 
 // The box about parts of a group.
@@ -575,7 +581,7 @@ function paintList() {
     const button = by("p-route-" + one.name), lit = held(one.name) && authority(one.entry) === one.name;
     button.setAttribute("aria-pressed", held(one.name));
     button.children[0].textContent = lit ? "\u25b6" : held(one.name) ? "\u25a3" : "\u25a1";
-    button.title = held(one.name) ? (lit ? "set, with authority: a click cancels" : "set, without authority: a click cancels") : "free: a click sets";
+    button.title = one.name + ", " + one.entry + " \u2192 " + one.exit + ": " + (held(one.name) ? (lit ? "set, with authority: a click cancels" : "set, without authority: a click cancels") : "free: a click sets");
   }
 }
 
@@ -608,6 +614,7 @@ function light(kind, name) {
   unlight();
   const ids = kind === "route" ? route(name)?.parts.flatMap(part => part.drawn) || [] : kind === "point" ? ["point." + name, "left." + name, "right." + name, "tip." + name] : [kind + "." + name];
   for (const id of ids) lightOne(by(id), "cause");
+  by(ids[0])?.scrollIntoView({block: "nearest", inline: "nearest"});
   if (kind === "route") lightOne(by("p-route-" + name), "p-cause");
 }
 
