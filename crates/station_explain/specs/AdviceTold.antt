@@ -39,14 +39,27 @@ abbrev pub IsByWritten : List ℕ → (LayoutText → Advice) → Advice → Typ
 IsByWritten text advice_of advice =
     (document : Members) × (document_of (parse_document text) ≡ Ok document) × (w : LayoutText) × (text_of document ≡ Ok w) × (advice ≡ advice_of w)
 
+-- The advice for a fault that the document tells.
+abbrev pub document_advice : Members → LayoutFault → Advice
+document_advice document (fault.MissingKey place) = missing_advice document place
+document_advice document (fault.WrongKind place) = wrong_advice document place
+document_advice document f = Layout f
+
+-- The advice for a fault that what the text writes tells.
+abbrev pub written_advice : LayoutText → LayoutFault → Advice
+written_advice w (fault.UnknownName place) = unknown_advice w place
+written_advice w (fault.DoubleName place) = double_advice w place
+written_advice w (fault.DoubleJoint place) = port_advice w place
+written_advice w f = Layout f
+
 -- The advice for a fault of a layout.
 abbrev pub IsFaultAdvice : List ℕ → LayoutFault → Advice → Type 0
 IsFaultAdvice text fault.Toml advice = IsBroken text advice
-IsFaultAdvice text (fault.MissingKey place) advice = IsByDocument text (λ document. missing_advice document place) advice
-IsFaultAdvice text (fault.WrongKind place) advice = IsByDocument text (λ document. wrong_advice document place) advice
-IsFaultAdvice text (fault.UnknownName place) advice = IsByWritten text (λ w. unknown_advice w place) advice
-IsFaultAdvice text (fault.DoubleName place) advice = IsByWritten text (λ w. double_advice w place) advice
-IsFaultAdvice text (fault.DoubleJoint place) advice = IsByWritten text (λ w. port_advice w place) advice
+IsFaultAdvice text (fault.MissingKey place) advice = IsByDocument text (λ document. document_advice document (fault.MissingKey place)) advice
+IsFaultAdvice text (fault.WrongKind place) advice = IsByDocument text (λ document. document_advice document (fault.WrongKind place)) advice
+IsFaultAdvice text (fault.UnknownName place) advice = IsByWritten text (λ w. written_advice w (fault.UnknownName place)) advice
+IsFaultAdvice text (fault.DoubleName place) advice = IsByWritten text (λ w. written_advice w (fault.DoubleName place)) advice
+IsFaultAdvice text (fault.DoubleJoint place) advice = IsByWritten text (λ w. written_advice w (fault.DoubleJoint place)) advice
 IsFaultAdvice text f advice = advice ≡ Layout f
 
 -- The same, or that memory was lacking when the text was read once more.

@@ -28,60 +28,114 @@ abbrev pub found_in : TableName → Option ℕ → Option Place
 found_in table None = None
 found_in table (Some n) = Some (record { table = table; entry = counted n })
 
--- An entry has something that the first one which has it has too, if that is another one.
-abbrev pub shared_with : Place → Common → Option Place → Option Advice
-shared_with place common None = None
-shared_with place common (Some first) = if not (same_place first place) then Some (Shared place common first) else None
+abbrev pub reports : DetectorText → List ℕ → Bool
+reports d section = list_any (λ one. same_name one section) d.sections
 
-abbrev pub station_place : Place
-station_place = record { table = named.Station; entry = 1 }
+abbrev pub same_end : End → End → Bool
+same_end a b = end_number a == end_number b
 
--- ---- names
+abbrev pub same_port_name : PortName → PortName → Bool
+same_port_name p q = same_name p.element q.element && same_end p.end q.end
 
-abbrev pub name_called : TableName → List (List ℕ) → List ℕ → Option Place
-name_called table names name = found_in table (position (λ one. same_name one name) names)
+abbrev pub joins : WrittenJoint → PortName → Bool
+joins joint p = same_port_name joint.first p || same_port_name joint.second p
 
-abbrev pub track_called : List WrittenTrack → List ℕ → Option Place
-track_called tracks name = found_in named.Track (position (λ one. same_name one.name name) tracks)
+-- ---- the first entry of a list that has something
 
-abbrev pub point_called : List WrittenPoint → List ℕ → Option Place
-point_called points name = found_in named.Point (position (λ one. same_name one.name name) points)
+abbrev pub name_place : List (List ℕ) → List ℕ → Option ℕ
+name_place names name = position (λ one. same_name one name) names
 
-abbrev pub signal_called : List WrittenSignal → List ℕ → Option Place
-signal_called signals name = found_in named.Signal (position (λ one. same_name one.name name) signals)
+abbrev pub track_place : List WrittenTrack → List ℕ → Option ℕ
+track_place tracks name = position (λ one. same_name one.name name) tracks
 
-abbrev pub detector_called : List DetectorText → List ℕ → Option Place
-detector_called detectors name = found_in named.Detector (position (λ one. same_name one.name name) detectors)
+abbrev pub point_place : List WrittenPoint → List ℕ → Option ℕ
+point_place points name = position (λ one. same_name one.name name) points
 
-abbrev pub route_called : List RouteText → List ℕ → Option Place
-route_called routes name = found_in named.Route (position (λ one. same_name one.name name) routes)
+abbrev pub signal_place : List WrittenSignal → List ℕ → Option ℕ
+signal_place signals name = position (λ one. same_name one.name name) signals
 
--- ---- identities
+abbrev pub detector_place : List DetectorText → List ℕ → Option ℕ
+detector_place detectors name = position (λ one. same_name one.name name) detectors
 
-abbrev pub point_identified : List WrittenPoint → ℕ → Option Place
-point_identified points id = found_in named.Point (position (λ one. one.id == id) points)
+abbrev pub route_place : List RouteText → List ℕ → Option ℕ
+route_place routes name = position (λ one. same_name one.name name) routes
 
-abbrev pub signal_identified : List WrittenSignal → ℕ → Option Place
-signal_identified signals id = found_in named.Signal (position (λ one. one.id == id) signals)
+abbrev pub identified_point : List WrittenPoint → ℕ → Option ℕ
+identified_point points id = position (λ one. one.id == id) points
 
-abbrev pub detector_identified : List DetectorText → ℕ → Option Place
-detector_identified detectors id = found_in named.Detector (position (λ one. one.id == id) detectors)
+abbrev pub identified_signal : List WrittenSignal → ℕ → Option ℕ
+identified_signal signals id = position (λ one. one.id == id) signals
+
+abbrev pub identified_detector : List DetectorText → ℕ → Option ℕ
+identified_detector detectors id = position (λ one. one.id == id) detectors
+
+abbrev pub reporting_place : List DetectorText → List ℕ → Option ℕ
+reporting_place detectors section = position (λ one. reports one section) detectors
+
+abbrev pub joining_place : List WrittenJoint → PortName → Option ℕ
+joining_place joints p = position (λ one. joins one p) joints
+
+abbrev pub standing_place : List WrittenSignal → PortName → Option ℕ
+standing_place signals p = position (λ one. same_port_name one.at p) signals
 
 module _ (w : LayoutText) where
-  -- ---- names
+  -- ---- the first entry of a table that has something
 
-  abbrev pub first_on_ground : List ℕ → Option Place
-  first_on_ground name =
-      option_or (name_called named.Section w.sections name) (option_or (track_called w.tracks name)
-      (option_or (point_called w.points name) (name_called named.Border w.borders name)))
+  abbrev pub place_named : TableName → List ℕ → Option ℕ
+  place_named named.Station name = if same_name w.station.name name then Some 0 else None
+  place_named named.Section name = name_place w.sections name
+  place_named named.Track name = track_place w.tracks name
+  place_named named.Point name = point_place w.points name
+  place_named named.Border name = name_place w.borders name
+  place_named named.Joint name = None
+  place_named named.Signal name = signal_place w.signals name
+  place_named named.Detector name = detector_place w.detectors name
+  place_named named.Route name = route_place w.routes name
 
-  abbrev pub first_other : List ℕ → Option Place
-  first_other name =
-      option_or (first_on_ground name) (option_or (signal_called w.signals name)
-      (option_or (detector_called w.detectors name) (route_called w.routes name)))
+  abbrev pub place_identified : TableName → ℕ → Option ℕ
+  place_identified named.Station id = if w.station.id == id then Some 0 else None
+  place_identified named.Point id = identified_point w.points id
+  place_identified named.Signal id = identified_signal w.signals id
+  place_identified named.Detector id = identified_detector w.detectors id
+  place_identified _ id = None
 
-  abbrev pub first_named : List ℕ → Option Place
-  first_named name = if same_name w.station.name name then Some station_place else first_other name
+  abbrev pub place_reporting : TableName → List ℕ → Option ℕ
+  place_reporting named.Detector section = reporting_place w.detectors section
+  place_reporting _ section = None
+
+  abbrev pub place_joining : TableName → PortName → Option ℕ
+  place_joining named.Joint p = joining_place w.joints p
+  place_joining _ p = None
+
+  abbrev pub place_standing : TableName → PortName → Option ℕ
+  place_standing named.Signal p = standing_place w.signals p
+  place_standing _ p = None
+
+  abbrev pub place_having : Common → TableName → Option ℕ
+  place_having (common.Name name) table = place_named table name
+  place_having (common.Id id) table = place_identified table id
+  place_having (common.Section section) table = place_reporting table section
+  place_having (common.Joint p) table = place_joining table p
+  place_having (common.Signal p) table = place_standing table p
+
+  -- ---- the first entry of all that has it
+
+  abbrev pub first_among : Common → List TableName → Option Place
+  first_among what [] = None
+  first_among what (table ∷ tables) = option_or (found_in table (place_having what table)) (first_among what tables)
+
+  abbrev pub first_having : Common → Option Place
+  first_having what = first_among what (named.Station ∷ named.Section ∷ named.Track ∷ named.Point ∷ named.Border ∷ named.Joint ∷ named.Signal ∷ named.Detector ∷ named.Route ∷ [])
+
+  -- An entry has something that the first one which has it has too, if that is another one.
+  abbrev pub shared_by : Place → Common → Option Place → Option Advice
+  shared_by place what None = None
+  shared_by place what (Some first) = if not (same_place first place) then Some (Shared place what first) else None
+
+  abbrev pub shared_with : Place → Common → Option Advice
+  shared_with place what = shared_by place what (first_having what)
+
+  -- ---- a name, an identity or a section
 
   abbrev pub name_in : TableName → ℕ → Option (List ℕ)
   name_in named.Station n = Some w.station.name
@@ -98,14 +152,7 @@ module _ (w : LayoutText) where
   name_at place = name_in place.table (place.entry - 1)
 
   abbrev pub name_shared : Place → Option Advice
-  name_shared place = option_and_then (λ name. shared_with place (common.Name name) (first_named name)) (name_at place)
-
-  -- ---- identities
-
-  abbrev pub first_identified : ℕ → Option Place
-  first_identified id =
-      if w.station.id == id then Some station_place
-      else option_or (point_identified w.points id) (option_or (signal_identified w.signals id) (detector_identified w.detectors id))
+  name_shared place = option_and_then (λ name. shared_with place (common.Name name)) (name_at place)
 
   abbrev pub id_in : TableName → ℕ → Option ℕ
   id_in named.Point n = option_map (λ one. one.id) (slice_get w.points n)
@@ -117,25 +164,28 @@ module _ (w : LayoutText) where
   id_at place = id_in place.table (place.entry - 1)
 
   abbrev pub id_shared : Place → Option Advice
-  id_shared place = option_and_then (λ id. shared_with place (common.Id id) (first_identified id)) (id_at place)
+  id_shared place = option_and_then (λ id. shared_with place (common.Id id)) (id_at place)
 
--- ---- sections of detection controllers
+  abbrev pub sections_shared : Place → List (List ℕ) → Option Advice
+  sections_shared place [] = None
+  sections_shared place (section ∷ sections) = option_or (shared_with place (common.Section section)) (sections_shared place sections)
 
-abbrev pub reports : DetectorText → List ℕ → Bool
-reports d section = list_any (λ one. same_name one section) d.sections
+  abbrev pub detector_shared : Place → Option Advice
+  detector_shared place = option_and_then (λ d. sections_shared place d.sections) (slice_get w.detectors (place.entry - 1))
 
-abbrev pub first_reporting : List DetectorText → List ℕ → Option Place
-first_reporting detectors section = found_in named.Detector (position (λ one. reports one section) detectors)
+  -- ---- a port
 
-abbrev pub section_shared : List DetectorText → Place → List ℕ → Option Advice
-section_shared detectors place section = shared_with place (common.Section section) (first_reporting detectors section)
+  abbrev pub joint_shared : Place → Option Advice
+  joint_shared place =
+      option_and_then (λ joint. option_or (shared_with place (common.Joint joint.first)) (shared_with place (common.Joint joint.second))) (slice_get w.joints (place.entry - 1))
 
-abbrev pub sections_shared : List DetectorText → Place → List (List ℕ) → Option Advice
-sections_shared detectors place [] = None
-sections_shared detectors place (section ∷ sections) = option_or (section_shared detectors place section) (sections_shared detectors place sections)
+  abbrev pub signal_shared : Place → Option Advice
+  signal_shared place = option_and_then (λ signal. shared_with place (common.Signal signal.at)) (slice_get w.signals (place.entry - 1))
 
-abbrev pub detector_shared : LayoutText → Place → Option Advice
-detector_shared w place = option_and_then (λ d. sections_shared w.detectors place d.sections) (slice_get w.detectors (place.entry - 1))
+  abbrev pub port_shared : Place → TableName → Option Advice
+  port_shared place named.Joint = joint_shared place
+  port_shared place named.Signal = signal_shared place
+  port_shared place _ = None
 
 abbrev pub advice_or : Option Advice → Advice → Advice
 advice_or None other = other
@@ -144,37 +194,6 @@ advice_or (Some advice) other = advice
 -- The advice where an entry has a name, an identity or a section that an earlier one has.
 abbrev pub double_advice : LayoutText → Place → Advice
 double_advice w place = advice_or (option_or (name_shared w place) (option_or (id_shared w place) (detector_shared w place))) (Layout (fault.DoubleName place))
-
--- ---- ports
-
-abbrev pub same_end : End → End → Bool
-same_end a b = end_number a == end_number b
-
-abbrev pub same_port_name : PortName → PortName → Bool
-same_port_name p q = same_name p.element q.element && same_end p.end q.end
-
-abbrev pub joins : WrittenJoint → PortName → Bool
-joins joint p = same_port_name joint.first p || same_port_name joint.second p
-
-abbrev pub first_joining : List WrittenJoint → PortName → Option Place
-first_joining joints p = found_in named.Joint (position (λ one. joins one p) joints)
-
-abbrev pub port_joined : List WrittenJoint → Place → PortName → Option Advice
-port_joined joints place p = shared_with place (common.Joint p) (first_joining joints p)
-
-abbrev pub joint_shared : List WrittenJoint → Place → Option Advice
-joint_shared joints place = option_and_then (λ joint. option_or (port_joined joints place joint.first) (port_joined joints place joint.second)) (slice_get joints (place.entry - 1))
-
-abbrev pub first_standing : List WrittenSignal → PortName → Option Place
-first_standing signals p = found_in named.Signal (position (λ one. same_port_name one.at p) signals)
-
-abbrev pub signal_shared : List WrittenSignal → Place → Option Advice
-signal_shared signals place = option_and_then (λ signal. shared_with place (common.Signal signal.at) (first_standing signals signal.at)) (slice_get signals (place.entry - 1))
-
-abbrev pub port_shared : LayoutText → Place → TableName → Option Advice
-port_shared w place named.Joint = joint_shared w.joints place
-port_shared w place named.Signal = signal_shared w.signals place
-port_shared w place _ = None
 
 -- The advice where an entry stands at a port at which an earlier one stands.
 abbrev pub port_advice : LayoutText → Place → Advice

@@ -2,11 +2,9 @@
 
 ghost use Rattle.std.specs.Prelude.{◌≡◌, ◌⊎◌};
 ghost use Rattle.layout_text.specs.declared.fault.LayoutFault.TheVariants.{OutOfMemory};
-ghost use Rattle.station_explain.specs.AdviceTold.{IsAdvice, IsBroken, IsByDocument, IsByWritten, IsLayoutAdvice, IsTableAdvice};
-ghost use Rattle.station_explain.specs.EntryAdvice.{missing_advice, wrong_advice};
+ghost use Rattle.toml.specs.View.{table_view};
+ghost use Rattle.station_explain.specs.AdviceTold.{IsAdvice, IsBroken, IsByDocument, IsByWritten, IsLayoutAdvice, IsTableAdvice, document_advice, written_advice};
 ghost use Rattle.station_explain.specs.RouteDetails.{found_detail, table_advice, told_of};
-ghost use Rattle.station_explain.specs.SharedAdvice.{double_advice, port_advice};
-ghost use Rattle.station_explain.specs.UnknownAdvice.{unknown_advice};
 ghost use Rattle.station_explain.specs.declared.advice.Advice.TheVariants as advised;
 
 use crate::advice::Advice;
@@ -17,10 +15,11 @@ use crate::route_detail::detail_of;
 use crate::shared::{double_advice, port_advice};
 use crate::text_place::place_behind;
 use crate::unknown::unknown_advice;
-use control_table::layout::{Layout, LayoutFault, Place};
+use control_table::layout::{Layout, LayoutFault};
 use control_table::{FaultyRoute, RouteId, TableFault, check};
-use layout_text::{document, written};
+use layout_text::{WrittenLayout, document, written};
 use std::alloc::Global;
+use toml::Table;
 
 /// The advice for the first fault of a text.
 pub(crate) fn advice_for(alloc: Global, text: &str) -> Advice
@@ -81,11 +80,10 @@ fn advice_at(alloc: Global, text: &str, fault: LayoutFault) -> Advice
 {
     match fault {
         LayoutFault::Toml => broken(alloc, text),
-        LayoutFault::MissingKey(place) => missing(alloc, text, place),
-        LayoutFault::WrongKind(place) => wrong(alloc, text, place),
-        LayoutFault::UnknownName(place) => unknown(alloc, text, place),
-        LayoutFault::DoubleName(place) => double(alloc, text, place),
-        LayoutFault::DoubleJoint(place) => double_port(alloc, text, place),
+        LayoutFault::MissingKey(_) | LayoutFault::WrongKind(_) => by_document(alloc, text, fault),
+        LayoutFault::UnknownName(_) | LayoutFault::DoubleName(_) | LayoutFault::DoubleJoint(_) => {
+            by_written(alloc, text, fault)
+        }
         other => Advice::Layout(other),
     }
 }
@@ -103,61 +101,48 @@ fn broken(alloc: Global, text: &str) -> Advice
     }
 }
 
-/// The advice where a key is missing.
-fn missing(alloc: Global, text: &str, place: Place) -> Advice
-    ensures { IsByDocument text.now (λ d. missing_advice d place) result ⊎ (result ≡ advised.Layout OutOfMemory) }
+/// The advice for a fault, by the document of its text.
+fn document_advice(document: &Table, fault: LayoutFault) -> Advice
+    ensures { result ≡ document_advice (table_view document.now) fault }
+{
+    match fault {
+        LayoutFault::MissingKey(place) => missing_advice(document, place),
+        LayoutFault::WrongKind(place) => wrong_advice(document, place),
+        other => Advice::Layout(other),
+    }
+}
+
+/// The advice where a key is missing, or a value is of another kind or form than is wanted.
+fn by_document(alloc: Global, text: &str, fault: LayoutFault) -> Advice
+    ensures { IsByDocument text.now (λ d. document_advice d fault) result ⊎ (result ≡ advised.Layout OutOfMemory) }
 {
     match document(alloc, text) {
-        Ok(document) => missing_advice(&document, place),
+        Ok(document) => document_advice(&document, fault),
         Err(_) => Advice::Layout(LayoutFault::OutOfMemory),
     }
 }
 
-/// The advice where a value is of another kind or form than is wanted.
-fn wrong(alloc: Global, text: &str, place: Place) -> Advice
-    ensures { IsByDocument text.now (λ d. wrong_advice d place) result ⊎ (result ≡ advised.Layout OutOfMemory) }
+/// The advice for a fault, by what its text writes.
+fn written_advice(written: &WrittenLayout, fault: LayoutFault) -> Advice
+    ensures { result ≡ written_advice written.now fault }
 {
-    match document(alloc, text) {
-        Ok(document) => wrong_advice(&document, place),
-        Err(_) => Advice::Layout(LayoutFault::OutOfMemory),
+    match fault {
+        LayoutFault::UnknownName(place) => unknown_advice(written, place),
+        LayoutFault::DoubleName(place) => double_advice(written, place),
+        LayoutFault::DoubleJoint(place) => port_advice(written, place),
+        other => Advice::Layout(other),
     }
 }
 
-/// The advice where an entry names something that isn't there, or is of another kind.
-fn unknown(alloc: Global, text: &str, place: Place) -> Advice
-    ensures { IsByWritten text.now (λ w. unknown_advice w place) result ⊎ (result ≡ advised.Layout OutOfMemory) }
-{
-    let Ok(document) = document(alloc, text) else {
-        return Advice::Layout(LayoutFault::OutOfMemory);
-    };
-    match written(alloc, &document) {
-        Ok(written) => unknown_advice(&written, place),
-        Err(_) => Advice::Layout(LayoutFault::OutOfMemory),
-    }
-}
-
-/// The advice where an entry has a name, an identity or a section that an earlier one has.
-fn double(alloc: Global, text: &str, place: Place) -> Advice
-    ensures { IsByWritten text.now (λ w. double_advice w place) result ⊎ (result ≡ advised.Layout OutOfMemory) }
+/// The advice where an entry names what isn't there, or has what an earlier one has.
+fn by_written(alloc: Global, text: &str, fault: LayoutFault) -> Advice
+    ensures { IsByWritten text.now (λ w. written_advice w fault) result ⊎ (result ≡ advised.Layout OutOfMemory) }
 {
     let Ok(document) = document(alloc, text) else {
         return Advice::Layout(LayoutFault::OutOfMemory);
     };
     match written(alloc, &document) {
-        Ok(written) => double_advice(&written, place),
-        Err(_) => Advice::Layout(LayoutFault::OutOfMemory),
-    }
-}
-
-/// The advice where an entry stands at a port at which an earlier one stands.
-fn double_port(alloc: Global, text: &str, place: Place) -> Advice
-    ensures { IsByWritten text.now (λ w. port_advice w place) result ⊎ (result ≡ advised.Layout OutOfMemory) }
-{
-    let Ok(document) = document(alloc, text) else {
-        return Advice::Layout(LayoutFault::OutOfMemory);
-    };
-    match written(alloc, &document) {
-        Ok(written) => port_advice(&written, place),
+        Ok(written) => written_advice(&written, fault),
         Err(_) => Advice::Layout(LayoutFault::OutOfMemory),
     }
 }

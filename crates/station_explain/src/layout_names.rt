@@ -11,21 +11,21 @@ use layout_text::PortName;
 pub(crate) fn point_name(layout: &Layout, point: PointId) -> Option<Name>
     ensures { result ≡ point_name layout.now point }
 {
-    layout.points().get(point.0).map(|entry| entry.name)
+    Some(layout.points().get(point.0)?.name)
 }
 
 /// The name of a signal, by its place in the layout.
 pub(crate) fn signal_name(layout: &Layout, place: usize) -> Option<Name>
     ensures { result ≡ signal_name layout.now place }
 {
-    layout.signals().get(place).map(|entry| entry.name)
+    Some(layout.signals().get(place)?.name)
 }
 
 /// The name of a route.
 pub(crate) fn route_name(layout: &Layout, route: RouteId) -> Option<Name>
     ensures { result ≡ route_name layout.now route }
 {
-    layout.routes().get(route.0).map(|entry| *entry.name())
+    Some(*layout.routes().get(route.0)?.name())
 }
 
 /// The name of an element.
@@ -33,7 +33,7 @@ pub(crate) fn element_name(layout: &Layout, element: Element) -> Option<Name>
     ensures { result ≡ element_name layout.now element }
 {
     match element {
-        Element::Track(track) => layout.tracks().get(track.0).map(|entry| entry.name),
+        Element::Track(track) => Some(layout.tracks().get(track.0)?.name),
         Element::Point(point) => point_name(layout, point),
         Element::Border(border) => layout.borders().get(border.0).copied(),
     }
@@ -43,7 +43,8 @@ pub(crate) fn element_name(layout: &Layout, element: Element) -> Option<Name>
 pub(crate) fn port_name(layout: &Layout, port: Port) -> Option<PortName>
     ensures { result ≡ port_name layout.now port }
 {
-    element_name(layout, port.element).map(|element| PortName {
+    let element = element_name(layout, port.element)?;
+    Some(PortName {
         element,
         end: port.end,
     })

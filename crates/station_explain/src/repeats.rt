@@ -33,7 +33,7 @@ fn twice_at(layout: &Layout, path: &[Port], left: Port) -> Option<RouteDetail>
     if !comes_twice(path, left.element) {
         return None;
     }
-    element_name(layout, left.element).map(|name| RouteDetail::Twice(name))
+    Some(RouteDetail::Twice(element_name(layout, left.element)?))
 }
 
 /// The first element of these that comes twice on a path.
@@ -53,8 +53,8 @@ fn section_of(layout: &Layout, element: Element) -> Option<SectionId>
     ensures { result ≡ section_of layout.now element }
 {
     match element {
-        Element::Track(track) => layout.tracks().get(track.0).map(|entry| entry.section),
-        Element::Point(point) => layout.points().get(point.0).map(|entry| entry.section),
+        Element::Track(track) => Some(layout.tracks().get(track.0)?.section),
+        Element::Point(point) => Some(layout.points().get(point.0)?.section),
         Element::Border(_) => None,
     }
 }
@@ -130,7 +130,7 @@ fn back_at(layout: &Layout, path: &[Port], left: Port) -> Option<RouteDetail>
     if !comes_back(layout, path, section) {
         return None;
     }
-    section_name(layout, section).map(|name| RouteDetail::ComesBack(name))
+    Some(RouteDetail::ComesBack(section_name(layout, section)?))
 }
 
 /// The first section of these elements to which a path comes back.

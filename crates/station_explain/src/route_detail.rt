@@ -31,7 +31,7 @@ fn break_at(layout: &Layout, before: Port, left: Port) -> Option<RouteDetail>
     ensures { result ≡ break_at layout.now before left }
 {
     match joined_to(layout.joints(), before) {
-        None => port_name(layout, before).map(|port| RouteDetail::DeadEnd(port)),
+        None => Some(RouteDetail::DeadEnd(port_name(layout, before)?)),
         Some(entered) if may_pass(entered, left) => None,
         Some(entered) => astray(layout, before, entered, left),
     }
@@ -72,7 +72,7 @@ fn unwritten_point(
 {
     match element {
         Element::Point(point) if is_written(points, point) => None,
-        Element::Point(point) => point_name(layout, point).map(|name| RouteDetail::Unwritten(name)),
+        Element::Point(point) => Some(RouteDetail::Unwritten(point_name(layout, point)?)),
         _ => None,
     }
 }
@@ -266,7 +266,7 @@ fn exit_behind(layout: &Layout, route: &Route, last: Port) -> Option<RouteDetail
         return elsewhere(layout, route.exit(), last);
     }
     if is_signal(route.exit(), route.entry().0) {
-        return signal_name(layout, route.entry().0).map(|name| RouteDetail::EndsAtEntry(name));
+        return Some(RouteDetail::EndsAtEntry(signal_name(layout, route.entry().0)?));
     }
     in_the_way_on(layout, route.exit(), route.path())
 }
@@ -308,7 +308,7 @@ fn unanswered(layout: &Layout, route: RouteId, other: RouteId) -> Option<RouteDe
     if lists(layout, other, route) {
         return None;
     }
-    route_name(layout, other).map(|name| RouteDetail::Unanswered(name))
+    Some(RouteDetail::Unanswered(route_name(layout, other)?))
 }
 
 /// The first route that a route lists, and which doesn't list it.
@@ -327,7 +327,7 @@ fn unanswered_in(layout: &Layout, route: RouteId, extra: &[RouteId]) -> Option<R
 fn sides_told(found: Option<SideDetail>) -> Option<RouteDetail>
     ensures { result ≡ sides_told found }
 {
-    found.map(|detail| RouteDetail::Sides(detail))
+    Some(RouteDetail::Sides(found?))
 }
 
 /// What is wrong with a route that has a fault.

@@ -51,7 +51,7 @@ fn used_over(element: Element, entered: End, left: End) -> Option<(PointId, Side
     ensures { result ≡ used_over element entered left }
 {
     match element {
-        Element::Point(point) => side_used(entered, left).map(|side| (point, side)),
+        Element::Point(point) => Some((point, side_used(entered, left)?)),
         _ => None,
     }
 }
@@ -85,7 +85,8 @@ fn guard_from(point: PointId, leg: Port, from: Port) -> Option<Guard>
 {
     match from.element {
         Element::Point(another) if another.0 != point.0 => {
-            side_of(from.end).map(|side| Guard {
+            let side = side_of(from.end)?;
+            Some(Guard {
                 leg,
                 from,
                 point: another,

@@ -10,10 +10,7 @@ use control_table::sci_telegram::Side;
 pub(crate) fn start_of(layout: &Layout, route: &Route) -> Option<Port>
     ensures { result ≡ start_of layout.now route.now }
 {
-    layout
-        .signals()
-        .get(route.entry().0)
-        .map(|signal| signal.at)
+    Some(layout.signals().get(route.entry().0)?.at)
 }
 
 /// Whether a point is written.

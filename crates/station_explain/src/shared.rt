@@ -1,9 +1,8 @@
 //! Which earlier entry has what a later one has too.
 
-ghost use Rattle.std.specs.Prelude.{◌≡◌, ◌==◌};
-ghost use Rattle.std.specs.List.{position};
+ghost use Rattle.std.specs.Prelude.{◌≡◌};
 ghost use Rattle.control_table.specs.layout.Known.{same_name};
-ghost use Rattle.station_explain.specs.SharedAdvice.{detector_called, detector_identified, detector_shared, double_advice, first_identified, first_joining, first_named, first_on_ground, first_other, first_reporting, first_standing, found_in, id_at, id_shared, joins, joint_shared, name_at, name_called, name_shared, point_called, point_identified, port_advice, port_joined, reports, route_called, same_end, same_place, same_port_name, section_shared, sections_shared, signal_called, signal_identified, signal_shared, track_called};
+ghost use Rattle.station_explain.specs.SharedAdvice.{detector_place, detector_shared, double_advice, first_among, found_in, id_at, id_shared, identified_detector, identified_point, identified_signal, joining_place, joint_shared, joins, name_at, name_place, name_shared, place_having, place_identified, place_named, point_place, port_advice, reporting_place, reports, route_place, same_end, same_place, same_port_name, sections_shared, shared_with, signal_place, signal_shared, standing_place, track_place};
 
 use crate::advice::{Advice, Common};
 use control_table::sci_telegram::Name;
@@ -12,14 +11,8 @@ use layout_text::{
     WrittenPoint, WrittenRoute, WrittenSignal, WrittenTrack,
 };
 
-/// The place of the station.
-const STATION: Place = Place {
-    table: TableName::Station,
-    entry: 1,
-};
-
 /// Whether two names are the same.
-pub(crate) fn same_name(one: Name, other: Name) -> bool
+fn same_name(one: Name, other: Name) -> bool
     ensures { result ≡ same_name one other }
 {
     one == other
@@ -32,7 +25,7 @@ fn same_place(one: Place, other: Place) -> bool
     one.table == other.table && one.entry == other.entry
 }
 
-/// The place of an entry that was found in a list.
+/// The place of an entry that was found in a table.
 fn found_in(table: TableName, found: Option<usize>) -> Option<Place>
     ensures { result ≡ found_in table found }
 {
@@ -47,241 +40,93 @@ fn found_in(table: TableName, found: Option<usize>) -> Option<Place>
 
 /// The place of a name in a list.
 fn name_place(names: &[Name], name: Name) -> Option<usize>
-    ensures { result ≡ position (λ one. same_name one name) names.now }
+    ensures { result ≡ name_place names.now name }
 {
     names.iter().position(|one| same_name(*one, name))
 }
 
-/// The first section of a name, or the first border.
-fn name_called(table: TableName, names: &[Name], name: Name) -> Option<Place>
-    ensures { result ≡ name_called table names.now name }
-{
-    found_in(table, name_place(names, name))
-}
-
 /// The place of the first track of a name.
 fn track_place(tracks: &[WrittenTrack], name: Name) -> Option<usize>
-    ensures { result ≡ position (λ one. same_name one.name name) tracks.now }
+    ensures { result ≡ track_place tracks.now name }
 {
     tracks.iter().position(|one| same_name(one.name, name))
 }
 
-/// The first track of a name.
-fn track_called(tracks: &[WrittenTrack], name: Name) -> Option<Place>
-    ensures { result ≡ track_called tracks.now name }
-{
-    found_in(TableName::Track, track_place(tracks, name))
-}
-
 /// The place of the first point of a name.
 fn point_place(points: &[WrittenPoint], name: Name) -> Option<usize>
-    ensures { result ≡ position (λ one. same_name one.name name) points.now }
+    ensures { result ≡ point_place points.now name }
 {
     points.iter().position(|one| same_name(one.name, name))
 }
 
-/// The first point of a name.
-fn point_called(points: &[WrittenPoint], name: Name) -> Option<Place>
-    ensures { result ≡ point_called points.now name }
-{
-    found_in(TableName::Point, point_place(points, name))
-}
-
 /// The place of the first signal of a name.
 fn signal_place(signals: &[WrittenSignal], name: Name) -> Option<usize>
-    ensures { result ≡ position (λ one. same_name one.name name) signals.now }
+    ensures { result ≡ signal_place signals.now name }
 {
     signals.iter().position(|one| same_name(one.name, name))
 }
 
-/// The first signal of a name.
-fn signal_called(signals: &[WrittenSignal], name: Name) -> Option<Place>
-    ensures { result ≡ signal_called signals.now name }
-{
-    found_in(TableName::Signal, signal_place(signals, name))
-}
-
 /// The place of the first detection controller of a name.
 fn detector_place(detectors: &[WrittenDetector], name: Name) -> Option<usize>
-    ensures { result ≡ position (λ one. same_name one.name name) detectors.now }
+    ensures { result ≡ detector_place detectors.now name }
 {
     detectors.iter().position(|one| same_name(one.name, name))
 }
 
-/// The first detection controller of a name.
-fn detector_called(detectors: &[WrittenDetector], name: Name) -> Option<Place>
-    ensures { result ≡ detector_called detectors.now name }
-{
-    found_in(TableName::Detector, detector_place(detectors, name))
-}
-
 /// The place of the first route of a name.
 fn route_place(routes: &[WrittenRoute], name: Name) -> Option<usize>
-    ensures { result ≡ position (λ one. same_name one.name name) routes.now }
+    ensures { result ≡ route_place routes.now name }
 {
     routes.iter().position(|one| same_name(one.name, name))
 }
 
-/// The first route of a name.
-fn route_called(routes: &[WrittenRoute], name: Name) -> Option<Place>
-    ensures { result ≡ route_called routes.now name }
+/// The first entry of a table that has a name.
+pub(crate) fn place_named(written: &WrittenLayout, table: TableName, name: Name) -> Option<usize>
+    ensures { result ≡ place_named written.now table name }
 {
-    found_in(TableName::Route, route_place(routes, name))
-}
-
-/// The first entry of a name that lies on the ground.
-fn first_on_ground(written: &WrittenLayout, name: Name) -> Option<Place>
-    ensures { result ≡ first_on_ground written.now name }
-{
-    if let Some(found) = name_called(TableName::Section, &written.sections, name) {
-        return Some(found);
-    }
-    if let Some(found) = track_called(&written.tracks, name) {
-        return Some(found);
-    }
-    if let Some(found) = point_called(&written.points, name) {
-        return Some(found);
-    }
-    name_called(TableName::Border, &written.borders, name)
-}
-
-/// The first entry of a name that isn't that of the station.
-fn first_other(written: &WrittenLayout, name: Name) -> Option<Place>
-    ensures { result ≡ first_other written.now name }
-{
-    if let Some(found) = first_on_ground(written, name) {
-        return Some(found);
-    }
-    if let Some(found) = signal_called(&written.signals, name) {
-        return Some(found);
-    }
-    if let Some(found) = detector_called(&written.detectors, name) {
-        return Some(found);
-    }
-    route_called(&written.routes, name)
-}
-
-/// The first entry of a name.
-fn first_named(written: &WrittenLayout, name: Name) -> Option<Place>
-    ensures { result ≡ first_named written.now name }
-{
-    if same_name(written.station.name, name) {
-        return Some(STATION);
-    }
-    first_other(written, name)
-}
-
-/// The name of an entry.
-fn name_at(written: &WrittenLayout, place: Place) -> Option<Name>
-    ensures { result ≡ name_at written.now place }
-{
-    let before = place.entry.saturating_sub(1);
-    match place.table {
-        TableName::Station => Some(written.station.name),
-        TableName::Section => written.sections.get(before).copied(),
-        TableName::Track => written.tracks.get(before).map(|one| one.name),
-        TableName::Point => written.points.get(before).map(|one| one.name),
-        TableName::Border => written.borders.get(before).copied(),
-        TableName::Joint => None,
-        TableName::Signal => written.signals.get(before).map(|one| one.name),
-        TableName::Detector => written.detectors.get(before).map(|one| one.name),
-        TableName::Route => written.routes.get(before).map(|one| one.name),
-    }
-}
-
-/// The entry whose name an entry has too.
-fn name_shared(written: &WrittenLayout, place: Place) -> Option<Advice>
-    ensures { result ≡ name_shared written.now place }
-{
-    let name = name_at(written, place)?;
-    match first_named(written, name) {
-        Some(first) if !same_place(first, place) => {
-            Some(Advice::Shared(place, Common::Name(name), first))
-        }
-        _ => None,
+    match table {
+        TableName::Station if same_name(written.station.name, name) => Some(0),
+        TableName::Station | TableName::Joint => None,
+        TableName::Section => name_place(&written.sections, name),
+        TableName::Track => track_place(&written.tracks, name),
+        TableName::Point => point_place(&written.points, name),
+        TableName::Border => name_place(&written.borders, name),
+        TableName::Signal => signal_place(&written.signals, name),
+        TableName::Detector => detector_place(&written.detectors, name),
+        TableName::Route => route_place(&written.routes, name),
     }
 }
 
 /// The place of the first point of an identity.
 fn identified_point(points: &[WrittenPoint], id: u32) -> Option<usize>
-    ensures { result ≡ position (λ one. one.id == id) points.now }
+    ensures { result ≡ identified_point points.now id }
 {
     points.iter().position(|one| one.id == id)
 }
 
-/// The first point of an identity.
-fn point_identified(points: &[WrittenPoint], id: u32) -> Option<Place>
-    ensures { result ≡ point_identified points.now id }
-{
-    found_in(TableName::Point, identified_point(points, id))
-}
-
 /// The place of the first signal of an identity.
 fn identified_signal(signals: &[WrittenSignal], id: u32) -> Option<usize>
-    ensures { result ≡ position (λ one. one.id == id) signals.now }
+    ensures { result ≡ identified_signal signals.now id }
 {
     signals.iter().position(|one| one.id == id)
 }
 
-/// The first signal of an identity.
-fn signal_identified(signals: &[WrittenSignal], id: u32) -> Option<Place>
-    ensures { result ≡ signal_identified signals.now id }
-{
-    found_in(TableName::Signal, identified_signal(signals, id))
-}
-
 /// The place of the first detection controller of an identity.
 fn identified_detector(detectors: &[WrittenDetector], id: u32) -> Option<usize>
-    ensures { result ≡ position (λ one. one.id == id) detectors.now }
+    ensures { result ≡ identified_detector detectors.now id }
 {
     detectors.iter().position(|one| one.id == id)
 }
 
-/// The first detection controller of an identity.
-fn detector_identified(detectors: &[WrittenDetector], id: u32) -> Option<Place>
-    ensures { result ≡ detector_identified detectors.now id }
+/// The first entry of a table that has an identity.
+fn place_identified(written: &WrittenLayout, table: TableName, id: u32) -> Option<usize>
+    ensures { result ≡ place_identified written.now table id }
 {
-    found_in(TableName::Detector, identified_detector(detectors, id))
-}
-
-/// The first entry of an identity.
-fn first_identified(written: &WrittenLayout, id: u32) -> Option<Place>
-    ensures { result ≡ first_identified written.now id }
-{
-    if written.station.id == id {
-        return Some(STATION);
-    }
-    if let Some(found) = point_identified(&written.points, id) {
-        return Some(found);
-    }
-    if let Some(found) = signal_identified(&written.signals, id) {
-        return Some(found);
-    }
-    detector_identified(&written.detectors, id)
-}
-
-/// The identity of an entry.
-fn id_at(written: &WrittenLayout, place: Place) -> Option<u32>
-    ensures { result ≡ id_at written.now place }
-{
-    let before = place.entry.saturating_sub(1);
-    match place.table {
-        TableName::Point => written.points.get(before).map(|one| one.id),
-        TableName::Signal => written.signals.get(before).map(|one| one.id),
-        TableName::Detector => written.detectors.get(before).map(|one| one.id),
-        _ => None,
-    }
-}
-
-/// The entry whose identity an entry has too.
-fn id_shared(written: &WrittenLayout, place: Place) -> Option<Advice>
-    ensures { result ≡ id_shared written.now place }
-{
-    let id = id_at(written, place)?;
-    match first_identified(written, id) {
-        Some(first) if !same_place(first, place) => {
-            Some(Advice::Shared(place, Common::Id(id), first))
-        }
+    match table {
+        TableName::Station if written.station.id == id => Some(0),
+        TableName::Point => identified_point(&written.points, id),
+        TableName::Signal => identified_signal(&written.signals, id),
+        TableName::Detector => identified_detector(&written.detectors, id),
         _ => None,
     }
 }
@@ -298,66 +143,9 @@ fn reports(detector: &WrittenDetector, section: Name) -> bool
 
 /// The place of the first detection controller that reports a section.
 fn reporting_place(detectors: &[WrittenDetector], section: Name) -> Option<usize>
-    ensures { result ≡ position (λ one. reports one section) detectors.now }
+    ensures { result ≡ reporting_place detectors.now section }
 {
     detectors.iter().position(|one| reports(one, section))
-}
-
-/// The first detection controller that reports a section.
-fn first_reporting(detectors: &[WrittenDetector], section: Name) -> Option<Place>
-    ensures { result ≡ first_reporting detectors.now section }
-{
-    found_in(TableName::Detector, reporting_place(detectors, section))
-}
-
-/// The detection controller that reports a section earlier than the one at a place.
-fn section_shared(detectors: &[WrittenDetector], place: Place, section: Name) -> Option<Advice>
-    ensures { result ≡ section_shared detectors.now place section }
-{
-    match first_reporting(detectors, section) {
-        Some(first) if !same_place(first, place) => {
-            Some(Advice::Shared(place, Common::Section(section), first))
-        }
-        _ => None,
-    }
-}
-
-/// The first of these sections that a detection controller reports earlier.
-fn sections_shared(detectors: &[WrittenDetector], place: Place, sections: &[Name]) -> Option<Advice>
-    ensures { result ≡ sections_shared detectors.now place sections.now }
-{
-    for section in sections {
-        if let Some(found) = section_shared(detectors, place, *section) {
-            return Some(found);
-        }
-    }
-    None
-}
-
-/// The section of a detection controller that an earlier one reports too.
-fn detector_shared(written: &WrittenLayout, place: Place) -> Option<Advice>
-    ensures { result ≡ detector_shared written.now place }
-{
-    match written.detectors.get(place.entry.saturating_sub(1)) {
-        Some(detector) => sections_shared(&written.detectors, place, detector.sections()),
-        None => None,
-    }
-}
-
-/// The advice where an entry has a name, an identity or a section that an earlier one has.
-pub(crate) fn double_advice(written: &WrittenLayout, place: Place) -> Advice
-    ensures { result ≡ double_advice written.now place }
-{
-    if let Some(advice) = name_shared(written, place) {
-        return advice;
-    }
-    if let Some(advice) = id_shared(written, place) {
-        return advice;
-    }
-    match detector_shared(written, place) {
-        Some(advice) => advice,
-        None => Advice::Layout(LayoutFault::DoubleName(place)),
-    }
 }
 
 /// Whether two ends of elements have the same word.
@@ -383,66 +171,162 @@ fn joins(joint: &WrittenJoint, port: &PortName) -> bool
 
 /// The place of the first joint that joins a port.
 fn joining_place(joints: &[WrittenJoint], port: &PortName) -> Option<usize>
-    ensures { result ≡ position (λ one. joins one port.now) joints.now }
+    ensures { result ≡ joining_place joints.now port.now }
 {
     joints.iter().position(|one| joins(one, port))
 }
 
-/// The first joint that joins a port.
-fn first_joining(joints: &[WrittenJoint], port: &PortName) -> Option<Place>
-    ensures { result ≡ first_joining joints.now port.now }
-{
-    found_in(TableName::Joint, joining_place(joints, port))
-}
-
-/// The joint that joins a port earlier than the one at a place.
-fn port_joined(joints: &[WrittenJoint], place: Place, port: &PortName) -> Option<Advice>
-    ensures { result ≡ port_joined joints.now place port.now }
-{
-    match first_joining(joints, port) {
-        Some(first) if !same_place(first, place) => {
-            Some(Advice::Shared(place, Common::Joint(*port), first))
-        }
-        _ => None,
-    }
-}
-
-/// The port of a joint that an earlier one joins too.
-fn joint_shared(joints: &[WrittenJoint], place: Place) -> Option<Advice>
-    ensures { result ≡ joint_shared joints.now place }
-{
-    let joint = joints.get(place.entry.saturating_sub(1))?;
-    if let Some(found) = port_joined(joints, place, &joint.first) {
-        return Some(found);
-    }
-    port_joined(joints, place, &joint.second)
-}
-
 /// The place of the first signal that stands at a port.
 fn standing_place(signals: &[WrittenSignal], port: &PortName) -> Option<usize>
-    ensures { result ≡ position (λ one. same_port_name one.at port.now) signals.now }
+    ensures { result ≡ standing_place signals.now port.now }
 {
     signals.iter().position(|one| same_port_name(&one.at, port))
 }
 
-/// The first signal that stands at a port.
-fn first_standing(signals: &[WrittenSignal], port: &PortName) -> Option<Place>
-    ensures { result ≡ first_standing signals.now port.now }
+/// The first entry of a table that has something.
+fn place_having(written: &WrittenLayout, what: &Common, table: TableName) -> Option<usize>
+    ensures { result ≡ place_having written.now what.now table }
 {
-    found_in(TableName::Signal, standing_place(signals, port))
+    match (what, table) {
+        (Common::Name(name), _) => place_named(written, table, *name),
+        (Common::Id(id), _) => place_identified(written, table, *id),
+        (Common::Section(section), TableName::Detector) => {
+            reporting_place(&written.detectors, *section)
+        }
+        (Common::Joint(port), TableName::Joint) => joining_place(&written.joints, port),
+        (Common::Signal(port), TableName::Signal) => standing_place(&written.signals, port),
+        _ => None,
+    }
+}
+
+/// The first entry of these tables that has something.
+fn first_among(written: &WrittenLayout, what: &Common, tables: &[TableName]) -> Option<Place>
+    ensures { result ≡ first_among written.now what.now tables.now }
+{
+    for table in tables {
+        if let Some(found) = found_in(*table, place_having(written, what, *table)) {
+            return Some(found);
+        }
+    }
+    None
+}
+
+/// What an entry has, if an earlier one has it.
+fn shared_with(written: &WrittenLayout, place: Place, what: &Common) -> Option<Advice>
+    ensures { result ≡ shared_with written.now place what.now }
+{
+    use TableName::{Border, Detector, Joint, Point, Route, Section, Signal, Station, Track};
+    let tables = [
+        Station, Section, Track, Point, Border, Joint, Signal, Detector, Route,
+    ];
+    match first_among(written, what, &tables) {
+        Some(first) if !same_place(first, place) => Some(Advice::Shared(place, *what, first)),
+        _ => None,
+    }
+}
+
+/// The name of an entry.
+fn name_at(written: &WrittenLayout, place: Place) -> Option<Name>
+    ensures { result ≡ name_at written.now place }
+{
+    let before = place.entry.saturating_sub(1);
+    match place.table {
+        TableName::Station => Some(written.station.name),
+        TableName::Section => written.sections.get(before).copied(),
+        TableName::Track => Some(written.tracks.get(before)?.name),
+        TableName::Point => Some(written.points.get(before)?.name),
+        TableName::Border => written.borders.get(before).copied(),
+        TableName::Joint => None,
+        TableName::Signal => Some(written.signals.get(before)?.name),
+        TableName::Detector => Some(written.detectors.get(before)?.name),
+        TableName::Route => Some(written.routes.get(before)?.name),
+    }
+}
+
+/// The name of an entry, if an earlier one has it.
+fn name_shared(written: &WrittenLayout, place: Place) -> Option<Advice>
+    ensures { result ≡ name_shared written.now place }
+{
+    let name = name_at(written, place)?;
+    shared_with(written, place, &Common::Name(name))
+}
+
+/// The identity of an entry.
+fn id_at(written: &WrittenLayout, place: Place) -> Option<u32>
+    ensures { result ≡ id_at written.now place }
+{
+    let before = place.entry.saturating_sub(1);
+    match place.table {
+        TableName::Point => Some(written.points.get(before)?.id),
+        TableName::Signal => Some(written.signals.get(before)?.id),
+        TableName::Detector => Some(written.detectors.get(before)?.id),
+        _ => None,
+    }
+}
+
+/// The identity of an entry, if an earlier one has it.
+fn id_shared(written: &WrittenLayout, place: Place) -> Option<Advice>
+    ensures { result ≡ id_shared written.now place }
+{
+    let id = id_at(written, place)?;
+    shared_with(written, place, &Common::Id(id))
+}
+
+/// The first of these sections that an earlier detection controller reports.
+fn sections_shared(written: &WrittenLayout, place: Place, sections: &[Name]) -> Option<Advice>
+    ensures { result ≡ sections_shared written.now place sections.now }
+{
+    for section in sections {
+        if let Some(found) = shared_with(written, place, &Common::Section(*section)) {
+            return Some(found);
+        }
+    }
+    None
+}
+
+/// The section of a detection controller that an earlier one reports too.
+fn detector_shared(written: &WrittenLayout, place: Place) -> Option<Advice>
+    ensures { result ≡ detector_shared written.now place }
+{
+    match written.detectors.get(place.entry.saturating_sub(1)) {
+        Some(detector) => sections_shared(written, place, detector.sections()),
+        None => None,
+    }
+}
+
+/// The advice where an entry has a name, an identity or a section that an earlier one has.
+pub(crate) fn double_advice(written: &WrittenLayout, place: Place) -> Advice
+    ensures { result ≡ double_advice written.now place }
+{
+    if let Some(advice) = name_shared(written, place) {
+        return advice;
+    }
+    if let Some(advice) = id_shared(written, place) {
+        return advice;
+    }
+    match detector_shared(written, place) {
+        Some(advice) => advice,
+        None => Advice::Layout(LayoutFault::DoubleName(place)),
+    }
+}
+
+/// The port of a joint that an earlier one joins too.
+fn joint_shared(written: &WrittenLayout, place: Place) -> Option<Advice>
+    ensures { result ≡ joint_shared written.now place }
+{
+    let joint = written.joints.get(place.entry.saturating_sub(1))?;
+    if let Some(found) = shared_with(written, place, &Common::Joint(joint.first)) {
+        return Some(found);
+    }
+    shared_with(written, place, &Common::Joint(joint.second))
 }
 
 /// The signal that stands where an earlier one stands.
-fn signal_shared(signals: &[WrittenSignal], place: Place) -> Option<Advice>
-    ensures { result ≡ signal_shared signals.now place }
+fn signal_shared(written: &WrittenLayout, place: Place) -> Option<Advice>
+    ensures { result ≡ signal_shared written.now place }
 {
-    let signal = signals.get(place.entry.saturating_sub(1))?;
-    match first_standing(signals, &signal.at) {
-        Some(first) if !same_place(first, place) => {
-            Some(Advice::Shared(place, Common::Signal(signal.at), first))
-        }
-        _ => None,
-    }
+    let signal = written.signals.get(place.entry.saturating_sub(1))?;
+    shared_with(written, place, &Common::Signal(signal.at))
 }
 
 /// The advice where an entry stands at a port at which an earlier one stands.
@@ -450,8 +334,8 @@ pub(crate) fn port_advice(written: &WrittenLayout, place: Place) -> Advice
     ensures { result ≡ port_advice written.now place }
 {
     let shared = match place.table {
-        TableName::Joint => joint_shared(&written.joints, place),
-        TableName::Signal => signal_shared(&written.signals, place),
+        TableName::Joint => joint_shared(written, place),
+        TableName::Signal => signal_shared(written, place),
         _ => None,
     };
     match shared {

@@ -151,7 +151,7 @@ fn contrary(
     if !requires_on(layout, start, path, point, other(side)) {
         return None;
     }
-    point_name(layout, point).map(|name| SideDetail::BothSides(name))
+    Some(SideDetail::BothSides(point_name(layout, point)?))
 }
 
 /// The point that the path requires at both sides, of those behind a port.
