@@ -23,14 +23,18 @@ pub record Shows (thing : Thing) (group : Group) : Type 0 where
 abbrev pub notes_id : List ℕ
 notes_id = codes "notes"
 
+-- Groups are those of things: one for each, in order, and a last one for what is written below the plan.
+pub record AreGroupsOf (things : List Thing) (all : List Group) : Type 0 where
+  pub groups : List Group
+  pub grouped : AllZip Shows things groups
+  pub notes : Group
+  pub noted : string_bytes notes.id ≡ notes_id
+  pub is : all ≡ groups ++ notes ∷ []
+
 -- A picture is a plan of a layout: it has a group for all that is drawn of it, each once, in order, in which it is drawn as
 -- it is to be, and a last one for what is written below it.
 pub record IsPlanOf (l : Site) (seen : Option Seen) (picture : Picture) : Type 0 where
   pub things : List Thing
   pub listed : subjects_of things ≡ subjects l
   pub drawn : AreDrawn l seen things
-  pub groups : List Group
-  pub grouped : AllZip Shows things groups
-  pub notes : Group
-  pub noted : string_bytes notes.id ≡ notes_id
-  pub all : picture.groups.items ≡ groups ++ notes ∷ []
+  pub grouped : AreGroupsOf things picture.groups.items

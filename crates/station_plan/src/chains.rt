@@ -1,11 +1,8 @@
 //! What lies on one row: elements that hang together by tracks, tips and main legs.
 
-use crate::courses::Courses;
-use crate::directions::Directions;
+use crate::ground::Ground;
 use crate::lists::{at, filled, put};
-use crate::main_legs::MainLegs;
-use crate::ranks::Ranks;
-use crate::yard::{Place, Yard, ends};
+use crate::yard::{Place, ends};
 use std::alloc::{AllocError, Global};
 
 /// Which chain each element is part of.
@@ -17,23 +14,8 @@ pub(crate) struct Chains {
     pub(crate) count: usize,
 }
 
-/// All that rows are found from.
-#[derive(Clone, Copy)]
-pub(crate) struct Ground<'a> {
-    /// The elements.
-    pub(crate) yard: &'a Yard,
-    /// Which way they lie.
-    pub(crate) directions: &'a Directions,
-    /// Which joints go on.
-    pub(crate) courses: &'a Courses,
-    /// How far to the right they lie.
-    pub(crate) ranks: &'a Ranks,
-    /// The legs by which rows go on.
-    pub(crate) main: &'a MainLegs,
-}
-
 /// The port of an element on its row, at a side.
-pub(crate) fn level_port(ground: Ground<'_>, element: usize, right: bool) -> Option<Place> {
+pub(crate) fn level_port(ground: &Ground, element: usize, right: bool) -> Option<Place> {
     for end in ends(ground.yard.kind(element)) {
         let place = Place { element, end: *end };
         if ground.main.is_level(place) && ground.directions.is_right(place) == right {
@@ -44,9 +26,9 @@ pub(crate) fn level_port(ground: Ground<'_>, element: usize, right: bool) -> Opt
 }
 
 /// The element beside an element on its row.
-fn beside(ground: Ground<'_>, element: usize, right: bool) -> Option<usize> {
+fn beside(ground: &Ground, element: usize, right: bool) -> Option<usize> {
     let place = level_port(ground, element, right)?;
-    let mate = ground.courses.mate(ground.yard, place)?;
+    let mate = ground.courses.mate(&ground.yard, place)?;
     if ground.main.is_level(mate) {
         Some(mate.element)
     } else {
@@ -55,19 +37,24 @@ fn beside(ground: Ground<'_>, element: usize, right: bool) -> Option<usize> {
 }
 
 impl Chains {
-    /// The chains of a layout, in the order of their first elements by number.
-    pub(crate) fn of(alloc: Global, ground: Ground<'_>) -> Result<Chains, AllocError> {
-        let size = ground.yard.size();
-        let mut chains = Chains {
-            members: filled(alloc, size, None)?,
+    /// No chains.
+    pub(crate) fn empty(alloc: Global) -> Chains {
+        Chains {
+            members: Vec::new(alloc),
             count: 0,
-        };
+        }
+    }
+
+    /// The chains of a layout, in the order of their first elements by number.
+    pub(crate) fn lay(&mut self, alloc: Global, ground: &Ground) -> Result<(), AllocError> {
+        let size = ground.yard.size();
+        self.members = filled(alloc, size, None)?;
         for element in 0..size {
-            if chains.chain(element).is_none() {
-                chains.string(ground, leftmost(ground, element));
+            if self.chain(element).is_none() {
+                self.string(ground, leftmost(ground, element));
             }
         }
-        Ok(chains)
+        Ok(())
     }
 
     /// The chain of an element.
@@ -76,7 +63,7 @@ impl Chains {
     }
 
     /// Makes a chain of an element and all at its right.
-    fn string(&mut self, ground: Ground<'_>, first: usize) {
+    fn string(&mut self, ground: &Ground, first: usize) {
         let chain = self.count;
         self.count = chain.saturating_add(1);
         let mut element = first;
@@ -91,7 +78,7 @@ impl Chains {
 }
 
 /// The leftmost element of the row of an element.
-fn leftmost(ground: Ground<'_>, element: usize) -> usize {
+fn leftmost(ground: &Ground, element: usize) -> usize {
     let mut first = element;
     for _ in 0..ground.yard.size() {
         match beside(ground, first, false) {

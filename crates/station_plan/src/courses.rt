@@ -33,31 +33,31 @@ struct Walk {
 }
 
 impl Courses {
+    /// No courses.
+    pub(crate) fn empty(alloc: Global) -> Courses {
+        Courses {
+            onward: Vec::new(alloc),
+            order: Vec::new(alloc),
+        }
+    }
+
     /// The courses of a layout.
-    pub(crate) fn of(
+    pub(crate) fn lay(
+        &mut self,
         alloc: Global,
         yard: &Yard,
         directions: &Directions,
-    ) -> Result<Courses, AllocError> {
+    ) -> Result<(), AllocError> {
         let mut walk = Walk {
-            states: filled(alloc, yard.size(), Search::New)?,
-            onward: straight(alloc, yard, directions)?,
+            states: Vec::new(alloc),
+            onward: Vec::new(alloc),
             stack: Vec::new(alloc),
             done: Vec::new(alloc),
         };
-        for element in 0..yard.size() {
-            if !walk.has_left(yard, directions, element) {
-                walk.visit(yard, directions, element)?;
-            }
-        }
-        for element in 0..yard.size() {
-            walk.visit(yard, directions, element)?;
-        }
-        let order = backward(alloc, &walk.done)?;
-        Ok(Courses {
-            onward: walk.onward,
-            order,
-        })
+        walk.go(alloc, yard, directions)?;
+        self.order = backward(alloc, &walk.done)?;
+        self.onward = walk.onward;
+        Ok(())
     }
 
     /// The port to which a port is joined by a joint that goes on.
@@ -91,6 +91,26 @@ fn straight(alloc: Global, yard: &Yard, directions: &Directions) -> Result<Vec<b
 }
 
 impl Walk {
+    /// Goes over all elements: first from those at whose left there is nothing.
+    fn go(
+        &mut self,
+        alloc: Global,
+        yard: &Yard,
+        directions: &Directions,
+    ) -> Result<(), AllocError> {
+        self.states = filled(alloc, yard.size(), Search::New)?;
+        self.onward = straight(alloc, yard, directions)?;
+        for element in 0..yard.size() {
+            if !self.has_left(yard, directions, element) {
+                self.visit(yard, directions, element)?;
+            }
+        }
+        for element in 0..yard.size() {
+            self.visit(yard, directions, element)?;
+        }
+        Ok(())
+    }
+
     /// The port that is joined to one of a side by a joint that goes on.
     fn neighbour(
         &self,

@@ -25,21 +25,27 @@ fn is_natural_right(end: End) -> bool {
 }
 
 impl Directions {
-    /// The directions of all elements: from the borders first, in table order, then from the rest.
-    pub(crate) fn of(alloc: Global, yard: &Yard) -> Result<Directions, AllocError> {
-        let size = yard.size();
-        let mut directions = Directions {
-            flipped: filled(alloc, size, false)?,
-            pieces: filled(alloc, size, None)?,
+    /// No directions.
+    pub(crate) fn empty(alloc: Global) -> Directions {
+        Directions {
+            flipped: Vec::new(alloc),
+            pieces: Vec::new(alloc),
             count: 0,
-        };
+        }
+    }
+
+    /// Lays all elements: from the borders first, in table order, then from the rest.
+    pub(crate) fn lay(&mut self, alloc: Global, yard: &Yard) -> Result<(), AllocError> {
+        let size = yard.size();
+        self.flipped = filled(alloc, size, false)?;
+        self.pieces = filled(alloc, size, None)?;
         for border in yard.border(0)..size {
-            directions.explore(alloc, yard, border)?;
+            self.explore(alloc, yard, border)?;
         }
         for element in 0..size {
-            directions.explore(alloc, yard, element)?;
+            self.explore(alloc, yard, element)?;
         }
-        Ok(directions)
+        Ok(())
     }
 
     /// Whether a port lies at the right of its element.

@@ -4,7 +4,7 @@ ghost use Rattle.std.specs.Prelude.{IfOk};
 ghost use Rattle.station_plan.specs.Plan.{IsPlanOf};
 
 use crate::extent::reach_of_things;
-use crate::groups::{groups_of_things, notes_group, with_notes};
+use crate::groups::groups_of;
 use crate::marks::Marks;
 use crate::notes::{LINES, draw_heading, draw_legend};
 use crate::paper::{paper_for, reach_above};
@@ -35,6 +35,25 @@ fn notes(
     Ok(marks.marks)
 }
 
+/// The paper for what is drawn, with nothing on it.
+fn sheet(
+    alloc: Global,
+    layout: &Layout,
+    things: &[Thing],
+    notes: &[Mark],
+) -> Result<Picture, AllocError> {
+    let paper = paper_for(alloc, things, notes)?;
+    let title = String::from_str(alloc, layout.station().name.as_str())?;
+    let style = String::from_str(alloc, STYLE)?;
+    Ok(Picture {
+        title,
+        style,
+        paper: paper.frame,
+        strips: paper.strips,
+        groups: Vec::new(alloc),
+    })
+}
+
 /// The plan of a layout, as a picture at most 1600 units wide: each of its elements is a group of its own, once, whose
 /// identity is its kind and its name. The error comes only where memory was refused.
 pub fn plan(alloc: Global, table: &Checked, shown: &Shown) -> Result<Picture, AllocError>
@@ -43,17 +62,8 @@ pub fn plan(alloc: Global, table: &Checked, shown: &Shown) -> Result<Picture, Al
     let layout = table.layout();
     let things = things(alloc, table, shown)?;
     let notes = notes(alloc, layout, &things, shown)?;
-    let paper = paper_for(alloc, &things, &notes)?;
-    let title = String::from_str(alloc, layout.station().name.as_str())?;
-    let style = String::from_str(alloc, STYLE)?;
-    let groups = groups_of_things(alloc, things)?;
-    let below = notes_group(alloc, notes)?;
-    let all = with_notes(groups, below)?;
-    Ok(Picture {
-        title,
-        style,
-        paper: paper.frame,
-        strips: paper.strips,
-        groups: all,
-    })
+    let mut picture = sheet(alloc, layout, &things, &notes)?;
+    let groups = groups_of(alloc, things, notes)?;
+    picture.groups = groups;
+    Ok(picture)
 }

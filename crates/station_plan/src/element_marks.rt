@@ -52,8 +52,8 @@ pub(crate) fn draw_track(
 
 /// How much room the signal at a side of an element takes.
 pub(crate) fn signal_room(sketch: &Sketch, element: usize, right: bool) -> Units {
-    match level_port(sketch.grid.ground(), element, right) {
-        Some(place) => match sketch.grid.yard.signal(place) {
+    match level_port(&sketch.grid.ground, element, right) {
+        Some(place) => match sketch.grid.ground.yard.signal(place) {
             Some(signal) => {
                 let name = sketch.labels.signal(Some(signal));
                 Units(36).or_more(crate::labels::width(name) + Units(8))
@@ -72,11 +72,11 @@ pub(crate) fn draw_end(
     element: usize,
     right: bool,
 ) -> Result<(), AllocError> {
-    let Some(place) = level_port(sketch.grid.ground(), element, right) else {
+    let Some(place) = level_port(&sketch.grid.ground, element, right) else {
         return Ok(());
     };
     let at = sketch.port(place);
-    if sketch.grid.yard.mate(place).is_none() {
+    if sketch.grid.ground.yard.mate(place).is_none() {
         return marks.line("buffer", moved(at, 0, -STOP.0), moved(at, 0, STOP.0));
     }
     match sketch.connector(place) {
@@ -107,7 +107,7 @@ fn draw_level(
 {
     let y = sketch.y(place.element);
     marks.line("rail", spot(sketch.x(place.element), y), sketch.port(place))?;
-    if sketch.grid.yard.mate(place).is_none() {
+    if sketch.grid.ground.yard.mate(place).is_none() {
         return Ok(());
     }
     draw_end(more, sketch, place.element, sketch.is_right(place))
@@ -162,7 +162,7 @@ pub(crate) fn draw_branch(
     ensures drawn { OnOk result (strokes marks.new.marks.items ≡ strokes marks.old.marks.items ++ rail) }
     ensures named { OnOk result (written marks.new.marks.items ≡ written marks.old.marks.items) }
 {
-    if sketch.grid.main.is_level(place) {
+    if sketch.grid.ground.main.is_level(place) {
         draw_level(marks, more, sketch, place)
     } else {
         draw_minor(marks, more, sketch, place)
@@ -210,7 +210,7 @@ fn draw_hand(marks: &mut Marks, sketch: &Sketch, element: usize) -> Result<(), A
         side.saturating_mul(3),
         sketch.slope(element).saturating_mul(14).saturating_add(4),
     );
-    let hand = match sketch.grid.main.minor(element) {
+    let hand = match sketch.grid.ground.main.minor(element) {
         Side::Left => "L",
         Side::Right => "R",
     };

@@ -1,16 +1,14 @@
 //! A layout on its rows, before it is known how wide and how high things are.
 
-use crate::chains::{Chains, Ground};
-use crate::courses::Courses;
-use crate::directions::Directions;
-use crate::links::{Link, leads_up, links};
+use crate::chains::Chains;
+use crate::ground::Ground;
+use crate::links::{Link, add_links, leads_up};
 use crate::lists::{at, filled, put};
-use crate::main_legs::{MainLegs, leg};
-use crate::ranks::Ranks;
-use crate::rows::{Hanging, Rows};
+use crate::main_legs::leg;
+use crate::rows::Rows;
 use crate::strands::{NOTHING, Strand, strands};
 use crate::units::Units;
-use crate::yard::{Place, Yard};
+use crate::yard::Place;
 use control_table::layout::Layout;
 use std::alloc::{AllocError, Global};
 
@@ -37,16 +35,8 @@ pub(crate) struct Reach {
 /// A layout on its rows.
 #[derive(Drop)]
 pub(crate) struct Grid {
-    /// The elements.
-    pub(crate) yard: Yard,
-    /// Which way they lie.
-    pub(crate) directions: Directions,
-    /// Which joints go on.
-    pub(crate) courses: Courses,
-    /// How far to the right they lie.
-    pub(crate) ranks: Ranks,
-    /// The legs by which rows go on.
-    pub(crate) main: MainLegs,
+    /// Its elements.
+    pub(crate) ground: Ground,
     /// The chains.
     pub(crate) chains: Chains,
     /// What joins them.
@@ -60,55 +50,28 @@ pub(crate) struct Grid {
 }
 
 impl Grid {
-    /// The grid of a layout.
-    pub(crate) fn of(alloc: Global, layout: &Layout) -> Result<Grid, AllocError> {
-        let yard = Yard::of(alloc, layout)?;
-        let directions = Directions::of(alloc, &yard)?;
-        let courses = Courses::of(alloc, &yard, &directions)?;
-        let ranks = Ranks::of(alloc, &yard, &directions, &courses)?;
-        let main = MainLegs::of(alloc, layout, &yard, &directions, &courses, &ranks)?;
-        let ground = Ground {
-            yard: &yard,
-            directions: &directions,
-            courses: &courses,
-            ranks: &ranks,
-            main: &main,
-        };
-        let chains = Chains::of(alloc, ground)?;
-        let (links, count) = links(alloc, ground, &chains)?;
-        let strands = strands(alloc, ground, &chains, &links, count)?;
-        let hanging = Hanging {
-            ground,
-            chains: &chains,
-            links: &links,
-            strands: &strands,
-        };
-        let rows = Rows::of(alloc, hanging)?;
-        let mut grid = Grid {
-            levels: filled(alloc, links.len(), None)?,
-            yard,
-            directions,
-            courses,
-            ranks,
-            main,
-            chains,
-            links,
-            strands,
-            rows,
-        };
-        grid.level_links(&[]);
-        Ok(grid)
+    /// An empty grid.
+    pub(crate) fn empty(alloc: Global) -> Grid {
+        Grid {
+            ground: Ground::empty(alloc),
+            chains: Chains::empty(alloc),
+            links: Vec::new(alloc),
+            strands: Vec::new(alloc),
+            rows: Rows::empty(alloc),
+            levels: Vec::new(alloc),
+        }
     }
 
-    /// What stages of one layout are given.
-    pub(crate) fn ground(&self) -> Ground<'_> {
-        Ground {
-            yard: &self.yard,
-            directions: &self.directions,
-            courses: &self.courses,
-            ranks: &self.ranks,
-            main: &self.main,
-        }
+    /// Lays a layout on its rows.
+    pub(crate) fn lay(&mut self, alloc: Global, layout: &Layout) -> Result<(), AllocError> {
+        self.ground.lay(alloc, layout)?;
+        self.chains.lay(alloc, &self.ground)?;
+        let count = add_links(&mut self.links, &self.ground, &self.chains)?;
+        self.strands = strands(alloc, &self.ground, &self.chains, &self.links, count)?;
+        self.rows = Rows::of(alloc, self)?;
+        self.levels = filled(alloc, self.links.len(), None)?;
+        self.level_links(&[]);
+        Ok(())
     }
 
     /// The row of an element.
@@ -133,7 +96,7 @@ impl Grid {
     pub(crate) fn minor(&self, element: usize) -> Place {
         Place {
             element,
-            end: leg(self.main.minor(element)),
+            end: leg(self.ground.main.minor(element)),
         }
     }
 
@@ -149,7 +112,11 @@ impl Grid {
 
     /// Whether the other leg of a point leads up by the hand of the leg.
     pub(crate) fn leads_up(&self, element: usize) -> bool {
-        leads_up(self.ground(), self.minor(element), self.main.minor(element))
+        leads_up(
+            &self.ground,
+            self.minor(element),
+            self.ground.main.minor(element),
+        )
     }
 
     /// Whether the other leg of a point is drawn up: to what it is joined to, or as it leads.

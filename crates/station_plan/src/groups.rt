@@ -1,9 +1,9 @@
 //! Things as groups of a picture.
 
-ghost use Rattle.std.specs.Prelude.{◌≡◌, IfOk, ◌++◌, ◌∷◌, [], codes, string_bytes};
+ghost use Rattle.std.specs.Prelude.{◌≡◌, IfOk, ◌++◌, codes, string_bytes};
 ghost use Rattle.std.specs.List.{AllZip};
 ghost use Rattle.station_plan.specs.Subjects.{kind_text};
-ghost use Rattle.station_plan.specs.Plan.{Shows, notes_id};
+ghost use Rattle.station_plan.specs.Plan.{AreGroupsOf, Shows, notes_id};
 
 use crate::subjects::{end_word, id_of, kind_word};
 use crate::thing::{Subject, Thing};
@@ -95,7 +95,7 @@ fn group(alloc: Global, thing: Thing) -> Result<Group, AllocError>
 
 /// Things as groups, in order.
 #[tactic(auto, using(crate::proofs::GroupsMade::one_more))]
-pub(crate) fn groups_of_things(alloc: Global, things: Vec<Thing>) -> Result<Vec<Group>, AllocError>
+fn groups_of_things(alloc: Global, things: Vec<Thing>) -> Result<Vec<Group>, AllocError>
     ensures { IfOk result (λ groups. AllZip Shows things.items groups.items) }
 {
     let mut groups = Vec::new(alloc);
@@ -107,7 +107,7 @@ pub(crate) fn groups_of_things(alloc: Global, things: Vec<Thing>) -> Result<Vec<
 }
 
 /// What is written below a plan, as a group.
-pub(crate) fn notes_group(alloc: Global, marks: Vec<Mark>) -> Result<Group, AllocError>
+fn notes_group(alloc: Global, marks: Vec<Mark>) -> Result<Group, AllocError>
     ensures { IfOk result (λ group. string_bytes group.id ≡ notes_id) }
 {
     let id = String::from_str(alloc, "notes")?;
@@ -121,11 +121,16 @@ pub(crate) fn notes_group(alloc: Global, marks: Vec<Mark>) -> Result<Group, Allo
     })
 }
 
-/// Groups, and behind them that of what is written below the plan.
-pub(crate) fn with_notes(groups: Vec<Group>, notes: Group) -> Result<Vec<Group>, AllocError>
-    ensures { IfOk result (λ all. all.items ≡ groups.items ++ notes ∷ []) }
+/// Things as groups, in order, and behind them what is written below the plan.
+pub(crate) fn groups_of(
+    alloc: Global,
+    things: Vec<Thing>,
+    notes: Vec<Mark>,
+) -> Result<Vec<Group>, AllocError>
+    ensures { IfOk result (λ all. AreGroupsOf things.items all.items) }
 {
-    let mut all = groups;
-    all.push(notes)?;
-    Ok(all)
+    let mut groups = groups_of_things(alloc, things)?;
+    let below = notes_group(alloc, notes)?;
+    groups.push(below)?;
+    Ok(groups)
 }

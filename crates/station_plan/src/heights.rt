@@ -17,52 +17,89 @@ const BETWEEN: Units = Units(14);
 /// The least free room between the texts of two rows.
 const FREE: Units = Units(8);
 
-/// Where rows lie, and how far their texts reach.
+/// Where a row lies, and how far its texts reach.
+#[derive(Clone, Copy)]
+struct Room {
+    /// Where it lies.
+    place: Units,
+    /// How far texts reach above it.
+    above: Units,
+    /// How far texts reach below it.
+    below: Units,
+    /// How many level lines pass below it, beside one another.
+    slots: usize,
+    /// Whether it has an element.
+    is_occupied: bool,
+}
+
+/// A row of which nothing is known yet.
+const NOTHING: Room = Room {
+    place: Units(0),
+    above: Units(0),
+    below: Units(0),
+    slots: 0,
+    is_occupied: false,
+};
+
+/// What lies behind the last row.
+const BEHIND: Room = Room {
+    place: Units(0),
+    above: Units(0),
+    below: Units(0),
+    slots: 0,
+    is_occupied: true,
+};
+
+/// Where rows lie.
 #[derive(Drop)]
 pub(crate) struct Heights {
-    rows: Vec<Units>,
-    above: Vec<Units>,
-    below: Vec<Units>,
-    /// How many level lines pass below each row, beside one another.
-    slots: Vec<usize>,
-    /// Whether each row has an element.
-    occupied: Vec<bool>,
+    rows: Vec<Room>,
 }
 
 impl Heights {
-    /// The heights of a layout's rows.
-    pub(crate) fn of(alloc: Global, grid: &Grid, labels: &Labels) -> Result<Heights, AllocError> {
-        let rows = grid.rows.count;
-        let mut heights = Heights {
-            rows: filled(alloc, rows, Units(0))?,
-            above: filled(alloc, rows, Units(0))?,
-            below: filled(alloc, rows, Units(0))?,
-            slots: filled(alloc, rows, 0)?,
-            occupied: filled(alloc, rows, false)?,
-        };
-        for element in 0..grid.yard.size() {
-            heights.write(grid, labels, element);
+    /// No rows.
+    pub(crate) fn empty(alloc: Global) -> Heights {
+        Heights {
+            rows: Vec::new(alloc),
+        }
+    }
+
+    /// Finds the heights of a layout's rows.
+    pub(crate) fn lay(
+        &mut self,
+        alloc: Global,
+        grid: &Grid,
+        labels: &Labels,
+    ) -> Result<(), AllocError> {
+        self.rows = filled(alloc, grid.rows.count, NOTHING)?;
+        for element in 0..grid.ground.yard.size() {
+            self.write(grid, labels, element);
         }
         for level in grid.levels.iter() {
             if let Some(level) = level {
-                heights.pass(*level);
+                self.pass(*level);
             }
         }
-        heights.lay(rows);
-        Ok(heights)
+        self.set_down();
+        Ok(())
+    }
+
+    fn room(&self, row: usize) -> Room {
+        at(&self.rows, row, BEHIND)
     }
 
     /// Where a row lies.
     pub(crate) fn row(&self, row: usize) -> Units {
-        at(&self.rows, row, Units(0))
+        self.room(row).place
     }
 
     /// Where a level line lies between two rows.
     pub(crate) fn level(&self, level: Level) -> Units {
-        let top = self.row(level.above) + at(&self.below, level.above, Units(0));
-        let next = level.above.saturating_add(1);
-        let bottom = self.row(next) - at(&self.above, next, Units(0));
-        let slots = count(at(&self.slots, level.above, 1));
+        let upper = self.room(level.above);
+        let lower = self.room(level.above.saturating_add(1));
+        let top = upper.place + upper.below;
+        let bottom = lower.place - lower.above;
+        let slots = count(upper.slots);
         let slot = count(level.slot);
         let part = slot.saturating_mul(2).saturating_add(1);
         top + (bottom - top).part(part, slots.saturating_mul(2))
@@ -71,7 +108,6 @@ impl Heights {
     /// Makes room for the texts of an element.
     fn write(&mut self, grid: &Grid, labels: &Labels, element: usize) {
         let row = grid.row(element);
-        put(&mut self.occupied, row, true);
         let (above, below) = texts(grid, labels, element);
         self.reach(row, above, below);
         let left = signal_lines(grid, labels, element, false);
@@ -84,37 +120,41 @@ impl Heights {
         }
     }
 
+    /// Makes room above and below a row, which has an element.
     fn reach(&mut self, row: usize, above: Units, below: Units) {
-        let higher = at(&self.above, row, Units(0)).or_more(above);
-        put(&mut self.above, row, higher);
-        let lower = at(&self.below, row, Units(0)).or_more(below);
-        put(&mut self.below, row, lower);
+        let mut room = self.room(row);
+        room.above = room.above.or_more(above);
+        room.below = room.below.or_more(below);
+        room.is_occupied = true;
+        put(&mut self.rows, row, room);
     }
 
     /// Makes room for a level line.
     fn pass(&mut self, level: Level) {
-        let slots = level.slot.saturating_add(1);
-        if at(&self.slots, level.above, usize::MAX) < slots {
-            put(&mut self.slots, level.above, slots);
-        }
+        let mut room = self.room(level.above);
+        room.slots = room.slots.max(level.slot.saturating_add(1));
+        put(&mut self.rows, level.above, room);
     }
 
     /// Lays each row below the one before.
-    fn lay(&mut self, rows: usize) {
+    fn set_down(&mut self) {
         let mut down = Units(0);
-        for row in 0..rows {
-            put(&mut self.rows, row, down);
+        for row in 0..self.rows.len() {
+            let mut room = self.room(row);
+            room.place = down;
+            put(&mut self.rows, row, room);
             down = down + self.distance(row);
         }
     }
 
     /// The distance of a row from the next one.
     fn distance(&self, row: usize) -> Units {
-        let next = row.saturating_add(1);
-        let is_low = !at(&self.occupied, row, true) || !at(&self.occupied, next, true);
+        let upper = self.room(row);
+        let lower = self.room(row.saturating_add(1));
+        let is_low = !upper.is_occupied || !lower.is_occupied;
         let least = if is_low { HALF_ROW } else { ROW };
-        let lines = BETWEEN.times(count(at(&self.slots, row, 0).saturating_sub(1)));
-        let texts = at(&self.below, row, Units(0)) + at(&self.above, next, Units(0));
+        let lines = BETWEEN.times(count(upper.slots.saturating_sub(1)));
+        let texts = upper.below + lower.above;
         least.or_more(texts + FREE + lines)
     }
 }
@@ -128,7 +168,7 @@ fn more(lines: usize) -> Units {
 fn texts(grid: &Grid, labels: &Labels, element: usize) -> (Units, Units) {
     let name = lines(labels.name(element));
     let section = lines(labels.section(element));
-    match grid.yard.kind(element) {
+    match grid.ground.yard.kind(element) {
         Kind::Track => (Units(16) + more(name), Units(17) + more(section)),
         Kind::Point => {
             let all = more(name.saturating_add(section));
@@ -144,8 +184,8 @@ fn texts(grid: &Grid, labels: &Labels, element: usize) -> (Units, Units) {
 
 /// On how many lines the name of the signal at a side of an element stands.
 fn signal_lines(grid: &Grid, labels: &Labels, element: usize, right: bool) -> usize {
-    match level_port(grid.ground(), element, right) {
-        Some(place) => lines(labels.signal(grid.yard.signal(place))),
+    match level_port(&grid.ground, element, right) {
+        Some(place) => lines(labels.signal(grid.ground.yard.signal(place))),
         None => 0,
     }
 }

@@ -1,6 +1,7 @@
 //! What is written into a plan, and how much room it takes.
 
-use crate::chains::{Ground, level_port};
+use crate::chains::level_port;
+use crate::ground::Ground;
 use crate::lists::at;
 use crate::units::{Units, count};
 use crate::yard::{Kind, Yard};
@@ -48,28 +49,26 @@ pub(crate) fn lines_of(name: &Name) -> usize {
 }
 
 impl Labels {
-    /// The labels of a layout. A section is named once on each row on which it lies without a break: at its tracks, or at
-    /// its points where it has no track.
-    pub(crate) fn of(
-        alloc: Global,
-        layout: &Layout,
-        ground: Ground<'_>,
-    ) -> Result<Labels, AllocError> {
-        let mut labels = Labels {
+    /// No labels.
+    pub(crate) fn empty(alloc: Global) -> Labels {
+        Labels {
             names: Vec::new(alloc),
             sections: Vec::new(alloc),
             signals: Vec::new(alloc),
-        };
+        }
+    }
+
+    /// Takes up the labels of a layout. A section is named once on each row on which it lies without a break: at its tracks,
+    /// or at its points where it has no track.
+    pub(crate) fn lay(&mut self, layout: &Layout, ground: &Ground) -> Result<(), AllocError> {
         for element in 0..ground.yard.size() {
-            labels.names.push(name(layout, ground.yard, element))?;
-            labels
-                .sections
-                .push(section_named(layout, ground, element))?;
+            self.names.push(name(layout, &ground.yard, element))?;
+            self.sections.push(section_named(layout, ground, element))?;
         }
         for signal in layout.signals() {
-            labels.signals.push(Some(signal.name))?;
+            self.signals.push(Some(signal.name))?;
         }
-        Ok(labels)
+        Ok(())
     }
 
     /// The name of an element.
@@ -109,8 +108,8 @@ pub(crate) fn section_of(layout: &Layout, yard: &Yard, element: usize) -> Option
 }
 
 /// The section that is named at an element.
-fn section_named(layout: &Layout, ground: Ground<'_>, element: usize) -> Option<Name> {
-    let section = section_of(layout, ground.yard, element)?;
+fn section_named(layout: &Layout, ground: &Ground, element: usize) -> Option<Name> {
+    let section = section_of(layout, &ground.yard, element)?;
     if ground.yard.kind(element) == Kind::Point && has_track(layout, section) {
         return None;
     }
@@ -130,20 +129,15 @@ fn has_track(layout: &Layout, section: SectionId) -> bool {
 }
 
 /// Whether what lies at the left of an element on its row is of the same kind and section.
-fn is_named_before(
-    layout: &Layout,
-    ground: Ground<'_>,
-    element: usize,
-    section: SectionId,
-) -> bool {
+fn is_named_before(layout: &Layout, ground: &Ground, element: usize, section: SectionId) -> bool {
     let Some(place) = level_port(ground, element, false) else {
         return false;
     };
-    match ground.courses.mate(ground.yard, place) {
+    match ground.courses.mate(&ground.yard, place) {
         Some(mate) => {
             ground.main.is_level(mate)
                 && ground.yard.kind(mate.element) == ground.yard.kind(element)
-                && section_of(layout, ground.yard, mate.element) == Some(section)
+                && section_of(layout, &ground.yard, mate.element) == Some(section)
         }
         None => false,
     }

@@ -9,6 +9,7 @@ mod drawn_plan;
 mod element_marks;
 mod extent;
 mod grid;
+mod ground;
 mod groups;
 mod heights;
 mod labels;

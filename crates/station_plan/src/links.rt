@@ -1,10 +1,11 @@
 //! What joins chains: each leg that isn't the main one of its point, with the port that it is joined to.
 
-use crate::chains::{Chains, Ground};
+use crate::chains::Chains;
+use crate::ground::Ground;
 use crate::main_legs::leg;
 use crate::yard::Place;
 use control_table::sci_telegram::Side;
-use std::alloc::{AllocError, Global};
+use std::alloc::AllocError;
 
 /// A link from a leg to a port.
 #[derive(Clone, Copy)]
@@ -20,25 +21,24 @@ pub(crate) struct Link {
 }
 
 /// Whether a leg leads up: a left one at a point whose tip lies left, a right one at others.
-pub(crate) fn leads_up(ground: Ground<'_>, place: Place, side: Side) -> bool {
+pub(crate) fn leads_up(ground: &Ground, place: Place, side: Side) -> bool {
     let is_left = matches!(side, Side::Left);
     is_left == ground.directions.is_right(place)
 }
 
-/// The links of a layout, and how many chains there are with those that have no element.
-pub(crate) fn links(
-    alloc: Global,
-    ground: Ground<'_>,
+/// Adds the links of a layout, and tells how many chains there are with those that have no element.
+pub(crate) fn add_links(
+    links: &mut Vec<Link>,
+    ground: &Ground,
     chains: &Chains,
-) -> Result<(Vec<Link>, usize), AllocError> {
-    let mut links = Vec::new(alloc);
+) -> Result<usize, AllocError> {
     let mut count = chains.count;
     for element in ground.yard.point(0)..ground.yard.border(0) {
         let from = Place {
             element,
             end: leg(ground.main.minor(element)),
         };
-        if let Some(to) = ground.courses.mate(ground.yard, from) {
+        if let Some(to) = ground.courses.mate(&ground.yard, from) {
             let link = link_of(ground, chains, from, to, count);
             if !is_twice(link) {
                 if link.chain.is_some() {
@@ -48,7 +48,7 @@ pub(crate) fn links(
             }
         }
     }
-    Ok((links, count))
+    Ok(count)
 }
 
 /// Whether a link was found before, from its other end.
@@ -56,7 +56,7 @@ fn is_twice(link: Link) -> bool {
     link.is_crossover && link.to.element < link.from.element
 }
 
-fn link_of(ground: Ground<'_>, chains: &Chains, from: Place, to: Place, count: usize) -> Link {
+fn link_of(ground: &Ground, chains: &Chains, from: Place, to: Place, count: usize) -> Link {
     let is_crossover = !ground.main.is_level(to);
     let is_within = chains.chain(from.element) == chains.chain(to.element);
     let chain = if is_crossover && is_within {

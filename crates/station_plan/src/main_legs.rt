@@ -36,11 +36,11 @@ struct Way {
 
 /// What is known of the layout when legs are chosen.
 #[derive(Clone, Copy)]
-struct Lines<'a> {
-    yard: &'a Yard,
-    directions: &'a Directions,
-    courses: &'a Courses,
-    ranks: &'a Ranks,
+pub(crate) struct Lines<'a> {
+    pub(crate) yard: &'a Yard,
+    pub(crate) directions: &'a Directions,
+    pub(crate) courses: &'a Courses,
+    pub(crate) ranks: &'a Ranks,
 }
 
 /// The main leg of each element; of one that is no point it means nothing.
@@ -50,10 +50,14 @@ pub(crate) struct MainLegs {
     legs: Vec<Option<Side>>,
 }
 
-/// How many points a way to a border passes at best, to the left and to the right.
+/// What is known of the ways over legs.
 #[derive(Drop)]
-struct Passed {
+struct Ways {
+    /// For each port: whether a route that isn't slow runs over this leg.
+    fast: Vec<bool>,
+    /// How many points a way from each element to a border passes at best, to the left.
     left: Vec<usize>,
+    /// And to the right.
     right: Vec<usize>,
 }
 
@@ -83,38 +87,44 @@ fn side_of(end: End) -> Option<Side> {
 }
 
 impl MainLegs {
-    /// The main legs, by the first rule that decides: only one leg carries a route that isn't slow; a leg that is joined
-    /// to no leg goes before one that is, and this before an open one; the better way. Where both legs are joined to
+    /// No legs.
+    pub(crate) fn empty(alloc: Global) -> MainLegs {
+        MainLegs {
+            legs: Vec::new(alloc),
+        }
+    }
+
+    /// Chooses the main legs, by the first rule that decides: only one leg carries a route that isn't slow; a leg that is
+    /// joined to no leg goes before one that is, and this before an open one; the better way. Where both legs are joined to
     /// legs, the one whose peer gives up the worse row.
-    pub(crate) fn of(
+    pub(crate) fn lay(
+        &mut self,
         alloc: Global,
         layout: &Layout,
-        yard: &Yard,
-        directions: &Directions,
-        courses: &Courses,
-        ranks: &Ranks,
-    ) -> Result<MainLegs, AllocError> {
-        let ground = Lines {
-            yard,
-            directions,
-            courses,
-            ranks,
+        ground: Lines<'_>,
+    ) -> Result<(), AllocError> {
+        self.legs = filled(alloc, ground.yard.size(), None)?;
+        let mut ways = Ways {
+            fast: Vec::new(alloc),
+            left: Vec::new(alloc),
+            right: Vec::new(alloc),
         };
-        let fast = fast_legs(alloc, layout, yard)?;
-        let passed = points_passed(alloc, ground)?;
-        let mut main = MainLegs {
-            legs: filled(alloc, yard.size(), None)?,
-        };
-        for element in yard.point(0)..yard.border(0) {
-            let side = plain(ground, &fast, &passed, element);
-            put(&mut main.legs, element, side);
+        ways.find(alloc, layout, ground)?;
+        self.choose(ground, &ways);
+        Ok(())
+    }
+
+    /// Chooses the legs by what is known of the ways.
+    fn choose(&mut self, ground: Lines<'_>, ways: &Ways) {
+        for element in ground.yard.point(0)..ground.yard.border(0) {
+            let side = plain(ground, ways, element);
+            put(&mut self.legs, element, side);
         }
-        for element in yard.point(0)..yard.border(0) {
-            if at(&main.legs, element, None).is_none() {
-                main.settle(ground, &passed, element);
+        for element in ground.yard.point(0)..ground.yard.border(0) {
+            if at(&self.legs, element, None).is_none() {
+                self.settle(ground, ways, element);
             }
         }
-        Ok(main)
     }
 
     /// The main leg of a point.
@@ -136,9 +146,9 @@ impl MainLegs {
     }
 
     /// Settles a point of which both legs lead to legs: the row of one peer goes on over it.
-    fn settle(&mut self, ground: Lines<'_>, passed: &Passed, element: usize) {
-        let left = self.loss(ground, passed, element, Side::Left);
-        let right = self.loss(ground, passed, element, Side::Right);
+    fn settle(&mut self, ground: Lines<'_>, ways: &Ways, element: usize) {
+        let left = self.loss(ground, ways, element, Side::Left);
+        let right = self.loss(ground, ways, element, Side::Right);
         let side = if right < left {
             Side::Right
         } else {
@@ -149,19 +159,19 @@ impl MainLegs {
             element,
             end: leg(side),
         };
-        if let Some(mate) = ground.courses.mate(ground.yard, place) {
+        if let Some(mate) = ground.courses.mate(&ground.yard, place) {
             put(&mut self.legs, mate.element, side_of(mate.end));
         }
     }
 
     /// What is lost where the row goes on by a leg: whether its peer has to give up its row, and how good that is.
-    fn loss(&self, ground: Lines<'_>, passed: &Passed, element: usize, side: Side) -> (bool, Way) {
+    fn loss(&self, ground: Lines<'_>, ways: &Ways, element: usize, side: Side) -> (bool, Way) {
         let place = Place {
             element,
             end: leg(side),
         };
-        let Some(mate) = ground.courses.mate(ground.yard, place) else {
-            return (true, way_behind(ground, passed, place));
+        let Some(mate) = ground.courses.mate(&ground.yard, place) else {
+            return (true, way_behind(ground, ways, place));
         };
         match at(&self.legs, mate.element, None) {
             Some(given) if side_of(mate.end) != Some(given) => {
@@ -169,9 +179,9 @@ impl MainLegs {
                     element: mate.element,
                     end: leg(given),
                 };
-                (true, worse_first(way_behind(ground, passed, lost)))
+                (true, worse_first(way_behind(ground, ways, lost)))
             }
-            _ => (false, way_behind(ground, passed, place)),
+            _ => (false, way_behind(ground, ways, place)),
         }
     }
 }
@@ -185,15 +195,37 @@ fn worse_first(way: Way) -> Way {
     }
 }
 
-/// For each port: whether a route that isn't slow runs over this leg.
-fn fast_legs(alloc: Global, layout: &Layout, yard: &Yard) -> Result<Vec<bool>, AllocError> {
-    let mut fast = filled(alloc, yard.mates.len(), false)?;
-    for route in layout.routes() {
-        if !matches!(route.aspect(), Aspect::Slow) {
-            mark_fast(&mut fast, yard, route);
+impl Ways {
+    /// Finds the ways over the legs of a layout.
+    fn find(
+        &mut self,
+        alloc: Global,
+        layout: &Layout,
+        ground: Lines<'_>,
+    ) -> Result<(), AllocError> {
+        self.fast = filled(alloc, ground.yard.mates.len(), false)?;
+        self.left = filled(alloc, ground.yard.size(), FAR)?;
+        self.right = filled(alloc, ground.yard.size(), FAR)?;
+        for route in layout.routes() {
+            if !matches!(route.aspect(), Aspect::Slow) {
+                mark_fast(&mut self.fast, ground.yard, route);
+            }
+        }
+        self.count_points(ground);
+        Ok(())
+    }
+
+    /// Counts the points that the ways to borders pass.
+    fn count_points(&mut self, ground: Lines<'_>) {
+        for element in ground.courses.order.iter().copied() {
+            let count = fewest(ground, &self.left, element, false);
+            put(&mut self.left, element, count);
+        }
+        for element in ground.courses.order.iter().rev().copied() {
+            let count = fewest(ground, &self.right, element, true);
+            put(&mut self.right, element, count);
         }
     }
-    Ok(fast)
 }
 
 fn mark_fast(fast: &mut Vec<bool>, yard: &Yard, route: &Route) {
@@ -204,21 +236,6 @@ fn mark_fast(fast: &mut Vec<bool>, yard: &Yard, route: &Route) {
         };
         put(fast, crate::yard::port_number(place), true);
     }
-}
-
-/// How many points the ways to borders pass.
-fn points_passed(alloc: Global, ground: Lines<'_>) -> Result<Passed, AllocError> {
-    let mut left = filled(alloc, ground.yard.size(), FAR)?;
-    for element in ground.courses.order.iter().copied() {
-        let count = fewest(ground, &left, element, false);
-        put(&mut left, element, count);
-    }
-    let mut right = filled(alloc, ground.yard.size(), FAR)?;
-    for element in ground.courses.order.iter().rev().copied() {
-        let count = fewest(ground, &right, element, true);
-        put(&mut right, element, count);
-    }
-    Ok(Passed { left, right })
 }
 
 /// How many points the best way from an element to a side passes, if it is known of what lies there.
@@ -242,15 +259,15 @@ fn fewest(ground: Lines<'_>, known: &Vec<usize>, element: usize, right: bool) ->
 }
 
 fn behind(ground: Lines<'_>, known: &Vec<usize>, place: Place) -> usize {
-    match ground.courses.mate(ground.yard, place) {
+    match ground.courses.mate(&ground.yard, place) {
         Some(mate) => at(known, mate.element, FAR),
         None => FAR,
     }
 }
 
 /// The way behind a leg.
-fn way_behind(ground: Lines<'_>, passed: &Passed, place: Place) -> Way {
-    let Some(mate) = ground.courses.mate(ground.yard, place) else {
+fn way_behind(ground: Lines<'_>, ways: &Ways, place: Place) -> Way {
+    let Some(mate) = ground.courses.mate(&ground.yard, place) else {
         return Way {
             points: FAR,
             shortness: FAR,
@@ -258,14 +275,14 @@ fn way_behind(ground: Lines<'_>, passed: &Passed, place: Place) -> Way {
         };
     };
     let right = ground.directions.is_right(place);
-    let ways = if right { &passed.right } else { &passed.left };
+    let passed = if right { &ways.right } else { &ways.left };
     let lengths = if right {
         &ground.ranks.onward
     } else {
         &ground.ranks.inward
     };
     Way {
-        points: at(ways, mate.element, FAR),
+        points: at(passed, mate.element, FAR),
         shortness: FAR.saturating_sub(at(lengths, mate.element, 0)),
         element: mate.element,
     }
@@ -273,7 +290,7 @@ fn way_behind(ground: Lines<'_>, passed: &Passed, place: Place) -> Way {
 
 /// What a leg is joined to.
 fn joined_to(ground: Lines<'_>, place: Place) -> Joined {
-    match ground.courses.mate(ground.yard, place) {
+    match ground.courses.mate(&ground.yard, place) {
         None => Joined::Open,
         Some(mate) => match mate.end {
             End::Left | End::Right => Joined::Leg,
@@ -283,7 +300,7 @@ fn joined_to(ground: Lines<'_>, place: Place) -> Joined {
 }
 
 /// The main leg of a point, unless both lead to legs.
-fn plain(ground: Lines<'_>, fast: &Vec<bool>, passed: &Passed, element: usize) -> Option<Side> {
+fn plain(ground: Lines<'_>, ways: &Ways, element: usize) -> Option<Side> {
     let left = Place {
         element,
         end: End::Left,
@@ -292,8 +309,8 @@ fn plain(ground: Lines<'_>, fast: &Vec<bool>, passed: &Passed, element: usize) -
         element,
         end: End::Right,
     };
-    let is_left_fast = at(fast, crate::yard::port_number(left), false);
-    let is_right_fast = at(fast, crate::yard::port_number(right), false);
+    let is_left_fast = at(&ways.fast, crate::yard::port_number(left), false);
+    let is_right_fast = at(&ways.fast, crate::yard::port_number(right), false);
     if is_left_fast != is_right_fast {
         return Some(if is_left_fast {
             Side::Left
@@ -313,8 +330,8 @@ fn plain(ground: Lines<'_>, fast: &Vec<bool>, passed: &Passed, element: usize) -
         Joined::Open => Some(Side::Left),
         Joined::Leg => None,
         Joined::Other => Some(better(
-            way_behind(ground, passed, left),
-            way_behind(ground, passed, right),
+            way_behind(ground, ways, left),
+            way_behind(ground, ways, right),
         )),
     }
 }

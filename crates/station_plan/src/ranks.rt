@@ -18,28 +18,34 @@ pub(crate) struct Ranks {
 }
 
 impl Ranks {
+    /// No ranks.
+    pub(crate) fn empty(alloc: Global) -> Ranks {
+        Ranks {
+            ranks: Vec::new(alloc),
+            inward: Vec::new(alloc),
+            onward: Vec::new(alloc),
+        }
+    }
+
     /// The ranks of all elements.
-    pub(crate) fn of(
+    pub(crate) fn lay(
+        &mut self,
         alloc: Global,
         yard: &Yard,
         directions: &Directions,
         courses: &Courses,
-    ) -> Result<Ranks, AllocError> {
-        let mut inward = filled(alloc, yard.size(), 1)?;
+    ) -> Result<(), AllocError> {
+        self.inward = filled(alloc, yard.size(), 1)?;
         for element in courses.order.iter().copied() {
-            lengthen(&mut inward, yard, directions, courses, element, true);
+            lengthen(&mut self.inward, yard, directions, courses, element, true);
         }
-        let mut onward = filled(alloc, yard.size(), 1)?;
+        self.onward = filled(alloc, yard.size(), 1)?;
         for element in courses.order.iter().rev().copied() {
-            lengthen(&mut onward, yard, directions, courses, element, false);
+            lengthen(&mut self.onward, yard, directions, courses, element, false);
         }
-        let mut ranks = settled(alloc, yard, directions, &inward)?;
-        lay_beside(&mut ranks, yard, directions);
-        Ok(Ranks {
-            ranks,
-            inward,
-            onward,
-        })
+        self.ranks = settled(alloc, yard, directions, &self.inward)?;
+        lay_beside(&mut self.ranks, yard, directions);
+        Ok(())
     }
 
     /// The rank of an element.

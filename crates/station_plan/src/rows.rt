@@ -1,6 +1,7 @@
 //! Which chain lies on which row.
 
-use crate::chains::{Chains, Ground};
+use crate::grid::Grid;
+use crate::ground::Ground;
 use crate::links::{Link, leads_up};
 use crate::lists::{at, filled, put};
 use crate::strands::{NOTHING, Strand};
@@ -53,19 +54,6 @@ pub(crate) struct Rows {
     lines: Option<usize>,
 }
 
-/// What rows are found from.
-#[derive(Clone, Copy)]
-pub(crate) struct Hanging<'a> {
-    /// The elements.
-    pub(crate) ground: Ground<'a>,
-    /// Their chains.
-    pub(crate) chains: &'a Chains,
-    /// What joins chains.
-    pub(crate) links: &'a Vec<Link>,
-    /// How far chains reach.
-    pub(crate) strands: &'a Vec<Strand>,
-}
-
 impl Spot {
     /// How far down it lies, in half rows.
     fn height(self) -> usize {
@@ -92,26 +80,36 @@ fn height(row: usize) -> usize {
 }
 
 impl Rows {
-    /// The rows of all chains, piece by piece: first the longest chain, and then always the longest that hangs at what is
-    /// placed, where it costs least.
-    pub(crate) fn of(alloc: Global, hanging: Hanging<'_>) -> Result<Rows, AllocError> {
+    /// No rows.
+    pub(crate) fn empty(alloc: Global) -> Rows {
+        Rows {
+            rows: Vec::new(alloc),
+            count: 0,
+            base: 0,
+            lines: None,
+        }
+    }
+
+    /// The rows of all chains of a grid that has none, piece by piece: first the longest chain, and then always the longest
+    /// that hangs at what is placed, where it costs least.
+    pub(crate) fn of(alloc: Global, grid: &Grid) -> Result<Rows, AllocError> {
         let mut rows = Rows {
-            rows: filled(alloc, hanging.strands.len(), None)?,
+            rows: filled(alloc, grid.strands.len(), None)?,
             count: 0,
             base: 0,
             lines: None,
         };
-        for piece in 0..hanging.ground.directions.count {
-            rows.base = rows.first_for(hanging, piece);
-            rows.fill(hanging, piece);
+        for piece in 0..grid.ground.directions.count {
+            rows.base = rows.first_for(grid, piece);
+            rows.fill(grid, piece);
         }
         Ok(rows)
     }
 
     /// The first row on which a piece may lie: below all that is placed, but for a line that hangs at nothing, which may
     /// share a row with others.
-    fn first_for(&mut self, hanging: Hanging<'_>, piece: usize) -> usize {
-        if !is_line(hanging, piece) {
+    fn first_for(&mut self, grid: &Grid, piece: usize) -> usize {
+        if !is_line(grid, piece) {
             return self.count;
         }
         let first = self.lines.unwrap_or(self.count);
@@ -120,10 +118,10 @@ impl Rows {
     }
 
     /// Places all chains of a piece.
-    fn fill(&mut self, hanging: Hanging<'_>, piece: usize) {
-        for _ in 0..hanging.strands.len() {
-            match self.next(hanging, piece) {
-                Some(chain) => self.place(hanging, chain),
+    fn fill(&mut self, grid: &Grid, piece: usize) {
+        for _ in 0..grid.strands.len() {
+            match self.next(grid, piece) {
+                Some(chain) => self.place(grid, chain),
                 None => return,
             }
         }
@@ -135,17 +133,17 @@ impl Rows {
     }
 
     /// The row of the chain of an element.
-    fn row_of(&self, hanging: Hanging<'_>, element: usize) -> Option<usize> {
-        self.row(hanging.chains.chain(element)?)
+    fn row_of(&self, grid: &Grid, element: usize) -> Option<usize> {
+        self.row(grid.chains.chain(element)?)
     }
 
     /// The chain that is placed next.
-    fn next(&self, hanging: Hanging<'_>, piece: usize) -> Option<usize> {
+    fn next(&self, grid: &Grid, piece: usize) -> Option<usize> {
         let mut best = None;
         let mut best_key = (false, 0);
-        for (chain, strand) in hanging.strands.iter().enumerate() {
+        for (chain, strand) in grid.strands.iter().enumerate() {
             if strand.piece == piece && self.row(chain).is_none() {
-                let key = (self.hangs(hanging, chain), strand.length.saturating_add(1));
+                let key = (self.hangs(grid, chain), strand.length.saturating_add(1));
                 if best_key < key {
                     best = Some(chain);
                     best_key = key;
@@ -156,10 +154,10 @@ impl Rows {
     }
 
     /// Whether a chain hangs at one that is placed.
-    fn hangs(&self, hanging: Hanging<'_>, chain: usize) -> bool {
-        for link in hanging.links {
-            let from = hanging.chains.chain(link.from.element);
-            let to = hanging.chains.chain(link.to.element);
+    fn hangs(&self, grid: &Grid, chain: usize) -> bool {
+        for link in &grid.links {
+            let from = grid.chains.chain(link.from.element);
+            let to = grid.chains.chain(link.to.element);
             let is_part = link.chain == Some(chain) || from == Some(chain) || to == Some(chain);
             if is_part && (self.is_placed(from) || self.is_placed(to)) {
                 return true;
@@ -176,14 +174,14 @@ impl Rows {
     }
 
     /// Places a chain where it costs least.
-    fn place(&mut self, hanging: Hanging<'_>, chain: usize) {
+    fn place(&mut self, grid: &Grid, chain: usize) {
         let first = self.base.saturating_mul(2);
         let last = self.count.saturating_mul(2);
         let mut best = Spot::Gap(self.base);
         let mut least = usize::MAX;
         for down in first..last.saturating_add(1) {
             let spot = Spot::of(down);
-            let cost = self.cost(hanging, chain, spot);
+            let cost = self.cost(grid, chain, spot);
             if cost < least {
                 best = spot;
                 least = cost;
@@ -216,10 +214,10 @@ impl Rows {
     }
 
     /// What it costs a chain to lie at a spot.
-    fn cost(&self, hanging: Hanging<'_>, chain: usize, spot: Spot) -> usize {
-        let mine = at(hanging.strands, chain, NOTHING);
+    fn cost(&self, grid: &Grid, chain: usize, spot: Spot) -> usize {
+        let mine = at(&grid.strands, chain, NOTHING);
         if let Spot::Row(row) = spot {
-            if !self.is_free(hanging, mine, row) {
+            if !self.is_free(grid, mine, row) {
                 return usize::MAX;
             }
         }
@@ -227,19 +225,19 @@ impl Rows {
             Spot::Row(_) => 0,
             Spot::Gap(_) => NEW_ROW,
         };
-        for link in hanging.links {
+        for link in &grid.links {
             cost = cost
-                .saturating_add(self.cost_of_link(hanging, chain, *link, spot))
-                .saturating_add(self.cost_over(hanging, mine, *link, spot));
+                .saturating_add(self.cost_of_link(grid, chain, *link, spot))
+                .saturating_add(self.cost_over(grid, mine, *link, spot));
         }
         cost
     }
 
     /// Whether no chain of a row reaches as far as this one, and all may lie beside it.
-    fn is_free(&self, hanging: Hanging<'_>, mine: Strand, row: usize) -> bool {
-        for (chain, strand) in hanging.strands.iter().enumerate() {
+    fn is_free(&self, grid: &Grid, mine: Strand, row: usize) -> bool {
+        for (chain, strand) in grid.strands.iter().enumerate() {
             let is_there = self.row(chain) == Some(row);
-            if is_there && (strand.overlaps(mine) || !may_share(hanging, *strand, mine)) {
+            if is_there && (strand.overlaps(mine) || !may_share(grid, *strand, mine)) {
                 return false;
             }
         }
@@ -247,12 +245,12 @@ impl Rows {
     }
 
     /// What a link costs that a chain would cross: both its ends are placed, one above and one below.
-    fn cost_over(&self, hanging: Hanging<'_>, mine: Strand, link: Link, spot: Spot) -> usize {
-        let from = self.row_of(hanging, link.from.element);
-        let to = self.row_of(hanging, link.to.element);
+    fn cost_over(&self, grid: &Grid, mine: Strand, link: Link, spot: Spot) -> usize {
+        let from = self.row_of(grid, link.from.element);
+        let to = self.row_of(grid, link.to.element);
         match (from, to) {
             (Some(from), Some(to)) => {
-                let (low, high) = ranks(hanging, link);
+                let (low, high) = ranks(grid, link);
                 let is_between = height(from.min(to)) < spot.height()
                     && spot.height() < height(from.max(to));
                 if is_between && mine.touches(low, high) {
@@ -266,49 +264,49 @@ impl Rows {
     }
 
     /// What a link costs by which a chain hangs.
-    fn cost_of_link(&self, hanging: Hanging<'_>, chain: usize, link: Link, spot: Spot) -> usize {
+    fn cost_of_link(&self, grid: &Grid, chain: usize, link: Link, spot: Spot) -> usize {
         let both = self
-            .cost_at(hanging, chain, link.from, link.to, link, spot)
-            .saturating_add(self.cost_at(hanging, chain, link.to, link.from, link, spot));
+            .cost_at(grid, chain, link.from, link.to, link, spot)
+            .saturating_add(self.cost_at(grid, chain, link.to, link.from, link, spot));
         both
     }
 
     /// What one end of a link costs, if it is placed and a chain hangs at it.
     fn cost_at(
         &self,
-        hanging: Hanging<'_>,
+        grid: &Grid,
         chain: usize,
         other: Place,
         own: Place,
         link: Link,
         spot: Spot,
     ) -> usize {
-        let Some(row) = self.row_of(hanging, other.element) else {
+        let Some(row) = self.row_of(grid, other.element) else {
             return 0;
         };
-        let (low, high) = ranks(hanging, link);
+        let (low, high) = ranks(grid, link);
         let is_own_row = link.chain == Some(chain);
-        let hangs = hanging.chains.chain(own.element) == Some(chain)
-            && hanging.chains.chain(other.element) != Some(chain);
+        let hangs = grid.chains.chain(own.element) == Some(chain)
+            && grid.chains.chain(other.element) != Some(chain);
         if !is_own_row && !hangs {
             return 0;
         }
         let mut cost = 0;
-        if !hanging.ground.main.is_level(other) {
-            let up = is_up(hanging.ground, other);
-            cost = self.pulled(hanging, Pull { row, up, low, high }, spot);
+        if !grid.ground.main.is_level(other) {
+            let up = is_up(&grid.ground, other);
+            cost = self.pulled(grid, Pull { row, up, low, high }, spot);
         }
-        if hangs && !hanging.ground.main.is_level(own) {
-            let up = !is_up(hanging.ground, own);
+        if hangs && !grid.ground.main.is_level(own) {
+            let up = !is_up(&grid.ground, own);
             cost = self
-                .pulled(hanging, Pull { row, up, low, high }, spot)
+                .pulled(grid, Pull { row, up, low, high }, spot)
                 .saturating_add(cost);
         }
         cost
     }
 
     /// What it costs to lie at a spot where a chain should lie above or below a row.
-    fn pulled(&self, hanging: Hanging<'_>, pull: Pull, spot: Spot) -> usize {
+    fn pulled(&self, grid: &Grid, pull: Pull, spot: Spot) -> usize {
         let mine = spot.height();
         let theirs = height(pull.row);
         if mine == theirs {
@@ -320,15 +318,15 @@ impl Rows {
             WRONG_SIDE
         };
         let way = mine.max(theirs).saturating_sub(mine.min(theirs));
-        let crossed = self.crossed(hanging, pull, mine.min(theirs), mine.max(theirs));
+        let crossed = self.crossed(grid, pull, mine.min(theirs), mine.max(theirs));
         side.saturating_add(way.saturating_mul(HALF_ROW))
             .saturating_add(crossed.saturating_mul(CROSSING))
     }
 
     /// How many chains lie between two heights where a link passes.
-    fn crossed(&self, hanging: Hanging<'_>, pull: Pull, above: usize, below: usize) -> usize {
+    fn crossed(&self, grid: &Grid, pull: Pull, above: usize, below: usize) -> usize {
         let mut count: usize = 0;
-        for (chain, strand) in hanging.strands.iter().enumerate() {
+        for (chain, strand) in grid.strands.iter().enumerate() {
             if let Some(row) = self.row(chain) {
                 let lies_between = above < height(row) && height(row) < below;
                 if lies_between && strand.touches(pull.low, pull.high) {
@@ -341,26 +339,23 @@ impl Rows {
 }
 
 /// Whether a piece is a line that hangs at nothing.
-fn is_line(hanging: Hanging<'_>, piece: usize) -> bool {
-    hanging
-        .ground
-        .directions
-        .is_line(hanging.ground.yard, piece)
+fn is_line(grid: &Grid, piece: usize) -> bool {
+    grid.ground.directions.is_line(&grid.ground.yard, piece)
 }
 
 /// Whether two chains may lie on one row: they are of one piece, or both of lines that hang at nothing.
-fn may_share(hanging: Hanging<'_>, one: Strand, other: Strand) -> bool {
-    one.piece == other.piece || (is_line(hanging, one.piece) && is_line(hanging, other.piece))
+fn may_share(grid: &Grid, one: Strand, other: Strand) -> bool {
+    one.piece == other.piece || (is_line(grid, one.piece) && is_line(grid, other.piece))
 }
 
 /// Whether a leg leads up.
-fn is_up(ground: Ground<'_>, place: Place) -> bool {
+fn is_up(ground: &Ground, place: Place) -> bool {
     leads_up(ground, place, ground.main.minor(place.element))
 }
 
 /// The least and the greatest rank of the ends of a link.
-fn ranks(hanging: Hanging<'_>, link: Link) -> (usize, usize) {
-    let from = hanging.ground.ranks.rank(link.from.element);
-    let to = hanging.ground.ranks.rank(link.to.element);
+fn ranks(grid: &Grid, link: Link) -> (usize, usize) {
+    let from = grid.ground.ranks.rank(link.from.element);
+    let to = grid.ground.ranks.rank(link.to.element);
     (from.min(to), from.max(to))
 }

@@ -132,7 +132,7 @@ fn draw_point_part(
     if !is_named(layout, name, point.section) {
         return Ok(());
     }
-    let element = sketch.grid.yard.point(number);
+    let element = sketch.grid.ground.yard.point(number);
     draw_point_band(marks, sketch, element)?;
     draw_point_label(more, sketch, element)
 }

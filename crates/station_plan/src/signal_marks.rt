@@ -33,7 +33,7 @@ pub(crate) fn draw_signal(
     ensures drawn { OnOk result (strokes marks.new.marks.items ≡ strokes marks.old.marks.items ++ signal_strokes) }
     ensures named { OnOk result (written marks.new.marks.items ≡ written marks.old.marks.items ++ name) }
 {
-    if sketch.grid.main.is_level(place) {
+    if sketch.grid.ground.main.is_level(place) {
         draw_level(marks, sketch, place, name)
     } else {
         draw_slanted(marks, sketch, place, name)

@@ -61,23 +61,34 @@ fn reaches(
 impl Sketch {
     /// Lays out a layout.
     pub(crate) fn of(alloc: Global, layout: &Layout) -> Result<Sketch, AllocError> {
-        let mut grid = Grid::of(alloc, layout)?;
-        let labels = Labels::of(alloc, layout, grid.ground())?;
-        let widths = Widths::of(alloc, &grid, &labels)?;
+        let mut sketch = Sketch {
+            grid: Grid::empty(alloc),
+            labels: Labels::empty(alloc),
+            widths: Widths::empty(alloc),
+            heights: Heights::empty(alloc),
+            columns: Columns::empty(alloc),
+        };
+        sketch.lay(alloc, layout)?;
+        Ok(sketch)
+    }
+
+    /// Lays out a layout, one thing after the other.
+    fn lay(&mut self, alloc: Global, layout: &Layout) -> Result<(), AllocError> {
+        self.grid.lay(alloc, layout)?;
+        self.labels.lay(layout, &self.grid.ground)?;
+        self.widths.lay(&self.grid, &self.labels)?;
+        self.place(alloc)?;
         // Once more, as it is known which links are level between rows.
-        let heights = Heights::of(alloc, &grid, &labels)?;
-        let columns = Columns::of(alloc, &grid, &widths, &heights)?;
-        let reaches = reaches(alloc, &grid, &heights, &columns)?;
-        grid.level_links(&reaches);
-        let heights = Heights::of(alloc, &grid, &labels)?;
-        let columns = Columns::of(alloc, &grid, &widths, &heights)?;
-        Ok(Sketch {
-            grid,
-            labels,
-            widths,
-            heights,
-            columns,
-        })
+        let reaches = reaches(alloc, &self.grid, &self.heights, &self.columns)?;
+        self.grid.level_links(&reaches);
+        self.place(alloc)
+    }
+
+    /// Finds where rows and columns lie.
+    fn place(&mut self, alloc: Global) -> Result<(), AllocError> {
+        self.heights.lay(alloc, &self.grid, &self.labels)?;
+        self.columns
+            .lay(alloc, &self.grid, &self.widths, &self.heights)
     }
 
     /// How far to the right an element lies.
@@ -97,7 +108,7 @@ impl Sketch {
 
     /// Whether a port lies at the right of its element.
     pub(crate) fn is_right(&self, place: Place) -> bool {
-        self.grid.directions.is_right(place)
+        self.grid.ground.directions.is_right(place)
     }
 
     /// Where the line of an element on its row ends at a side: at its neighbour where this is a point or a border,
@@ -105,13 +116,13 @@ impl Sketch {
     pub(crate) fn edge(&self, element: usize, right: bool) -> Units {
         let side = sign(right);
         let own = self.x(element) + self.half(element).times(side);
-        let Some(place) = level_port(self.grid.ground(), element, right) else {
+        let Some(place) = level_port(&self.grid.ground, element, right) else {
             return own;
         };
         if is_connector(&self.grid, place) {
             return own - CONNECTOR.times(side);
         }
-        match self.grid.courses.mate(&self.grid.yard, place) {
+        match self.grid.ground.courses.mate(&self.grid.ground.yard, place) {
             Some(mate) => self.edge_to(element, mate, own, side),
             None => own,
         }
@@ -119,13 +130,13 @@ impl Sketch {
 
     fn edge_to(&self, element: usize, mate: Place, own: Units, side: i32) -> Units {
         let other = self.x(mate.element);
-        if !self.grid.main.is_level(mate) {
+        if !self.grid.ground.main.is_level(mate) {
             let down = self.y(element).distance(self.y(mate.element));
             return other - down.times(side);
         }
         let theirs = other - self.half(mate.element).times(side);
-        let is_track = self.grid.yard.kind(element) == Kind::Track;
-        let is_to_track = self.grid.yard.kind(mate.element) == Kind::Track;
+        let is_track = self.grid.ground.yard.kind(element) == Kind::Track;
+        let is_to_track = self.grid.ground.yard.kind(mate.element) == Kind::Track;
         if !is_track && is_to_track {
             own
         } else if is_track && !is_to_track {
@@ -194,7 +205,7 @@ impl Sketch {
 
     /// Where a port lies.
     pub(crate) fn port(&self, place: Place) -> Spot {
-        if self.grid.main.is_level(place) {
+        if self.grid.ground.main.is_level(place) {
             let x = self.edge(place.element, self.is_right(place));
             spot(x, self.y(place.element))
         } else {
@@ -205,7 +216,7 @@ impl Sketch {
     /// Whether a port lies on a line that leads up or down. Where two legs meet from above, or both from below, the line
     /// has a corner there.
     pub(crate) fn is_slanted(&self, place: Place) -> bool {
-        if self.grid.main.is_level(place) {
+        if self.grid.ground.main.is_level(place) {
             return false;
         }
         match self.grid.link(place) {
@@ -224,7 +235,7 @@ impl Sketch {
     /// The number by which the two ends of a joint know one another that isn't drawn as a line.
     pub(crate) fn connector(&self, place: Place) -> Option<usize> {
         let mut number: usize = 0;
-        for (first, second) in &self.grid.yard.joints {
+        for (first, second) in &self.grid.ground.yard.joints {
             if is_connector(&self.grid, *first) {
                 number = number.saturating_add(1);
                 if *first == place || *second == place {

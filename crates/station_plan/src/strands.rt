@@ -1,6 +1,7 @@
 //! How far chains reach, by the ranks of what lies on them and hangs at them.
 
-use crate::chains::{Chains, Ground};
+use crate::chains::Chains;
+use crate::ground::Ground;
 use crate::links::Link;
 use crate::lists::{at, filled, put};
 use crate::yard::Place;
@@ -63,7 +64,7 @@ impl Strand {
 /// How far each chain reaches.
 pub(crate) fn strands(
     alloc: Global,
-    ground: Ground<'_>,
+    ground: &Ground,
     chains: &Chains,
     links: &[Link],
     count: usize,
@@ -83,7 +84,7 @@ pub(crate) fn strands(
 /// Makes a chain reach to an element.
 fn lengthen(
     strands: &mut Vec<Strand>,
-    ground: Ground<'_>,
+    ground: &Ground,
     chain: usize,
     element: usize,
     elements: usize,
@@ -95,7 +96,7 @@ fn lengthen(
 }
 
 /// Makes chains reach over a link.
-fn reach(strands: &mut Vec<Strand>, ground: Ground<'_>, chains: &Chains, link: Link) {
+fn reach(strands: &mut Vec<Strand>, ground: &Ground, chains: &Chains, link: Link) {
     match link.chain {
         Some(chain) => {
             lengthen(strands, ground, chain, link.from.element, 0);
@@ -109,7 +110,7 @@ fn reach(strands: &mut Vec<Strand>, ground: Ground<'_>, chains: &Chains, link: L
 }
 
 /// Makes the chain of a port on its row reach to what it hangs at.
-fn hang(strands: &mut Vec<Strand>, ground: Ground<'_>, chains: &Chains, at: Place, place: Place) {
+fn hang(strands: &mut Vec<Strand>, ground: &Ground, chains: &Chains, at: Place, place: Place) {
     let chain = chains.chain(place.element);
     if chain == chains.chain(at.element) || !ground.main.is_level(place) {
         return;

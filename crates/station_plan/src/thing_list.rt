@@ -68,7 +68,7 @@ fn draw_whole_point(
     ensures named { OnOk result (written marks.new.marks.items ≡ written marks.old.marks.items ++ name) }
 {
     draw_point(marks, more, scene.sketch, element, name)?;
-    let point = PointId(scene.sketch.grid.yard.entry(element));
+    let point = PointId(scene.sketch.grid.ground.yard.entry(element));
     if !is_flank(scene.layout, scene.shown, point) {
         return Ok(());
     }
@@ -200,7 +200,7 @@ fn add_part(
     ensures listed { OnOk result (subjects_of things.new.items ≡ subjects_of things.old.items ++ part ∷ []) }
     ensures drawn { OnOk result (AreDrawn scene.entry.layout.now scene.entry.shown.now.seen things.new.items) }
 {
-    let element = scene.sketch.grid.yard.point(number);
+    let element = scene.sketch.grid.ground.yard.point(number);
     let at = Place { element, end };
     add(things, scene, thing_of(alloc, scene, part, number, at)?)
 }
@@ -258,7 +258,7 @@ fn add_borders(
     ensures drawn { OnOk result (AreDrawn scene.entry.layout.now scene.entry.shown.now.seen things.new.items) }
 {
     for (number, name) in borders.iter().enumerate() {
-        let element = scene.sketch.grid.yard.border(number);
+        let element = scene.sketch.grid.ground.yard.border(number);
         let at = Place {
             element,
             end: End::End,
@@ -288,7 +288,7 @@ fn add_joint(
     }
     match element_name(layout, joint.first.element) {
         Some(name) => {
-            let at = scene.sketch.grid.yard.place(joint.first);
+            let at = scene.sketch.grid.ground.yard.place(joint.first);
             let subject = Subject::Joint(name, joint.first.end);
             add(things, scene, thing_of(alloc, scene, subject, 0, at)?)
         }
@@ -324,7 +324,7 @@ fn add_signals(
     ensures drawn { OnOk result (AreDrawn scene.entry.layout.now scene.entry.shown.now.seen things.new.items) }
 {
     for (number, signal) in signals.iter().enumerate() {
-        let at = scene.sketch.grid.yard.place(signal.at);
+        let at = scene.sketch.grid.ground.yard.place(signal.at);
         let subject = Subject::Signal(signal.name);
         add(things, scene, thing_of(alloc, scene, subject, number, at)?)?;
     }
@@ -416,6 +416,32 @@ fn add_ends(
     add_signals(things, alloc, scene, layout.signals())
 }
 
+/// Adds all that a plan draws.
+fn add_all(
+    things: &mut Vec<Thing>,
+    alloc: Global,
+    scene: Scene<'_>,
+    layout: &Layout,
+) -> Result<(), AllocError>
+    requires { AreDrawn scene.layout.now scene.shown.now.seen things.old.items }
+    ensures listed { OnOk result (subjects_of things.new.items ≡ subjects_of things.old.items ++ subjects layout.now) }
+    ensures drawn { OnOk result (AreDrawn scene.entry.layout.now scene.entry.shown.now.seen things.new.items) }
+{
+    add_ways(things, alloc, scene, layout)?;
+    add_ends(things, alloc, scene, layout)?;
+    add_detectors(things, alloc, scene, layout.detectors())
+}
+
+/// The list of all that is drawn of a scene.
+fn things_of(alloc: Global, scene: Scene<'_>, layout: &Layout) -> Result<Vec<Thing>, AllocError>
+    ensures listed { IfOk result (λ things. subjects_of things.items ≡ subjects layout.now) }
+    ensures drawn { IfOk result (λ things. AreDrawn scene.entry.layout.now scene.entry.shown.now.seen things.items) }
+{
+    let mut things = Vec::new(alloc);
+    add_all(&mut things, alloc, scene, layout)?;
+    Ok(things)
+}
+
 /// The list of all that a plan of a layout draws. The error comes only where memory was refused.
 pub fn things(alloc: Global, table: &Checked, shown: &Shown) -> Result<Vec<Thing>, AllocError>
     ensures listed { IfOk result (λ things. subjects_of things.items ≡ subjects table.now) }
@@ -429,9 +455,5 @@ pub fn things(alloc: Global, table: &Checked, shown: &Shown) -> Result<Vec<Thing
         shown,
         below: spot(Units(0), Units(0)),
     };
-    let mut things = Vec::new(alloc);
-    add_ways(&mut things, alloc, scene, layout)?;
-    add_ends(&mut things, alloc, scene, layout)?;
-    add_detectors(&mut things, alloc, scene, layout.detectors())?;
-    Ok(things)
+    things_of(alloc, scene, layout)
 }

@@ -32,13 +32,19 @@ pub(crate) struct Widths {
 }
 
 impl Widths {
-    /// The widths of a layout.
-    pub(crate) fn of(alloc: Global, grid: &Grid, labels: &Labels) -> Result<Widths, AllocError> {
-        let mut halves = Vec::new(alloc);
-        for element in 0..grid.yard.size() {
-            halves.push(half(grid, labels, element))?;
+    /// No widths.
+    pub(crate) fn empty(alloc: Global) -> Widths {
+        Widths {
+            halves: Vec::new(alloc),
         }
-        Ok(Widths { halves })
+    }
+
+    /// Finds the widths of a layout.
+    pub(crate) fn lay(&mut self, grid: &Grid, labels: &Labels) -> Result<(), AllocError> {
+        for element in 0..grid.ground.yard.size() {
+            self.halves.push(half(grid, labels, element))?;
+        }
+        Ok(())
     }
 
     /// Half of the room of an element.
@@ -49,8 +55,8 @@ impl Widths {
 
 /// The signal at a side of an element, on its row.
 fn signal_at(grid: &Grid, element: usize, right: bool) -> Option<usize> {
-    let place = level_port(grid.ground(), element, right)?;
-    grid.yard.signal(place)
+    let place = level_port(&grid.ground, element, right)?;
+    grid.ground.yard.signal(place)
 }
 
 /// How much room a signal takes.
@@ -71,22 +77,23 @@ pub(crate) fn clearance(grid: &Grid, element: usize, right: bool) -> Units {
 
 /// The point that parts behind a signal at a side of an element.
 fn parting(grid: &Grid, element: usize, right: bool) -> Option<usize> {
-    let place = level_port(grid.ground(), element, right)?;
-    grid.yard.signal(place)?;
-    let mate = grid.courses.mate(&grid.yard, place)?;
-    let is_parting = grid.yard.kind(mate.element) == Kind::Point
-        && mate.end == leg(grid.main.main(mate.element));
+    let place = level_port(&grid.ground, element, right)?;
+    grid.ground.yard.signal(place)?;
+    let mate = grid.ground.courses.mate(&grid.ground.yard, place)?;
+    let is_parting = grid.ground.yard.kind(mate.element) == Kind::Point
+        && mate.end == leg(grid.ground.main.main(mate.element));
     if is_parting { Some(mate.element) } else { None }
 }
 
 /// Whether a port is joined to one that the plan doesn't draw beside it.
 pub(crate) fn is_connector(grid: &Grid, place: Place) -> bool {
-    grid.yard.mate(place).is_some() && grid.courses.mate(&grid.yard, place).is_none()
+    grid.ground.yard.mate(place).is_some()
+        && grid.ground.courses.mate(&grid.ground.yard, place).is_none()
 }
 
 /// The room for the end of a line that goes on elsewhere.
 pub(crate) fn connector(grid: &Grid, element: usize, right: bool) -> Units {
-    match level_port(grid.ground(), element, right) {
+    match level_port(&grid.ground, element, right) {
         Some(place) if is_connector(grid, place) => CONNECTOR,
         _ => Units(0),
     }
@@ -105,10 +112,10 @@ fn widest_signal(yard: &Yard, labels: &Labels, element: usize) -> Units {
 /// Half of the room of an element.
 fn half(grid: &Grid, labels: &Labels, element: usize) -> Units {
     let beside = connector(grid, element, false).or_more(connector(grid, element, true));
-    let own = match grid.yard.kind(element) {
+    let own = match grid.ground.yard.kind(element) {
         Kind::Track => half_of_track(grid, labels, element),
         Kind::Point => half_of_point(grid, labels, element),
-        Kind::Border => half_of_border(&grid.yard, labels, element),
+        Kind::Border => half_of_border(&grid.ground.yard, labels, element),
     };
     own + beside
 }
@@ -126,7 +133,9 @@ fn half_of_track(grid: &Grid, labels: &Labels, element: usize) -> Units {
 fn half_of_point(grid: &Grid, labels: &Labels, element: usize) -> Units {
     let text = width(labels.name(element)).or_more(width(labels.section(element)));
     let clear = clearance(grid, element, false).or_more(clearance(grid, element, true));
-    POINT.or_more((text + Units(8)).half()) + widest_signal(&grid.yard, labels, element) + clear
+    POINT.or_more((text + Units(8)).half())
+        + widest_signal(&grid.ground.yard, labels, element)
+        + clear
 }
 
 fn half_of_border(yard: &Yard, labels: &Labels, element: usize) -> Units {

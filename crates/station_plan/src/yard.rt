@@ -65,22 +65,28 @@ pub(crate) fn port_number(place: Place) -> usize {
 }
 
 impl Yard {
-    /// The elements of a layout.
-    pub(crate) fn of(alloc: Global, layout: &Layout) -> Result<Yard, AllocError> {
-        let mut yard = Yard {
+    /// No elements.
+    pub(crate) fn empty(alloc: Global) -> Yard {
+        Yard {
             kinds: Vec::new(alloc),
             mates: Vec::new(alloc),
             signals: Vec::new(alloc),
             joints: Vec::new(alloc),
-            tracks: layout.tracks().len(),
-            points: layout.points().len(),
-        };
-        yard.add(layout.tracks().len(), Kind::Track)?;
-        yard.add(layout.points().len(), Kind::Point)?;
-        yard.add(layout.borders().len(), Kind::Border)?;
-        yard.join(layout.joints())?;
-        yard.stand(layout);
-        Ok(yard)
+            tracks: 0,
+            points: 0,
+        }
+    }
+
+    /// Takes up the elements of a layout.
+    pub(crate) fn lay(&mut self, layout: &Layout) -> Result<(), AllocError> {
+        self.tracks = layout.tracks().len();
+        self.points = layout.points().len();
+        self.add(layout.tracks().len(), Kind::Track)?;
+        self.add(layout.points().len(), Kind::Point)?;
+        self.add(layout.borders().len(), Kind::Border)?;
+        self.join(layout.joints())?;
+        self.stand(layout);
+        Ok(())
     }
 
     fn add(&mut self, count: usize, kind: Kind) -> Result<(), AllocError> {
