@@ -8,7 +8,7 @@ use Rattle.control_table.specs.layout.Entries.{Site}
 use Rattle.station_table.specs.declared.form.Form.{Form}
 use Rattle.station_table.specs.Row.{Row}
 use Rattle.station_table.specs.Table.{Tabled}
-use Rattle.station_table.specs.Lines.{AreRows, barred, line_text, lines_text, rule_text, heads}
+use Rattle.station_table.specs.Lines.{IsTable, barred, line_text, lines_text, rule_text, heads}
 
 -- one more piece, of the next item
 pub appended_more : {X : Type 0} (f : X → List ℕ) (start so_far new : List ℕ) (xs : List X) (i : ℕ) (x : X)
@@ -26,9 +26,9 @@ barred_added old a b new cell first second third =
     third ∙ (ap (λ s. s ++ codes " ") (second ∙ (ap (λ s. s ++ cell) first ∙ append_assoc old (codes "| ") cell)) ∙ append_assoc old (codes "| " ++ cell) (codes " "))
 
 -- the heads, the rule and the rows
-pub lines_are : (form : Form) (rows : List Row) (a b c : List ℕ) → a ≡ line_text form heads → b ≡ a ++ rule_text form → c ≡ b ++ flat_map (line_text form) rows → c ≡ lines_text form rows
-lines_are form rows a b c first second third =
-    third ∙ (ap (λ s. s ++ flat_map (line_text form) rows) (second ∙ ap (λ s. s ++ rule_text form) first) ∙ append_assoc (line_text form heads) (rule_text form) (flat_map (line_text form) rows))
+pub lines_are : (form : Form) (rows : List Row) (a b : List ℕ) → a ≡ line_text form heads ++ rule_text form → b ≡ a ++ flat_map (line_text form) rows → b ≡ lines_text form rows
+lines_are form rows a b first second =
+    second ∙ (ap (λ s. s ++ flat_map (line_text form) rows) first ∙ append_assoc (line_text form heads) (rule_text form) (flat_map (line_text form) rows))
 
-pub tabled : (form : Form) (l : Site) (rows : List Row) (text : List ℕ) (c d e : Option (List ℕ)) → AreRows l (length l.routes) rows → text ≡ lines_text form rows → Appends c d text → Keeps d e → Tabled form l c e
-tabled form l rows text c d e are is told kept = (text, (rows, are, is), Appends-kept c d e text told kept)
+pub tabled : (form : Form) (l : Site) (text : List ℕ) (c d e : Option (List ℕ)) → IsTable form l text → Appends c d text → Keeps d e → Tabled form l c e
+tabled form l text c d e is told kept = (text, is, Appends-kept c d e text told kept)

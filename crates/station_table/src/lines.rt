@@ -3,10 +3,10 @@
 ghost use Rattle.std.specs.Prelude.{◌≡◌, ◌++◌, map, codes, IfOk, OnOk};
 ghost use Rattle.std.specs.List.{flat_map};
 ghost use Rattle.csv.specs.Writing.{default_writer, row_text};
-ghost use Rattle.station_table.specs.Lines.{barred, line_text, lines_text, rule_text};
+ghost use Rattle.station_table.specs.Lines.{barred, heads, line_text, lines_text, rule_text};
 
 use crate::form::Form;
-use crate::row::{Row, heads};
+use crate::row::Row;
 use csv::WriterBuilder;
 use std::alloc::{AllocError, Global};
 
@@ -53,15 +53,15 @@ fn line(alloc: Global, form: Form, row: &Row) -> Result<Vec<u8>, AllocError>
     ensures { IfOk result (λ line. line.items ≡ line_text form row.now) }
 {
     let cells = [
-        row.route.as_bytes(),
-        row.entry.as_bytes(),
-        row.exit.as_bytes(),
-        row.aspect.as_bytes(),
-        row.right.as_bytes(),
-        row.left.as_bytes(),
-        row.flank.as_bytes(),
+        row.names.route.as_bytes(),
+        row.names.entry.as_bytes(),
+        row.names.exit.as_bytes(),
+        row.names.aspect.as_bytes(),
+        row.points.right.as_bytes(),
+        row.points.left.as_bytes(),
+        row.points.flank.as_bytes(),
         row.sections.as_bytes(),
-        row.let_go.as_bytes(),
+        row.points.let_go.as_bytes(),
         row.approach.as_bytes(),
         row.conflicts.as_bytes(),
     ];
@@ -71,13 +71,18 @@ fn line(alloc: Global, form: Form, row: &Row) -> Result<Vec<u8>, AllocError>
     }
 }
 
-/// The rule below the heads.
-fn rule(form: Form) -> &'static str
-    ensures { result.now ≡ rule_text form }
+/// The heads of the cells, and the rule below them.
+#[tactic(auto, unfolding(csv::specs::Writing::fields_text, csv::specs::Writing::is_blank))]
+fn heads(form: Form) -> &'static str
+    ensures { result.now ≡ line_text form heads ++ rule_text form }
 {
     match form {
-        Form::Markdown => "| --- | --- | --- | --- | --- | --- | --- | --- | --- | --- | --- |\n",
-        Form::Csv => "",
+        Form::Markdown => {
+            "| Route | Entry | Exit | Aspect | Points right | Points left | Flank points | Sections | Points let go | Approach | Conflicts |\n| --- | --- | --- | --- | --- | --- | --- | --- | --- | --- | --- |\n"
+        }
+        Form::Csv => {
+            "Route,Entry,Exit,Aspect,Points right,Points left,Flank points,Sections,Points let go,Approach,Conflicts\n"
+        }
     }
 }
 
@@ -95,8 +100,7 @@ fn add_lines(alloc: Global, form: Form, rows: &[Row], text: &mut Vec<u8>) -> Res
 pub(crate) fn lines(alloc: Global, form: Form, rows: &[Row]) -> Result<Vec<u8>, AllocError>
     ensures { IfOk result (λ text. text.items ≡ lines_text form rows.now) }
 {
-    let mut text = line(alloc, form, &heads(alloc)?)?;
-    text.extend_from_slice(rule(form).as_bytes())?;
+    let mut text = Vec::from_slice(alloc, heads(form).as_bytes())?;
     add_lines(alloc, form, rows, &mut text)?;
     Ok(text)
 }

@@ -1,15 +1,17 @@
 //! The control table of a text, with what is wrong written where there is none.
 
-ghost use Rattle.std.specs.Prelude.{◌≡◌, ◌≤◌, IsErr, IfErr, OnOk};
+ghost use Rattle.std.specs.Prelude.{◌≡◌, ◌≤◌, IsErr, IfErr, IfOk, OnOk};
 ghost use Rattle.control_table.specs.layout.Entries.{Site};
 ghost use Rattle.station_check.specs.Report.{IsSound};
+ghost use Rattle.station_table.specs.Lines.{IsTable};
 ghost use Rattle.station_table.specs.Table.{Explained, Explains, Leaves, Tabled};
 
 use crate::form::Form;
 use crate::lines::lines;
 use crate::row::rows;
+use control_table::Checked;
 use station_check::{Failure, table_of, tell};
-use std::alloc::Global;
+use std::alloc::{AllocError, Global};
 use std::io::Write;
 
 /// Writes the control table of the text of a layout. Where it is sound, the table is written to `out`, and the status
@@ -39,6 +41,14 @@ pub fn table_text<W: Write, E: Write>(
     }
 }
 
+/// The text of a control table.
+fn text_of(alloc: Global, form: Form, table: &Checked) -> Result<Vec<u8>, AllocError>
+    ensures { IfOk result (λ text. IsTable form table.now text.items) }
+{
+    let rows = rows(alloc, table)?;
+    lines(alloc, form, &rows)
+}
+
 /// Writes the control table of a text at once.
 fn write_table<W: Write>(alloc: Global, text: &str, form: Form, out: &mut W) -> Result<(), Failure>
     ensures done { OnOk result ((site : Site) × IsSound text.now site × Tabled form site (W.contents out.old) (W.contents out.new)) }
@@ -46,8 +56,7 @@ fn write_table<W: Write>(alloc: Global, text: &str, form: Form, out: &mut W) -> 
     ensures explains { IfErr result (λ failure. Explains text.now failure × Leaves failure out.old out.new) }
 {
     let table = table_of(alloc, text)?;
-    let rows = rows(alloc, &table)?;
-    let lines = lines(alloc, form, &rows)?;
+    let lines = text_of(alloc, form, &table)?;
     out.write_all(&lines)?;
     out.flush()?;
     Ok(())
