@@ -48,10 +48,13 @@ pub(crate) struct Log {
 }
 
 impl Log {
-    /// Keeps a call, if memory was there for it.
+    /// Keeps a call, if memory was there for it, and for each before it.
     pub(crate) fn add(&mut self, call: Result<OutsideCall, AllocError>)
         ensures { (one : Call) → IfOk call (λ kept. call_of kept ≡ one) → Grows (told_calls self.old.tells self.old.calls.items) (told_calls self.new.tells self.new.calls.items) (one ∷ []) }
     {
+        if !self.tells {
+            return;
+        }
         let Ok(call) = call else {
             self.tells = false;
             return;

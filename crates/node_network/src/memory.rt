@@ -1,6 +1,7 @@
 //! What a node's process has outside, over memory.
 
-ghost use Rattle.std.specs.Prelude.{◌≡◌, ◌+◌, [], ◌∷◌, ◌++◌, IfOk, OnOk, Some, map, min, string_bytes, true};
+ghost use Rattle.std.specs.Prelude.{◌≡◌, ◌+◌, ◌-◌, [], ◌∷◌, ◌++◌, IfOk, None, OnOk, Some, map, min, string_bytes, true};
+ghost use Rattle.std.specs.Bool.{Decides};
 ghost use Rattle.std.specs.Option.{option_map, option_to_list};
 ghost use Rattle.node_drive.specs.Calls.{Arrival, AsksDatagram, AsksLine, BreaksOff, Sends, Writes, line_heard};
 ghost use Rattle.node_network.specs.Log.{call_of, told_calls};
@@ -11,12 +12,13 @@ use node_drive::node_lines::simulator_event::NodeId;
 use node_drive::{Arrived, BrokenOff, NextLine, Outside, Received};
 use std::alloc::{AllocError, Global};
 use std::collections::VecDeque;
+use std::mem;
 
 /// The longest datagram that is received whole.
 const LONGEST: usize = 512;
 
 /// What a node's process has outside, over memory: a clock that goes on by the same step in each round, what was brought, and what was
-/// written and sent. One of its calls may fail.
+/// written and sent. One call of its network may fail.
 #[derive(Drop)]
 pub struct MemoryOutside {
     alloc: Global,
@@ -34,16 +36,13 @@ pub struct MemoryOutside {
     datagrams: VecDeque<(Option<NodeId>, Vec<u8>)>,
     written: VecDeque<String>,
     sent: VecDeque<(NodeId, Vec<u8>)>,
-    /// How many calls were made that can fail.
-    made: u64,
-    /// Which of them fails, counted from 1; none at 0.
+    /// Which of the next calls of its network fails, counted from 1; none at 0.
     failing: u64,
 }
 
 impl MemoryOutside {
-    /// A clock of this first reading, and nothing else. Of the calls that write a line, send or ask for a datagram, the one of the
-    /// number `failing` fails, counted from 1; none at 0.
-    pub fn new(alloc: Global, first: u64, step: u64, failing: u64) -> MemoryOutside
+    /// A clock of this first reading, and nothing else. No call of its network fails.
+    pub fn new(alloc: Global, first: u64, step: u64) -> MemoryOutside
         ensures told { told_calls result.log.tells result.log.calls.items ≡ Some [] }
         ensures time { result.time ≡ first }
         ensures latest { result.latest ≡ first }
@@ -63,9 +62,26 @@ impl MemoryOutside {
             datagrams: VecDeque::new(alloc),
             written: VecDeque::new(alloc),
             sent: VecDeque::new(alloc),
-            made: 0,
-            failing,
+            failing: 0,
         }
+    }
+
+    /// Forgets what was called, and keeps nothing of it from now on, so that a long run takes no more memory than a short one.
+    pub fn forget(&mut self)
+        ensures log { told_calls self.new.log.tells self.new.log.calls.items ≡ None }
+        ensures latest { self.new.latest ≡ self.old.latest }
+    {
+        self.log.tells = false;
+        self.log.calls.clear();
+    }
+
+    /// Of the calls from now on that send or ask for a datagram, the one of this number fails, counted from 1; none at 0. It answers
+    /// which was to fail before.
+    pub fn fail_after(&mut self, calls: u64) -> u64
+        ensures before { result ≡ self.old.failing }
+        ensures failing { self.new ≡ record self.old { failing = calls } }
+    {
+        mem::replace(&mut self.failing, calls)
     }
 
     /// What was called so far, oldest first, as far as it was kept.
@@ -79,6 +95,7 @@ impl MemoryOutside {
     pub fn pass(&mut self, millis: u64)
         ensures time { self.new.time ≡ min (self.old.time + millis) 18446744073709551615 }
         ensures log { self.new.log ≡ self.old.log }
+        ensures latest { self.new.latest ≡ self.old.latest }
     {
         self.time = self.time.saturating_add(millis);
     }
@@ -94,6 +111,7 @@ impl MemoryOutside {
     pub fn bring_line(&mut self, text: &str) -> Result<(), AllocError>
         ensures lines { OnOk result (map string_bytes self.new.lines.items ≡ map string_bytes self.old.lines.items ++ text.now ∷ []) }
         ensures log { self.new.log ≡ self.old.log }
+        ensures latest { self.new.latest ≡ self.old.latest }
     {
         let text = String::from_str(self.alloc, text)?;
         self.lines.push_back(text)?;
@@ -111,6 +129,7 @@ impl MemoryOutside {
     pub fn bring(&mut self, from: Option<NodeId>, bytes: &[u8]) -> Result<(), AllocError>
         ensures datagrams { OnOk result (map {B = Arrival} (λ d. (d.0, d.1.items)) self.new.datagrams.items ≡ map {B = Arrival} (λ d. (d.0, d.1.items)) self.old.datagrams.items ++ (from, bytes.now) ∷ []) }
         ensures log { self.new.log ≡ self.old.log }
+        ensures latest { self.new.latest ≡ self.old.latest }
     {
         let bytes = Vec::from_slice(self.alloc, bytes)?;
         self.datagrams.push_back((from, bytes))?;
@@ -121,6 +140,7 @@ impl MemoryOutside {
     pub fn take_written(&mut self) -> Option<String>
         ensures written { self.old.written.items ≡ option_to_list result ++ self.new.written.items }
         ensures log { self.new.log ≡ self.old.log }
+        ensures latest { self.new.latest ≡ self.old.latest }
     {
         self.written.pop_front()
     }
@@ -129,17 +149,19 @@ impl MemoryOutside {
     pub fn take_sent(&mut self) -> Option<(NodeId, Vec<u8>)>
         ensures sent { self.old.sent.items ≡ option_to_list result ++ self.new.sent.items }
         ensures log { self.new.log ≡ self.old.log }
+        ensures latest { self.new.latest ≡ self.old.latest }
     {
         self.sent.pop_front()
     }
 
-    /// A call is made that can fail. It tells whether this is the one that does.
+    /// A call of the network is made. It tells whether this is the one that fails.
     fn fails(&mut self) -> bool
-        ensures log { self.new.log ≡ self.old.log }
-        ensures latest { self.new.latest ≡ self.old.latest }
+        ensures failing { self.new ≡ record self.old { failing = self.old.failing - 1 } }
+        ensures fails { Decides result (self.old.failing ≡ 1) }
     {
-        self.made = self.made.saturating_add(1);
-        self.made == self.failing
+        let fails = self.failing == 1;
+        self.failing = self.failing.saturating_sub(1);
+        fails
     }
 
     /// The oldest datagram that waits. One that is too long is cut.
@@ -228,7 +250,7 @@ impl Outside for MemoryOutside {
     }
 
     fn write_line(&mut self, text: &str) -> Result<(), BrokenOff> {
-        if self.fails() || self.keep_line(text).is_err() {
+        if self.keep_line(text).is_err() {
             self.log.add(broke_off(self.alloc, text));
             return Err(BrokenOff);
         }
