@@ -8,7 +8,9 @@ points after each change. It prints what was seen, and ends with status 1 where 
 quiet      one datagram in a hundred is lost, the others come up to 100 ms late, in order: a route comes to proceed, a train passes, and
            when the relay stops each lamp falls
 hostile    in turn for each node: over a quiet network the links come up and routes are set; then one in five is lost, one in ten repeated, all come up to 400 ms late in any order, and the node is killed and started anew
-strangers  random bytes and copies of true datagrams from other addresses, 100,000 of them: the links stay up
+strangers  random bytes and copies of true datagrams: 100,000 to the interlocking from another address, as fast as they go; then 20,000
+           to the interlocking and the controllers from the addresses of their partners, but no copies of requests for connections. The
+           links stay up, rounds are kept, memory doesn't grow, and the record of the interlocking is the same once more
 rest       the processor share and the memory of each node at rest
 """
 import argparse
@@ -20,6 +22,7 @@ import pathlib
 import random
 import selectors
 import socket
+import struct
 import subprocess
 import sys
 import tempfile
@@ -81,9 +84,21 @@ class Machines:
             subprocess.run(["ip", "netns", "delete", space], stderr=subprocess.DEVNULL)
 
 
+def is_request(bytes_):
+    """Whether a datagram asks for a connection, or for its end."""
+    return bytes_[2:4] in (struct.pack("<H", 6200), struct.pack("<H", 6216))
+
+
+def noise(number, true):
+    """Random bytes, or a copy of a true datagram that is no request."""
+    copies = [it for it in true if not is_request(it)]
+    return random.choice(copies) if number % 2 and copies else os.urandom(number % 200)
+
+
 def relay(nodes):
     """The relay's process: a socket for each way between the interlocking and a controller. A line of standard input sets how it treats
-    datagrams: `LOST REPEATED DELAY ORDERED`, the first two in a hundred, the delay in milliseconds at most."""
+    datagrams: `LOST REPEATED DELAY ORDERED`, the first two in a hundred, the delay in milliseconds at most. A line `flood COUNT` lets it
+    send so many that are noise, from the addresses of partners, 2 in a millisecond; it tells `flooded` behind the last."""
     heard, sockets = selectors.DefaultSelector(), {}
     for at in range(1, nodes):
         for one, other in ((0, at), (at, 0)):
@@ -95,18 +110,25 @@ def relay(nodes):
     os.set_blocking(0, False)
     heard.register(0, selectors.EVENT_READ, None)
     lost, repeated, delay, ordered, due, number, last = 100, 0, 0, 1, [], itertools.count(), collections.Counter()
+    flood, ways, true = 0, itertools.cycle(list(sockets)), collections.defaultdict(lambda: collections.deque(maxlen=500))
     print("ready", flush=True)
     while True:
-        wait = max(0, due[0][0] - time.monotonic()) if due else 1
+        wait = 0.001 if flood else max(0, due[0][0] - time.monotonic()) if due else 1
         for key, _ in heard.select(wait):
             if key.data is None:
                 said = os.read(0, 1000).split(b"\n")
                 if said == [b""]:
                     return
-                lost, repeated, delay, ordered = (int(it) for it in said[-2].split())
+                for line in said[:-1]:
+                    what = line.split()
+                    if what[0] == b"flood":
+                        flood = int(what[1])
+                    else:
+                        lost, repeated, delay, ordered = (int(it) for it in what)
                 continue
             one, other = key.data
             bytes_ = key.fileobj.recv(2000)
+            true[one, other].append(bytes_)
             if random.random() * 100 < lost:
                 continue
             for _ in range(2 if random.random() * 100 < repeated else 1):
@@ -117,6 +139,12 @@ def relay(nodes):
         while due and due[0][0] <= time.monotonic():
             _, _, one, other, bytes_ = heapq.heappop(due)
             sockets[other, one].sendto(bytes_, (f"10.77.{other}.2", PORT))
+        for _ in range(min(flood, 2)):
+            one, other = next(ways)
+            sockets[other, one].sendto(noise(flood, true[one, other]), (f"10.77.{other}.2", PORT))
+            flood -= 1
+            if not flood:
+                print("flooded", flush=True)
 
 
 class Judge:
@@ -198,21 +226,29 @@ class Run:
     def __init__(self, program, machines):
         self.machines, self.program = machines, program
         self.judge = Judge(machines.told, conflicts_of(program, machines.layout))
-        words = ["ip", "netns", "exec", RELAY, sys.executable, __file__, "relay", str(len(machines.names))]
+        words = ["ip", "netns", "exec", RELAY, sys.executable, os.path.abspath(__file__), "relay", str(len(machines.names))]
         self.relay = Told("relay", subprocess.Popen(words, stdin=subprocess.PIPE, stdout=subprocess.PIPE, text=True))
         self.relay.wait_for("ready")
         field = [sys.executable, str(TOP / "examples/machines/field.py"), str(machines.wrapper), machines.layout, "-"]
         self.field = Field(self.judge, subprocess.Popen(field, stdin=subprocess.PIPE, stdout=subprocess.PIPE, text=True))
         self.begin()
 
-    def begin(self):
-        """Starts the interlocking."""
-        words = [str(self.machines.wrapper), "node", self.machines.layout, self.machines.station, "--addresses", "-", "--clock", str(int(time.monotonic() * 1000))]
+    def begin(self, *more):
+        """Starts the interlocking, with more words."""
+        words = [str(self.machines.wrapper), "node", self.machines.layout, self.machines.station, "--addresses", "-", "--clock", str(int(time.monotonic() * 1000)), *more]
         self.station = Operator("station", subprocess.Popen(words, stdin=subprocess.PIPE, stdout=subprocess.PIPE, text=True))
 
     def treat(self, lost, repeated, delay, ordered):
         self.relay.process.stdin.write(f"{lost} {repeated} {delay} {int(ordered)}\n")
         self.relay.process.stdin.flush()
+
+    def flood(self, count):
+        """So much noise in the names of partners."""
+        behind = len(self.relay.lines)
+        self.relay.process.stdin.write(f"flood {count}\n")
+        self.relay.process.stdin.flush()
+        self.relay.wait_for("flooded", behind=behind)
+        time.sleep(2)
 
     def end(self):
         self.station.process.kill()
@@ -295,23 +331,62 @@ def hostile(run, route):
 
 def strangers(run, route):
     run.treat(0, 0, 0, True)
+    record = str(pathlib.Path(run.machines.folder, "record"))
+    run.station.process.kill()
+    run.station.process.wait()
+    run.begin("--record", record)
     run.ready()
     lost = sum(it.endswith(" lost") for it in run.station.lines)
+    true = [bytes.fromhex(it.split()[2]) for it in pathlib.Path(record).read_text().splitlines() if it.startswith("sends ")]
     flood = f"""
 import os, socket
-s = socket.socket(socket.AF_INET, socket.SOCK_DGRAM)
+s, true = socket.socket(socket.AF_INET, socket.SOCK_DGRAM), {true[:500]}
 for number in range(100000):
-    s.sendto(os.urandom(number % 200), ("10.77.0.2", {PORT}))
+    s.sendto(true[number % len(true)] if number % 2 else os.urandom(number % 200), ("10.77.0.2", {PORT}))
 """
+    before = asked_of_nodes(run)
     subprocess.run(["ip", "netns", "exec", RELAY, sys.executable, "-c", flood], check=True)
     time.sleep(3)
+    after_strangers = sum(it.endswith(" lost") for it in run.station.lines) - lost
+    print(f"strangers: {after_strangers} links were lost by 100,000 datagrams from another address", flush=True)
+    run.flood(20000)
     more = sum(it.endswith(" lost") for it in run.station.lines) - lost
-    print(f"strangers: {more} links were lost, the interlocking has {memory(run.station.process.pid)} KB")
-    return more == 0
+    grown = {name: after - before[name] for name, after in asked_of_nodes(run).items()}
+    print(f"strangers: {more - after_strangers} links were lost by 20,000 from the addresses of partners; the nodes asked for {sum(grown.values())} KB more")
+    late, readings, longest = gaps(record)
+    print(f"strangers: of {readings} readings of the interlocking {late} came more than 20 ms behind the one before, the longest {longest} ms")
+    same = is_same(run, record)
+    return more == 0 and same and late * 100 <= readings and not any(grown.values())
+
+
+def gaps(record):
+    """How many readings of a record came more than 20 ms behind the one before, how many there are, and the longest gap."""
+    readings = [int(it.split()[1]) for it in pathlib.Path(record).read_text().splitlines() if it.startswith("at ")]
+    between = [later - earlier for earlier, later in itertools.pairwise(readings)]
+    return sum(it > 20 for it in between), len(readings), max(between)
+
+
+def is_same(run, record):
+    """Whether what the interlocking's record says comes of it once more."""
+    words = [run.program, "replay", run.machines.layout, record, "--node", run.machines.station]
+    said = subprocess.run(words, stdout=subprocess.PIPE, text=True).stdout.strip()
+    print(f"strangers: the record has {os.path.getsize(record)} bytes, and is {said}")
+    return said == "same"
+
+
+def nodes_of(run):
+    return {it.split("\0")[3]: pid for pid, it in commands() if "\0node\0" in it and it.split("\0")[3] in run.machines.names}
+
+
+def asked_of_nodes(run):
+    """The KB that each node has asked for. What is used of them grows for some minutes: a row for 5120 datagrams is gone through once."""
+    told = {name: pathlib.Path(f"/proc/{pid}/status").read_text().splitlines() for name, pid in nodes_of(run).items()}
+    return {name: next(int(it.split()[1]) for it in lines if it.startswith("VmData")) for name, lines in told.items()}
 
 
 def memory(pid):
-    return next(int(it.split()[1]) for it in pathlib.Path(f"/proc/{pid}/status").read_text().splitlines() if it.startswith("VmRSS"))
+    # what /proc/PID/status tells lags behind
+    return next(int(it.split()[1]) for it in pathlib.Path(f"/proc/{pid}/smaps_rollup").read_text().splitlines() if it.startswith("Rss"))
 
 
 def ticks(pid):
@@ -321,7 +396,7 @@ def ticks(pid):
 def rest(run, route):
     run.treat(0, 0, 0, True)
     run.ready()
-    nodes = {it.split("\0")[3]: pid for pid, it in commands() if "\0node\0" in it and it.split("\0")[3] in run.machines.names}
+    nodes = nodes_of(run)
     before = {name: ticks(pid) for name, pid in nodes.items()}
     time.sleep(20)
     shares = {name: (ticks(pid) - before[name]) / 20 for name, pid in nodes.items()}
