@@ -611,7 +611,6 @@ const CAUSES = {5: "route", 6: "section", 7: "point", 10: "section"};
 
 // What is in the way is lit for some seconds, in the plan and in the list.
 function light(kind, name) {
-  unlight();
   const ids = kind === "route" ? route(name)?.parts.flatMap(part => part.drawn) || [] : kind === "point" ? ["point." + name, "left." + name, "right." + name, "tip." + name] : [kind + "." + name];
   for (const id of ids) lightOne(by(id), "cause");
   by(ids[0])?.scrollIntoView({block: "nearest", inline: "nearest"});
@@ -635,6 +634,7 @@ function unlight() {
 function tellAnswer(line, answer) {
   const [word, code, name] = answer.split(" "), meant = route(line.split(" ")[1]);
   line = worded(line);
+  unlight();
   if (word === "refused") {
     say(line + " is refused: " + (REFUSALS[code] || (() => answer))(name), "refused");
     if (CAUSES[code]) light(CAUSES[code], name);
