@@ -24,11 +24,15 @@ axis_id = codes "axis"
 abbrev pub legend_id : List ℕ
 legend_id = codes "legend"
 
--- A picture is a chart of these rows over this part of time: it has a group for its axis, one for each row, each once, in
--- order, one for each command and restart, each once, in order, and a last one for what the marks mean.
-pub record IsChartOf (l : Site) (window : Window) (rows : List DrawnRow) (happenings : List Happening) (picture : Picture) : Type 0 where
+-- Groups are those of a chart of these rows over this part of time: one for its axis, one for each row, each once, in order,
+-- one for each command and restart, each once, in order, and a last one for what the marks mean.
+pub record AreChartGroups (l : Site) (window : Window) (rows : List DrawnRow) (happenings : List Happening) (groups : List Group) : Type 0 where
   pub axis : Face
   pub axis_is : axis.id ≡ axis_id
   pub legend : Face
   pub legend_is : legend.id ≡ legend_id
-  pub all : faces picture.groups.items ≡ axis ∷ row_faces l window happenings rows ++ (happening_faces window happenings ++ legend ∷ [])
+  pub all : faces groups ≡ axis ∷ row_faces l window happenings rows ++ (happening_faces window happenings ++ legend ∷ [])
+
+-- A picture is such a chart: it has these groups and no other.
+abbrev pub IsChartOf : Site → Window → List DrawnRow → List Happening → Picture → Type 0
+IsChartOf l window rows happenings picture = AreChartGroups l window rows happenings picture.groups.items

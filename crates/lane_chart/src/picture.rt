@@ -1,7 +1,7 @@
 //! The picture of a chart.
 
-ghost use Rattle.std.specs.Prelude.{◌≡◌, ◌++◌, IfOk, OnOk, string_bytes};
-ghost use Rattle.lane_chart.specs.Chart.{IsChartOf, axis_id, faces, legend_id, row_faces};
+ghost use Rattle.std.specs.Prelude.{◌≡◌, ◌++◌, [], IfOk, OnOk, string_bytes};
+ghost use Rattle.lane_chart.specs.Chart.{AreChartGroups, IsChartOf, axis_id, faces, legend_id, row_faces};
 ghost use Rattle.lane_chart.specs.Faces.{face_of, row_face};
 ghost use Rattle.lane_chart.specs.Strokes.{named, strokes};
 
@@ -15,7 +15,7 @@ use crate::row_marks::{draw_row, height};
 use crate::scale::{MICROS, Window};
 use crate::scene::Scene;
 use crate::style::STYLE;
-use crate::subject::{id_of, kind_word};
+use crate::subject::{Sort, id_of, kind_word};
 use control_table::layout::Layout;
 use drawing::{Anchor, Frame, Group, Picture};
 use std::alloc::{AllocError, Global};
@@ -72,22 +72,31 @@ fn legend_group(alloc: Global, top: i32) -> Result<Group, AllocError>
     group(alloc, String::from_str(alloc, "legend")?, "legend", marks)
 }
 
-/// A row as a group, from this height on.
+/// A row as a group under a heading, from this height on.
 fn row_group(
     alloc: Global,
     scene: Scene<'_>,
     drawn: &DrawnRow,
+    heading: &str,
     top: i32,
 ) -> Result<Group, AllocError>
     ensures { IfOk result (λ group. face_of group ≡ row_face scene.entry.layout.now scene.entry.window scene.entry.happenings.now drawn.now) }
 {
     let mut marks = Marks::new(alloc);
-    draw_row(&mut marks, alloc, scene, drawn, top)?;
+    draw_row(&mut marks, alloc, scene, drawn, heading, top)?;
     let subject = drawn.row.subject;
     let kind = kind_word(subject.sort);
     let id = id_of(alloc, &subject)?;
     let class = format!(in alloc; "{kind} {id}")?;
     group(alloc, id, class.as_str(), marks)
+}
+
+/// What stands before a row of a kind: its word, unless the row above is of this kind.
+fn heading_behind(above: Option<Sort>, sort: Sort) -> &'static str {
+    match above {
+        Some(above) if kind_word(above) == kind_word(sort) => "",
+        _ => kind_word(sort),
+    }
 }
 
 /// Adds a group for each row, in order, one below the other.
@@ -100,10 +109,34 @@ fn add_rows(
     ensures { OnOk result (faces groups.new.items ≡ faces groups.old.items ++ row_faces scene.entry.layout.now scene.entry.window scene.entry.happenings.now rows.now) }
 {
     let mut top = ROWS;
+    let mut above = None;
     for row in rows {
-        add_group(groups, row_group(alloc, scene, row, top)?)?;
-        top = top.saturating_add(height(row.row.subject.sort));
+        let sort = row.row.subject.sort;
+        let heading = heading_behind(above, sort);
+        add_group(groups, row_group(alloc, scene, row, heading, top)?)?;
+        above = Some(sort);
+        top = top.saturating_add(height(sort));
     }
+    Ok(())
+}
+
+/// Adds all groups of a chart, whose rows end here.
+fn add_groups(
+    groups: &mut Vec<Group>,
+    alloc: Global,
+    scene: Scene<'_>,
+    rows: &[DrawnRow],
+    bottom: i32,
+) -> Result<(), AllocError>
+    requires { groups.old.items ≡ [] }
+    ensures { OnOk result (AreChartGroups scene.entry.layout.now scene.entry.window rows.now scene.entry.happenings.now groups.new.items) }
+{
+    let axis = axis_group(alloc, scene, bottom)?;
+    add_group(groups, axis)?;
+    add_rows(groups, alloc, scene, rows)?;
+    add_happenings(groups, alloc, scene.window, scene.happenings)?;
+    let legend = legend_group(alloc, bottom)?;
+    add_group(groups, legend)?;
     Ok(())
 }
 
@@ -136,12 +169,7 @@ pub fn chart(
     };
     let bottom = ROWS.saturating_add(height_of(rows));
     let mut groups = Vec::new(alloc);
-    let axis = axis_group(alloc, scene, bottom)?;
-    add_group(&mut groups, axis)?;
-    add_rows(&mut groups, alloc, scene, rows)?;
-    add_happenings(&mut groups, alloc, window, happenings)?;
-    let legend = legend_group(alloc, bottom)?;
-    add_group(&mut groups, legend)?;
+    add_groups(&mut groups, alloc, scene, rows, bottom)?;
     let title = String::from_str(alloc, layout.station().name.as_str())?;
     let style = String::from_str(alloc, STYLE)?;
     Ok(Picture {

@@ -12,7 +12,7 @@ use crate::marks::{Marks, spot};
 use crate::scale::{LEFT, RIGHT, WIDTH, Window, on_paper, place_of};
 use crate::scene::Scene;
 use crate::spans::Span;
-use crate::subject::{Row, Sort, kind_word};
+use crate::subject::{Row, Sort};
 use crate::words::{label, state_word};
 use control_table::layout::Layout;
 use control_table::sci_telegram::Position;
@@ -250,16 +250,16 @@ fn draw_node_if(
     }
 }
 
-/// Writes the kind of a row before the first one of its kind.
-fn draw_kind(marks: &mut Marks, row: &Row, top: i32) -> Result<(), AllocError>
+/// Writes what stands before a row, if something does: the kind of it and of those that follow.
+fn draw_kind(marks: &mut Marks, heading: &str, top: i32) -> Result<(), AllocError>
     ensures drawn { OnOk result (strokes marks.new.marks.items ≡ strokes marks.old.marks.items) }
     ensures named { OnOk result (named marks.new.marks.items ≡ named marks.old.marks.items) }
 {
-    if row.place > 0 {
+    if heading.is_empty() {
         return Ok(());
     }
     let at = spot(12, top.saturating_add(12));
-    marks.text("sort", at, Anchor::Start, kind_word(row.subject.sort))
+    marks.text("sort", at, Anchor::Start, heading)
 }
 
 /// Draws the rule below a row, and its name.
@@ -273,12 +273,13 @@ fn draw_name(marks: &mut Marks, row: &Row, top: i32) -> Result<(), AllocError>
     marks.text("name", at, Anchor::End, row.subject.name.as_str())
 }
 
-/// Draws a row, from this height on.
+/// Draws a row under a heading, from this height on.
 pub(crate) fn draw_row(
     marks: &mut Marks,
     alloc: Global,
     scene: Scene<'_>,
     drawn: &DrawnRow,
+    heading: &str,
     top: i32,
 ) -> Result<(), AllocError>
     ensures drawn { OnOk result (strokes marks.new.marks.items ≡ strokes marks.old.marks.items ++ row_strokes scene.entry.layout.now scene.entry.window scene.entry.happenings.now drawn.now) }
@@ -287,7 +288,7 @@ pub(crate) fn draw_row(
     let row = drawn.row;
     let middle = top.saturating_add(9);
     let below = middle.saturating_add(14);
-    draw_kind(marks, &row, top)?;
+    draw_kind(marks, heading, top)?;
     draw_name(marks, &row, top)?;
     draw_band(marks, alloc, scene.layout, &drawn.upper, middle)?;
     draw_band(marks, alloc, scene.layout, &drawn.lower, below)?;
