@@ -32,13 +32,13 @@ use Rattle.simulator_recovery.proofs.Standing.{all_at}
 
 -- ---- three lists one behind the other
 
-mapped : {X Y : Type 0} (f : X → Y) (list : List X) (place : ℕ) (one : X) → slice_get list place ≡ Some one → slice_get (map f list) place ≡ Some (f one)
+pub mapped : {X Y : Type 0} (f : X → Y) (list : List X) (place : ℕ) (one : X) → slice_get list place ≡ Some one → slice_get (map f list) place ≡ Some (f one)
 mapped f list place one e = slice_get-map f list place ∙ ap (option_map f) e
 
-of_second : {X : Type 0} (a b c : List X) (before place : ℕ) (one : X) → length a ≡ before → slice_get b place ≡ Some one → slice_get (a ++ (b ++ c)) (before + place) ≡ Some one
+pub of_second : {X : Type 0} (a b c : List X) (before place : ℕ) (one : X) → length a ≡ before → slice_get b place ≡ Some one → slice_get (a ++ (b ++ c)) (before + place) ≡ Some one
 of_second a b c before place one long e = at_behind a (b ++ c) before place long ∙ at_front b c place one e
 
-of_third : {X : Type 0} (a b c : List X) (before between place : ℕ) (one : X) → length a ≡ before → length b ≡ between → slice_get c place ≡ Some one → slice_get (a ++ (b ++ c)) (before + between + place) ≡ Some one
+pub of_third : {X : Type 0} (a b c : List X) (before between place : ℕ) (one : X) → length a ≡ before → length b ≡ between → slice_get c place ≡ Some one → slice_get (a ++ (b ++ c)) (before + between + place) ≡ Some one
 of_third a b c before between place one long other e =
     ap (slice_get (a ++ (b ++ c))) apart ∙ at_behind a (b ++ c) before (between + place) long ∙ at_behind b c between place other ∙ e
   where

@@ -29,7 +29,7 @@ use Rattle.simulator_recovery.proofs.HostStands.{WorldLaws}
 use Rattle.simulator_recovery.proofs.LinkCounts.{settled_open}
 
 -- the same stage and object, with a link that is as open and counts the same
-with_link : {Object : Type 0} (does : Behaviour Object) (objects : ℕ) (host other : HostState Object) → other.object ≡ host.object → other.stage ≡ host.stage
+pub with_link : {Object : Type 0} (does : Behaviour Object) (objects : ℕ) (host other : HostState Object) → other.object ≡ host.object → other.stage ≡ host.stage
     → (is_open other.link.phase ≡ true → (is_open host.link.phase ≡ true) × ((taken given : ℕ) → HasCounted taken given host.link → HasCounted taken given other.link))
     → HostStandsByCounts does objects host → HostStandsByCounts does objects other
 with_link does objects host other object_is stage_is links stands = record {
@@ -55,7 +55,7 @@ module _ {Object : Type 0} (does : Behaviour Object) (many : TellsAsMany does) (
   enters_none (inputs.Sense sense) connection world inside = refl
   enters_none (inputs.Datagram bytes) connection world inside = rw inside refl
 
-  step_said : (input : Input) (connection : ℕ) (world : World Object) → IsSettled world → Stands world → Stands (stepped does input connection world)
+  pub step_said : (input : Input) (connection : ℕ) (world : World Object) → IsSettled world → Stands world → Stands (stepped does input connection world)
   unfolding stepped
   step_said input connection world is stands = record {
     counts = with_link does objects (step_of does input world).host (host_of (stepped does input connection world)) refl refl

@@ -39,3 +39,6 @@ pub mod AtLink
 pub mod Ready
 pub mod HostSaid
 pub mod HostWorld
+pub mod ControllerSaid
+pub mod StationSaid
+pub mod AlwaysSaid

@@ -122,7 +122,7 @@ module _ {Object : Type 0} (does : Behaviour Object) (Q : ℕ → HostState Obje
       choose k one (inl (f, g)) = subst (λ (n : ℕ). Q n one.host) (sym f) (subst (λ (c : ClockedControllerState Object). Q place c.host) (sym g) now_is)
       choose k one (inr f) = each k one f
 
-later_at : {Object : Type 0} (moment : ℕ) (steps : List ℕ) (servers : List (ClockedControllerState Object)) (place : ℕ) (one : ClockedControllerState Object) → slice_get (all_later moment steps servers) place ≡ Some one
+pub later_at : {Object : Type 0} (moment : ℕ) (steps : List ℕ) (servers : List (ClockedControllerState Object)) (place : ℕ) (one : ClockedControllerState Object) → slice_get (all_later moment steps servers) place ≡ Some one
     → (server : ClockedControllerState Object) × (slice_get servers place ≡ Some server) × (one.host ≡ server.host)
 unfolding controller_later
 later_at moment steps [] place one e = absurd (none-some one e)
@@ -295,8 +295,14 @@ module _ (site : Site) (table : Table) (station : IsStation site) where
     of_detectors = λ place one e. let found = mapped_at _ site.detectors place one e in subst (λ (c : ClockedControllerState (List Section)). OfDetector place c.host) (sym found.2) (new_detector_is at_zero outset.occupancies found.0 place found.1);
   }
 
+  told : {w : WorldState} → All w → AllStandByCounts site w
+  told all = record { clients = all.clients; signals = all.of_signals; points = all.of_points; detectors = λ place controller entry e f. all.of_detectors place controller e entry f }
+
+  pub stand_after : (happening : Event) (world : WorldState) → AllStandByCounts site world → AllStandByCounts site (happens site table happening world)
+  stand_after happening world all = told (one_event happening world (record { clients = all.clients; of_signals = all.signals; of_points = all.points; of_detectors = λ place controller e entry f. all.detectors place controller entry e f }))
+
+  pub stand_first : (outset : Outset) → AllStandByCounts site (world_at site table outset)
+  stand_first outset = told (first_world outset)
+
   pub all_stand : (world : WorldState) → IsReached site table world → AllStandByCounts site world
   all_stand world reached = subst (AllStandByCounts site) (sym reached.after) (told (all_events reached.events (world_at site table reached.outset) (first_world reached.outset)))
-    where
-      told : {w : WorldState} → All w → AllStandByCounts site w
-      told all = record { clients = all.clients; signals = all.of_signals; points = all.of_points; detectors = λ place controller entry e f. all.of_detectors place controller e entry f }

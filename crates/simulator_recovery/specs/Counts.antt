@@ -5,6 +5,7 @@ use Rattle.simulator_run.specs.rasta_core.Parameters.{stops_at_greatest}
 use Rattle.simulator_run.specs.rasta_core.State.{LinkState, is_open, is_up}
 use Rattle.simulator_run.specs.object_host.Behaviour.{Behaviour}
 use Rattle.simulator_run.specs.rasta_core.Each.{Each}
+use Rattle.simulator_run.specs.rasta_core.Links.{Links}
 use Rattle.simulator_run.specs.sci_telegram.declared.message.Agreement.TheVariants.{NoMatch, Match}
 use Rattle.simulator_run.specs.sci_telegram.declared.message.Initialisation.TheVariants.{VersionAnswer}
 use Rattle.simulator_run.specs.object_host.Host.{HostState, said}
@@ -25,7 +26,9 @@ use Rattle.simulator_run.specs.point_ctl.Controlled.{point_behaviour}
 use Rattle.simulator_run.specs.point_ctl.Drive.{PointState}
 use Rattle.simulator_run.specs.tds_ctl.Controlled.{detection_behaviour}
 use Rattle.simulator_run.specs.tds_ctl.declared.section.Section.{Section}
+use Rattle.simulator_run.specs.Nodes.{detector_link, point_link}
 use Rattle.simulator_run.specs.State.{ClockedControllerState, WorldState}
+use Rattle.simulator_run_links.specs.HasLinks.{HasLinks, links_in}
 use Rattle.simulator_recovery.specs.Conversation.{ClientHasActedOn, HostHasActedOn}
 
 -- A link counts so many items taken and given in its connection, and no more wait than were given.
@@ -153,3 +156,18 @@ pub record AllStandByCounts (site : Site) (world : WorldState) : Type 0 where
   pub points : (place : ℕ) (controller : ClockedControllerState PointState) → slice_get world.points place ≡ Some controller → HostStandsByCounts point_behaviour 1 controller.host
   pub detectors : (place : ℕ) (controller : ClockedControllerState (List Section)) (entry : DetectorEntry) → slice_get world.detectors place ≡ Some controller → slice_get site.detectors place ≡ Some entry
       → HostStandsByCounts detection_behaviour (length entry.sections) controller.host
+
+-- While the link of a controller is open, these items are what its stage tells.
+abbrev pub HasSaidAt : {Object : Type 0} → Behaviour Object → ClockedControllerState Object → List (List ℕ) → Type 0
+HasSaidAt does controller items = is_open controller.host.link.phase ≡ true → HostHasSaid does (item_of controller.host) controller.host.version controller.host.stage items
+
+-- While the link of a controller is open, what it has given there in its connection is what its stage tells.
+pub record AllHaveSaid (site : Site) (world : WorldState) (network : Links) : Type 0 where
+  pub signals : (place : ℕ) (controller : ClockedControllerState SignalState) → slice_get world.signals place ≡ Some controller → HasSaidAt signal_behaviour controller (network.ends place).server.given
+  pub points : (place : ℕ) (controller : ClockedControllerState PointState) → slice_get world.points place ≡ Some controller → HasSaidAt point_behaviour controller (network.ends (point_link site place)).server.given
+  pub detectors : (place : ℕ) (controller : ClockedControllerState (List Section)) → slice_get world.detectors place ≡ Some controller → HasSaidAt detection_behaviour controller (network.ends (detector_link site place)).server.given
+
+-- the links of a station, and what its controllers have given there
+pub record HaveSaid (site : Site) (world : WorldState) : Type 0 where
+  pub has : HasLinks site world
+  pub said : AllHaveSaid site world (links_in has)

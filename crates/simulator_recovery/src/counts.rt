@@ -20,17 +20,32 @@ ghost use Rattle.simulator_run.specs.tds_ctl.Controlled.{detection_behaviour};
 ghost use Rattle.simulator_run.specs.layout.Entries.{Site};
 ghost use Rattle.simulator_run.specs.layout.Station.{IsStation};
 ghost use Rattle.simulator_run.specs.ixl_rules.Table.{Table};
+ghost use Rattle.simulator_run.specs.layout.Once.{Once};
+ghost use Rattle.simulator_run.specs.rasta_core.Links.{Links, run_links};
+ghost use Rattle.simulator_run.specs.simulator_event.declared.event.Event.{Event};
+ghost use Rattle.simulator_run.specs.First.{Outset, world_at};
+ghost use Rattle.simulator_run.specs.Happens.{happens};
+ghost use Rattle.simulator_run.specs.Links.{AreLinksOf};
 ghost use Rattle.simulator_run.specs.State.{WorldState};
+ghost use Rattle.simulator_run_links.specs.Events.{events_of};
+ghost use Rattle.simulator_run_links.specs.Whole.{IsWhole};
 ghost use Rattle.simulator_headline.specs.Reached.{IsReached};
 ghost use Rattle.simulator_recovery.specs.Conversation.{IsSettled};
-ghost use Rattle.simulator_recovery.specs.Counts.{AllStandByCounts, HostHasSaid, HostStandsByCounts, MakesAsMany, StandsByWhatItSaid, TellsAsMany, given_before, objects_told};
+ghost use Rattle.simulator_recovery.specs.Counts.{AllHaveSaid, AllStandByCounts, HaveSaid, HostHasSaid, HostStandsByCounts, MakesAsMany, StandsByWhatItSaid, TellsAsMany, given_before, objects_told};
 
 use object_host_theorem::step_takes_and_gives;
-use simulator_machine_links::calls_may_follow_calls;
+use simulator_machine_links::{a_node_of_one_link_makes_a_step, calls_may_follow_calls};
+use simulator_run::a_station_begins_its_links;
 use simulator_run::ixl_rules::rasta_core::{
-    every_run_keeps_time, links_are_settled, starts_in_time,
+    a_node_makes_a_step, every_run_keeps_time, links_are_settled, links_keep_time, starts_in_time,
 };
-use simulator_run::object_host::{Controller, step_is_calls};
+use simulator_run::object_host::{Controller, step_is_calls, steps_keep_a_host};
+use simulator_run::point_ctl::Point;
+use simulator_run::signal_ctl::Signal;
+use simulator_run::tds_ctl::Detection;
+use simulator_run_links::{
+    events_are_those_of_the_links, layouts_name_their_links, stations_have_links,
+};
 
 /// Nothing that a signal, a point or a detector is told changes of how many objects its initialisation tells.
 pub fn controllers_tell_as_many()
@@ -87,3 +102,27 @@ pub fn hosts_have_said_what_their_stage_tells<C: Controller>()
 pub fn stations_stand_by_their_counts()
     ensures { (site : Site) (table : Table) (world : WorldState) → IsStation site → IsReached site table world → AllStandByCounts site world }
 {}
+
+/// After every list of events of a station, on any network, what each controller has given on its link in its connection is what its stage
+/// tells, in order, while the link is open (*always*). At the beginning no link is open (*first*), and each event that can happen
+/// keeps it, from any links that are those of the world (*kept*).
+pub fn controllers_have_said_what_their_stages_tell()
+    ensures first { (site : Site) (table : Table) (outset : Outset) (network : Links) → AllHaveSaid site (world_at site table outset) network }
+    ensures kept { (site : Site) (table : Table) (event : Event) (world : WorldState) (network : Links) → IsWhole site world → AreLinksOf site world network
+        → AllStandByCounts site world → AllHaveSaid site world network → AllHaveSaid site (happens site table event world) (run_links (events_of site table event world) network) }
+    ensures always { (site : Site) (table : Table) (world : WorldState) → IsStation site → Once site → IsReached site table world → HaveSaid site world }
+{
+    a_node_makes_a_step();
+    a_node_of_one_link_makes_a_step();
+    a_station_begins_its_links();
+    events_are_those_of_the_links();
+    layouts_name_their_links();
+    links_keep_time();
+    stations_have_links();
+    steps_keep_a_host::<Signal>();
+    steps_keep_a_host::<Point>();
+    steps_keep_a_host::<Detection>();
+    step_takes_and_gives::<Signal>();
+    step_takes_and_gives::<Point>();
+    step_takes_and_gives::<Detection>();
+}

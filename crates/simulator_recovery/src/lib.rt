@@ -15,8 +15,9 @@ pub use conversation::{
     hosts_stand_at_their_stage,
 };
 pub use counts::{
-    controllers_tell_as_many, hosts_have_said_what_their_stage_tells, hosts_say_in_their_order,
-    hosts_stand_by_their_counts, stations_stand_by_their_counts,
+    controllers_have_said_what_their_stages_tell, controllers_tell_as_many,
+    hosts_have_said_what_their_stage_tells, hosts_say_in_their_order, hosts_stand_by_their_counts,
+    stations_stand_by_their_counts,
 };
 pub use laws::{
     each_round_delivers_what_the_last_one_left, good_rounds_are_at_work_on_links,
