@@ -31,11 +31,11 @@ pub(crate) fn verdict(
     number: usize,
 ) -> Result<&'static str, Failure> {
     let alloc = rt.alloc();
-    let lines = recorded(rt, table, number)?;
-    let Ok(lines) = str::from_utf8(&lines) else {
+    let record = recorded(rt, table, number)?;
+    let (front, _) = record.as_slice().split_at(record.len() / 2);
+    let (Ok(lines), Ok(half)) = (str::from_utf8(&record), str::from_utf8(front)) else {
         return Ok("no text");
     };
-    let (half, _) = lines.split_at(half_of(lines));
     if !answers(alloc, number, FIRST, lines, "same\n")? {
         return Ok("differs");
     }
@@ -46,14 +46,6 @@ pub(crate) fn verdict(
         return Ok("the same with other numbers");
     }
     Ok("the same, and differs with other numbers")
-}
-
-/// Where a half of a text ends, between two characters.
-fn half_of(text: &str) -> usize {
-    text.char_indices()
-        .nth(text.len() / 2)
-        .map(|found| found.0)
-        .unwrap_or(0)
 }
 
 /// Whether a record that begins with this number is answered so.
