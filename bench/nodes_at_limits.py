@@ -159,7 +159,8 @@ def million(program):
         _, status, used = os.wait4(process.pid, 0)
         seen[rounds] = used.ru_maxrss
         print(f"million: {said}: {used.ru_utime + used.ru_stime:.1f} s, {used.ru_maxrss} KB", flush=True)
-        if status or not said.endswith("5 links ready, 0 lost"):
+        # each link is told as lost once: at the start, before it is ready
+        if status or not said.endswith("5 links ready, 5 lost"):
             return False
     return seen[1_000_000] <= seen[20_000] + 128
 
