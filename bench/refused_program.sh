@@ -19,7 +19,7 @@ from concurrent.futures import ThreadPoolExecutor
 crates, room, words = os.path.realpath(sys.argv[1]), sys.argv[2], sys.argv[3:]
 STATION = os.environ.get("STATION", f"{crates}/station/out/station")
 STEP, JOBS = int(os.environ.get("STEP", 1)), int(os.environ.get("JOBS", os.cpu_count() or 1))
-WANT = re.compile(rb"(out of memory|(?:session|picture) fault 7 at line \d+|layout fault 8 OutOfMemory|table fault 10 OutOfMemory)\n")
+WANT = re.compile(rb"(out of memory|(?:session|picture) fault 7 at line \d+|layout fault 8 OutOfMemory|table fault 10 OutOfMemory|7 OutOfMemory)\n")
 SMALL = f"{crates}/stored_runs/data/small.toml"
 EVENTS = "flow 7000\nresume\nset R1\nflow 200\nreach P1 right\nflow 300\noccupy GA\nrestart S1 7000 5\npicture\n"
 DATAGRAM = "32003818020000000100000000000000000000007017000000000000303330331400000000000000000023e6b5e69928e086"

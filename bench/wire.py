@@ -19,7 +19,7 @@ crates/station/out.
    replays as the same. Its lines by `station decode --node` and its capture by `station capture --node` are those that this script
    reads in the record. All that a node sent was captured on `lo`, between the addresses of the file, and is read with its words.
 
-usage: python3 bench/wire.py [--damaged N] [--live MS] [--nodes 0] [STATION]. N is 10000 where none is told, and MS 4000; 0 leaves a
+usage: python3 bench/wire.py [--damaged N] [--live MS] [--nodes 0] [STATION]. N is 10000 where none is told, and MS 12000; 0 leaves a
 part out. STATION is the program. The status is 1 where anything differs."""
 import argparse
 import collections
@@ -360,7 +360,7 @@ def compare_damaged(report, words, folder, count):
 FILTERS = {
     "rasta.type == 6216": " disconnection request ",
     "rasta.type == 6212": " retransmission request ",
-    "rasta.sn": " SN ",
+    "rasta.sn && !rasta.fault": " SN ",
     "rasta.fault": "no PDU: ",
     'rasta.sender.name == "S1"': "S1 > ",
     'sci.name == "indicate aspect"': "indicate aspect ",
@@ -617,6 +617,9 @@ def compare_with_record(report, words, layout, capture, record):
     sent = collections.Counter(it.payload.hex() for it in read)
     for missing in collections.Counter(came) - sent:
         report.differs("live: it came to a node and wasn't captured", missing)
+    # an interlocking holds for 6 s before it opens a link
+    if not came:
+        report.differs("live: datagrams that came to nodes", "none")
     print(f"live: {len(read)} datagrams, of which {len(came)} came to nodes before the end")
 
 
@@ -636,7 +639,7 @@ def compare_live(report, words, folder, milliseconds):
 def main():
     parser = argparse.ArgumentParser(description=__doc__, formatter_class=argparse.RawDescriptionHelpFormatter)
     parser.add_argument("--damaged", type=int, default=10_000)
-    parser.add_argument("--live", type=int, default=4_000)
+    parser.add_argument("--live", type=int, default=12_000)
     parser.add_argument("--nodes", type=int, default=1)
     parser.add_argument("station", nargs="?", default=str(TOP / "crates/station/out/station"))
     asked = parser.parse_args()
