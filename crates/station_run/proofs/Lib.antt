@@ -1,3 +1,2 @@
 pub mod WorldAnswers
 pub mod RunEnds
-pub mod Seen

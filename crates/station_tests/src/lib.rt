@@ -21,8 +21,6 @@ mod one_round;
 #[cfg(test)]
 mod pair;
 #[cfg(test)]
-mod panel;
-#[cfg(test)]
 mod run_bench;
 #[cfg(test)]
 mod runs;

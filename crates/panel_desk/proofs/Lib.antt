@@ -1,3 +1,0 @@
-pub mod WorkedRequests
-pub mod Commands
-pub mod Texts
