@@ -1,17 +1,18 @@
 //! The program `station`. `station check FILE` tells whether the layout in FILE is sound, `station plan FILE` draws its
 //! track plan, and `station table FILE` prints its control table; `station sim FILE EVENTS` applies lines of events to a
-//! station of it, `station run FILE --script S --record R --for MS` runs one over sockets, and `station replay FILE RECORD`
-//! applies a recorded session, and `station chart FILE RECORD` draws it; `station decode --hex HEX` puts a datagram into
+//! station of it, `station run FILE --script S --record R --for MS` runs one over sockets, `station panel FILE` has one operated
+//! from a browser, `station replay FILE RECORD` applies a recorded session, and `station chart FILE RECORD` draws it; `station decode --hex HEX` puts a datagram into
 //! words, and `station decode FILE RECORD` those of a session, which `station capture FILE RECORD OUT` writes to a file for
 //! Wireshark; with `--node NAME` they do so with the record of a node. `station node FILE NAME --addresses ADDRESSES` runs a node of it as a process of its own. The status is 0 where this was done, 1 at a fault, 2 where the command line is wrong, and 3 where a session
 //! answers otherwise than it was recorded.
 #![tactic(auto)]
 
 use node_traffic::{Asked as NodeCapture, capture_node_to_file, decode_node_text, ends_text};
+use panel_page::PAGE;
 use station_chart::station_traffic::station_decode::decode_text;
 use station_chart::station_traffic::station_run::station_sim::station_check::check_text;
 use station_chart::station_traffic::station_run::station_sim::{replay_text, sim_text};
-use station_chart::station_traffic::station_run::{self, Asked as Run};
+use station_chart::station_traffic::station_run::{self, Asked as Run, Limits, PanelAsked};
 use station_chart::station_traffic::{
     Asked as Capture, Endpoint, capture_to_file, decode_session_text,
 };
@@ -54,6 +55,14 @@ fn main(rt: HostRuntime) -> ExitCode {
                     for_ms,
                 },
             ) => run_files(&rt, layout, script, record, for_ms),
+            Ok(
+                Asked::Panel {
+                    layout,
+                    port,
+                    record,
+                    for_ms,
+                },
+            ) => panel_file(&rt, layout, port, record, for_ms),
             Ok(
                 Asked::Replay {
                     layout,
@@ -203,6 +212,56 @@ fn run_files(rt: &HostRuntime, layout: &str, script: &str, record: &str, for_ms:
         }
         Err(failure) => fail(rt, &failure),
     }
+}
+
+/// The version of the program.
+const VERSION: &str = "1.0.0";
+
+/// The port of a panel's page, where the words say none.
+const PORT: u64 = 8080;
+
+/// The record of a panel, where the words name none.
+const RECORD: &str = "panel.session";
+
+/// Up to how many bytes of datagrams a panel stands: 1 GiB.
+const MEMORY: u64 = 1 << 30;
+
+/// `panel FILE [--port P] [--record R] [--for MS]`.
+fn panel_file(
+    rt: &HostRuntime,
+    file: &str,
+    port: Option<u64>,
+    record: Option<&str>,
+    for_ms: Option<u64>,
+) -> u8 {
+    let limits = Limits {
+        for_ms: for_ms.unwrap_or(u64::MAX),
+        memory: MEMORY,
+    };
+    let port = port.unwrap_or(PORT) as u16;
+    match text_of(rt, file) {
+        Ok(text) => panel(rt, text.as_str(), port, record.unwrap_or(RECORD), limits),
+        Err(failure) => fail(rt, &failure),
+    }
+}
+
+/// Has a station operated from a browser. Its track plan is drawn first.
+fn panel(rt: &HostRuntime, layout: &str, port: u16, record: &str, limits: Limits) -> u8 {
+    let mut plan = Vec::new(rt.alloc());
+    let status = plan_text(rt.alloc(), layout, None, None, &mut plan, &mut rt.stderr());
+    if status != 0 {
+        return status;
+    }
+    let asked = PanelAsked {
+        layout,
+        plan: str::from_utf8(&plan).unwrap_or(""),
+        page: PAGE,
+        version: VERSION,
+        port,
+        record,
+        limits,
+    };
+    station_run::panel(rt, &asked, &mut rt.stdout(), &mut rt.stderr())
 }
 
 /// `replay FILE RECORD [--node NAME]`.

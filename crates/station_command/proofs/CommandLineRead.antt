@@ -14,12 +14,12 @@ use Rattle.clap.specs.Faults.{check_fault, defaults_fault, entered_fault, fault_
 use Rattle.clap.specs.Lexer.{long_of}
 use Rattle.clap.specs.Simple.{App, built, entered, names_of, subcommand_of}
 use Rattle.clap.specs.Walk.{Held, Text, Walk, arg_by_long, arg_by_short, finished, idle, nothing_held, rows_after, settled, walked}
-use Rattle.station_command.proofs.Commands.{CommandReads, capture_reads, capture_rules, chart_reads, chart_rules, check_reads, check_rules, decode_reads, decode_rules, node_reads, node_rules, plan_reads, plan_rules, replay_reads, replay_rules, run_reads, run_rules, sim_reads, sim_rules, table_reads, table_rules}
+use Rattle.station_command.proofs.Commands.{CommandReads, capture_reads, capture_rules, chart_reads, chart_rules, check_reads, check_rules, decode_reads, decode_rules, node_reads, node_rules, panel_reads, panel_rules, plan_reads, plan_rules, replay_reads, replay_rules, run_reads, run_rules, sim_reads, sim_rules, table_reads, table_rules}
 use Rattle.station_command.proofs.LineRead.{line_fault}
 use Rattle.station_command.proofs.WordsRead.{Fails, at, fails_within, is_ends, top, word_fails, word_passes}
-use Rattle.station_command.specs.CommandWords.{Request, capture_by, capture_usage, chart_by, chart_usage, check_by, check_usage, decode_by, decode_usage, ends_flags, faults_in, is_flag, node_by, node_usage, plan_by, plan_usage, replay_by, replay_usage, request_in, run_by, run_usage, sim_by, sim_usage, table_by, table_usage}
+use Rattle.station_command.specs.CommandWords.{Request, capture_by, capture_usage, chart_by, chart_usage, check_by, check_usage, decode_by, decode_usage, ends_flags, faults_in, is_flag, node_by, node_usage, panel_by, panel_usage, plan_by, plan_usage, replay_by, replay_usage, request_in, run_by, run_usage, sim_by, sim_usage, table_by, table_usage}
 use Rattle.station_command.specs.Line.{station_line}
-use Rattle.station_command.specs.inside.Rows.{capture_of_rows, chart_of_rows, check_of_rows, decode_of_rows, node_of_rows, plan_of_rows, replay_of_rows, request_of_rows, run_of_rows, sim_of_rows, table_of_rows}
+use Rattle.station_command.specs.inside.Rows.{capture_of_rows, chart_of_rows, check_of_rows, decode_of_rows, node_of_rows, panel_of_rows, plan_of_rows, replay_of_rows, request_of_rows, run_of_rows, sim_of_rows, table_of_rows}
 
 -- ---- the flags of the program are those of its help and of its version
 
@@ -218,27 +218,40 @@ module _ (words : List Text) (name : Text) where
   node_whole (inr (inl r)) = inr (inl (r.0, node_fault_is ∙ r.1.0, ap request_of_rows node_rows_are ∙ r.1.1))
   node_whole (inr (inr r)) = inr (inr (r.0, subst Fails (sym node_fault_is) r.1))
 
+  panel_fault_is : fault_of station_line (name ∷ codes "panel" ∷ words) ≡ line_fault (codes "panel") panel_rules words
+  unfolding walk_fault walked defaults_fault
+  panel_fault_is = walked_on words (codes "panel") ∙ or_else-nil (line_fault (codes "panel") panel_rules words)
+
+  panel_rows_are : subcommand_of station_line (name ∷ codes "panel" ∷ words) ≡ Some (codes "panel", rows_after panel_rules [] words)
+  unfolding walked
+  panel_rows_are = entered_on words (codes "panel")
+
+  panel_whole : CommandReads (codes "panel") panel_usage panel_rules panel_by panel_of_rows words → Reads (name ∷ codes "panel" ∷ words)
+  panel_whole (inl r) = inl (r.0, r.1.0, panel_fault_is ∙ r.1.1.0, ap request_of_rows panel_rows_are ∙ r.1.1.1)
+  panel_whole (inr (inl r)) = inr (inl (r.0, panel_fault_is ∙ r.1.0, ap request_of_rows panel_rows_are ∙ r.1.1))
+  panel_whole (inr (inr r)) = inr (inr (r.0, subst Fails (sym panel_fault_is) r.1))
+
 -- ---- a word that names no command
 
 -- in the order of the commands, and of the help behind them
 abbrev NamesNone : Text → Type 0
 NamesNone word = (bytes_eq (codes "check") word ≡ false) × ((bytes_eq (codes "plan") word ≡ false) × ((bytes_eq (codes "table") word ≡ false) × ((bytes_eq (codes "sim") word ≡ false)
-    × ((bytes_eq (codes "run") word ≡ false) × ((bytes_eq (codes "replay") word ≡ false) × ((bytes_eq (codes "chart") word ≡ false) × ((bytes_eq (codes "decode") word ≡ false)
-    × ((bytes_eq (codes "capture") word ≡ false) × ((bytes_eq (codes "node") word ≡ false) × (bytes_eq (codes "help") word ≡ false))))))))))
+    × ((bytes_eq (codes "run") word ≡ false) × ((bytes_eq (codes "panel") word ≡ false) × ((bytes_eq (codes "replay") word ≡ false) × ((bytes_eq (codes "chart") word ≡ false) × ((bytes_eq (codes "decode") word ≡ false)
+    × ((bytes_eq (codes "capture") word ≡ false) × ((bytes_eq (codes "node") word ≡ false) × (bytes_eq (codes "help") word ≡ false)))))))))))
 
 top_flag : (name word : Text) (more : List Text) → NamesNone word → ends_flags word ≡ false → is_flag word ≡ true
     → Fails (fault_of station_line (name ∷ word ∷ more))
 unfolding walk_fault
 top_flag name word more other e h =
-    rw other.0 (rw other.1.0 (rw other.1.1.0 (rw other.1.1.1.0 (rw other.1.1.1.1.0 (rw other.1.1.1.1.1.0 (rw other.1.1.1.1.1.1.0 (rw other.1.1.1.1.1.1.1.0 (rw other.1.1.1.1.1.1.1.1.0 (rw other.1.1.1.1.1.1.1.1.1.0 (rw other.1.1.1.1.1.1.1.1.1.1 (rw e (fails_within (flag_word_fault top.rules false (long_of word) word nothing_held) _ _ _
-    (word_fails [] None top.rules (λ x rest next. short_fails_top (nat_eq 104 x) (nat_eq 86 x) x rest next refl refl) (λ name v. long_fails_top (bytes_eq (codes "help") name) (bytes_eq (codes "version") name) name v refl refl) word e h)))))))))))))
+    rw other.0 (rw other.1.0 (rw other.1.1.0 (rw other.1.1.1.0 (rw other.1.1.1.1.0 (rw other.1.1.1.1.1.0 (rw other.1.1.1.1.1.1.0 (rw other.1.1.1.1.1.1.1.0 (rw other.1.1.1.1.1.1.1.1.0 (rw other.1.1.1.1.1.1.1.1.1.0 (rw other.1.1.1.1.1.1.1.1.1.1.0 (rw other.1.1.1.1.1.1.1.1.1.1.1 (rw e (fails_within (flag_word_fault top.rules false (long_of word) word nothing_held) _ _ _
+    (word_fails [] None top.rules (λ x rest next. short_fails_top (nat_eq 104 x) (nat_eq 86 x) x rest next refl refl) (λ name v. long_fails_top (bytes_eq (codes "help") name) (bytes_eq (codes "version") name) name v refl refl) word e h))))))))))))))
 
 top_value : (name word : Text) (more : List Text) → NamesNone word → ends_flags word ≡ false → is_flag word ≡ false
     → Fails (fault_of station_line (name ∷ word ∷ more))
 unfolding walk_fault
 top_value name word more other e h =
     let value_is = word_passes [] None top.rules idle word h in
-    rw other.0 (rw other.1.0 (rw other.1.1.0 (rw other.1.1.1.0 (rw other.1.1.1.1.0 (rw other.1.1.1.1.1.0 (rw other.1.1.1.1.1.1.0 (rw other.1.1.1.1.1.1.1.0 (rw other.1.1.1.1.1.1.1.1.0 (rw other.1.1.1.1.1.1.1.1.1.0 (rw other.1.1.1.1.1.1.1.1.1.1 (rw e (rw value_is.0 (rw value_is.1 tt)))))))))))))
+    rw other.0 (rw other.1.0 (rw other.1.1.0 (rw other.1.1.1.0 (rw other.1.1.1.1.0 (rw other.1.1.1.1.1.0 (rw other.1.1.1.1.1.1.0 (rw other.1.1.1.1.1.1.1.0 (rw other.1.1.1.1.1.1.1.1.0 (rw other.1.1.1.1.1.1.1.1.1.0 (rw other.1.1.1.1.1.1.1.1.1.1.0 (rw other.1.1.1.1.1.1.1.1.1.1.1 (rw e (rw value_is.0 (rw value_is.1 tt))))))))))))))
 
 top_help : (name : Text) (more : List Text) → Fails (fault_of station_line (name ∷ codes "help" ∷ more))
 unfolding clap_on_literals
@@ -251,36 +264,37 @@ top_ends name (word ∷ more) = tt
 
 -- a word that names no subcommand, `help` or none
 by_other : (name word : Text) (more : List Text) (is_help ends flag : Bool) → bytes_eq (codes "check") word ≡ false → bytes_eq (codes "plan") word ≡ false → bytes_eq (codes "table") word ≡ false → bytes_eq (codes "sim") word ≡ false
-    → bytes_eq (codes "run") word ≡ false → bytes_eq (codes "replay") word ≡ false → bytes_eq (codes "chart") word ≡ false → bytes_eq (codes "decode") word ≡ false
+    → bytes_eq (codes "run") word ≡ false → bytes_eq (codes "panel") word ≡ false → bytes_eq (codes "replay") word ≡ false → bytes_eq (codes "chart") word ≡ false → bytes_eq (codes "decode") word ≡ false
     → bytes_eq (codes "capture") word ≡ false → bytes_eq (codes "node") word ≡ false
     → bytes_eq (codes "help") word ≡ is_help → ends_flags word ≡ ends → is_flag word ≡ flag → Fails (fault_of station_line (name ∷ word ∷ more))
-by_other name word more true ends flag k p t s u r c d a n m e h = subst (λ w. Fails (fault_of station_line (name ∷ w ∷ more))) ((bytes_eq-Decides (codes "help") word).0 m) (top_help name more)
-by_other name word more false true flag k p t s u r c d a n m e h = subst (λ w. Fails (fault_of station_line (name ∷ w ∷ more))) (sym (is_ends word e)) (top_ends name more)
-by_other name word more false false true k p t s u r c d a n m e h = top_flag name word more (k, (p, (t, (s, (u, (r, (c, (d, (a, (n, m)))))))))) e h
-by_other name word more false false false k p t s u r c d a n m e h = top_value name word more (k, (p, (t, (s, (u, (r, (c, (d, (a, (n, m)))))))))) e h
+by_other name word more true ends flag k p t s u l r c d a n m e h = subst (λ w. Fails (fault_of station_line (name ∷ w ∷ more))) ((bytes_eq-Decides (codes "help") word).0 m) (top_help name more)
+by_other name word more false true flag k p t s u l r c d a n m e h = subst (λ w. Fails (fault_of station_line (name ∷ w ∷ more))) (sym (is_ends word e)) (top_ends name more)
+by_other name word more false false true k p t s u l r c d a n m e h = top_flag name word more (k, (p, (t, (s, (u, (l, (r, (c, (d, (a, (n, m))))))))))) e h
+by_other name word more false false false k p t s u l r c d a n m e h = top_value name word more (k, (p, (t, (s, (u, (l, (r, (c, (d, (a, (n, m))))))))))) e h
 
-by_word : (name word : Text) (more : List Text) (is_check is_plan is_table is_sim is_run is_replay is_chart is_decode is_capture is_node : Bool) → bytes_eq (codes "check") word ≡ is_check → bytes_eq (codes "plan") word ≡ is_plan → bytes_eq (codes "table") word ≡ is_table → bytes_eq (codes "sim") word ≡ is_sim
-    → bytes_eq (codes "run") word ≡ is_run → bytes_eq (codes "replay") word ≡ is_replay → bytes_eq (codes "chart") word ≡ is_chart → bytes_eq (codes "decode") word ≡ is_decode
+by_word : (name word : Text) (more : List Text) (is_check is_plan is_table is_sim is_run is_panel is_replay is_chart is_decode is_capture is_node : Bool) → bytes_eq (codes "check") word ≡ is_check → bytes_eq (codes "plan") word ≡ is_plan → bytes_eq (codes "table") word ≡ is_table → bytes_eq (codes "sim") word ≡ is_sim
+    → bytes_eq (codes "run") word ≡ is_run → bytes_eq (codes "panel") word ≡ is_panel → bytes_eq (codes "replay") word ≡ is_replay → bytes_eq (codes "chart") word ≡ is_chart → bytes_eq (codes "decode") word ≡ is_decode
     → bytes_eq (codes "capture") word ≡ is_capture → bytes_eq (codes "node") word ≡ is_node
     → Reads (name ∷ word ∷ more)
-by_word name word more true is_plan is_table is_sim is_run is_replay is_chart is_decode is_capture is_node k p t s u r c d a n = subst (λ w. Reads (name ∷ w ∷ more)) ((bytes_eq-Decides (codes "check") word).0 k) (check_whole more name (check_reads more))
-by_word name word more false true is_table is_sim is_run is_replay is_chart is_decode is_capture is_node k p t s u r c d a n = subst (λ w. Reads (name ∷ w ∷ more)) ((bytes_eq-Decides (codes "plan") word).0 p) (plan_whole more name (plan_reads more))
-by_word name word more false false true is_sim is_run is_replay is_chart is_decode is_capture is_node k p t s u r c d a n = subst (λ w. Reads (name ∷ w ∷ more)) ((bytes_eq-Decides (codes "table") word).0 t) (table_whole more name (table_reads more))
-by_word name word more false false false true is_run is_replay is_chart is_decode is_capture is_node k p t s u r c d a n = subst (λ w. Reads (name ∷ w ∷ more)) ((bytes_eq-Decides (codes "sim") word).0 s) (sim_whole more name (sim_reads more))
-by_word name word more false false false false true is_replay is_chart is_decode is_capture is_node k p t s u r c d a n = subst (λ w. Reads (name ∷ w ∷ more)) ((bytes_eq-Decides (codes "run") word).0 u) (run_whole more name (run_reads more))
-by_word name word more false false false false false true is_chart is_decode is_capture is_node k p t s u r c d a n = subst (λ w. Reads (name ∷ w ∷ more)) ((bytes_eq-Decides (codes "replay") word).0 r) (replay_whole more name (replay_reads more))
-by_word name word more false false false false false false true is_decode is_capture is_node k p t s u r c d a n = subst (λ w. Reads (name ∷ w ∷ more)) ((bytes_eq-Decides (codes "chart") word).0 c) (chart_whole more name (chart_reads more))
-by_word name word more false false false false false false false true is_capture is_node k p t s u r c d a n = subst (λ w. Reads (name ∷ w ∷ more)) ((bytes_eq-Decides (codes "decode") word).0 d) (decode_whole more name (decode_reads more))
-by_word name word more false false false false false false false false true is_node k p t s u r c d a n = subst (λ w. Reads (name ∷ w ∷ more)) ((bytes_eq-Decides (codes "capture") word).0 a) (capture_whole more name (capture_reads more))
-by_word name word more false false false false false false false false false true k p t s u r c d a n = subst (λ w. Reads (name ∷ w ∷ more)) ((bytes_eq-Decides (codes "node") word).0 n) (node_whole more name (node_reads more))
-by_word name word more false false false false false false false false false false k p t s u r c d a n =
-    inr (inr (rw (k, p, t, s, u, r, c, d, a, n) refl, by_other name word more (bytes_eq (codes "help") word) (ends_flags word) (is_flag word) k p t s u r c d a n refl refl refl))
+by_word name word more true is_plan is_table is_sim is_run is_panel is_replay is_chart is_decode is_capture is_node k p t s u l r c d a n = subst (λ w. Reads (name ∷ w ∷ more)) ((bytes_eq-Decides (codes "check") word).0 k) (check_whole more name (check_reads more))
+by_word name word more false true is_table is_sim is_run is_panel is_replay is_chart is_decode is_capture is_node k p t s u l r c d a n = subst (λ w. Reads (name ∷ w ∷ more)) ((bytes_eq-Decides (codes "plan") word).0 p) (plan_whole more name (plan_reads more))
+by_word name word more false false true is_sim is_run is_panel is_replay is_chart is_decode is_capture is_node k p t s u l r c d a n = subst (λ w. Reads (name ∷ w ∷ more)) ((bytes_eq-Decides (codes "table") word).0 t) (table_whole more name (table_reads more))
+by_word name word more false false false true is_run is_panel is_replay is_chart is_decode is_capture is_node k p t s u l r c d a n = subst (λ w. Reads (name ∷ w ∷ more)) ((bytes_eq-Decides (codes "sim") word).0 s) (sim_whole more name (sim_reads more))
+by_word name word more false false false false true is_panel is_replay is_chart is_decode is_capture is_node k p t s u l r c d a n = subst (λ w. Reads (name ∷ w ∷ more)) ((bytes_eq-Decides (codes "run") word).0 u) (run_whole more name (run_reads more))
+by_word name word more false false false false false true is_replay is_chart is_decode is_capture is_node k p t s u l r c d a n = subst (λ w. Reads (name ∷ w ∷ more)) ((bytes_eq-Decides (codes "panel") word).0 l) (panel_whole more name (panel_reads more))
+by_word name word more false false false false false false true is_chart is_decode is_capture is_node k p t s u l r c d a n = subst (λ w. Reads (name ∷ w ∷ more)) ((bytes_eq-Decides (codes "replay") word).0 r) (replay_whole more name (replay_reads more))
+by_word name word more false false false false false false false true is_decode is_capture is_node k p t s u l r c d a n = subst (λ w. Reads (name ∷ w ∷ more)) ((bytes_eq-Decides (codes "chart") word).0 c) (chart_whole more name (chart_reads more))
+by_word name word more false false false false false false false false true is_capture is_node k p t s u l r c d a n = subst (λ w. Reads (name ∷ w ∷ more)) ((bytes_eq-Decides (codes "decode") word).0 d) (decode_whole more name (decode_reads more))
+by_word name word more false false false false false false false false false true is_node k p t s u l r c d a n = subst (λ w. Reads (name ∷ w ∷ more)) ((bytes_eq-Decides (codes "capture") word).0 a) (capture_whole more name (capture_reads more))
+by_word name word more false false false false false false false false false false true k p t s u l r c d a n = subst (λ w. Reads (name ∷ w ∷ more)) ((bytes_eq-Decides (codes "node") word).0 n) (node_whole more name (node_reads more))
+by_word name word more false false false false false false false false false false false k p t s u l r c d a n =
+    inr (inr (rw (k, p, t, s, u, l, r, c, d, a, n) refl, by_other name word more (bytes_eq (codes "help") word) (ends_flags word) (is_flag word) k p t s u l r c d a n refl refl refl))
 
 pub reads : (words : List Text) → Reads words
 reads [] = no_name
 reads (name ∷ []) = name_alone name
 reads (name ∷ word ∷ more) =
-    by_word name word more (bytes_eq (codes "check") word) (bytes_eq (codes "plan") word) (bytes_eq (codes "table") word) (bytes_eq (codes "sim") word) (bytes_eq (codes "run") word) (bytes_eq (codes "replay") word) (bytes_eq (codes "chart") word) (bytes_eq (codes "decode") word) (bytes_eq (codes "capture") word) (bytes_eq (codes "node") word) refl refl refl refl refl refl refl refl refl refl
+    by_word name word more (bytes_eq (codes "check") word) (bytes_eq (codes "plan") word) (bytes_eq (codes "table") word) (bytes_eq (codes "sim") word) (bytes_eq (codes "run") word) (bytes_eq (codes "panel") word) (bytes_eq (codes "replay") word) (bytes_eq (codes "chart") word) (bytes_eq (codes "decode") word) (bytes_eq (codes "capture") word) (bytes_eq (codes "node") word) refl refl refl refl refl refl refl refl refl refl refl
 
 -- ---- what a parse answers
 

@@ -14,9 +14,9 @@ use Rattle.station_command.proofs.LineRead.{AreFound, LineReads, line_fault, lin
 use Rattle.station_command.proofs.Numbers.{number_in}
 use Rattle.station_command.proofs.Rules.{Files, IsFile, IsHelp, IsLine, IsNamed, IsOption, IsSwitch, TakesOne, first_due, names_help, names_nothing, none_due, second_due, short_help, short_nothing, third_due}
 use Rattle.station_command.proofs.WordsRead.{Fails, nth_or, top}
-use Rattle.station_command.specs.CommandWords.{Capture, Chart, Check, Decode, DecodeSession, Given, Node, Plan, Replay, Request, Run, Sim, Table, Usage, capture_by, capture_of, capture_usage, chart_by, chart_of, chart_usage, check_by, check_of, check_usage, clock_of, decode_by, decode_of, decode_usage, given_in, is_on, node_by, node_of, node_usage, plan_by, plan_of, plan_usage, replay_by, replay_of, replay_usage, run_by, run_of, run_usage, sim_by, sim_of, sim_usage, table_by, table_of, table_usage, time_of, value_of}
+use Rattle.station_command.specs.CommandWords.{Capture, Chart, Check, Decode, DecodeSession, Given, Node, Panel, Plan, Replay, Request, Run, Sim, Table, Usage, capture_by, capture_of, capture_usage, chart_by, chart_of, chart_usage, check_by, check_of, check_usage, clock_of, decode_by, decode_of, decode_usage, given_in, is_on, node_by, node_of, node_usage, panel_by, panel_of, panel_usage, plan_by, plan_of, plan_usage, replay_by, replay_of, replay_usage, run_by, run_of, run_usage, sim_by, sim_of, sim_usage, table_by, table_of, table_usage, time_of, value_of}
 use Rattle.station_command.specs.Line.{station_line}
-use Rattle.station_command.specs.inside.Rows.{capture_of_rows, chart_of_rows, check_of_rows, decode_of_rows, node_of_rows, number_of, plan_of_rows, replay_of_rows, run_of_rows, sim_of_rows, table_of_rows}
+use Rattle.station_command.specs.inside.Rows.{capture_of_rows, chart_of_rows, check_of_rows, decode_of_rows, node_of_rows, number_of, panel_of_rows, plan_of_rows, replay_of_rows, run_of_rows, sim_of_rows, table_of_rows}
 
 -- ---- the arguments
 
@@ -43,20 +43,23 @@ sim_rules = rules_of 3
 abbrev pub run_rules : List Rule
 run_rules = rules_of 4
 
+abbrev pub panel_rules : List Rule
+panel_rules = rules_of 5
+
 abbrev pub replay_rules : List Rule
-replay_rules = rules_of 5
+replay_rules = rules_of 6
 
 abbrev pub chart_rules : List Rule
-chart_rules = rules_of 6
+chart_rules = rules_of 7
 
 abbrev pub decode_rules : List Rule
-decode_rules = rules_of 7
+decode_rules = rules_of 8
 
 abbrev pub capture_rules : List Rule
-capture_rules = rules_of 8
+capture_rules = rules_of 9
 
 abbrev pub node_rules : List Rule
-node_rules = rules_of 9
+node_rules = rules_of 10
 
 -- ---- `check`
 
@@ -531,6 +534,58 @@ node_is = record {
   defaults = (refl, (refl, (refl, (refl, (refl, (refl, (refl, (refl, tt))))))));
 }
 
+-- ---- `panel`
+
+panel_layout : TakesOne panel_rules (rule_at 0 panel_rules)
+panel_layout = record { found = refl; same = refl; fault = λ text rs. refl; empty = λ rs. tt; leaves = λ text rs. refl; most = refl; alone = refl; once = refl; further = refl }
+
+panel_port : IsOption panel_rules (rule_at 1 panel_rules)
+panel_port = record {
+  one = record { found = refl; same = refl; fault = λ text rs. refl; empty = λ rs. tt; leaves = λ text rs. refl; most = refl; alone = refl; once = refl; further = refl };
+  long = refl;
+}
+
+panel_record : IsOption panel_rules (rule_at 2 panel_rules)
+panel_record = record {
+  one = record { found = refl; same = refl; fault = λ text rs. refl; empty = λ rs. tt; leaves = λ text rs. refl; most = refl; alone = refl; once = refl; further = refl };
+  long = refl;
+}
+
+panel_time : IsOption panel_rules (rule_at 3 panel_rules)
+panel_time = record {
+  one = record { found = refl; same = refl; fault = λ text rs. refl; empty = λ rs. tt; leaves = λ text rs. refl; most = refl; alone = refl; once = refl; further = refl };
+  long = refl;
+}
+
+panel_help : IsHelp (rule_at 4 panel_rules)
+panel_help = record { valueless = refl; fails = λ rs. tt }
+
+panel_file : (n : Files) → IsFile panel_usage.files panel_rules n
+panel_file first_due = inl (rule_at 0 panel_rules, record { one = panel_layout; found = refl; left = refl; steps = refl })
+panel_file second_due = inr (refl, refl)
+panel_file third_due = inr (refl, refl)
+panel_file none_due = inr (refl, refl)
+
+panel_named : (name : Text) (is_port is_record is_time is_help : Bool) → bytes_eq (codes "port") name ≡ is_port → bytes_eq (codes "record") name ≡ is_record
+    → bytes_eq (codes "for") name ≡ is_time → bytes_eq (codes "help") name ≡ is_help → IsNamed panel_usage panel_rules name
+panel_named name true is_record is_time is_help a b c d = inl (rule_at 1 panel_rules, panel_port, (bytes_eq-Decides (codes "port") name).0 a, refl)
+panel_named name false true is_time is_help a b c d = inl (rule_at 2 panel_rules, panel_record, (bytes_eq-Decides (codes "record") name).0 b, refl)
+panel_named name false false true is_help a b c d = inl (rule_at 3 panel_rules, panel_time, (bytes_eq-Decides (codes "for") name).0 c, refl)
+panel_named name false false false true a b c d = inr (inr (rw (a, b, c) refl, refl, names_help panel_rules name (rule_at 4 panel_rules) (rw (a, b, c, d) refl) panel_help))
+panel_named name false false false false a b c d = inr (inr (rw (a, b, c) refl, refl, names_nothing panel_rules name (rw (a, b, c, d) refl)))
+
+panel_short : (x : ℕ) (is_help : Bool) → nat_eq 104 x ≡ is_help → (rest : Text) (h : Held) (after : Held → Kinds) → Fails (short_fault panel_rules false (arg_by_short panel_rules x) rest h after)
+panel_short x true e = short_help panel_rules x (rule_at 4 panel_rules) (rw e refl) panel_help
+panel_short x false e = short_nothing panel_rules x (rw e refl)
+
+panel_is : IsLine panel_usage panel_rules
+panel_is = record {
+  file = panel_file;
+  named = λ name. panel_named name (bytes_eq (codes "port") name) (bytes_eq (codes "record") name) (bytes_eq (codes "for") name) (bytes_eq (codes "help") name) refl refl refl refl;
+  short = λ x. panel_short x (nat_eq 104 x) refl;
+  defaults = (refl, (refl, (refl, (refl, (refl, tt)))));
+}
+
 -- ---- what is asked for
 
 -- something is missing, or nothing is, and something is asked for or nothing, by what was given and by what was found
@@ -775,3 +830,26 @@ node_reads = command_reads (codes "node") node_usage node_rules node_is node_by 
         (λ i. node_of (sym file_is i) (sym name_is i) (sym addresses_are i) (sym operator_is i) (sym record_is i) (clock_of (option_and_then number_of (sym clock_is i))) (option_and_then number_of (sym time_is i)))
         (node_ends (value_of (codes "FILE") given) (value_of (codes "NAME") given) (value_of (codes "addresses") given) (value_of (codes "operator") given) (value_of (codes "record") given)
         (value_of (codes "clock") given) (value_of (codes "for") given) (are.taken (codes "clock")) (are.taken (codes "for")))
+
+panel_ends : (a port recording time : Option Text) → InRange 1 65535 port → InRange 1000 600000 time
+    → Ends (panel_of a (option_map time_of port) recording (option_map time_of time)) (panel_of a (option_and_then number_of port) recording (option_and_then number_of time))
+    (check_kinds false false (not (is_some a) || false))
+panel_ends (Some a) port recording time opened timed =
+    inl (
+      Panel a (option_map time_of port) recording (option_map time_of time),
+      (refl, (refl, λ i. Some (Panel a (number_read 1 65535 port opened i) recording (number_read 1000 600000 time timed i)))),
+    )
+panel_ends None port recording time opened timed = inr (inr (refl, tt))
+
+pub panel_reads : (words : List Text) → CommandReads (codes "panel") panel_usage panel_rules panel_by panel_of_rows words
+panel_reads = command_reads (codes "panel") panel_usage panel_rules panel_is panel_by panel_of_rows settles
+  where
+    settles : (given : List Given) (found : List Row) → AreFound panel_rules given found → Settles panel_rules (panel_by given) (panel_of_rows found) given
+    settles given found are =
+        let file_is = no_default given found (codes "FILE") (are.values (codes "FILE")) in
+        let port_is = no_default given found (codes "port") (are.values (codes "port")) in
+        let record_is = no_default given found (codes "record") (are.values (codes "record")) in
+        let time_is = no_default given found (codes "for") (are.values (codes "for")) in
+        subst (λ r. Settles panel_rules (panel_by given) r given)
+        (λ i. panel_of (sym file_is i) (option_and_then number_of (sym port_is i)) (sym record_is i) (option_and_then number_of (sym time_is i)))
+        (panel_ends (value_of (codes "FILE") given) (value_of (codes "port") given) (value_of (codes "record") given) (value_of (codes "for") given) (are.taken (codes "port")) (are.taken (codes "for")))

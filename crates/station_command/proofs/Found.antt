@@ -8,8 +8,8 @@ use Rattle.clap.specs.Words.{first_value, found_of, subcommand_name_of, subcomma
 use Rattle.clap.specs.declared.parser.matches.ArgMatches.{ArgMatches}
 use Rattle.clap.proofs.WalkLemmas.{first_value-rows}
 use Rattle.clap.specs.Walk.{Row, Text, first_of, rows_of}
-use Rattle.station_command.specs.CommandWords.{Capture, Chart, Check, Node, Plan, Replay, Request, Run, Table, both_of, captured, check_of, clock_of, decode_of, is_on, node_of, plan_of, run_of, table_of}
-use Rattle.station_command.specs.inside.Rows.{capture_of_rows, chart_of_rows, check_of_rows, decode_of_rows, files_of, node_of_rows, number_of, plan_of_rows, replay_of_rows, request_by, request_of_rows, run_of_rows, table_of_rows}
+use Rattle.station_command.specs.CommandWords.{Capture, Chart, Check, Node, Panel, Plan, Replay, Request, Run, Table, both_of, captured, check_of, clock_of, decode_of, is_on, node_of, panel_of, plan_of, run_of, table_of}
+use Rattle.station_command.specs.inside.Rows.{capture_of_rows, chart_of_rows, check_of_rows, decode_of_rows, files_of, node_of_rows, number_of, panel_of_rows, plan_of_rows, replay_of_rows, request_by, request_of_rows, run_of_rows, table_of_rows}
 
 -- the replay of two files
 abbrev replayed : Option (Text × Text) → Option Text → Option Request
@@ -239,6 +239,17 @@ module _ (m : ArgMatches) where
       let name_is = value_found (codes "NAME") (Some b) f in
       let addresses_are = value_found (codes "addresses") None g in
       λ i. found_node (file_is i) (name_is i) (addresses_are i)
+
+  -- ---- `panel`
+
+  pub panel_found : (a : Text) (port : Option ℕ) (recording : Option Text) (time : Option ℕ) → Some a ≡ FirstOf (codes "FILE") → port ≡ option_and_then number_of (FirstOf (codes "port"))
+      → recording ≡ first_value (found_of m) (codes "record") → time ≡ option_and_then number_of (FirstOf (codes "for")) → Some (Panel a port recording time) ≡ panel_of_rows (rows_of (found_of m))
+  panel_found a port recording time e f g h =
+      let record_is = value_found (codes "record") recording g in
+      λ i. panel_of (e i) (f i) (record_is i) (h i)
+
+  pub no_panel : None ≡ FirstOf (codes "FILE") → None ≡ panel_of_rows (rows_of (found_of m))
+  no_panel e = ap (λ o. panel_of o (option_and_then number_of (FirstOf (codes "port"))) (FirstOf (codes "record")) (option_and_then number_of (FirstOf (codes "for")))) e
 
   -- ---- a subcommand
 

@@ -43,13 +43,14 @@ value_of name [] = None
 value_of name (one ∷ given) = if bytes_eq one.0 name then Some one.1 else value_of name given
 
 -- How long something runs is a number from 1000 to 600000, a moment of a chart one from 0 to 18446744073709551, and the first
--- reading of a clock one from 0 to 9000000000000: in decimal digits, with or without a plus before them. All else takes any word.
+-- reading of a clock one from 0 to 9000000000000, and a port one from 1 to 65535: in decimal digits, with or without a plus before them. All else takes any word.
 abbrev pub takes : List ℕ → List ℕ → Bool
 takes name value =
     if bytes_eq (codes "for") name then is_unsigned_in 1000 600000 value
     else (if bytes_eq (codes "from") name then is_unsigned_in 0 18446744073709551 value
     else (if bytes_eq (codes "to") name then is_unsigned_in 0 18446744073709551 value
-    else (if bytes_eq (codes "clock") name then is_unsigned_in 0 9000000000000 value else true)))
+    else (if bytes_eq (codes "clock") name then is_unsigned_in 0 9000000000000 value
+    else (if bytes_eq (codes "port") name then is_unsigned_in 1 65535 value else true))))
 
 -- one more value, where the name has none yet and takes it
 abbrev pub with_value : List Given → List ℕ → List ℕ → Option (List Given)
@@ -109,6 +110,7 @@ pub data Request : Type 0 where
   Table : List ℕ → Bool → Request
   Sim : List ℕ → List ℕ → Request
   Run : List ℕ → List ℕ → List ℕ → ℕ → Request
+  Panel : List ℕ → Option ℕ → Option (List ℕ) → Option ℕ → Request
   Replay : List ℕ → List ℕ → Option (List ℕ) → Request
   Chart : List ℕ → List ℕ → Option ℕ → Option ℕ → Request
   Decode : List ℕ → Option (List ℕ) → Request
@@ -167,6 +169,13 @@ run_usage = record { files = codes "FILE" ∷ []; options = codes "script" ∷ c
 abbrev pub run_of : Option (List ℕ) → Option (List ℕ) → Option (List ℕ) → Option ℕ → Option Request
 run_of (Some file) (Some script) (Some recording) (Some time) = Some (Run file script recording time)
 run_of _ _ _ _ = None
+
+-- `panel FILE [--port P] [--record R] [--for MS]`
+abbrev pub panel_usage : Usage
+panel_usage = record { files = codes "FILE" ∷ []; options = codes "port" ∷ codes "record" ∷ codes "for" ∷ []; switches = [] }
+
+abbrev pub panel_of : Option (List ℕ) → Option ℕ → Option (List ℕ) → Option ℕ → Option Request
+panel_of layout port recording time = option_map (λ file. Panel file port recording time) layout
 
 -- the number that a time writes
 abbrev pub time_of : List ℕ → ℕ
@@ -235,6 +244,9 @@ sim_by given = sim_of (value_of (codes "FILE") given) (value_of (codes "SECOND")
 abbrev pub run_by : List Given → Option Request
 run_by given = run_of (value_of (codes "FILE") given) (value_of (codes "script") given) (value_of (codes "record") given) (option_map time_of (value_of (codes "for") given))
 
+abbrev pub panel_by : List Given → Option Request
+panel_by given = panel_of (value_of (codes "FILE") given) (option_map time_of (value_of (codes "port") given)) (value_of (codes "record") given) (option_map time_of (value_of (codes "for") given))
+
 abbrev pub replay_by : List Given → Option Request
 replay_by given = replay_of (value_of (codes "FILE") given) (value_of (codes "SECOND") given) (value_of (codes "node") given)
 
@@ -263,11 +275,12 @@ request_in (program ∷ command ∷ words) =
     (if bytes_eq (codes "table") command then option_and_then table_by (given_in table_usage words) else
     (if bytes_eq (codes "sim") command then option_and_then sim_by (given_in sim_usage words) else
     (if bytes_eq (codes "run") command then option_and_then run_by (given_in run_usage words) else
+    (if bytes_eq (codes "panel") command then option_and_then panel_by (given_in panel_usage words) else
     (if bytes_eq (codes "replay") command then option_and_then replay_by (given_in replay_usage words) else
     (if bytes_eq (codes "chart") command then option_and_then chart_by (given_in chart_usage words) else
     (if bytes_eq (codes "decode") command then option_and_then decode_by (given_in decode_usage words) else
     (if bytes_eq (codes "capture") command then option_and_then capture_by (given_in capture_usage words) else
-    (if bytes_eq (codes "node") command then option_and_then node_by (given_in node_usage words) else None)))))))))
+    (if bytes_eq (codes "node") command then option_and_then node_by (given_in node_usage words) else None))))))))))
 request_in _ = None
 
 -- an answer as a request
@@ -277,6 +290,7 @@ request_of (asked.Plan layout route picture) = Plan layout.now (option_copied ro
 request_of (asked.Table layout csv) = Table layout.now csv
 request_of (asked.Sim layout events) = Sim layout.now events.now
 request_of (asked.Run layout script recording for_ms) = Run layout.now script.now recording.now for_ms
+request_of (asked.Panel layout port recording time) = Panel layout.now port (option_copied recording) time
 request_of (asked.Replay layout recording node) = Replay layout.now recording.now (option_copied node)
 request_of (asked.Chart layout recording from to) = Chart layout.now recording.now from to
 request_of (asked.Decode word layout) = Decode word.now (option_copied layout)

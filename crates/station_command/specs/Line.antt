@@ -56,6 +56,15 @@ reading_line = with_rule (with_rule (new_app (codes "run")) file_rule) (needed_r
 abbrev pub run_line : App
 run_line = with_rule (with_rule reading_line (needed_rule (codes "record"))) time_rule
 
+-- the port of a page, in its range
+abbrev pub port_rule : Rule
+port_rule = ranged_rule (codes "port") 1 65535
+
+-- `panel FILE [--port P] [--record R] [--for MS]`
+abbrev pub panel_line : App
+panel_line =
+    with_rule (with_rule (with_rule (with_rule (new_app (codes "panel")) file_rule) port_rule) (option_rule (codes "record"))) (ranged_rule (codes "for") 1000 600000)
+
 -- a moment of a chart, in its range
 abbrev pub moment_rule : List ℕ → Rule
 moment_rule name = ranged_rule name 0 18446744073709551
@@ -123,7 +132,7 @@ layout_line = with_subcommand (with_subcommand (with_subcommand alone_line check
 
 -- `station COMMAND`, where the command tells of a layout, or has a station of it do something
 abbrev pub doing_line : App
-doing_line = with_subcommand (with_subcommand (with_subcommand layout_line sim_line.top) run_line.top) replay_line.top
+doing_line = with_subcommand (with_subcommand (with_subcommand (with_subcommand layout_line sim_line.top) run_line.top) panel_line.top) replay_line.top
 
 -- `station COMMAND`
 abbrev pub station_line : App

@@ -4,13 +4,13 @@ ghost use Rattle.std.specs.Prelude.{◌≡◌, ◌↔◌, ◌⊎◌, IsTrue, IfO
 ghost use Rattle.std.specs.Option.{option_map};
 ghost use Rattle.clap.specs.Words.{FailsBy, first_of, found_of, kind_of, rows_of, subcommand_rows_of};
 ghost use Rattle.station_command.specs.CommandWords.{Asks, faults_in, decode_of, is_on, request_in, request_of};
-ghost use Rattle.station_command.specs.inside.Rows.{capture_of_rows, chart_of_rows, check_of_rows, decode_of_rows, files_of, node_of_rows, number_of, plan_of_rows, replay_of_rows, request_of_rows, run_of_rows, table_of_rows};
+ghost use Rattle.station_command.specs.inside.Rows.{capture_of_rows, chart_of_rows, check_of_rows, decode_of_rows, files_of, node_of_rows, number_of, panel_of_rows, plan_of_rows, replay_of_rows, request_of_rows, run_of_rows, table_of_rows};
 ghost use Rattle.clap.specs.declared.error.kind.ErrorKind.TheVariants as kind;
 
 use crate::line::{
     ADDRESSES, CAPTURE, CHART, CHECK, CLOCK, CSV, DECODE, DIGEST, EXPLAIN, FILE, FOR, FORCE, FROM,
-    HEX, LAYOUT, NAME, NODE, OPERATOR, OUT, PICTURE, PLAN, RECORD, REPLAY, ROUTE, RUN, SCRIPT,
-    SECOND, SIM, TABLE, TO, station,
+    HEX, LAYOUT, NAME, NODE, OPERATOR, OUT, PANEL, PICTURE, PLAN, PORT, RECORD, REPLAY, ROUTE, RUN,
+    SCRIPT, SECOND, SIM, TABLE, TO, station,
 };
 use clap::error::ErrorKind;
 use clap::{ArgMatches, Error};
@@ -49,6 +49,13 @@ pub enum Asked<'a> {
         script: &'a str,
         record: &'a str,
         for_ms: u64,
+    },
+    /// `panel FILE [--port P] [--record R] [--for MS]`: a panel of a station of the layout in a file, whose page is at a port, with a record of what happens.
+    Panel {
+        layout: &'a str,
+        port: Option<u64>,
+        record: Option<&'a str>,
+        for_ms: Option<u64>,
     },
     /// `replay FILE RECORD [--node NAME]`: whether a recorded session on the layout in a file answers the same again, or the record of the node of this name.
     Replay {
@@ -231,6 +238,23 @@ fn number_given(matches: &ArgMatches<'_>, name: &str) -> Option<u64>
     }
 }
 
+/// The panel that is asked for.
+#[tactic(auto, using(crate::proofs::Found::panel_found, crate::proofs::Found::no_panel))]
+fn asked_panel<'a>(matches: &ArgMatches<'a>) -> Option<Asked<'a>>
+    ensures { option_map request_of result ≡ panel_of_rows (rows_of (found_of matches.now)) }
+{
+    let layout = file(matches)?;
+    let port = number_given(matches, PORT);
+    let record = matches.get_str(RECORD);
+    let for_ms = number_given(matches, FOR);
+    Some(Asked::Panel {
+        layout,
+        port,
+        record,
+        for_ms,
+    })
+}
+
 /// The chart that is asked for.
 #[tactic(auto, using(crate::proofs::Found::chart_found, crate::proofs::Found::no_chart))]
 fn asked_chart<'a>(matches: &ArgMatches<'a>) -> Option<Asked<'a>>
@@ -338,6 +362,7 @@ fn asked_by<'a>(matches: &ArgMatches<'a>) -> Option<Asked<'a>>
             Some(Asked::Sim { layout, events })
         }
         RUN => asked_run(matches),
+        PANEL => asked_panel(matches),
         REPLAY => asked_replay(matches),
         CHART => asked_chart(matches),
         DECODE => asked_decode(matches),

@@ -3,7 +3,7 @@
 ghost use Rattle.std.specs.Prelude.{◌≡◌, IfOk, false};
 ghost use Rattle.clap.specs.Words.{app_of, new_app, rule_of};
 ghost use Rattle.clap.specs.declared.builder.command.Command.TheViews.{out-Command};
-ghost use Rattle.station_command.specs.Line.{alone_line, capture_line, chart_line, check_line, datagram_line, decode_line, doing_line, going_line, layout_line, needed_rule, node_line, option_rule, optional_rule, plan_line, ranged_rule, reached_line, reading_line, replay_line, run_line, second_rule, session_line, sim_line, station_line, switch_rule, table_line, time_rule};
+ghost use Rattle.station_command.specs.Line.{alone_line, capture_line, chart_line, check_line, datagram_line, decode_line, doing_line, going_line, layout_line, needed_rule, node_line, option_rule, optional_rule, panel_line, plan_line, port_rule, ranged_rule, reached_line, reading_line, replay_line, run_line, second_rule, session_line, sim_line, station_line, switch_rule, table_line, time_rule};
 ghost use Rattle.station_command.specs.inside.Lines.{Joins, Takes, file_line, needed_file_rule};
 
 use crate::texts;
@@ -21,6 +21,8 @@ pub(crate) const TABLE: &str = "table";
 pub(crate) const SIM: &str = "sim";
 
 pub(crate) const RUN: &str = "run";
+
+pub(crate) const PANEL: &str = "panel";
 
 pub(crate) const REPLAY: &str = "replay";
 
@@ -82,6 +84,13 @@ pub(crate) const OPERATOR: &str = "operator";
 
 pub(crate) const CLOCK: &str = "clock";
 
+/// The port of a page, the lowest and the highest.
+pub(crate) const PORT: &str = "port";
+
+const LOWEST: u64 = 1;
+
+const HIGHEST: u64 = 65_535;
+
 /// The shortest and the longest run, in milliseconds.
 const SHORTEST: u64 = 1000;
 
@@ -131,6 +140,7 @@ fn about_stations<'a>(alloc: Global) -> Result<Command<'a>, AllocError>
 {
     let line = with(about_layouts(alloc), sim(alloc));
     let line = with(line, run(alloc));
+    let line = with(line, panel(alloc));
     with(line, replay(alloc))
 }
 
@@ -315,6 +325,27 @@ fn run<'a>(alloc: Global) -> Result<Command<'a>, AllocError>
         needed(alloc, RECORD, "R", texts::RECORD_OF_RUN),
     );
     taking(line, time(alloc))
+}
+
+/// `panel FILE [--port P] [--record R] [--for MS]`.
+fn panel<'a>(alloc: Global) -> Result<Command<'a>, AllocError>
+    ensures { IfOk result (λ line. (app_of line ≡ panel_line) × ((out-Command line).has_globals ≡ false)) }
+{
+    let line = on_layout(alloc, PANEL, texts::PANEL, texts::PANEL_DETAILS);
+    let line = taking(line, port(alloc));
+    let line = taking(line, option(alloc, RECORD, "R", texts::RECORD_OF_PANEL));
+    taking(
+        line,
+        ranged(alloc, FOR, texts::FOR_OF_PANEL, SHORTEST, LONGEST),
+    )
+}
+
+/// The option for the port of a panel's page.
+fn port<'a>(alloc: Global) -> Arg<'a>
+    ensures rule { rule_of result ≡ port_rule }
+    ensures local { result.global ≡ false }
+{
+    option(alloc, PORT, "P", texts::PORT).value_parser(ValueParser::unsigned(LOWEST, HIGHEST))
 }
 
 /// `replay FILE RECORD [--node NAME]`.

@@ -110,6 +110,27 @@ it goes. At the end it prints what is seen of the station.
 
 Example: station run examples/small.toml --script examples/proceed.script --record run.session --for 12000";
 
+pub(crate) const PORT: &str = "The port of the page, from 1 to 65535, else 8080";
+
+pub(crate) const RECORD_OF_PANEL: &str =
+    "The file to which the session is written, else panel.session";
+
+pub(crate) const FOR_OF_PANEL: &str =
+    "How long the panel stands, from 1000 to 600000 milliseconds, else until it is stopped";
+
+pub(crate) const PANEL: &str = "Opens a signaller's panel of a station in a browser";
+
+pub(crate) const PANEL_DETAILS: &str = "Opens a signaller's panel of a station in a browser.
+
+The station runs as by run, and each event is recorded with what it answered. It begins with each point
+at left and each section clear. The address of a page is printed, for a browser on this machine. The
+page shows the track plan as the station stands. On it a person sets and cancels routes, drives trains,
+and disturbs the station: cuts links, loses and delays datagrams, makes nodes anew, jams points.
+
+It runs until it is stopped, or until the datagrams that were sent take 1 GiB.
+
+Example: station panel examples/junction.toml";
+
 pub(crate) const RECORDED_NODE: &str =
     "The name of the node whose record it is, as node writes one with --record";
 

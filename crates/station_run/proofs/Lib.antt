@@ -1,2 +1,3 @@
 pub mod WorldAnswers
 pub mod RunEnds
+pub mod Seen

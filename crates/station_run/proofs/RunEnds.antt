@@ -2,10 +2,10 @@
 use Rattle.std.proofs.Common.{◌≡◌, refl, sym, subst, ℕ, List, Option, Result, Ok, Err}
 use Rattle.std.specs.Prelude.{IfErr, IsErrAnd, IsOk}
 use Rattle.station_sim.specs.simulator_event.declared.event.Event.{Event}
-use Rattle.station_drive.specs.Drives.{CutOff, Driven}
-use Rattle.station_drive.specs.Told.{Call}
-use Rattle.station_drive.specs.declared.fault.DriveFault.{DriveFault}
-use Rattle.station_drive.specs.declared.fault.DriveFault.TheVariants as drive
+use Rattle.station_panel.specs.station_network.station_drive.Drives.{CutOff, Driven}
+use Rattle.station_panel.specs.station_network.station_drive.Told.{Call}
+use Rattle.station_panel.specs.station_network.station_drive.declared.fault.DriveFault.{DriveFault}
+use Rattle.station_panel.specs.station_network.station_drive.declared.fault.DriveFault.TheVariants as drive
 use Rattle.station_sim.specs.station_check.declared.failure.Failure.{Failure}
 use Rattle.station_sim.specs.station_check.declared.failure.Failure.TheVariants as why
 use Rattle.station_run.specs.Failures.{IsOfMachine, Leaves, of_drive}

@@ -9,7 +9,7 @@ use Rattle.station_sim.specs.simulator_event.declared.reply.Answer.{Answer}
 use Rattle.station_sim.specs.simulator_event.declared.reply.Reply.{Reply}
 use Rattle.station_sim.specs.simulator_run.Happens.{answered, happens, reply_to}
 use Rattle.station_sim.specs.simulator_run.State.{WorldState}
-use Rattle.station_drive.specs.Doings.{Applies}
+use Rattle.station_panel.specs.station_network.station_drive.Doings.{Applies}
 use Rattle.station_run.specs.Worlds.{driven_worlds}
 use Rattle.station_sim.specs.World.{Played, after, answer, answer_where, refusal_of, world_where}
 

@@ -7,8 +7,8 @@ use Rattle.station_sim.specs.replay_lines.Script.{script}
 use Rattle.station_sim.specs.simulator_event.declared.event.Event.{Event}
 use Rattle.station_sim.specs.simulator.World.{IsPicture}
 use Rattle.station_sim.specs.station_check.Report.{IsSound}
-use Rattle.station_drive.specs.Drives.{CutOff, Driven}
-use Rattle.station_drive.specs.Told.{Call}
+use Rattle.station_panel.specs.station_network.station_drive.Drives.{CutOff, Driven}
+use Rattle.station_panel.specs.station_network.station_drive.Told.{Call}
 use Rattle.station_sim.specs.station_check.Failures.{ExplainsTable}
 use Rattle.station_sim.specs.station_check.declared.failure.Failure.{Failure}
 use Rattle.station_sim.specs.station_check.declared.failure.Failure.TheVariants as why

@@ -3,7 +3,7 @@ use Rattle.std.specs.Prelude.{ℕ, List, map}
 use Rattle.station_sim.specs.rasta_core.Links.{OnLink}
 use Rattle.station_sim.specs.simulator_event.declared.event.NodeId.{NodeId}
 use Rattle.station_sim.specs.simulator_run.Refusals.{driven_at}
-use Rattle.station_drive.specs.Doings.{Behaviour}
+use Rattle.station_panel.specs.station_network.station_drive.Doings.{Behaviour}
 pub use Rattle.station_sim.specs.World.{Played, after, answer, played, receiver}
 
 -- a datagram, with the node at the other end of its link

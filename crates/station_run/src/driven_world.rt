@@ -1,13 +1,15 @@
 //! A world as a station that is driven.
 
 ghost use Rattle.std.specs.Prelude.{◌≡◌, ◌⊎◌, OnErr, OnOk};
-ghost use Rattle.station_drive.specs.Drives.{CutOff, Driven};
+ghost use Rattle.station_panel.specs.station_network.station_drive.Drives.{CutOff, Driven};
 ghost use Rattle.station_run.specs.Worlds.{driven_worlds, played};
 
 use control_table::Checked;
 use control_table::layout::PointId;
 use control_table::sci_telegram::Side;
-use station_drive::{Clock, Datagrams, DriveFault, Outgoing, Station};
+use station_panel::station_network::station_drive::{
+    Clock, Datagrams, DriveFault, Outgoing, Station,
+};
 use station_sim::receiver;
 use station_sim::replay::simulator::{Event, Refused, Reply, World};
 use std::alloc::Global;
@@ -90,7 +92,15 @@ fn drive_behind<N: Datagrams, C: Clock, W: Write>(
     ensures stopped { OnErr result (CutOff driven_worlds world.old.sited.site script.now for_ms (played world.old) (played world.new) (C.readings clock.old) (C.readings clock.new) (N.calls net.old) (N.calls net.new) (W.contents recorder.old) (W.contents recorder.new)) }
 {
     let mut station = Running(mem::replace(world, spare));
-    let ended = station_drive::drive(alloc, &mut station, net, clock, script, for_ms, recorder);
+    let ended = station_panel::station_network::station_drive::drive(
+        alloc,
+        &mut station,
+        net,
+        clock,
+        script,
+        for_ms,
+        recorder,
+    );
     let Running(driven) = station;
     *world = driven;
     ended

@@ -4,8 +4,8 @@ ghost use Rattle.std.specs.Prelude.{◌≡◌};
 ghost use Rattle.station_run.specs.Failures.{Tells};
 
 use replay_words::write_as_taken;
-use station_drive::DriveFault;
-use station_network::OpenFault;
+use station_panel::station_network::OpenFault;
+use station_panel::station_network::station_drive::DriveFault;
 use station_sim::station_check::{Failure, tell};
 use std::alloc::AllocError;
 use std::io;
@@ -53,6 +53,17 @@ impl From<DriveFault> for RunFailure {
             DriveFault::OutOfMemory => RunFailure::Failed(Failure::OutOfMemory),
             DriveFault::WriteFailed => RunFailure::CannotRun,
         }
+    }
+}
+
+impl From<AllocError> for RunFailure {
+    ghost use Rattle.station_run.specs.declared.failure.RunFailure.TheVariants.{Failed};
+    ghost use Rattle.station_sim.specs.station_check.declared.failure.Failure.TheVariants.{OutOfMemory};
+
+    ghost from_gives = { λ _ failure. failure ≡ Failed OutOfMemory };
+
+    fn from(_error: AllocError) -> RunFailure {
+        RunFailure::Failed(Failure::OutOfMemory)
     }
 }
 

@@ -10,7 +10,7 @@ ghost use Rattle.station_run.specs.declared.failure.RunFailure.{RunFailure as Wh
 use crate::failure::{RunFailure, tell_run};
 use crate::prepared::{Prepared, prepare};
 use crate::watched::Watched;
-use station_network::{RoundClock, Sockets};
+use station_panel::station_network::{RoundClock, Sockets};
 use std::fs;
 use std::fs::Files;
 use std::io::{BufWriter, Eprint, Write};
@@ -29,10 +29,10 @@ pub struct Asked<'a> {
 
 /// What a run uses of the machine.
 #[derive(Drop)]
-struct Machine<'a, R: Files> {
-    sockets: Sockets,
-    recorder: BufWriter<R::File>,
-    clock: RoundClock<'a, R>,
+pub(crate) struct Machine<'a, R: Files> {
+    pub(crate) sockets: Sockets,
+    pub(crate) recorder: BufWriter<R::File>,
+    pub(crate) clock: RoundClock<'a, R>,
 }
 
 /// Drives a new station of a layout over sockets for some time, by a script, records its events, and writes its last picture
@@ -64,7 +64,7 @@ pub fn run<R: Files + Net + Timer + Eprint + AllocGlobal, O: Write, E: Write>(
 }
 
 /// Tells a failure, and answers the status to end with.
-fn fail<E: Write>(failure: RunFailure, err: &mut E) -> u8
+pub(crate) fn fail<E: Write>(failure: RunFailure, err: &mut E) -> u8
     ensures status { result ≡ 1 }
     ensures told { Tells failure (E.contents err.old) (E.contents err.new) }
 {
@@ -73,7 +73,7 @@ fn fail<E: Write>(failure: RunFailure, err: &mut E) -> u8
 }
 
 /// Opens the sockets of so many nodes, then the record, and starts a clock.
-fn open<'a, R: Files + Net + Timer + AllocGlobal>(
+pub(crate) fn open<'a, R: Files + Net + Timer + AllocGlobal>(
     rt: &'a R,
     nodes: usize,
     record: &str,

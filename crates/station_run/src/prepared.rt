@@ -12,7 +12,7 @@ ghost use Rattle.station_run.specs.declared.failure.RunFailure.{RunFailure as Wh
 
 use crate::driven_world::Running;
 use crate::failure::{RunFailure, tell_run};
-use station_drive::{Clock, Datagrams, Station, drive};
+use station_panel::station_network::station_drive::{Clock, Datagrams, Station, drive};
 use station_sim::played_worlds_are_safe;
 use station_sim::replay::simulator::{Event, World};
 use station_sim::replay::{node_count, read_script};
@@ -23,8 +23,8 @@ use std::io::Write;
 /// A station and its script, ready to run.
 #[derive(Drop)]
 pub struct Prepared {
-    station: Running,
-    script: Vec<(u64, Event)>,
+    pub(crate) station: Running,
+    pub(crate) script: Vec<(u64, Event)>,
 }
 
 /// A new station of a layout, with a script for it. Both texts are judged, the layout first.

@@ -3,7 +3,7 @@
 use arrayvec::{ArrayString, ArrayVec};
 use control_table::TableFault;
 use control_table::layout::LayoutFault;
-use station_drive::DriveFault;
+use station_panel::station_network::station_drive::DriveFault;
 use station_traffic::station_run::station_sim::station_check::{Failure, tell};
 use std::fmt::Write;
 

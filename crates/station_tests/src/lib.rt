@@ -21,6 +21,8 @@ mod one_round;
 #[cfg(test)]
 mod pair;
 #[cfg(test)]
+mod panel;
+#[cfg(test)]
 mod run_bench;
 #[cfg(test)]
 mod runs;

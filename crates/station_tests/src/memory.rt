@@ -1,7 +1,7 @@
 //! A network over memory.
 
-use station_drive::Datagrams;
-use station_network::MemoryNetwork;
+use station_panel::station_network::MemoryNetwork;
+use station_panel::station_network::station_drive::Datagrams;
 use station_traffic::station_run::station_sim::replay::simulator::NodeId;
 
 /// Whether a node receives these bytes, or nothing.

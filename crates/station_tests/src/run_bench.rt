@@ -1,7 +1,7 @@
 //! Stations that are driven over memory and over sockets, and what comes of it.
 
-use station_drive::{Clock, Datagrams};
-use station_network::{MemoryNetwork, NetCall};
+use station_panel::station_network::station_drive::{Clock, Datagrams};
+use station_panel::station_network::{MemoryNetwork, NetCall};
 use station_traffic::station_run::station_sim::replay_text;
 use station_traffic::station_run::{Asked, prepare, run};
 use std::alloc::Global;

@@ -1,8 +1,8 @@
 //! Sockets of the machine, and its clock.
 
 use crate::memory::receives;
-use station_drive::{Clock, Datagrams, NetFault};
-use station_network::{RoundClock, Sockets};
+use station_panel::station_network::station_drive::{Clock, Datagrams, NetFault};
+use station_panel::station_network::{RoundClock, Sockets};
 use station_traffic::station_run::station_sim::replay::simulator::NodeId;
 use std::alloc::Global;
 use std::cell::Cell;

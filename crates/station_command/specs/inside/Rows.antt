@@ -4,7 +4,7 @@ use Rattle.std.specs.Str.{bytes_eq}
 use Rattle.std.specs.Str.Parse.{digits_value, without_leading_plus}
 use Rattle.clap.specs.ValueTests.{is_numeral}
 use Rattle.clap.specs.Words.{Row, Text, first_of}
-use Rattle.station_command.specs.CommandWords.{Request, both_of, capture_of, chart_of, check_of, clock_of, decode_of, is_on, node_of, plan_of, replay_of, run_of, sim_of, table_of}
+use Rattle.station_command.specs.CommandWords.{Request, both_of, capture_of, chart_of, check_of, clock_of, decode_of, is_on, node_of, panel_of, plan_of, replay_of, run_of, sim_of, table_of}
 
 -- the two files of a subcommand
 abbrev pub files_of : List Row → Option (Text × Text)
@@ -32,6 +32,9 @@ sim_of_rows rows = sim_of (first_of (codes "FILE") rows) (first_of (codes "SECON
 abbrev pub run_of_rows : List Row → Option Request
 run_of_rows rows = run_of (first_of (codes "FILE") rows) (first_of (codes "script") rows) (first_of (codes "record") rows)
     (option_and_then number_of (first_of (codes "for") rows))
+
+abbrev pub panel_of_rows : List Row → Option Request
+panel_of_rows rows = panel_of (first_of (codes "FILE") rows) (option_and_then number_of (first_of (codes "port") rows)) (first_of (codes "record") rows) (option_and_then number_of (first_of (codes "for") rows))
 
 abbrev pub replay_of_rows : List Row → Option Request
 replay_of_rows rows = replay_of (first_of (codes "FILE") rows) (first_of (codes "SECOND") rows) (first_of (codes "node") rows)
@@ -61,11 +64,12 @@ request_by name rows =
     (if bytes_eq name (codes "table") then table_of_rows rows else
     (if bytes_eq name (codes "sim") then sim_of_rows rows else
     (if bytes_eq name (codes "run") then run_of_rows rows else
+    (if bytes_eq name (codes "panel") then panel_of_rows rows else
     (if bytes_eq name (codes "replay") then replay_of_rows rows else
     (if bytes_eq name (codes "chart") then chart_of_rows rows else
     (if bytes_eq name (codes "decode") then decode_of_rows rows else
     (if bytes_eq name (codes "capture") then capture_of_rows rows else
-    (if bytes_eq name (codes "node") then node_of_rows rows else None)))))))))
+    (if bytes_eq name (codes "node") then node_of_rows rows else None))))))))))
 
 abbrev pub request_of_rows : Option (Text × List Row) → Option Request
 request_of_rows None = None

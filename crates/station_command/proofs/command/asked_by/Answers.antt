@@ -25,6 +25,11 @@ returns-in-run c =
     asked_by_name c.args.matches.now c.in_ok-name.name.now (codes "run") (rows_of (found_of c.in_ok-name.matches.now)) (option_map request_of c.asked_run.result)
     c.in_ok-name.ensures.name c.in_ok-name.ensures.rows c.in-run.is c.asked_run.ensures
 
+pub returns-in-panel : goal.returns-in-panel
+returns-in-panel c =
+    asked_by_name c.args.matches.now c.in_ok-name.name.now (codes "panel") (rows_of (found_of c.in_ok-name.matches.now)) (option_map request_of c.asked_panel.result)
+    c.in_ok-name.ensures.name c.in_ok-name.ensures.rows c.in-panel.is c.asked_panel.ensures
+
 pub returns-in-replay : goal.returns-in-replay
 returns-in-replay c =
     asked_by_name c.args.matches.now c.in_ok-name.name.now (codes "replay") (rows_of (found_of c.in_ok-name.matches.now)) (option_map request_of c.asked_replay.result)

@@ -1,0 +1,86 @@
+//! All connections.
+
+ghost use Rattle.std.specs.Prelude.{◌≡◌, ◌≤◌, [], length};
+ghost use Rattle.panel_connections.specs.Served.{Serves};
+
+use crate::listener::Listens;
+use crate::peer::Peer;
+use http_server::Service;
+use std::alloc::Global;
+use std::hash::RandomState;
+use std::io::{Read, Write};
+use std::random::RandomSource;
+
+/// The most connections at once.
+const MOST: usize = 200;
+
+/// All connections.
+#[derive(Drop)]
+pub struct Connections<S> {
+    peers: Vec<Peer<S>>,
+    ghost few: { length peers.items ≤ 200 },
+}
+
+impl<S: Read + Write + Drop> Connections<S> {
+    /// No connection.
+    pub fn new(alloc: Global) -> Connections<S> {
+        Connections {
+            peers: Vec::new(alloc),
+        }
+    }
+
+    /// A round of all connections at a clock reading in milliseconds: those that have come are taken while there are few, each
+    /// whole request that has come is answered by the service, and what waits is sent.
+    pub fn serve<R: RandomSource, L: Listens<Stream = S>, V: Service>(
+        &mut self,
+        rt: &R,
+        alloc: Global,
+        listener: &mut L,
+        service: &mut V,
+        now: u64,
+    )
+        ensures { Serves V.answers service.old service.new }
+    {
+        self.take(rt, alloc, listener, now);
+        for peer in self.peers.iter_mut() {
+            peer.serve(service, now);
+        }
+        self.peers.retain(|peer| peer.is_alive());
+    }
+
+    /// Takes connections that have come, while there are few. Where memory is lacking the others wait.
+    fn take<R: RandomSource, L: Listens<Stream = S>>(
+        &mut self,
+        rt: &R,
+        alloc: Global,
+        listener: &mut L,
+        now: u64,
+    ) {
+        for _ in 0..MOST {
+            if !self.take_one(rt, alloc, listener, now) {
+                return;
+            }
+        }
+    }
+
+    /// Takes a connection that has come, while there are few. It answers whether it did.
+    fn take_one<R: RandomSource, L: Listens<Stream = S>>(
+        &mut self,
+        rt: &R,
+        alloc: Global,
+        listener: &mut L,
+        now: u64,
+    ) -> bool {
+        if self.peers.len() >= MOST {
+            return false;
+        }
+        let Some(stream) = listener.accept() else {
+            return false;
+        };
+        let Ok(keys) = RandomState::new(rt) else {
+            return false;
+        };
+        let peer = Peer::new(alloc, keys, stream, now);
+        self.peers.push(peer).is_ok()
+    }
+}

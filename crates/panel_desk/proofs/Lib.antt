@@ -1,0 +1,3 @@
+pub mod WorkedRequests
+pub mod Commands
+pub mod Texts

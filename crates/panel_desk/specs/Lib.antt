@@ -1,0 +1,9 @@
+pub mod Seen
+pub mod CommandLines
+pub mod Asked
+pub mod Worked
+pub mod ShownLines
+pub mod Answers
+-- what crates above need of the crates below
+pub use Rattle.node_lines.specs as node_lines
+pub use Rattle.panel_board.specs as panel_board

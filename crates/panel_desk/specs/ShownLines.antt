@@ -1,0 +1,87 @@
+-- What a panel tells, a line each. The lines of `node_lines` tell what the interlocking knows: `link`, `section`, `point`, `signal`,
+-- `indicates` and `route`. The others tell what is seen of a station in one process, and of its faults:
+--
+--     time MS
+--     ixl ready|holding|resume               what the interlocking takes
+--     shows SIGNAL stop|proceed|slow
+--     lies POINT left|right|none             with `driven left` or `driven right` behind it, if it is
+--     stands SECTION clear|occupied
+--     locked SECTION ROUTE                   for which route; a hyphen for none
+--     cut NODE yes|no
+--     jam POINT yes|no
+--     drop N, delay MS, memory BYTES LIMIT
+use Rattle.std.specs.Prelude.{ℕ, Bool, true, false, List, [], ◌∷◌, ◌++◌, codes, Option, Some, None}
+use Rattle.std.specs.Fmt.{decimal}
+use Rattle.node_lines.specs.layout.Entries.{Site}
+use Rattle.node_lines.specs.layout.declared.ids.RouteId.{RouteId}
+use Rattle.node_lines.specs.sci_telegram.declared.message.Occupancy.{Occupancy}
+use Rattle.node_lines.specs.sci_telegram.declared.message.Occupancy.TheVariants.{Clear, Occupied}
+use Rattle.node_lines.specs.sci_telegram.declared.message.Side.{Side}
+use Rattle.node_lines.specs.sci_telegram.declared.message.Side.TheVariants.{Left, Right}
+use Rattle.node_lines.specs.simulator_event.declared.event.NodeId.{NodeId}
+use Rattle.node_lines.specs.replay_lines.Names.{point_word, route_word, section_word}
+use Rattle.node_lines.specs.replay_lines.Written.{position_word}
+use Rattle.node_lines.specs.Known.{aspect_word, known_text, node_word, signal_word}
+use Rattle.panel_desk.specs.declared.panel_command.Disturbance.{Disturbance}
+use Rattle.panel_desk.specs.declared.panel_command.Disturbance.TheVariants as asked
+use Rattle.panel_desk.specs.declared.panel_line.Mode.{Mode}
+use Rattle.panel_desk.specs.declared.panel_line.Mode.TheVariants.{Ready, Holding, WaitingForResume}
+use Rattle.panel_desk.specs.declared.panel_line.PanelLine.{PanelLine}
+use Rattle.panel_desk.specs.declared.panel_line.PanelLine.TheVariants.{Time, Interlocking, Known, Shows, Lies, Stands, Locked, Cut, Jam, Drop, Delay, Memory}
+
+-- ---- words
+
+abbrev pub mode_word : Mode → List ℕ
+mode_word Ready = codes "ready"
+mode_word Holding = codes "holding"
+mode_word WaitingForResume = codes "resume"
+
+abbrev pub driven_words : Option Side → List ℕ
+driven_words None = []
+driven_words (Some Right) = codes " driven right"
+driven_words (Some Left) = codes " driven left"
+
+abbrev pub occupied_word : Occupancy → List ℕ
+occupied_word Clear = codes "clear"
+occupied_word Occupied = codes "occupied"
+
+abbrev pub yes_or_no : Bool → List ℕ
+yes_or_no true = codes "yes"
+yes_or_no false = codes "no"
+
+abbrev pub route_or_none : Site → Option RouteId → List ℕ
+route_or_none site (Some route) = route_word site route
+route_or_none site None = codes "-"
+
+-- ---- lines
+
+abbrev pub cut_text : Site → NodeId → Bool → List ℕ
+cut_text site node is_cut = codes "cut " ++ (node_word site node ++ 32 ∷ yes_or_no is_cut)
+
+-- what is told of a thing of the layout
+abbrev pub thing_text : Site → PanelLine → List ℕ
+thing_text site (Shows signal aspect) = codes "shows " ++ (signal_word site signal ++ 32 ∷ aspect_word aspect)
+thing_text site (Lies point position driven) = codes "lies " ++ (point_word site point ++ 32 ∷ (position_word position ++ driven_words driven))
+thing_text site (Stands section occupancy) = codes "stands " ++ (section_word site section ++ 32 ∷ occupied_word occupancy)
+thing_text site (Locked section route) = codes "locked " ++ (section_word site section ++ 32 ∷ route_or_none site route)
+thing_text site (Cut node is_cut) = cut_text site node is_cut
+thing_text site (Jam point is_jammed) = codes "jam " ++ (point_word site point ++ 32 ∷ yes_or_no is_jammed)
+thing_text site other = []
+
+abbrev pub panel_text : Site → PanelLine → List ℕ
+panel_text site (Time millis) = codes "time " ++ decimal millis
+panel_text site (Interlocking mode) = codes "ixl " ++ mode_word mode
+panel_text site (Known known) = known_text site known
+panel_text site (Drop one_in) = codes "drop " ++ decimal one_in
+panel_text site (Delay millis) = codes "delay " ++ decimal millis
+panel_text site (Memory bytes limit) = codes "memory " ++ (decimal bytes ++ 32 ∷ decimal limit)
+panel_text site thing = thing_text site thing
+
+-- the line that asks for a disturbance
+abbrev pub disturbance_text : Site → Disturbance → List ℕ
+disturbance_text site (asked.Cut node) = codes "cut " ++ node_word site node
+disturbance_text site (asked.Mend node) = codes "mend " ++ node_word site node
+disturbance_text site (asked.Drop one_in) = codes "drop " ++ decimal one_in
+disturbance_text site (asked.Delay millis) = codes "delay " ++ decimal millis
+disturbance_text site (asked.Jam point) = codes "jam " ++ point_word site point
+disturbance_text site (asked.Unjam point) = codes "unjam " ++ point_word site point

@@ -1,0 +1,118 @@
+//! The lines of what an operator asks for at a panel.
+
+ghost use Rattle.std.specs.Prelude.{◌≡◌};
+ghost use Rattle.node_lines.specs.replay_words.Cut.{words};
+ghost use Rattle.panel_desk.specs.CommandLines.{cancel, cut, delay, dropped, event, jam, mend, panel_said, unjam, up_to};
+
+use crate::panel_command::{Disturbance, PanelCommand};
+use node_lines::ixl_rules::control_table::layout::Layout;
+use node_lines::replay_lines::{node_named, point_named, read_script_event};
+use node_lines::replay_words::{Fault, Words, decimal};
+
+/// The longest delay, in milliseconds: no datagram is delivered later.
+const LONGEST_DELAY: u64 = 2000;
+
+/// What a line asks for, or the lowest fault of its words.
+pub fn read_panel_command(layout: &Layout, line: &str) -> Result<PanelCommand, Fault>
+    ensures { result ≡ panel_said layout.now (words line.now) }
+{
+    let mut rest = Words::of(line);
+    match rest.next() {
+        Some("cancel") => cancel(layout, Words::of(line), rest),
+        Some("cut") => cut(layout, rest),
+        Some("mend") => mend(layout, rest),
+        Some("drop") => dropped(rest),
+        Some("delay") => delay(rest),
+        Some("jam") => jam(layout, rest),
+        Some("unjam") => unjam(layout, rest),
+        _ => event(layout, Words::of(line)),
+    }
+}
+
+/// The event that words say in a script.
+fn event(layout: &Layout, words: Words<'_>) -> Result<PanelCommand, Fault>
+    ensures { result ≡ event layout.now words.entry }
+{
+    Ok(PanelCommand::Event(read_script_event(layout, words)?))
+}
+
+/// What the words behind `cancel` ask for.
+fn cancel(layout: &Layout, whole: Words<'_>, mut rest: Words<'_>) -> Result<PanelCommand, Fault>
+    ensures { result ≡ cancel layout.now whole.entry rest.entry }
+{
+    match (rest.next(), rest.next()) {
+        (Some("all"), None) => Ok(PanelCommand::CancelAll),
+        _ => event(layout, whole),
+    }
+}
+
+fn cut(layout: &Layout, mut words: Words<'_>) -> Result<PanelCommand, Fault>
+    ensures { result ≡ cut layout.now words.entry }
+{
+    let (Some(node), None) = (words.next(), words.next()) else {
+        return Err(Fault::Words);
+    };
+    let node = node_named(layout, node)?;
+    Ok(PanelCommand::Disturb(Disturbance::Cut(node)))
+}
+
+fn mend(layout: &Layout, mut words: Words<'_>) -> Result<PanelCommand, Fault>
+    ensures { result ≡ mend layout.now words.entry }
+{
+    let (Some(node), None) = (words.next(), words.next()) else {
+        return Err(Fault::Words);
+    };
+    let node = node_named(layout, node)?;
+    Ok(PanelCommand::Disturb(Disturbance::Mend(node)))
+}
+
+fn dropped(mut words: Words<'_>) -> Result<PanelCommand, Fault>
+    ensures { result ≡ dropped words.entry }
+{
+    let (Some(number), None) = (words.next(), words.next()) else {
+        return Err(Fault::Words);
+    };
+    let one_in = decimal(number)?;
+    Ok(PanelCommand::Disturb(Disturbance::Drop { one_in }))
+}
+
+fn delay(mut words: Words<'_>) -> Result<PanelCommand, Fault>
+    ensures { result ≡ delay words.entry }
+{
+    let (Some(number), None) = (words.next(), words.next()) else {
+        return Err(Fault::Words);
+    };
+    let millis = up_to_longest(number)?;
+    Ok(PanelCommand::Disturb(Disturbance::Delay { millis }))
+}
+
+/// A delay, in milliseconds.
+fn up_to_longest(word: &str) -> Result<u64, Fault>
+    ensures { result ≡ up_to 2000 word.now }
+{
+    let millis = decimal(word)?;
+    if millis > LONGEST_DELAY {
+        return Err(Fault::Number);
+    }
+    Ok(millis)
+}
+
+fn jam(layout: &Layout, mut words: Words<'_>) -> Result<PanelCommand, Fault>
+    ensures { result ≡ jam layout.now words.entry }
+{
+    let (Some(point), None) = (words.next(), words.next()) else {
+        return Err(Fault::Words);
+    };
+    let point = point_named(layout, point)?;
+    Ok(PanelCommand::Disturb(Disturbance::Jam(point)))
+}
+
+fn unjam(layout: &Layout, mut words: Words<'_>) -> Result<PanelCommand, Fault>
+    ensures { result ≡ unjam layout.now words.entry }
+{
+    let (Some(point), None) = (words.next(), words.next()) else {
+        return Err(Fault::Words);
+    };
+    let point = point_named(layout, point)?;
+    Ok(PanelCommand::Disturb(Disturbance::Unjam(point)))
+}

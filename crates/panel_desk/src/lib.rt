@@ -1,0 +1,27 @@
+//! The desk of a signaller's panel: what a browser asks, or why that is refused; the lines that are shown; and what is answered.
+#![tactic(auto)]
+
+mod answer;
+mod command_line;
+mod desk;
+mod head;
+mod laws;
+mod panel_command;
+mod panel_line;
+mod refusal;
+mod request;
+mod word_table;
+
+pub use command_line::read_panel_command;
+pub use desk::Desk;
+pub use laws::{
+    commands_come_from_the_page, nothing_is_for_other_hosts, requests_are_as_worked_by_hand,
+};
+pub use panel_command::{Disturbance, DisturbanceText, PanelCommand};
+pub use panel_line::{Mode, PanelLine, PanelText};
+pub use refusal::Refusal;
+pub use request::{Access, Request, Sent, read_request};
+
+// What crates above need of the crates below.
+pub use node_lines;
+pub use panel_board;

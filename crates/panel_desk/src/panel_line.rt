@@ -1,0 +1,214 @@
+//! What is told of one thing.
+
+ghost use Rattle.std.specs.Prelude.{◌≡◌};
+ghost use Rattle.panel_desk.specs.ShownLines.{route_or_none};
+
+use crate::word_table::{
+    aspect_word, driven_words, mode_word, occupied_word, position_word, signal_word, yes_or_no,
+};
+use node_lines::ixl_rules::control_table::layout::{Layout, PointId, RouteId, SectionId, SignalId};
+use node_lines::ixl_rules::control_table::sci_telegram::{Aspect, Occupancy, Position, Side};
+use node_lines::replay_lines::{node_name, point_word, route_word, section_word};
+use node_lines::simulator_event::NodeId;
+use node_lines::{Known, OperatorLine, OperatorText};
+use std::fmt;
+
+/// What an interlocking takes.
+#[derive(Clone, Copy, Debug, PartialEq, Eq)]
+pub enum Mode {
+    /// Every command.
+    Ready,
+    /// No command: less than 6000 ms have passed since it was made.
+    Holding,
+    /// A resume alone: it wasn't told to since it was made.
+    WaitingForResume,
+}
+
+/// What is told of one thing.
+#[derive(Clone, Copy, Debug, PartialEq, Eq)]
+pub enum PanelLine {
+    /// True time.
+    Time {
+        millis: u64,
+    },
+    /// What the interlocking takes.
+    Interlocking(Mode),
+    /// What the interlocking knows.
+    Known(Known),
+    /// What a signal shows.
+    Shows {
+        signal: SignalId,
+        aspect: Aspect,
+    },
+    /// Where a point lies, and to which side it is driven, if it is.
+    Lies {
+        point: PointId,
+        position: Position,
+        driven: Option<Side>,
+    },
+    /// Whether a train stands in a section.
+    Stands {
+        section: SectionId,
+        occupancy: Occupancy,
+    },
+    /// The route for which a section is locked, if it is.
+    Locked {
+        section: SectionId,
+        route: Option<RouteId>,
+    },
+    /// Whether what goes to a node and comes from it is lost.
+    Cut {
+        node: NodeId,
+        is_cut: bool,
+    },
+    /// Whether a point doesn't reach an end position.
+    Jam {
+        point: PointId,
+        is_jammed: bool,
+    },
+    /// Of the datagrams that are sent one in so many is lost; none where that is 0.
+    Drop {
+        one_in: u64,
+    },
+    /// By how much datagrams come late.
+    Delay {
+        millis: u64,
+    },
+    /// How many bytes the network's datagrams take, and with how many the panel stops.
+    Memory {
+        bytes: u64,
+        limit: u64,
+    },
+}
+
+/// What is told of one thing of a station with this layout.
+#[derive(Clone, Copy)]
+pub struct PanelText<'a> {
+    pub layout: &'a Layout,
+    pub line: PanelLine,
+}
+
+impl<'a> fmt::Display for PanelText<'a> {
+    ghost use Rattle.std.specs.Prelude.{Some};
+    ghost use Rattle.panel_desk.specs.ShownLines.{panel_text};
+
+    ghost output = { λ text. Some (panel_text text.layout.now text.line) };
+
+    fn fmt<W: fmt::Write>(&self, f: &mut fmt::Formatter<W>) -> fmt::Result {
+        let layout = self.layout;
+        match self.line {
+            PanelLine::Time { millis } => write!(f, "time {millis}"),
+            PanelLine::Interlocking(mode) => {
+                let word = mode_word(mode);
+                write!(f, "ixl {word}")
+            }
+            PanelLine::Known(known) => {
+                let line = OperatorLine::Known(known);
+                let known = OperatorText { layout, line };
+                write!(f, "{known}")
+            }
+            PanelLine::Drop { one_in } => write!(f, "drop {one_in}"),
+            PanelLine::Delay { millis } => write!(f, "delay {millis}"),
+            PanelLine::Memory { bytes, limit } => write!(f, "memory {bytes} {limit}"),
+            line => {
+                let thing = ThingText { layout, line };
+                write!(f, "{thing}")
+            }
+        }
+    }
+}
+
+/// What is told of a thing of the layout.
+#[derive(Clone, Copy)]
+struct ThingText<'a> {
+    layout: &'a Layout,
+    line: PanelLine,
+}
+
+impl<'a> fmt::Display for ThingText<'a> {
+    ghost use Rattle.std.specs.Prelude.{Some};
+    ghost use Rattle.panel_desk.specs.ShownLines.{thing_text};
+
+    ghost output = { λ text. Some (thing_text text.layout.now text.line) };
+
+    fn fmt<W: fmt::Write>(&self, f: &mut fmt::Formatter<W>) -> fmt::Result {
+        let layout = self.layout;
+        match self.line {
+            PanelLine::Shows { signal, aspect } => {
+                let signal = signal_word(layout, signal);
+                let word = aspect_word(aspect);
+                write!(f, "shows {signal} {word}")
+            }
+            PanelLine::Lies {
+                point,
+                position,
+                driven,
+            } => {
+                let point = point_word(layout, point);
+                let word = position_word(position);
+                let driven = driven_words(driven);
+                write!(f, "lies {point} {word}{driven}")
+            }
+            PanelLine::Stands { section, occupancy } => {
+                let section = section_word(layout, section);
+                let word = occupied_word(occupancy);
+                write!(f, "stands {section} {word}")
+            }
+            PanelLine::Locked { section, route } => {
+                let section = section_word(layout, section);
+                let route = route_or_none(layout, route);
+                write!(f, "locked {section} {route}")
+            }
+            PanelLine::Cut { node, is_cut } => {
+                let cut = CutText {
+                    layout,
+                    node,
+                    is_cut,
+                };
+                write!(f, "{cut}")
+            }
+            PanelLine::Jam { point, is_jammed } => {
+                let point = point_word(layout, point);
+                let word = yes_or_no(is_jammed);
+                write!(f, "jam {point} {word}")
+            }
+            _ => Ok(()),
+        }
+    }
+}
+
+/// The word of a route, or a hyphen for none.
+fn route_or_none(layout: &Layout, route: Option<RouteId>) -> &str
+    ensures { result.now ≡ route_or_none layout.now route }
+{
+    match route {
+        Some(route) => route_word(layout, route),
+        None => "-",
+    }
+}
+
+/// Whether a node is cut off.
+#[derive(Clone, Copy)]
+struct CutText<'a> {
+    layout: &'a Layout,
+    node: NodeId,
+    is_cut: bool,
+}
+
+impl<'a> fmt::Display for CutText<'a> {
+    ghost use Rattle.std.specs.Prelude.{Some};
+    ghost use Rattle.panel_desk.specs.ShownLines.{cut_text};
+
+    ghost output = { λ text. Some (cut_text text.layout.now text.node text.is_cut) };
+
+    fn fmt<W: fmt::Write>(&self, f: &mut fmt::Formatter<W>) -> fmt::Result {
+        let word = yes_or_no(self.is_cut);
+        match node_name(self.layout, self.node) {
+            Some(name) => {
+                let name = name.as_str();
+                write!(f, "cut {name} {word}")
+            }
+            None => write!(f, "cut _ {word}"),
+        }
+    }
+}

@@ -1,0 +1,12 @@
+use Rattle.std.proofs.Common.{codes}
+use Rattle.station_command.proofs.Lines.{three_taken}
+use Rattle.station_command.proofs.line.panel.Goals as goal
+use Rattle.station_command.specs.Line.{option_rule, port_rule, ranged_rule}
+use Rattle.station_command.specs.inside.Lines.{file_line}
+
+pub returns : goal.returns
+returns c =
+    three_taken (file_line (codes "panel")) port_rule (option_rule (codes "record")) (ranged_rule (codes "for") 1000 600000)
+    c.on_layout-line.result c.taking-line.result c.taking-line-2.result c.taking.result c.port.result c.option.result c.ranged.result
+    c.on_layout-line.ensures c.port.ensures.rule c.port.ensures.local c.option.ensures.rule c.option.ensures.local c.ranged.ensures.rule c.ranged.ensures.local
+    c.taking-line.ensures c.taking-line-2.ensures c.taking.ensures

@@ -1,0 +1,4 @@
+pub mod Cancels
+pub mod Readings
+pub mod Turn
+pub mod Pictures

@@ -1,0 +1,8 @@
+pub mod Faults
+pub mod Asked
+pub mod Shown
+pub mod Turns
+-- what crates above need of the crates below
+pub use Rattle.panel_connections.specs as panel_connections
+pub use Rattle.panel_desk.specs as panel_desk
+pub use Rattle.station_network.specs as station_network

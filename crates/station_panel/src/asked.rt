@@ -1,0 +1,105 @@
+//! What the commands of a round ask for.
+
+ghost use Rattle.std.specs.Prelude.{◌≡◌, ◌++◌, OnOk};
+ghost use Rattle.std.specs.List.{flat_map};
+ghost use Rattle.panel_desk.specs.declared.panel_command.PanelCommand.TheVariants.{Event as Wants};
+ghost use Rattle.station_panel.specs.Asked.{cancels, events_by, faults_after, faults_by, may_be_asked};
+
+use crate::faults::Faults;
+use panel_desk::PanelCommand;
+use panel_desk::node_lines::ixl_rules::Command;
+use panel_desk::node_lines::ixl_rules::control_table::layout::RouteId;
+use panel_desk::node_lines::simulator_event::Event;
+use std::alloc::AllocError;
+
+/// Whether an operator may ask for an event: a command, an occupancy, or a restart.
+pub(crate) fn may_be_asked(event: &Event) -> bool
+    ensures { result ≡ may_be_asked event.now }
+{
+    match event {
+        Event::Request(_) | Event::Occupy { .. } | Event::Restart { .. } => true,
+        _ => false,
+    }
+}
+
+/// Adds the events that commands ask for, one behind the other.
+pub(crate) fn add_events(
+    events: &mut Vec<Event>,
+    routes: usize,
+    commands: &[PanelCommand],
+) -> Result<(), AllocError>
+    ensures { OnOk result (events.new.items ≡ events.old.items ++ flat_map (events_by routes) commands.now) }
+{
+    for command in commands {
+        add_events_by(events, routes, command)?;
+    }
+    Ok(())
+}
+
+/// Adds the events for which one command asks.
+fn add_events_by(
+    events: &mut Vec<Event>,
+    routes: usize,
+    command: &PanelCommand,
+) -> Result<(), AllocError>
+    ensures { OnOk result (events.new.items ≡ events.old.items ++ events_by routes command.now) }
+{
+    match command {
+        PanelCommand::Event(event) => add_event(events, event),
+        PanelCommand::CancelAll => add_cancels(events, routes),
+        PanelCommand::Disturb(_) => Ok(()),
+    }
+}
+
+/// Adds an event, if an operator may ask for it.
+fn add_event(events: &mut Vec<Event>, event: &Event) -> Result<(), AllocError>
+    ensures { OnOk result (events.new.items ≡ events.old.items ++ events_by 0 (Wants event.now)) }
+{
+    let copy = match event {
+        Event::Request(command) => Event::Request(*command),
+        Event::Occupy { section, occupancy } => Event::Occupy {
+            section: *section,
+            occupancy: *occupancy,
+        },
+        Event::Restart {
+            node,
+            clock,
+            first_sequence_number,
+        } => Event::Restart {
+            node: *node,
+            clock: *clock,
+            first_sequence_number: *first_sequence_number,
+        },
+        _ => return Ok(()),
+    };
+    events.push(copy)?;
+    Ok(())
+}
+
+/// Adds a cancel of each of so many routes, in their order.
+fn add_cancels(events: &mut Vec<Event>, routes: usize) -> Result<(), AllocError>
+    ensures { OnOk result (events.new.items ≡ events.old.items ++ cancels 0 routes) }
+{
+    for place in 0..routes {
+        events.push(Event::Request(Command::Cancel(RouteId(place))))?;
+    }
+    Ok(())
+}
+
+/// What commands disturb is disturbed, one behind the other.
+pub(crate) fn disturb_by(faults: &mut Faults, commands: &[PanelCommand])
+    ensures { faults.new ≡ faults_after commands.now faults.old }
+{
+    for command in commands {
+        disturb_by_one(faults, command);
+    }
+}
+
+/// What one command disturbs is disturbed.
+fn disturb_by_one(faults: &mut Faults, command: &PanelCommand)
+    ensures { faults.new ≡ faults_by command.now faults.old }
+{
+    if let PanelCommand::Disturb(disturbance) = command {
+        faults.disturb(*disturbance);
+    }
+}

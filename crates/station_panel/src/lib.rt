@@ -1,0 +1,33 @@
+//! The engine of a signaller's panel: rounds in which requests are answered, what was asked for happens to a station, and the
+//! desk shows the picture of the station behind the round.
+#![tactic(auto)]
+
+mod asked;
+mod attendance;
+mod disturbed;
+mod ending;
+mod faults;
+mod laws;
+mod log_lines;
+mod memory;
+mod noting;
+mod picture_shown;
+mod pictured;
+mod seat;
+
+pub use attendance::attend;
+pub use disturbed::Disturbed;
+pub use ending::{Ending, Limits};
+pub use laws::what_is_shown_is_the_picture;
+pub use noting::Noting;
+pub use pictured::Pictured;
+pub use seat::places;
+
+// What a panel is made of.
+pub use panel_connections::{Listens, Loopback};
+pub use panel_desk::node_lines::{Authority, Known, LinkState};
+pub use panel_desk::panel_board::{About, Board, about_text};
+pub use panel_desk::{Desk, Mode, PanelLine};
+
+// What crates above need of the crates below.
+pub use station_network;

@@ -1,0 +1,87 @@
+-- What is seen of a world, as lines.
+use Rattle.std.proofs.Common.{◌≡◌, ◌∙◌, ◌+◌, ◌-◌, ◌<◌, ◌≤◌, ℕ, zero, suc, refl, sym, ap, subst, Bool, true, false, List, [], ◌∷◌, ◌++◌, length, drop, get_or, Option, Some, None, arith}
+use Rattle.std.specs.Prelude.{slice_get, IfSome, if◌then◌else◌}
+use Rattle.std.specs.Option.{option_map, option_map_or}
+use Rattle.std.proofs.lemmas.List.{append_assoc, append-nil}
+use Rattle.station_sim.specs.ixl_rules.State.{IxlState, RouteState}
+use Rattle.station_sim.specs.ixl_rules.Table.{Row, Table, at}
+use Rattle.station_sim.specs.ixl_rules.View.{holds_section}
+use Rattle.station_sim.specs.layout.declared.ids.RouteId.{RouteId}
+use Rattle.station_sim.specs.simulator.ixl_state.ixl_field.Field.{FieldState, Rest, kept}
+use Rattle.station_sim.specs.simulator.ixl_state.State.{AtRoute, HasRoute, StateView, field_of, rest_of}
+use Rattle.station_panel.specs.panel_desk.declared.panel_line.PanelLine.{PanelLine}
+use Rattle.station_run.specs.Panel.{each, lock_of, locking}
+
+-- ---- what stands at a place
+
+pub mapped : {A B : Type 0} (f : A → B) (one : Option A) (result other : B) → option_map f one ≡ Some result → result ≡ option_map_or f one other
+mapped f None result other is = cc
+mapped f (Some one) result other is = cc
+
+pub there : {A : Type 0} (one : Option A) (result other : A) → one ≡ Some result → result ≡ option_map_or (λ a. a) one other
+there None result other is = cc
+there (Some one) result other is = cc
+
+pub of_nodes : (holds : IxlState → Type 0) (state : StateView) (field : FieldState) → field ≡ field_of state → ((rest : Rest) → holds (kept field rest)) → holds state.ixl
+of_nodes holds state field is says = (subst (λ (f : FieldState). (rest : Rest) → holds (kept f rest)) is says) (rest_of state)
+
+pub at_read : {A : Type 0} (list : List A) (place : ℕ) (told : Bool) (test : A → Bool) → place < length list → IfSome (slice_get list place) (λ one. told ≡ test one) → told ≡ at list place test
+unfolding at
+at_read [] place told test below says = absurd (omega (arith, below))
+at_read (first ∷ others) zero told test below says = says
+at_read (first ∷ others) (suc place) told test below says = at_read others place told test (omega (arith, below)) says
+
+pub at_past : {A : Type 0} (list : List A) (place : ℕ) (test : A → Bool) → length list ≤ place → false ≡ at list place test
+unfolding at
+at_past [] place test beyond = refl
+at_past (first ∷ others) zero test beyond = absurd (omega (arith, beyond))
+at_past (first ∷ others) (suc place) test beyond = at_past others place test (omega (arith, beyond))
+
+-- ---- routes that lock a section
+
+-- what is told of a route of the table
+pub locked_there : (state : StateView) (number section : ℕ) (row : Row) (route : RouteState) (told : Bool) → AtRoute state number (λ row kept. route ≡ kept) → HasRoute state number
+    → slice_get state.sited.table.rows number ≡ Some row → told ≡ holds_section row route.phase section
+    → told ≡ lock_of (slice_get state.sited.table.rows number) (slice_get state.ixl.routes number) section
+locked_there state number section row route told same has row_is is =
+    let route_is : slice_get state.ixl.routes number ≡ Some route = has.2.1 ∙ ap Some (sym (same has.0 has.1 has.2))
+    in is
+    ∙ sym (ap (λ (r : Option Row). lock_of r (Some route) section) row_is)
+    ∙ sym (ap (λ (r : Option RouteState). lock_of (slice_get state.sited.table.rows number) r section) route_is)
+
+-- one more route doesn't lock it
+pub locking_next : (rows : List Row) (routes : List RouteState) (section number all : ℕ) (told : Bool) (wanted : Option RouteId) → number < all
+    → told ≡ lock_of (slice_get rows number) (slice_get routes number) section → told ≡ false
+    → wanted ≡ locking rows routes section number (all - number) → wanted ≡ locking rows routes section (number + 1) (all - (number + 1))
+locking_next rows routes section number all told wanted below told_is none before =
+    let more = all - (number + 1) in
+    let here : all - number ≡ suc more = omega (arith, below) in
+    let next : suc number ≡ number + 1 = omega arith in
+    before
+    ∙ ap (locking rows routes section number) here
+    ∙ ap (λ (locks : Bool). if locks then Some (record { 0 = number }) else locking rows routes section (suc number) more) (sym told_is ∙ none)
+    ∙ ap (λ n. locking rows routes section n more) next
+
+-- ---- lines one after another
+
+each_next : (of : ℕ → PanelLine) (place all : ℕ) → place < all → each of place (all - place) ≡ of place ∷ each of (place + 1) (all - (place + 1))
+each_next of place all below =
+    let here : all - place ≡ suc (all - (place + 1)) = omega (arith, below) in
+    let next : suc place ≡ place + 1 = omega arith in
+    ap (each of place) here ∙ ap (λ p. of place ∷ each of p (all - (place + 1))) next
+
+-- one more was added
+pub one_added : (of : ℕ → PanelLine) (place all : ℕ) (so_far new wanted : List PanelLine) (one : PanelLine) → place < all → one ≡ of place → new ≡ so_far ++ one ∷ [] → so_far ++ each of place (all - place) ≡ wanted
+    → new ++ each of (place + 1) (all - (place + 1)) ≡ wanted
+one_added of place all so_far new wanted one below one_is new_is before =
+    let rest = each of (place + 1) (all - (place + 1)) in
+    ap (λ l. l ++ rest) new_is
+    ∙ append_assoc so_far (one ∷ []) rest
+    ∙ ap (λ o. so_far ++ o ∷ rest) one_is
+    ∙ ap (λ l. so_far ++ l) (sym (each_next of place all below))
+    ∙ before
+
+pub all_added : (of : ℕ → PanelLine) (place all : ℕ) (so_far wanted : List PanelLine) → all ≤ place → so_far ++ each of place (all - place) ≡ wanted → so_far ≡ wanted
+all_added of place all so_far wanted above before =
+    let done : all - place ≡ 0 = omega (arith, above) in
+    sym (append-nil so_far) ∙ ap (λ l. so_far ++ l) (sym (ap (each of place) done)) ∙ before

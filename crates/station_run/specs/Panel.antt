@@ -1,0 +1,124 @@
+-- What a panel shows of a world: true time, what the interlocking takes, and of each thing what is seen of it, or what the
+-- interlocking knows of it, in the order of the layout.
+use Rattle.std.specs.Prelude.{ℕ, zero, suc, ◌+◌, ◌-◌, ◌^◌, ◌/◌, ◌==◌, min, Bool, true, false, if◌then◌else◌, List, [], ◌∷◌, length, Option, Some, None, slice_get}
+use Rattle.std.specs.List.{flat_map}
+use Rattle.std.specs.Option.{option_map_or}
+use Rattle.station_sim.specs.layout.Entries.{RouteEntry, Site}
+use Rattle.station_sim.specs.layout.declared.ids.RouteId.{RouteId}
+use Rattle.station_sim.specs.sci_telegram.declared.message.Aspect.{Aspect}
+use Rattle.station_sim.specs.sci_telegram.declared.message.Aspect.TheVariants as aspects
+use Rattle.station_sim.specs.sci_telegram.declared.message.Occupancy.TheVariants as occupancies
+use Rattle.station_sim.specs.sci_telegram.declared.message.Position.TheVariants as positions
+use Rattle.station_sim.specs.ixl_rules.State.{IxlState, RouteState}
+use Rattle.station_sim.specs.ixl_rules.Table.{Row, at}
+use Rattle.station_sim.specs.ixl_rules.View.{holds_section, is_holding, is_point_ready, is_set, is_signal_ready}
+use Rattle.station_sim.specs.rasta_core.Ends.{reading_of}
+use Rattle.station_sim.specs.simulator_run.ixl_client.Client.{is_ready}
+use Rattle.station_sim.specs.simulator_run.Interlocking.{held_of}
+use Rattle.station_sim.specs.simulator_run.Refusals.{driven_at}
+use Rattle.station_sim.specs.simulator_run.Seen.{shown_by}
+use Rattle.station_sim.specs.simulator_run.simulator_snapshot.declared.snapshot.Held.{Held}
+use Rattle.station_panel.specs.panel_desk.declared.panel_line.Mode.{Mode}
+use Rattle.station_panel.specs.panel_desk.declared.panel_line.Mode.TheVariants.{Ready, Holding, WaitingForResume}
+use Rattle.station_panel.specs.panel_desk.declared.panel_line.PanelLine.{PanelLine}
+use Rattle.station_panel.specs.panel_desk.declared.panel_line.PanelLine.TheVariants as line
+use Rattle.station_panel.specs.panel_desk.node_lines.declared.operator_line.Authority.{Authority}
+use Rattle.station_panel.specs.panel_desk.node_lines.declared.operator_line.Known.TheVariants as known
+use Rattle.station_panel.specs.panel_desk.node_lines.declared.operator_line.LinkState.TheVariants as link
+use Rattle.station_run.specs.Worlds.{Played}
+use Rattle.station_run.specs.declared.thing.Thing.{Thing}
+use Rattle.station_run.specs.declared.thing.Thing.TheVariants.{Aspect as SignalAspect, Lies, Stands, Locked, SignalLink, PointLink, DetectorLink, HeldRoute, Route}
+
+-- ---- the interlocking
+
+abbrev pub mode_of : Bool → Bool → Mode
+mode_of true resumed = Holding
+mode_of false true = Ready
+mode_of false false = WaitingForResume
+
+abbrev pub mode_seen : Played → Mode
+mode_seen world = mode_of (is_holding (reading_of world.run.station.clock) world.run.station.ixl) world.run.station.ixl.resumed
+
+-- ---- routes
+
+-- the first route that is held for a signal
+abbrev pub route_held : ℕ → List Held → Option RouteId
+route_held signal [] = None
+route_held signal (held ∷ others) = if held.signal.0 == signal then Some held.route else route_held signal others
+
+-- a route with its aspect
+abbrev pub with_aspect : RouteId → Option RouteEntry → Option Authority
+with_aspect route None = None
+with_aspect route (Some entry) = Some (record { aspect = entry.aspect; route = route })
+
+abbrev pub authority_of : List RouteEntry → Option RouteId → Option Authority
+authority_of routes None = None
+authority_of routes (Some route) = with_aspect route (slice_get routes route.0)
+
+-- whether a route locks a section
+abbrev pub lock_of : Option Row → Option RouteState → ℕ → Bool
+lock_of (Some row) (Some route) section = holds_section row route.phase section
+lock_of _ _ section = false
+
+-- the first of so many routes from a number on that locks a section
+abbrev pub locking : List Row → List RouteState → ℕ → ℕ → ℕ → Option RouteId
+locking rows routes section number zero = None
+locking rows routes section number (suc more) =
+    if lock_of (slice_get rows number) (slice_get routes number) section then Some (record { 0 = number })
+    else locking rows routes section (suc number) more
+
+-- ---- links
+
+-- a number ends at the greatest of a machine word
+abbrev pub saturated : ℕ → ℕ
+saturated number = min number (2 ^ 64 - 1)
+
+-- the link to the controller of a place among all; its node counts from the interlocking, which is 0
+abbrev pub link_line : ℕ → Bool → PanelLine
+link_line place ready = line.Known (known.Link (record { 0 = saturated (place + 1) }) (if ready then link.Ready else link.Lost))
+
+abbrev pub is_detector_ready : IxlState → ℕ → Bool
+is_detector_ready ixl place = at ixl.detectors place (λ detector. is_ready detector.client.stage)
+
+-- ---- each thing
+
+-- what is shown of the thing of a kind at a place
+abbrev pub line_at : Played → Thing → ℕ → PanelLine
+line_at world SignalAspect place = line.Shows (record { 0 = place }) (option_map_or shown_by (slice_get world.run.signals place) aspects.Stop)
+line_at world Lies place = line.Lies (record { 0 = place }) (option_map_or (λ p. p) (slice_get world.run.positions place) positions.NoEndPosition) (driven_at place world.run.points)
+line_at world Stands place = line.Stands (record { 0 = place }) (option_map_or (λ o. o) (slice_get world.run.occupancies place) occupancies.Clear)
+line_at world Locked place = line.Locked (record { 0 = place }) (locking world.sited.table.rows world.run.station.ixl.routes place 0 (length world.sited.table.rows))
+line_at world SignalLink place = link_line place (is_signal_ready world.run.station.ixl place)
+line_at world PointLink place = link_line (saturated (length world.sited.site.signals + place)) (is_point_ready world.run.station.ixl place)
+line_at world DetectorLink place = link_line (saturated (saturated (length world.sited.site.signals + length world.sited.site.points) + place)) (is_detector_ready world.run.station.ixl place)
+line_at world HeldRoute place =
+    line.Known (known.Signal (record { 0 = place }) (authority_of world.sited.site.routes (route_held place (held_of world.sited.table world.run.station world.run.frozen))))
+line_at world Route place = line.Known (known.Route (record { 0 = place }) (option_map_or (λ kept. is_set kept.phase) (slice_get world.run.station.ixl.routes place) false))
+
+-- how many things of a kind there are
+abbrev pub count : Site → Thing → ℕ
+count site SignalAspect = length site.signals
+count site Lies = length site.points
+count site Stands = length site.sections
+count site Locked = length site.sections
+count site SignalLink = length site.signals
+count site PointLink = length site.points
+count site DetectorLink = length site.detectors
+count site HeldRoute = length site.signals
+count site Route = length site.routes
+
+-- of so many things, from a place on
+abbrev pub each : (ℕ → PanelLine) → ℕ → ℕ → List PanelLine
+each of place zero = []
+each of place (suc more) = of place ∷ each of (suc place) more
+
+abbrev pub all_of : Played → Thing → List PanelLine
+all_of world thing = each (line_at world thing) 0 (count world.sited.site thing)
+
+abbrev pub things : List Thing
+things = SignalAspect ∷ Lies ∷ Stands ∷ Locked ∷ SignalLink ∷ PointLink ∷ DetectorLink ∷ HeldRoute ∷ Route ∷ []
+
+-- ---- the picture
+
+abbrev pub pictured : Played → List PanelLine
+pictured world = line.Time (world.run.time / 1000) ∷ line.Interlocking (mode_seen world) ∷ flat_map (all_of world) things

@@ -1,0 +1,333 @@
+//! What a panel shows of a world.
+
+ghost use Rattle.std.specs.Prelude.{◌≡◌, ◌<◌, ◌+◌, ◌++◌, ◌/◌, ◌==◌, IfOk, OnOk, drop, length, slice_get};
+ghost use Rattle.std.specs.List.{flat_map, list_any};
+ghost use Rattle.station_sim.specs.ixl_rules.View.{freed_sections, is_point_ready, is_signal_ready};
+ghost use Rattle.std.specs.Option.{option_map_or};
+ghost use Rattle.station_run.specs.Panel.{all_of, authority_of, count, is_detector_ready, line_at, link_line, lock_of, locking, mode_seen, pictured, route_held};
+ghost use Rattle.station_run.specs.declared.thing.Thing.TheVariants.{Aspect, DetectorLink, Lies, PointLink, Route as RouteSet, SignalLink, Stands};
+ghost use Rattle.station_sim.specs.simulator_run.Interlocking.{held_of};
+ghost use Rattle.station_run.specs.Worlds.{played};
+
+use crate::driven_world::Running;
+use crate::thing::Thing;
+use station_panel::{Authority, Known, LinkState, Mode, PanelLine, Pictured};
+use station_sim::replay::simulator::simulator_run::ixl_rules::Phase;
+use station_sim::replay::simulator::simulator_run::ixl_rules::control_table::layout::{
+    PointId, Route, RouteId, SectionId, SignalId,
+};
+use station_sim::replay::simulator::{Held, NodeId, World};
+use std::alloc::{AllocError, Global};
+
+/// How many microseconds a millisecond has.
+const MICROS: u64 = 1000;
+
+/// How long an interlocking holds, in milliseconds of its clock.
+const HOLD: u64 = 6000;
+
+/// The kinds of things, in the order in which they are shown.
+const THINGS: [Thing; 9] = [
+    Thing::Aspect,
+    Thing::Lies,
+    Thing::Stands,
+    Thing::Locked,
+    Thing::SignalLink,
+    Thing::PointLink,
+    Thing::DetectorLink,
+    Thing::HeldRoute,
+    Thing::Route,
+];
+
+impl Pictured for Running {
+    ghost use Rattle.station_run.specs.Panel.{pictured};
+
+    ghost lines = { λ s. pictured (record { sited = s.0.sited; run = s.0.run }) };
+
+    fn picture(&self, alloc: Global) -> Result<Vec<PanelLine>, AllocError> {
+        all_lines(alloc, &self.0)
+    }
+}
+
+/// All lines, in their order.
+fn all_lines(alloc: Global, world: &World) -> Result<Vec<PanelLine>, AllocError>
+    ensures { IfOk result (λ lines. lines.items ≡ pictured (played world.now)) }
+{
+    let mut lines = Vec::new(alloc);
+    let millis = world.time() / MICROS;
+    lines.push(PanelLine::Time { millis })?;
+    lines.push(PanelLine::Interlocking(mode(world)))?;
+    add_all(&mut lines, world, &THINGS)?;
+    Ok(lines)
+}
+
+/// Adds a line of each thing of these kinds.
+fn add_all(lines: &mut Vec<PanelLine>, world: &World, things: &[Thing]) -> Result<(), AllocError>
+    ensures { OnOk result (lines.new.items ≡ lines.old.items ++ flat_map (all_of (played world.now)) things.now) }
+{
+    for thing in things {
+        add_each(lines, world, *thing)?;
+    }
+    Ok(())
+}
+
+/// Adds a line of each thing of a kind.
+fn add_each(lines: &mut Vec<PanelLine>, world: &World, thing: Thing) -> Result<(), AllocError>
+    ensures { OnOk result (lines.new.items ≡ lines.old.items ++ all_of (played world.now) thing) }
+{
+    for place in 0..count(world, thing) {
+        lines.push(line_at(world, thing, place))?;
+    }
+    Ok(())
+}
+
+/// How many things of a kind there are.
+fn count(world: &World, thing: Thing) -> usize
+    ensures { result ≡ count world.now.sited.site thing }
+{
+    let layout = world.table().layout();
+    match thing {
+        Thing::Aspect | Thing::SignalLink | Thing::HeldRoute => layout.signals().len(),
+        Thing::Lies | Thing::PointLink => layout.points().len(),
+        Thing::Stands | Thing::Locked => layout.sections().len(),
+        Thing::DetectorLink => layout.detectors().len(),
+        Thing::Route => layout.routes().len(),
+    }
+}
+
+/// What is shown of the thing of a kind at a place.
+fn line_at(world: &World, thing: Thing, place: usize) -> PanelLine
+    requires { place < count world.now.sited.site thing }
+    ensures { result ≡ line_at (played world.now) thing place }
+{
+    match thing {
+        Thing::Aspect => aspect_line(world, place),
+        Thing::Lies => lies_line(world, place),
+        Thing::Stands => stands_line(world, place),
+        Thing::Locked => PanelLine::Locked {
+            section: SectionId(place),
+            route: locking(world, place),
+        },
+        Thing::SignalLink => signal_link(world, place),
+        Thing::PointLink => point_link(world, place),
+        Thing::DetectorLink => detector_link(world, place),
+        Thing::HeldRoute => PanelLine::Known(Known::Signal {
+            signal: SignalId(place),
+            authority: authority_of(world.table().layout().routes(), held_at(world, place)),
+        }),
+        Thing::Route => route_line(world, place),
+    }
+}
+
+/// What the interlocking takes.
+fn mode(world: &World) -> Mode
+    ensures { result ≡ mode_seen (played world.now) }
+{
+    let state = world.interlocking();
+    if world.interlocking_clock() < state.created().saturating_add(HOLD) {
+        Mode::Holding
+    } else if state.is_resumed() {
+        Mode::Ready
+    } else {
+        Mode::WaitingForResume
+    }
+}
+
+/// What a signal shows.
+#[tactic(auto, using(crate::proofs::Seen::mapped))]
+fn aspect_line(world: &World, place: usize) -> PanelLine
+    requires { place < length world.now.sited.site.signals }
+    ensures { result ≡ line_at (played world.now) Aspect place }
+{
+    let signal = SignalId(place);
+    PanelLine::Shows {
+        signal,
+        aspect: world.shown(signal),
+    }
+}
+
+/// Where a point lies, and to which side it is driven.
+#[tactic(auto, using(crate::proofs::Seen::there))]
+fn lies_line(world: &World, place: usize) -> PanelLine
+    requires { place < length world.now.sited.site.points }
+    ensures { result ≡ line_at (played world.now) Lies place }
+{
+    let point = PointId(place);
+    PanelLine::Lies {
+        point,
+        position: world.position(point),
+        driven: world.driven(point),
+    }
+}
+
+/// Whether a section is occupied.
+#[tactic(auto, using(crate::proofs::Seen::there))]
+fn stands_line(world: &World, place: usize) -> PanelLine
+    requires { place < length world.now.sited.site.sections }
+    ensures { result ≡ line_at (played world.now) Stands place }
+{
+    let section = SectionId(place);
+    PanelLine::Stands {
+        section,
+        occupancy: world.occupancy(section),
+    }
+}
+
+/// Whether a route is set.
+#[tactic(auto, using(crate::proofs::Seen::mapped))]
+fn route_line(world: &World, place: usize) -> PanelLine
+    requires { place < length world.now.sited.site.routes }
+    ensures { result ≡ line_at (played world.now) RouteSet place }
+{
+    let route = RouteId(place);
+    PanelLine::Known(Known::Route {
+        route,
+        is_set: world.is_set(route),
+    })
+}
+
+/// The link to the controller of a place among all.
+fn link_line(place: usize, ready: bool) -> PanelLine
+    ensures { result ≡ link_line place ready }
+{
+    let state = if ready {
+        LinkState::Ready
+    } else {
+        LinkState::Lost
+    };
+    PanelLine::Known(Known::Link {
+        node: NodeId(place.saturating_add(1)),
+        state,
+    })
+}
+
+/// Whether the initialisation of a signal was completed in its present connection.
+fn is_signal_ready(world: &World, place: usize) -> bool
+    ensures { result ≡ is_signal_ready world.now.run.station.ixl place }
+{
+    world.interlocking().field().is_signal_ready(place)
+}
+
+/// The link to the controller of a signal.
+fn signal_link(world: &World, place: usize) -> PanelLine
+    ensures { result ≡ line_at (played world.now) SignalLink place }
+{
+    link_line(place, is_signal_ready(world, place))
+}
+
+/// Whether the initialisation of a point was completed in its present connection.
+fn is_point_ready(world: &World, place: usize) -> bool
+    ensures { result ≡ is_point_ready world.now.run.station.ixl place }
+{
+    world.interlocking().field().is_point_ready(place)
+}
+
+/// The link to the controller of a point.
+fn point_link(world: &World, place: usize) -> PanelLine
+    ensures { result ≡ line_at (played world.now) PointLink place }
+{
+    let signals = world.table().layout().signals().len();
+    link_line(signals.saturating_add(place), is_point_ready(world, place))
+}
+
+/// The link to a detector.
+fn detector_link(world: &World, place: usize) -> PanelLine
+    ensures { result ≡ line_at (played world.now) DetectorLink place }
+{
+    let layout = world.table().layout();
+    let before = layout.signals().len().saturating_add(layout.points().len());
+    link_line(
+        before.saturating_add(place),
+        is_detector_ready(world, place),
+    )
+}
+
+/// Whether the initialisation of a detector was completed in its present connection.
+#[tactic(auto, using(crate::proofs::Seen::at_read, crate::proofs::Seen::at_past))]
+fn is_detector_ready(world: &World, place: usize) -> bool
+    ensures { result ≡ is_detector_ready world.now.run.station.ixl place }
+{
+    let field = world.interlocking().field();
+    if place < field.detectors() {
+        field.is_detector_ready(place)
+    } else {
+        false
+    }
+}
+
+/// The route that is held for a signal, if one is.
+fn held_at(world: &World, place: usize) -> Option<RouteId>
+    ensures { result ≡ route_held place (held_of world.now.sited.table world.now.run.station world.now.run.frozen) }
+{
+    let held = world.held();
+    first_held(&held, place)
+}
+
+/// The first route that is held for a signal.
+fn first_held(held: &[Held], signal: usize) -> Option<RouteId>
+    ensures { result ≡ route_held signal held.now }
+{
+    for place in 0..held.len() {
+        let one = held[place];
+        if one.signal.0 == signal {
+            return Some(one.route);
+        }
+    }
+    None
+}
+
+/// A route with its aspect.
+fn authority_of(routes: &[Route], route: Option<RouteId>) -> Option<Authority>
+    ensures { result ≡ authority_of routes.now route }
+{
+    let route = route?;
+    let entry = routes.get(route.0)?;
+    Some(Authority {
+        aspect: entry.aspect(),
+        route,
+    })
+}
+
+/// The first route that locks a section.
+fn locking(world: &World, section: usize) -> Option<RouteId>
+    ensures { result ≡ locking world.now.sited.table.rows world.now.run.station.ixl.routes section 0 (length world.now.sited.table.rows) }
+{
+    for number in 0..world.interlocking().table().rows().len() {
+        if locks(world, number, section) {
+            return Some(RouteId(number));
+        }
+    }
+    None
+}
+
+/// Whether a route locks a section.
+fn locks(world: &World, number: usize, section: usize) -> bool
+    requires { number < length world.now.sited.table.rows }
+    ensures { result ≡ lock_of (slice_get world.now.sited.table.rows number) (slice_get world.now.run.station.ixl.routes number) section }
+{
+    let state = world.interlocking();
+    let route = state.route(number);
+    let sections = state.table().rows()[number].sections();
+    route.is_set() && is_left(sections, freed(route.phase()), section)
+}
+
+/// How many sections of a route are freed.
+fn freed(phase: Phase) -> usize
+    ensures { result ≡ freed_sections phase }
+{
+    match phase {
+        Phase::Ended { freed, .. } => freed,
+        _ => 0,
+    }
+}
+
+/// Whether a section stands in a list behind so many.
+fn is_left(sections: &[usize], freed: usize, section: usize) -> bool
+    ensures { result ≡ list_any (λ other. other == section) (drop freed sections.now) }
+{
+    for place in freed..sections.len() {
+        if sections[place] == section {
+            return true;
+        }
+    }
+    false
+}
