@@ -1,7 +1,9 @@
 //! What the process of a node has outside: a socket of its own, the clock of the machine, and its lines on the standard streams or
-//! over a connection. And the same over memory, and what records say of it.
+//! over a connection. And the same over memory, and what records say of it. And what an operator of a node has outside.
 #![tactic(auto)]
 
+mod caller;
+mod calling_lines;
 mod connection_lines;
 mod entry;
 mod fault;
@@ -20,6 +22,7 @@ mod replayed;
 mod stream_lines;
 mod stream_waited;
 
+pub use caller::Caller;
 pub use entry::{Entry, entry_line};
 pub use fault::OpenFault;
 pub use laws::{lines_come_in_any_pieces, lines_come_one_by_one};

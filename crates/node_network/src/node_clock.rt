@@ -45,7 +45,7 @@ impl<'a, T: Timer> NodeClock<'a, T> {
         })
     }
 
-    /// Listeners until the next round is due, the first one not.
+    /// Waits until the next round is due, the first one not.
     pub(crate) fn rest(&mut self)
         ensures first { self.new.first ≡ self.old.first }
         ensures latest { self.new.latest ≡ self.old.latest }

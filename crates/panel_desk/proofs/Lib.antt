@@ -1,3 +1,4 @@
 pub mod WorkedRequests
 pub mod Commands
 pub mod Texts
+pub mod Pictures

@@ -1,5 +1,6 @@
 -- What a panel answers to requests.
 use Rattle.std.specs.Prelude.{◌≡◌, ◌<◌, ℕ, nat_lt, Bool, true, false, if◌then◌else◌, is_some, List, [], ◌∷◌, ◌++◌, length, codes, Option, Some, None, Result, Ok, Err}
+use Rattle.std.specs.Fmt.{decimal}
 use Rattle.std.specs.Option.{option_map_or}
 use Rattle.node_lines.specs.layout.Entries.{Site}
 use Rattle.http1.specs.Fields.{Header}
@@ -44,6 +45,16 @@ sent_of request = record {
   origin = only (get_all (head_of request).headers (codes "origin"));
   token = only (get_all (head_of request).headers (codes "x-token"));
   body = body_of request;
+}
+
+-- ---- who may command
+
+-- by what a browser knows a panel at a port of the loopback interface, and what its page commands with
+abbrev pub access_at : ℕ → List ℕ → AccessView
+access_at port token = record {
+  host = codes "127.0.0.1:" ++ decimal port;
+  origin = codes "http://127.0.0.1:" ++ decimal port;
+  token = token;
 }
 
 -- ---- answers

@@ -4,6 +4,7 @@ pub mod Asked
 pub mod Worked
 pub mod ShownLines
 pub mod Answers
+pub mod Boards
 -- what crates above need of the crates below
 pub use Rattle.node_lines.specs as node_lines
 pub use Rattle.panel_board.specs as panel_board

@@ -1,6 +1,8 @@
 -- What a panel tells, a line each. The lines of `node_lines` tell what the interlocking knows: `link`, `section`, `point`, `signal`,
--- `indicates` and `route`. The others tell what is seen of a station in one process, and of its faults:
+-- `indicates` and `route`; one more tells that it doesn't know what a signal indicates. The others tell what is seen of a station in
+-- one process, and of its faults:
 --
+--     indicates SIGNAL unknown
 --     time MS
 --     ixl ready|holding|resume               what the interlocking takes
 --     shows SIGNAL stop|proceed|slow
@@ -27,7 +29,7 @@ use Rattle.panel_desk.specs.declared.panel_command.Disturbance.TheVariants as as
 use Rattle.panel_desk.specs.declared.panel_line.Mode.{Mode}
 use Rattle.panel_desk.specs.declared.panel_line.Mode.TheVariants.{Ready, Holding, WaitingForResume}
 use Rattle.panel_desk.specs.declared.panel_line.PanelLine.{PanelLine}
-use Rattle.panel_desk.specs.declared.panel_line.PanelLine.TheVariants.{Time, Interlocking, Known, Shows, Lies, Stands, Locked, Cut, Jam, Drop, Delay, Memory}
+use Rattle.panel_desk.specs.declared.panel_line.PanelLine.TheVariants.{Time, Interlocking, Known, Shows, Silent, Lies, Stands, Locked, Cut, Jam, Drop, Delay, Memory}
 
 -- ---- words
 
@@ -61,6 +63,7 @@ cut_text site node is_cut = codes "cut " ++ (node_word site node ++ 32 ∷ yes_o
 -- what is told of a thing of the layout
 abbrev pub thing_text : Site → PanelLine → List ℕ
 thing_text site (Shows signal aspect) = codes "shows " ++ (signal_word site signal ++ 32 ∷ aspect_word aspect)
+thing_text site (Silent signal) = codes "indicates " ++ (signal_word site signal ++ codes " unknown")
 thing_text site (Lies point position driven) = codes "lies " ++ (point_word site point ++ 32 ∷ (position_word position ++ driven_words driven))
 thing_text site (Stands section occupancy) = codes "stands " ++ (section_word site section ++ 32 ∷ occupied_word occupancy)
 thing_text site (Locked section route) = codes "locked " ++ (section_word site section ++ 32 ∷ route_or_none site route)

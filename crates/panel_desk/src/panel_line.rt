@@ -40,6 +40,10 @@ pub enum PanelLine {
         signal: SignalId,
         aspect: Aspect,
     },
+    /// A signal's controller reports nothing, as far as is known.
+    Silent {
+        signal: SignalId,
+    },
     /// Where a point lies, and to which side it is driven, if it is.
     Lies {
         point: PointId,
@@ -138,6 +142,10 @@ impl<'a> fmt::Display for ThingText<'a> {
                 let signal = signal_word(layout, signal);
                 let word = aspect_word(aspect);
                 write!(f, "shows {signal} {word}")
+            }
+            PanelLine::Silent { signal } => {
+                let signal = signal_word(layout, signal);
+                write!(f, "indicates {signal} unknown")
             }
             PanelLine::Lies {
                 point,

@@ -557,7 +557,13 @@ panel_time = record {
   long = refl;
 }
 
-panel_help : IsHelp (rule_at 4 panel_rules)
+panel_node : IsOption panel_rules (rule_at 4 panel_rules)
+panel_node = record {
+  one = record { found = refl; same = refl; fault = λ text rs. refl; empty = λ rs. tt; leaves = λ text rs. refl; most = refl; alone = refl; once = refl; further = refl };
+  long = refl;
+}
+
+panel_help : IsHelp (rule_at 5 panel_rules)
 panel_help = record { valueless = refl; fails = λ rs. tt }
 
 panel_file : (n : Files) → IsFile panel_usage.files panel_rules n
@@ -566,24 +572,25 @@ panel_file second_due = inr (refl, refl)
 panel_file third_due = inr (refl, refl)
 panel_file none_due = inr (refl, refl)
 
-panel_named : (name : Text) (is_port is_record is_time is_help : Bool) → bytes_eq (codes "port") name ≡ is_port → bytes_eq (codes "record") name ≡ is_record
-    → bytes_eq (codes "for") name ≡ is_time → bytes_eq (codes "help") name ≡ is_help → IsNamed panel_usage panel_rules name
-panel_named name true is_record is_time is_help a b c d = inl (rule_at 1 panel_rules, panel_port, (bytes_eq-Decides (codes "port") name).0 a, refl)
-panel_named name false true is_time is_help a b c d = inl (rule_at 2 panel_rules, panel_record, (bytes_eq-Decides (codes "record") name).0 b, refl)
-panel_named name false false true is_help a b c d = inl (rule_at 3 panel_rules, panel_time, (bytes_eq-Decides (codes "for") name).0 c, refl)
-panel_named name false false false true a b c d = inr (inr (rw (a, b, c) refl, refl, names_help panel_rules name (rule_at 4 panel_rules) (rw (a, b, c, d) refl) panel_help))
-panel_named name false false false false a b c d = inr (inr (rw (a, b, c) refl, refl, names_nothing panel_rules name (rw (a, b, c, d) refl)))
+panel_named : (name : Text) (is_port is_record is_time is_node is_help : Bool) → bytes_eq (codes "port") name ≡ is_port → bytes_eq (codes "record") name ≡ is_record
+    → bytes_eq (codes "for") name ≡ is_time → bytes_eq (codes "node") name ≡ is_node → bytes_eq (codes "help") name ≡ is_help → IsNamed panel_usage panel_rules name
+panel_named name true is_record is_time is_node is_help a b c d e = inl (rule_at 1 panel_rules, panel_port, (bytes_eq-Decides (codes "port") name).0 a, refl)
+panel_named name false true is_time is_node is_help a b c d e = inl (rule_at 2 panel_rules, panel_record, (bytes_eq-Decides (codes "record") name).0 b, refl)
+panel_named name false false true is_node is_help a b c d e = inl (rule_at 3 panel_rules, panel_time, (bytes_eq-Decides (codes "for") name).0 c, refl)
+panel_named name false false false true is_help a b c d e = inl (rule_at 4 panel_rules, panel_node, (bytes_eq-Decides (codes "node") name).0 d, refl)
+panel_named name false false false false true a b c d e = inr (inr (rw (a, b, c, d) refl, refl, names_help panel_rules name (rule_at 5 panel_rules) (rw (a, b, c, d, e) refl) panel_help))
+panel_named name false false false false false a b c d e = inr (inr (rw (a, b, c, d) refl, refl, names_nothing panel_rules name (rw (a, b, c, d, e) refl)))
 
 panel_short : (x : ℕ) (is_help : Bool) → nat_eq 104 x ≡ is_help → (rest : Text) (h : Held) (after : Held → Kinds) → Fails (short_fault panel_rules false (arg_by_short panel_rules x) rest h after)
-panel_short x true e = short_help panel_rules x (rule_at 4 panel_rules) (rw e refl) panel_help
+panel_short x true e = short_help panel_rules x (rule_at 5 panel_rules) (rw e refl) panel_help
 panel_short x false e = short_nothing panel_rules x (rw e refl)
 
 panel_is : IsLine panel_usage panel_rules
 panel_is = record {
   file = panel_file;
-  named = λ name. panel_named name (bytes_eq (codes "port") name) (bytes_eq (codes "record") name) (bytes_eq (codes "for") name) (bytes_eq (codes "help") name) refl refl refl refl;
+  named = λ name. panel_named name (bytes_eq (codes "port") name) (bytes_eq (codes "record") name) (bytes_eq (codes "for") name) (bytes_eq (codes "node") name) (bytes_eq (codes "help") name) refl refl refl refl refl;
   short = λ x. panel_short x (nat_eq 104 x) refl;
-  defaults = (refl, (refl, (refl, (refl, (refl, tt)))));
+  defaults = (refl, (refl, (refl, (refl, (refl, (refl, tt))))));
 }
 
 -- ---- what is asked for
@@ -831,15 +838,15 @@ node_reads = command_reads (codes "node") node_usage node_rules node_is node_by 
         (node_ends (value_of (codes "FILE") given) (value_of (codes "NAME") given) (value_of (codes "addresses") given) (value_of (codes "operator") given) (value_of (codes "record") given)
         (value_of (codes "clock") given) (value_of (codes "for") given) (are.taken (codes "clock")) (are.taken (codes "for")))
 
-panel_ends : (a port recording time : Option Text) → InRange 1 65535 port → InRange 1000 600000 time
-    → Ends (panel_of a (option_map time_of port) recording (option_map time_of time)) (panel_of a (option_and_then number_of port) recording (option_and_then number_of time))
+panel_ends : (a port recording time node : Option Text) → InRange 1 65535 port → InRange 1000 600000 time
+    → Ends (panel_of a (option_map time_of port) recording (option_map time_of time) node) (panel_of a (option_and_then number_of port) recording (option_and_then number_of time) node)
     (check_kinds false false (not (is_some a) || false))
-panel_ends (Some a) port recording time opened timed =
+panel_ends (Some a) port recording time node opened timed =
     inl (
-      Panel a (option_map time_of port) recording (option_map time_of time),
-      (refl, (refl, λ i. Some (Panel a (number_read 1 65535 port opened i) recording (number_read 1000 600000 time timed i)))),
+      Panel a (option_map time_of port) recording (option_map time_of time) node,
+      (refl, (refl, λ i. Some (Panel a (number_read 1 65535 port opened i) recording (number_read 1000 600000 time timed i) node))),
     )
-panel_ends None port recording time opened timed = inr (inr (refl, tt))
+panel_ends None port recording time node opened timed = inr (inr (refl, tt))
 
 pub panel_reads : (words : List Text) → CommandReads (codes "panel") panel_usage panel_rules panel_by panel_of_rows words
 panel_reads = command_reads (codes "panel") panel_usage panel_rules panel_is panel_by panel_of_rows settles
@@ -850,6 +857,8 @@ panel_reads = command_reads (codes "panel") panel_usage panel_rules panel_is pan
         let port_is = no_default given found (codes "port") (are.values (codes "port")) in
         let record_is = no_default given found (codes "record") (are.values (codes "record")) in
         let time_is = no_default given found (codes "for") (are.values (codes "for")) in
+        let node_is = no_default given found (codes "node") (are.values (codes "node")) in
         subst (λ r. Settles panel_rules (panel_by given) r given)
-        (λ i. panel_of (sym file_is i) (option_and_then number_of (sym port_is i)) (sym record_is i) (option_and_then number_of (sym time_is i)))
-        (panel_ends (value_of (codes "FILE") given) (value_of (codes "port") given) (value_of (codes "record") given) (value_of (codes "for") given) (are.taken (codes "port")) (are.taken (codes "for")))
+        (λ i. panel_of (sym file_is i) (option_and_then number_of (sym port_is i)) (sym record_is i) (option_and_then number_of (sym time_is i)) (sym node_is i))
+        (panel_ends (value_of (codes "FILE") given) (value_of (codes "port") given) (value_of (codes "record") given) (value_of (codes "for") given) (value_of (codes "node") given)
+        (are.taken (codes "port")) (are.taken (codes "for")))

@@ -242,14 +242,16 @@ module _ (m : ArgMatches) where
 
   -- ---- `panel`
 
-  pub panel_found : (a : Text) (port : Option ℕ) (recording : Option Text) (time : Option ℕ) → Some a ≡ FirstOf (codes "FILE") → port ≡ option_and_then number_of (FirstOf (codes "port"))
-      → recording ≡ first_value (found_of m) (codes "record") → time ≡ option_and_then number_of (FirstOf (codes "for")) → Some (Panel a port recording time) ≡ panel_of_rows (rows_of (found_of m))
-  panel_found a port recording time e f g h =
+  pub panel_found : (a : Text) (port : Option ℕ) (recording : Option Text) (time : Option ℕ) (node : Option Text) → Some a ≡ FirstOf (codes "FILE") → port ≡ option_and_then number_of (FirstOf (codes "port"))
+      → recording ≡ first_value (found_of m) (codes "record") → time ≡ option_and_then number_of (FirstOf (codes "for")) → node ≡ first_value (found_of m) (codes "node")
+      → Some (Panel a port recording time node) ≡ panel_of_rows (rows_of (found_of m))
+  panel_found a port recording time node e f g h k =
       let record_is = value_found (codes "record") recording g in
-      λ i. panel_of (e i) (f i) (record_is i) (h i)
+      let node_is = value_found (codes "node") node k in
+      λ i. panel_of (e i) (f i) (record_is i) (h i) (node_is i)
 
   pub no_panel : None ≡ FirstOf (codes "FILE") → None ≡ panel_of_rows (rows_of (found_of m))
-  no_panel e = ap (λ o. panel_of o (option_and_then number_of (FirstOf (codes "port"))) (FirstOf (codes "record")) (option_and_then number_of (FirstOf (codes "for")))) e
+  no_panel e = ap (λ o. panel_of o (option_and_then number_of (FirstOf (codes "port"))) (FirstOf (codes "record")) (option_and_then number_of (FirstOf (codes "for"))) (FirstOf (codes "node"))) e
 
   -- ---- a subcommand
 

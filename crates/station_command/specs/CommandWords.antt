@@ -110,7 +110,7 @@ pub data Request : Type 0 where
   Table : List ℕ → Bool → Request
   Sim : List ℕ → List ℕ → Request
   Run : List ℕ → List ℕ → List ℕ → ℕ → Request
-  Panel : List ℕ → Option ℕ → Option (List ℕ) → Option ℕ → Request
+  Panel : List ℕ → Option ℕ → Option (List ℕ) → Option ℕ → Option (List ℕ) → Request
   Replay : List ℕ → List ℕ → Option (List ℕ) → Request
   Chart : List ℕ → List ℕ → Option ℕ → Option ℕ → Request
   Decode : List ℕ → Option (List ℕ) → Request
@@ -170,12 +170,12 @@ abbrev pub run_of : Option (List ℕ) → Option (List ℕ) → Option (List ℕ
 run_of (Some file) (Some script) (Some recording) (Some time) = Some (Run file script recording time)
 run_of _ _ _ _ = None
 
--- `panel FILE [--port P] [--record R] [--for MS]`
+-- `panel FILE [--port P] [--record R] [--for MS] [--node ADDRESS]`
 abbrev pub panel_usage : Usage
-panel_usage = record { files = codes "FILE" ∷ []; options = codes "port" ∷ codes "record" ∷ codes "for" ∷ []; switches = [] }
+panel_usage = record { files = codes "FILE" ∷ []; options = codes "port" ∷ codes "record" ∷ codes "for" ∷ codes "node" ∷ []; switches = [] }
 
-abbrev pub panel_of : Option (List ℕ) → Option ℕ → Option (List ℕ) → Option ℕ → Option Request
-panel_of layout port recording time = option_map (λ file. Panel file port recording time) layout
+abbrev pub panel_of : Option (List ℕ) → Option ℕ → Option (List ℕ) → Option ℕ → Option (List ℕ) → Option Request
+panel_of layout port recording time node = option_map (λ file. Panel file port recording time node) layout
 
 -- the number that a time writes
 abbrev pub time_of : List ℕ → ℕ
@@ -245,7 +245,9 @@ abbrev pub run_by : List Given → Option Request
 run_by given = run_of (value_of (codes "FILE") given) (value_of (codes "script") given) (value_of (codes "record") given) (option_map time_of (value_of (codes "for") given))
 
 abbrev pub panel_by : List Given → Option Request
-panel_by given = panel_of (value_of (codes "FILE") given) (option_map time_of (value_of (codes "port") given)) (value_of (codes "record") given) (option_map time_of (value_of (codes "for") given))
+panel_by given =
+    panel_of (value_of (codes "FILE") given) (option_map time_of (value_of (codes "port") given)) (value_of (codes "record") given) (option_map time_of (value_of (codes "for") given))
+    (value_of (codes "node") given)
 
 abbrev pub replay_by : List Given → Option Request
 replay_by given = replay_of (value_of (codes "FILE") given) (value_of (codes "SECOND") given) (value_of (codes "node") given)
@@ -290,7 +292,7 @@ request_of (asked.Plan layout route picture) = Plan layout.now (option_copied ro
 request_of (asked.Table layout csv) = Table layout.now csv
 request_of (asked.Sim layout events) = Sim layout.now events.now
 request_of (asked.Run layout script recording for_ms) = Run layout.now script.now recording.now for_ms
-request_of (asked.Panel layout port recording time) = Panel layout.now port (option_copied recording) time
+request_of (asked.Panel layout port recording time node) = Panel layout.now port (option_copied recording) time (option_copied node)
 request_of (asked.Replay layout recording node) = Replay layout.now recording.now (option_copied node)
 request_of (asked.Chart layout recording from to) = Chart layout.now recording.now from to
 request_of (asked.Decode word layout) = Decode word.now (option_copied layout)

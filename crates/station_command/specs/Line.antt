@@ -60,10 +60,11 @@ run_line = with_rule (with_rule reading_line (needed_rule (codes "record"))) tim
 abbrev pub port_rule : Rule
 port_rule = ranged_rule (codes "port") 1 65535
 
--- `panel FILE [--port P] [--record R] [--for MS]`
+-- `panel FILE [--port P] [--record R] [--for MS] [--node ADDRESS]`
 abbrev pub panel_line : App
 panel_line =
-    with_rule (with_rule (with_rule (with_rule (new_app (codes "panel")) file_rule) port_rule) (option_rule (codes "record"))) (ranged_rule (codes "for") 1000 600000)
+    let plain = with_rule (with_rule (new_app (codes "panel")) file_rule) port_rule
+    in with_rule (with_rule (with_rule plain (option_rule (codes "record"))) (ranged_rule (codes "for") 1000 600000)) (option_rule (codes "node"))
 
 -- a moment of a chart, in its range
 abbrev pub moment_rule : List ℕ → Rule

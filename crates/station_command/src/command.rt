@@ -50,12 +50,13 @@ pub enum Asked<'a> {
         record: &'a str,
         for_ms: u64,
     },
-    /// `panel FILE [--port P] [--record R] [--for MS]`: a panel of a station of the layout in a file, whose page is at a port, with a record of what happens.
+    /// `panel FILE [--port P] [--record R] [--for MS] [--node ADDRESS]`: a panel of a station of the layout in a file, whose page is at a port, with a record of what happens; or a panel that is joined to the node of an interlocking at an address.
     Panel {
         layout: &'a str,
         port: Option<u64>,
         record: Option<&'a str>,
         for_ms: Option<u64>,
+        node: Option<&'a str>,
     },
     /// `replay FILE RECORD [--node NAME]`: whether a recorded session on the layout in a file answers the same again, or the record of the node of this name.
     Replay {
@@ -247,11 +248,13 @@ fn asked_panel<'a>(matches: &ArgMatches<'a>) -> Option<Asked<'a>>
     let port = number_given(matches, PORT);
     let record = matches.get_str(RECORD);
     let for_ms = number_given(matches, FOR);
+    let node = matches.get_str(NODE);
     Some(Asked::Panel {
         layout,
         port,
         record,
         for_ms,
+        node,
     })
 }
 

@@ -327,17 +327,18 @@ fn run<'a>(alloc: Global) -> Result<Command<'a>, AllocError>
     taking(line, time(alloc))
 }
 
-/// `panel FILE [--port P] [--record R] [--for MS]`.
+/// `panel FILE [--port P] [--record R] [--for MS] [--node ADDRESS]`.
 fn panel<'a>(alloc: Global) -> Result<Command<'a>, AllocError>
     ensures { IfOk result (λ line. (app_of line ≡ panel_line) × ((out-Command line).has_globals ≡ false)) }
 {
     let line = on_layout(alloc, PANEL, texts::PANEL, texts::PANEL_DETAILS);
     let line = taking(line, port(alloc));
     let line = taking(line, option(alloc, RECORD, "R", texts::RECORD_OF_PANEL));
-    taking(
+    let line = taking(
         line,
         ranged(alloc, FOR, texts::FOR_OF_PANEL, SHORTEST, LONGEST),
-    )
+    );
+    taking(line, option(alloc, NODE, "ADDRESS", texts::NODE_OF_PANEL))
 }
 
 /// The option for the port of a panel's page.

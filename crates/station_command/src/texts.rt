@@ -118,6 +118,9 @@ pub(crate) const RECORD_OF_PANEL: &str =
 pub(crate) const FOR_OF_PANEL: &str =
     "How long the panel stands, from 1000 to 600000 milliseconds, else until it is stopped";
 
+pub(crate) const NODE_OF_PANEL: &str =
+    "The address at which the interlocking's node serves its operator: the panel is joined to it";
+
 pub(crate) const PANEL: &str = "Opens a signaller's panel of a station in a browser";
 
 pub(crate) const PANEL_DETAILS: &str = "Opens a signaller's panel of a station in a browser.
@@ -128,6 +131,10 @@ page shows the track plan as the station stands. On it a person sets and cancels
 and disturbs the station: cuts links, loses and delays datagrams, makes nodes anew, jams points.
 
 It runs until it is stopped, or until the datagrams that were sent take 1 GiB.
+
+With --node the station isn't run here: its interlocking runs as node runs one with --operator, and the
+panel is joined to it as its operator. The page then shows what the interlocking knows, and sets and
+cancels routes. The node writes the record, so --record isn't taken with --node.
 
 Example: station panel examples/junction.toml";
 

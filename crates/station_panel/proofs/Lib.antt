@@ -1,4 +1,3 @@
 pub mod Cancels
 pub mod Readings
 pub mod Turn
-pub mod Pictures

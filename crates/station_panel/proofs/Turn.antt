@@ -11,7 +11,7 @@ use Rattle.station_panel.specs.Asked.{events_asked, faults_after}
 use Rattle.station_panel.specs.Faults.{FaultsView}
 use Rattle.station_panel.specs.declared.ending.Ending.{Ending}
 use Rattle.station_panel.specs.declared.ending.Ending.TheVariants as ends
-use Rattle.station_panel.specs.Shown.{Notes, none}
+use Rattle.panel_desk.specs.Boards.{Notes, none}
 use Rattle.station_panel.specs.Turns.{IsOver, Moment, Turns, doings}
 
 pub stopped : {T E : Type 0} {A : Type 0} (result : Result T E) → A → OnErr result A

@@ -13,7 +13,8 @@ use Rattle.station_panel.specs.Asked.{events_asked, faults_after}
 use Rattle.station_panel.specs.Faults.{FaultsView, no_faults}
 use Rattle.station_panel.specs.declared.ending.Ending.{Ending}
 use Rattle.station_panel.specs.declared.ending.Ending.TheVariants.{TimeIsOver, MemoryIsFull}
-use Rattle.station_panel.specs.Shown.{Notes, fault_lines, shown_anew}
+use Rattle.panel_desk.specs.Boards.{Notes, shown_anew}
+use Rattle.station_panel.specs.Shown.{fault_lines}
 
 -- a panel whose time is over ends at a reading so many milliseconds behind the first, or more
 abbrev pub IsOver : ℕ → ℕ → ℕ → Ending → Type 0

@@ -7,10 +7,9 @@ ghost use Rattle.station_panel.specs.Turns.{Attended, CutShort, EndsSo, IsLived,
 use crate::disturbed::Disturbed;
 use crate::ending::{Ending, Limits};
 use crate::noting::Noting;
-use crate::pictured::Pictured;
 use crate::seat::Seat;
 use panel_connections::{Connections, Listens};
-use panel_desk::Desk;
+use panel_desk::{Desk, Pictured};
 use station_network::station_drive::{Clock, Datagrams, DriveFault, Station};
 use std::alloc::Global;
 use std::io::Write;

@@ -7,27 +7,23 @@ mod attendance;
 mod disturbed;
 mod ending;
 mod faults;
-mod laws;
 mod log_lines;
 mod memory;
 mod noting;
 mod picture_shown;
-mod pictured;
 mod seat;
 
 pub use attendance::attend;
 pub use disturbed::Disturbed;
 pub use ending::{Ending, Limits};
-pub use laws::what_is_shown_is_the_picture;
 pub use noting::Noting;
-pub use pictured::Pictured;
 pub use seat::places;
 
 // What a panel is made of.
 pub use panel_connections::{Listens, Loopback};
 pub use panel_desk::node_lines::{Authority, Known, LinkState};
 pub use panel_desk::panel_board::{About, Board, about_text};
-pub use panel_desk::{Desk, Mode, PanelLine};
+pub use panel_desk::{Desk, Mode, PanelLine, Pictured};
 
 // What crates above need of the crates below.
 pub use station_network;

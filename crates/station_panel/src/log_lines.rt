@@ -1,7 +1,7 @@
 //! What was asked for in a turn is noted in the log, with its answer.
 
 ghost use Rattle.std.specs.Prelude.{OnOk};
-ghost use Rattle.station_panel.specs.Shown.{Notes};
+ghost use Rattle.panel_desk.specs.Boards.{Notes};
 
 use panel_desk::node_lines::ixl_rules::Command;
 use panel_desk::node_lines::ixl_rules::control_table::Checked;

@@ -4,13 +4,12 @@ ghost use Rattle.std.specs.Prelude.{◌≡◌};
 ghost use Rattle.station_panel.specs.Asked.{may_be_asked};
 
 use crate::asked::may_be_asked;
-use crate::pictured::Pictured;
-use panel_desk::PanelLine;
 use panel_desk::node_lines::ixl_rules::control_table::Checked;
 use panel_desk::node_lines::ixl_rules::control_table::layout::PointId;
 use panel_desk::node_lines::ixl_rules::control_table::sci_telegram::Side;
 use panel_desk::node_lines::replay_lines::recorded;
 use panel_desk::node_lines::simulator_event::{Answer, Event, Refused, Reply};
+use panel_desk::{PanelLine, Pictured};
 use station_network::station_drive::{Outgoing, Station};
 use std::alloc::{AllocError, Global};
 

@@ -1,15 +1,13 @@
 //! What is seen is shown on the desk.
 
 ghost use Rattle.std.specs.Prelude.{◌≡◌, ◌++◌, OnOk};
-ghost use Rattle.panel_desk.specs.ShownLines.{panel_text};
-ghost use Rattle.panel_desk.specs.panel_board.Lines.{told};
-ghost use Rattle.station_panel.specs.Shown.{cut_lines, fault_lines, jam_lines, shown_all, shown_anew};
+ghost use Rattle.panel_desk.specs.Boards.{shown_anew};
+ghost use Rattle.station_panel.specs.Shown.{cut_lines, fault_lines, jam_lines};
 
 use crate::faults::Faults;
-use crate::pictured::Pictured;
-use panel_desk::node_lines::ixl_rules::control_table::layout::{Layout, PointId};
+use panel_desk::node_lines::ixl_rules::control_table::layout::PointId;
 use panel_desk::node_lines::simulator_event::NodeId;
-use panel_desk::{Desk, PanelLine, PanelText};
+use panel_desk::{Desk, PanelLine, Pictured, show_lines};
 use station_network::station_drive::Station;
 use std::alloc::{AllocError, Global};
 
@@ -71,37 +69,4 @@ fn add_jam_lines(lines: &mut Vec<PanelLine>, jammed: &[bool]) -> Result<(), Allo
         })?;
     }
     Ok(())
-}
-
-/// Shows lines, each at its place.
-fn show_lines(
-    alloc: Global,
-    layout: &Layout,
-    lines: &[PanelLine],
-    desk: &mut Desk,
-) -> Result<(), AllocError>
-    ensures { OnOk result (desk.new ≡ record desk.old { board = shown_all layout.now 0 lines.now desk.old.board }) }
-{
-    for place in 0..lines.len() {
-        show_line(alloc, layout, place, lines[place], desk)?;
-    }
-    Ok(())
-}
-
-/// Shows a line at a place, if the desk has one.
-fn show_line(
-    alloc: Global,
-    layout: &Layout,
-    place: usize,
-    line: PanelLine,
-    desk: &mut Desk,
-) -> Result<(), AllocError>
-    ensures { OnOk result (desk.new ≡ record desk.old { board = told place (panel_text layout.now line) desk.old.board }) }
-{
-    if place >= desk.places() {
-        return Ok(());
-    }
-    let line = PanelText { layout, line };
-    let text = format!(in alloc; "{line}")?;
-    desk.show(place, text.as_str())
 }

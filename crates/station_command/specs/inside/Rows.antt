@@ -34,7 +34,9 @@ run_of_rows rows = run_of (first_of (codes "FILE") rows) (first_of (codes "scrip
     (option_and_then number_of (first_of (codes "for") rows))
 
 abbrev pub panel_of_rows : List Row → Option Request
-panel_of_rows rows = panel_of (first_of (codes "FILE") rows) (option_and_then number_of (first_of (codes "port") rows)) (first_of (codes "record") rows) (option_and_then number_of (first_of (codes "for") rows))
+panel_of_rows rows =
+    panel_of (first_of (codes "FILE") rows) (option_and_then number_of (first_of (codes "port") rows)) (first_of (codes "record") rows) (option_and_then number_of (first_of (codes "for") rows))
+    (first_of (codes "node") rows)
 
 abbrev pub replay_of_rows : List Row → Option Request
 replay_of_rows rows = replay_of (first_of (codes "FILE") rows) (first_of (codes "SECOND") rows) (first_of (codes "node") rows)

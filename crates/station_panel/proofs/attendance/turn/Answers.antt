@@ -4,7 +4,8 @@ use Rattle.panel_desk.specs.node_lines.layout.Entries.{RouteEntry, Site}
 use Rattle.station_network.specs.station_drive.Doings.{Doing, Performs, Stops}
 use Rattle.station_network.specs.station_drive.Rounds.{RunSoFar, run_after}
 use Rattle.station_panel.specs.Faults.{FaultsView}
-use Rattle.station_panel.specs.Shown.{Notes, fault_lines, shown_anew}
+use Rattle.panel_desk.specs.Boards.{Notes, shown_anew}
+use Rattle.station_panel.specs.Shown.{fault_lines}
 use Rattle.station_panel.specs.Turns.{before_it, behind_it, within_it}
 use Rattle.station_panel.proofs.Turn.{doings_are, stopped}
 use Rattle.station_panel.proofs.attendance.turn.Goals as goal

@@ -1,5 +1,5 @@
 use Rattle.std.proofs.Common.{sym, subst}
-use Rattle.station_panel.specs.Shown.{Notes, one}
+use Rattle.panel_desk.specs.Boards.{Notes, one}
 use Rattle.station_panel.proofs.Turn.{ok_met}
 use Rattle.station_panel.proofs.log_lines.note.Goals as goal
 

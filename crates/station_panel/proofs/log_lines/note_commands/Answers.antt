@@ -1,4 +1,4 @@
-use Rattle.station_panel.specs.Shown.{none, both}
+use Rattle.panel_desk.specs.Boards.{none, both}
 use Rattle.station_panel.proofs.log_lines.note_commands.Goals as goal
 
 pub loop-command-init : goal.loop-command-init

@@ -1,4 +1,4 @@
-use Rattle.station_panel.specs.Shown.{Notes}
+use Rattle.panel_desk.specs.Boards.{Notes}
 use Rattle.station_panel.proofs.log_lines.note_commands.Given as goal
 
 -- lines were noted so far

@@ -1,4 +1,4 @@
-use Rattle.station_panel.specs.Shown.{both}
+use Rattle.panel_desk.specs.Boards.{both}
 use Rattle.station_panel.proofs.Turn.{ok_met}
 use Rattle.station_panel.proofs.seat.Seat.note.Goals as goal
 

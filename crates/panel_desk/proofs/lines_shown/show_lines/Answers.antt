@@ -1,5 +1,5 @@
-use Rattle.station_panel.proofs.Pictures.{shown_next}
-use Rattle.station_panel.proofs.picture_shown.show_lines.Goals as goal
+use Rattle.panel_desk.proofs.Pictures.{shown_next}
+use Rattle.panel_desk.proofs.lines_shown.show_lines.Goals as goal
 
 pub loop-place-preserved : goal.loop-place-preserved
 loop-place-preserved c =

@@ -1,7 +1,7 @@
 use Rattle.std.proofs.Common.{◌≡◌, ◌+◌, length, arith}
-use Rattle.panel_desk.specs.panel_board.Lines.{numbered}
-use Rattle.station_panel.proofs.Pictures.{shown_texts}
-use Rattle.station_panel.proofs.laws.what_is_shown_is_the_picture.Goals as goal
+use Rattle.panel_board.specs.Lines.{numbered}
+use Rattle.panel_desk.proofs.Pictures.{shown_texts}
+use Rattle.panel_desk.proofs.laws.what_is_shown_is_the_picture.Goals as goal
 
 pub returns : goal.returns
 returns c = λ site lines desk fits.

@@ -1,6 +1,6 @@
 use Rattle.std.proofs.Common.{◌≡◌, drop}
-use Rattle.station_panel.specs.Shown.{shown_all}
-use Rattle.station_panel.proofs.picture_shown.show_lines.Given as goal
+use Rattle.panel_desk.specs.Boards.{shown_all}
+use Rattle.panel_desk.proofs.lines_shown.show_lines.Given as goal
 
 -- what is left leads to where all lead
 abbrev pub invariant-loop-place : goal.invariant-loop-place

@@ -6,10 +6,10 @@ use Rattle.std.specs.Str.{bytes_eq}
 use Rattle.panel_desk.specs.Answers.{DeskView}
 use Rattle.panel_desk.specs.ShownLines.{panel_text}
 use Rattle.panel_desk.specs.declared.panel_line.PanelLine.{PanelLine}
-use Rattle.panel_desk.specs.node_lines.layout.Entries.{Site}
-use Rattle.panel_desk.specs.panel_board.Lines.{BoardView, NotedView, told, told_at, told_over}
-use Rattle.panel_desk.specs.panel_board.Pages.{texts}
-use Rattle.station_panel.specs.Shown.{shown_all}
+use Rattle.node_lines.specs.layout.Entries.{Site}
+use Rattle.panel_board.specs.Lines.{BoardView, NotedView, told, told_at, told_over}
+use Rattle.panel_board.specs.Pages.{texts}
+use Rattle.panel_desk.specs.Boards.{shown_all}
 
 -- ---- lists
 

@@ -1,6 +1,6 @@
 //! A station of which a panel shows a picture.
 
-use panel_desk::PanelLine;
+use crate::panel_line::PanelLine;
 use std::alloc::{AllocError, Global};
 
 /// A station of which a panel shows a picture.

@@ -1,0 +1,3 @@
+pub mod CallsOn
+pub mod Lists
+pub mod ReadAgain

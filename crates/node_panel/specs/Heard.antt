@@ -1,0 +1,152 @@
+-- What an interlocking's node has told since its operator's connection began, and what is shown of it.
+use Rattle.std.specs.Prelude.{ℕ, zero, suc, ◌+◌, nat_lt, Bool, true, false, if◌then◌else◌, List, [], ◌∷◌, ◌++◌, codes, length, replicate, slice_set, Option, Some, None, Result, Ok, Err}
+use Rattle.std.specs.Str.{bytes_eq}
+use Rattle.panel_desk.specs.declared.panel_line.Mode.{Mode}
+use Rattle.panel_desk.specs.declared.panel_line.Mode.TheVariants as mode
+use Rattle.panel_desk.specs.declared.panel_line.PanelLine.{PanelLine}
+use Rattle.panel_desk.specs.declared.panel_line.PanelLine.TheVariants.{Interlocking, Silent}
+use Rattle.panel_desk.specs.declared.panel_line.PanelLine.TheVariants as shows
+use Rattle.panel_desk.specs.node_lines.ixl_rules.declared.command.Command.TheVariants.{Resume}
+use Rattle.panel_desk.specs.node_lines.layout.Entries.{Site}
+use Rattle.panel_desk.specs.node_lines.replay_words.Cut.{words}
+use Rattle.panel_desk.specs.node_lines.replay_words.declared.fault.Fault.{Fault}
+use Rattle.panel_desk.specs.node_lines.sci_telegram.declared.message.Aspect.{Aspect}
+use Rattle.panel_desk.specs.node_lines.sci_telegram.declared.message.Occupancy.{Occupancy}
+use Rattle.panel_desk.specs.node_lines.sci_telegram.declared.message.Side.{Side}
+use Rattle.panel_desk.specs.node_lines.declared.operator_command.OperatorCommand.{OperatorCommand}
+use Rattle.panel_desk.specs.node_lines.declared.operator_command.OperatorCommand.TheVariants.{One}
+use Rattle.panel_desk.specs.node_lines.declared.operator_line.Authority.{Authority}
+use Rattle.panel_desk.specs.node_lines.declared.operator_line.Known.{Known}
+use Rattle.panel_desk.specs.node_lines.declared.operator_line.Known.TheVariants.{Link, Section, Point, Signal, Indicates, Route, Holding, WaitingForResume}
+use Rattle.panel_desk.specs.node_lines.declared.operator_line.LinkState.{LinkState}
+use Rattle.panel_desk.specs.node_lines.declared.operator_line.LinkState.TheVariants.{Ready, Lost}
+use Rattle.node_drive.specs.Calls.{LineHeard, Text, Nothing, Closed}
+use Rattle.node_panel.specs.Lines.{told_said}
+use Rattle.node_panel.specs.declared.told.Told.{Told}
+use Rattle.node_panel.specs.declared.told.Told.TheVariants.{Answer, Tells}
+
+pub record HeardView : Type 0 where
+  -- whether it told anything
+  pub joined : Bool
+  -- what it takes
+  pub mode : Mode
+  -- of each controller, in the order of the nodes, whether its link is ready
+  pub links : List Bool
+  pub sections : List (Option Occupancy)
+  pub points : List (Option Side)
+  -- of each signal, the authority that was given
+  pub authorities : List (Option Authority)
+  -- of each signal, what its controller indicates, as long as its link is ready
+  pub indications : List (Option Aspect)
+  -- of each route, whether it is set
+  pub routes : List Bool
+  -- the commands that weren't answered yet, oldest first
+  pub asked : List OperatorCommand
+
+-- ---- nothing was told
+
+-- of so many controllers, sections, points, signals and routes
+abbrev pub nothing_heard : ℕ → ℕ → ℕ → ℕ → ℕ → HeardView
+nothing_heard controllers sections points signals routes = record {
+  joined = false;
+  mode = mode.Ready;
+  links = replicate controllers false;
+  sections = replicate sections None;
+  points = replicate points None;
+  authorities = replicate signals None;
+  indications = replicate signals None;
+  routes = replicate routes false;
+  asked = [];
+}
+
+abbrev pub unheard : Site → HeardView
+unheard site =
+    nothing_heard (length site.signals + (length site.points + length site.detectors)) (length site.sections) (length site.points) (length site.signals) (length site.routes)
+
+-- as if nothing had been told
+abbrev pub forgotten : HeardView → HeardView
+forgotten heard = nothing_heard (length heard.links) (length heard.sections) (length heard.points) (length heard.authorities) (length heard.routes)
+
+-- ---- something is told
+
+-- a value is put at a place; nothing is where there is no such place
+abbrev pub put_at : {A : Type 0} → ℕ → A → List A → List A
+put_at place value all = if nat_lt place (length all) then slice_set all place value else all
+
+-- what a controller indicated isn't known any more when its link is lost
+abbrev pub put_link : ℕ → LinkState → HeardView → HeardView
+put_link zero state heard = heard
+put_link (suc place) Ready heard = record heard { links = put_at place true heard.links }
+put_link (suc place) Lost heard = record heard { links = put_at place false heard.links; indications = put_at place None heard.indications }
+
+abbrev pub put : Known → HeardView → HeardView
+put (Link node state) heard = put_link node.0 state heard
+put (Section section occupancy) heard = record heard { sections = put_at section.0 occupancy heard.sections }
+put (Point point side) heard = record heard { points = put_at point.0 side heard.points }
+put (Signal signal authority) heard = record heard { authorities = put_at signal.0 authority heard.authorities }
+put (Indicates signal aspect) heard = record heard { indications = put_at signal.0 (Some aspect) heard.indications }
+put (Route route is_set) heard = record heard { routes = put_at route.0 is_set heard.routes }
+put Holding heard = record heard { mode = mode.Holding }
+put WaitingForResume heard = record heard { mode = mode.WaitingForResume }
+
+-- Commands are taken once *resume* was accepted: of that nothing else is told.
+abbrev pub mode_after : OperatorCommand → List ℕ → Mode → Mode
+mode_after (One Resume) text before = if bytes_eq text (codes "accepted") then mode.Ready else before
+mode_after other text before = before
+
+-- an answer is that to the oldest command
+abbrev pub answered_by : List ℕ → List OperatorCommand → HeardView → HeardView
+answered_by text [] heard = heard
+answered_by text (command ∷ more) heard = record heard { asked = more; mode = mode_after command text heard.mode }
+
+-- a line that says nothing changes nothing
+abbrev pub told_by : List ℕ → Result Told Fault → HeardView → HeardView
+told_by text (Ok Answer) heard = answered_by text heard.asked heard
+told_by text (Ok (Tells known)) heard = put known (record heard { joined = true })
+told_by text (Err fault) heard = heard
+
+-- what is known behind the question for a line: what the line told; and nothing where the node has gone
+abbrev pub heard_by : Site → LineHeard → HeardView → HeardView
+heard_by site (Text text) heard = told_by text (told_said site (words text)) heard
+heard_by site Nothing heard = heard
+heard_by site Closed heard = forgotten heard
+
+abbrev pub heard_all : Site → List LineHeard → HeardView → HeardView
+heard_all site [] heard = heard
+heard_all site (one ∷ more) heard = heard_all site more (heard_by site one heard)
+
+-- ---- the picture
+
+abbrev pub link_state : Bool → LinkState
+link_state true = Ready
+link_state false = Lost
+
+-- a line of each thing in a list, by its place, from one on
+abbrev pub each : {A : Type 0} → (ℕ → A → PanelLine) → ℕ → List A → List PanelLine
+each of place [] = []
+each of place (one ∷ more) = of place one ∷ each of (suc place) more
+
+abbrev pub link_line : ℕ → Bool → PanelLine
+link_line node ready = shows.Known (Link (record { 0 = node }) (link_state ready))
+
+abbrev pub section_line : ℕ → Option Occupancy → PanelLine
+section_line place occupancy = shows.Known (Section (record { 0 = place }) occupancy)
+
+abbrev pub point_line : ℕ → Option Side → PanelLine
+point_line place side = shows.Known (Point (record { 0 = place }) side)
+
+abbrev pub authority_line : ℕ → Option Authority → PanelLine
+authority_line place authority = shows.Known (Signal (record { 0 = place }) authority)
+
+abbrev pub indication_line : ℕ → Option Aspect → PanelLine
+indication_line place (Some aspect) = shows.Known (Indicates (record { 0 = place }) aspect)
+indication_line place None = Silent (record { 0 = place })
+
+abbrev pub route_line : ℕ → Bool → PanelLine
+route_line place is_set = shows.Known (Route (record { 0 = place }) is_set)
+
+-- A line of each thing. The node's own link is the operator's: it is ready where the node told anything.
+abbrev pub pictured : HeardView → List PanelLine
+pictured heard =
+    Interlocking heard.mode ∷ link_line 0 heard.joined ∷ (each link_line 1 heard.links ++ (each section_line 0 heard.sections
+    ++ (each point_line 0 heard.points ++ (each authority_line 0 heard.authorities ++ (each indication_line 0 heard.indications ++ each route_line 0 heard.routes)))))

@@ -1,0 +1,185 @@
+-- What a line of an interlocking's node tells its operator, by its words: the answer to a command, or what the interlocking knows of
+-- one thing. `node_lines` has these lines.
+use Rattle.std.specs.Prelude.{◌≢◌, ◌<◌, ℕ, zero, suc, nat_lt, Bool, true, false, if◌then◌else◌, List, [], ◌∷◌, codes, length, Option, Some, None, Result, Ok, Err}
+use Rattle.std.specs.Str.{bytes_eq}
+use Rattle.panel_desk.specs.node_lines.layout.Entries.{Site}
+use Rattle.panel_desk.specs.node_lines.layout.declared.ids.RouteId.{RouteId}
+use Rattle.panel_desk.specs.node_lines.layout.declared.ids.SignalId.{SignalId}
+use Rattle.panel_desk.specs.node_lines.replay_lines.Names.{node_named, node_names, point_named, route_named, section_named}
+use Rattle.panel_desk.specs.node_lines.replay_words.Fault.{◌>>=◌}
+use Rattle.panel_desk.specs.node_lines.replay_words.declared.fault.Fault.{Fault}
+use Rattle.panel_desk.specs.node_lines.replay_words.declared.fault.Fault.TheVariants.{Name, Words}
+use Rattle.panel_desk.specs.node_lines.sci_telegram.declared.message.Aspect.{Aspect}
+use Rattle.panel_desk.specs.node_lines.sci_telegram.declared.message.Aspect.TheVariants.{Stop, Proceed, Slow}
+use Rattle.panel_desk.specs.node_lines.sci_telegram.declared.message.Occupancy.{Occupancy}
+use Rattle.panel_desk.specs.node_lines.sci_telegram.declared.message.Occupancy.TheVariants.{Clear, Occupied}
+use Rattle.panel_desk.specs.node_lines.sci_telegram.declared.message.Side.{Side}
+use Rattle.panel_desk.specs.node_lines.sci_telegram.declared.message.Side.TheVariants.{Left, Right}
+use Rattle.panel_desk.specs.node_lines.simulator_event.declared.event.NodeId.{NodeId}
+use Rattle.panel_desk.specs.node_lines.declared.operator_line.Authority.{Authority}
+use Rattle.panel_desk.specs.node_lines.declared.operator_line.Known.{Known}
+use Rattle.panel_desk.specs.node_lines.declared.operator_line.Known.TheVariants as known
+use Rattle.panel_desk.specs.node_lines.declared.operator_line.LinkState.{LinkState}
+use Rattle.panel_desk.specs.node_lines.declared.operator_line.LinkState.TheVariants.{Ready, Lost}
+use Rattle.node_panel.specs.declared.told.Told.{Told}
+use Rattle.node_panel.specs.declared.told.Told.TheVariants.{Answer, Tells}
+
+-- ---- words
+
+abbrev pub link_said : List ℕ → Result LinkState Fault
+link_said word =
+    if bytes_eq word (codes "ready") then Ok Ready
+    else if bytes_eq word (codes "lost") then Ok Lost
+    else Err Words
+
+abbrev pub occupancy_said : List ℕ → Result (Option Occupancy) Fault
+occupancy_said word =
+    if bytes_eq word (codes "clear") then Ok (Some Clear)
+    else if bytes_eq word (codes "occupied") then Ok (Some Occupied)
+    else if bytes_eq word (codes "unknown") then Ok None
+    else Err Words
+
+abbrev pub side_said : List ℕ → Result (Option Side) Fault
+side_said word =
+    if bytes_eq word (codes "left") then Ok (Some Left)
+    else if bytes_eq word (codes "right") then Ok (Some Right)
+    else if bytes_eq word (codes "unknown") then Ok None
+    else Err Words
+
+abbrev pub aspect_said : List ℕ → Result Aspect Fault
+aspect_said word =
+    if bytes_eq word (codes "stop") then Ok Stop
+    else if bytes_eq word (codes "proceed") then Ok Proceed
+    else if bytes_eq word (codes "slow") then Ok Slow
+    else Err Words
+
+abbrev pub route_state_said : List ℕ → Result Bool Fault
+route_state_said word =
+    if bytes_eq word (codes "set") then Ok true
+    else if bytes_eq word (codes "free") then Ok false
+    else Err Words
+
+-- ---- names
+
+-- the signal that is this node, if it is one
+abbrev pub signal_of : ℕ → ℕ → Result SignalId Fault
+signal_of signals zero = Err Name
+signal_of signals (suc place) = if nat_lt place signals then Ok (record { 0 = place }) else Err Name
+
+abbrev pub signal_named : Site → List ℕ → Result SignalId Fault
+signal_named site word = do
+  node ← node_named site word
+  signal_of (length site.signals) node.0
+
+-- a route that the table has
+abbrev pub route_of : ℕ → RouteId → Result RouteId Fault
+route_of routes route = if nat_lt route.0 routes then Ok route else Err Name
+
+abbrev pub known_route : Site → List ℕ → Result RouteId Fault
+known_route site word = route_of (length site.routes) (route_named site word)
+
+-- ---- lines, by the words behind the first
+
+abbrev pub link : Site → List (List ℕ) → Result Known Fault
+link site (name ∷ word ∷ []) = do
+  node ← node_named site name
+  state ← link_said word
+  Ok (known.Link node state)
+link site other = Err Words
+
+abbrev pub section : Site → List (List ℕ) → Result Known Fault
+section site (name ∷ word ∷ []) = do
+  section ← section_named site name
+  occupancy ← occupancy_said word
+  Ok (known.Section section occupancy)
+section site other = Err Words
+
+abbrev pub point : Site → List (List ℕ) → Result Known Fault
+point site (name ∷ word ∷ []) = do
+  point ← point_named site name
+  side ← side_said word
+  Ok (known.Point point side)
+point site other = Err Words
+
+-- no authority is told by a hyphen for the route
+abbrev pub authority_said : Site → List ℕ → List ℕ → Result (Option Authority) Fault
+authority_said site aspect route =
+    if bytes_eq aspect (codes "stop") then (if bytes_eq route (codes "-") then Ok None else Err Words)
+    else (do
+      aspect ← aspect_said aspect
+      route ← known_route site route
+      Ok (Some (record { aspect = aspect; route = route })))
+
+abbrev pub signal : Site → List (List ℕ) → Result Known Fault
+signal site (name ∷ aspect ∷ route ∷ []) = do
+  signal ← signal_named site name
+  authority ← authority_said site aspect route
+  Ok (known.Signal signal authority)
+signal site other = Err Words
+
+abbrev pub indicates : Site → List (List ℕ) → Result Known Fault
+indicates site (name ∷ word ∷ []) = do
+  signal ← signal_named site name
+  aspect ← aspect_said word
+  Ok (known.Indicates signal aspect)
+indicates site other = Err Words
+
+abbrev pub route : Site → List (List ℕ) → Result Known Fault
+route site (name ∷ word ∷ []) = do
+  route ← known_route site name
+  is_set ← route_state_said word
+  Ok (known.Route route is_set)
+route site other = Err Words
+
+abbrev pub holding : List (List ℕ) → Result Known Fault
+holding [] = Ok known.Holding
+holding other = Err Words
+
+abbrev pub waiting : List (List ℕ) → Result Known Fault
+waiting (first ∷ second ∷ []) =
+    if bytes_eq first (codes "for") then (if bytes_eq second (codes "resume") then Ok known.WaitingForResume else Err Words) else Err Words
+waiting other = Err Words
+
+-- ---- what a line tells
+
+abbrev pub known_said : Site → List (List ℕ) → Result Known Fault
+known_said site (first ∷ rest) =
+    if bytes_eq first (codes "link") then link site rest
+    else if bytes_eq first (codes "section") then section site rest
+    else if bytes_eq first (codes "point") then point site rest
+    else if bytes_eq first (codes "signal") then signal site rest
+    else if bytes_eq first (codes "indicates") then indicates site rest
+    else if bytes_eq first (codes "route") then route site rest
+    else if bytes_eq first (codes "holding") then holding rest
+    else if bytes_eq first (codes "waiting") then waiting rest
+    else Err Words
+known_said site [] = Err Words
+
+-- whether a word begins an answer
+abbrev pub is_answer : List ℕ → Bool
+is_answer word = if bytes_eq word (codes "accepted") then true else bytes_eq word (codes "refused")
+
+abbrev pub told_known : Result Known Fault → Result Told Fault
+told_known (Ok known) = Ok (Tells known)
+told_known (Err fault) = Err fault
+
+abbrev pub told_said : Site → List (List ℕ) → Result Told Fault
+told_said site (first ∷ rest) = if is_answer first then Ok Answer else told_known (known_said site (first ∷ rest))
+told_said site [] = Err Words
+
+-- ---- what is told of a layout
+
+abbrev pub IsAuthority : Site → Option Authority → Type 0
+IsAuthority site None = Unit {0}
+IsAuthority site (Some authority) = (authority.aspect ≢ Stop) × (authority.route.0 < length site.routes)
+
+-- the thing is one of the layout, and authority isn't given for stop
+abbrev pub IsOf : Site → Known → Type 0
+IsOf site (known.Link node state) = node.0 < length (node_names site)
+IsOf site (known.Section section occupancy) = section.0 < length site.sections
+IsOf site (known.Point point side) = point.0 < length site.points
+IsOf site (known.Signal signal authority) = (signal.0 < length site.signals) × IsAuthority site authority
+IsOf site (known.Indicates signal aspect) = signal.0 < length site.signals
+IsOf site (known.Route route is_set) = route.0 < length site.routes
+IsOf site known.Holding = Unit {0}
+IsOf site known.WaitingForResume = Unit {0}

@@ -1,0 +1,83 @@
+-- The turns of a panel of an interlocking's node: requests are answered, what the node tells is heard, what was asked for is asked of
+-- the node, and the desk shows what is known then.
+use Rattle.std.specs.Prelude.{◌≡◌, ℕ, Bool, true, false, List, [], ◌∷◌, ◌++◌, map, if◌then◌else◌}
+use Rattle.std.specs.List.{flat_map}
+use Rattle.panel_connections.specs.Served.{Serves}
+use Rattle.panel_desk.specs.Answers.{Answered, DeskView}
+use Rattle.panel_desk.specs.Boards.{Notes, shown_all}
+use Rattle.panel_desk.specs.declared.panel_command.PanelCommand.{PanelCommand}
+use Rattle.panel_desk.specs.declared.panel_command.PanelCommand.TheVariants as wants
+use Rattle.panel_desk.specs.panel_board.Lines.{numbered}
+use Rattle.panel_desk.specs.node_lines.layout.Entries.{Site}
+use Rattle.panel_desk.specs.node_lines.simulator_event.declared.event.Event.{Event}
+use Rattle.panel_desk.specs.node_lines.simulator_event.declared.event.Event.TheVariants.{Request}
+use Rattle.panel_desk.specs.node_lines.Commands.{command_text}
+use Rattle.panel_desk.specs.node_lines.declared.operator_command.OperatorCommand.{OperatorCommand}
+use Rattle.panel_desk.specs.node_lines.declared.operator_command.OperatorCommand.TheVariants.{One, CancelAll}
+use Rattle.node_drive.specs.Calls.{AsksLine, AsksListener, BreaksOff, Call, LineHeard, Reads, Rests, Writes}
+use Rattle.node_panel.specs.Heard.{HeardView, forgotten, heard_all, pictured}
+
+-- ---- commands
+
+-- what of an event an interlocking is asked: what else happens to a station isn't its business
+abbrev pub asked_by_event : Event → List OperatorCommand
+asked_by_event (Request command) = One command ∷ []
+asked_by_event other = []
+
+abbrev pub asked_by : PanelCommand → List OperatorCommand
+asked_by (wants.Event event) = asked_by_event event
+asked_by wants.CancelAll = CancelAll ∷ []
+asked_by (wants.Disturb disturbance) = []
+
+-- Each command was asked of the node once, in their order: its line was written whole, and it waits for its answer; or it was broken
+-- off, and waits for none.
+pub data AsksEach (site : Site) : List OperatorCommand → HeardView → List Call → HeardView → Type 0 where
+  none : {heard : HeardView} → AsksEach site [] heard [] heard
+  asks : {command : OperatorCommand} {more : List OperatorCommand} {heard last : HeardView} {calls : List Call}
+      → AsksEach site more (record heard { asked = heard.asked ++ command ∷ [] }) calls last
+      → AsksEach site (command ∷ more) heard (Writes (command_text site command) ∷ calls) last
+  breaks_off : {command : OperatorCommand} {more : List OperatorCommand} {heard last : HeardView} {calls : List Call}
+      → AsksEach site more heard calls last
+      → AsksEach site (command ∷ more) heard (BreaksOff (command_text site command) ∷ calls) last
+
+-- ---- turns
+
+-- what the node told and wasn't answered yet, and the desk
+pub record Moment : Type 0 where
+  pub heard : HeardView
+  pub desk : DeskView
+
+-- where the node was joined anew, nothing was told yet
+abbrev pub begun : Bool → HeardView → HeardView
+begun true heard = forgotten heard
+begun false heard = heard
+
+-- What waited at the desk was taken; what is told from here on has the next number.
+abbrev pub opened : DeskView → DeskView
+opened desk = record desk { waiting = []; board = numbered desk.board }
+
+-- These were all calls of a turn behind its reading, in their order: whether the node was joined anew; the lines that it told; and each
+-- command that waited, once. Then the desk shows what is known, a line at each place.
+pub record IsLived (site : Site) (calls : List Call) (old new : Moment) : Type 0 where
+  pub began : Bool
+  pub lines : List LineHeard
+  pub asked : List Call
+  pub are : calls ≡ AsksListener began ∷ (map AsksLine lines ++ asked)
+  pub asks : AsksEach site (flat_map asked_by old.desk.waiting) (heard_all site lines (begun began old.heard)) asked new.heard
+  pub noted : DeskView
+  pub notes : Notes (opened old.desk) noted
+  pub shows : new.desk ≡ record noted { board = shown_all site 0 (pictured new.heard) noted.board }
+
+-- It waited, read the clock, answered requests one after another, and lived.
+pub record IsTurn (site : Site) (calls : List Call) (old new : Moment) : Type 0 where
+  pub reading : ℕ
+  pub served : DeskView
+  pub serves : Serves Answered old.desk served
+  pub behind : List Call
+  pub are : calls ≡ Rests ∷ Reads reading ∷ behind
+  pub lived : IsLived site behind (record old { desk = served }) new
+
+-- turns with these calls led from one moment to another
+pub data Turns (site : Site) (first : Moment) : List Call → Moment → Type 0 where
+  begins : Turns site first [] first
+  goes_on : {calls more : List Call} {mid new : Moment} → Turns site first calls mid → IsTurn site more mid new → Turns site first (calls ++ more) new

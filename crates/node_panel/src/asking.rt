@@ -1,0 +1,91 @@
+//! What was asked for at the desk is asked of the node.
+
+ghost use Rattle.std.specs.Prelude.{◌≡◌, [], ◌∷◌, List, OnOk};
+ghost use Rattle.std.specs.List.{flat_map};
+ghost use Rattle.std.specs.Option.{option_to_list};
+ghost use Rattle.node_drive.specs.Calls.{Call, Calls};
+ghost use Rattle.node_panel.specs.Turns.{AsksEach, asked_by};
+ghost use Rattle.panel_desk.specs.Boards.{Notes};
+
+use crate::heard::Heard;
+use crate::hearing::note_command;
+use node_drive::Outside;
+use panel_desk::node_lines::ixl_rules::control_table::layout::Layout;
+use panel_desk::node_lines::simulator_event::Event;
+use panel_desk::node_lines::{CommandText, OperatorCommand};
+use panel_desk::{Desk, PanelCommand};
+use std::alloc::{AllocError, Global};
+
+/// Asks each command of the node, one after the other.
+pub(crate) fn ask_each<O: Outside>(
+    alloc: Global,
+    layout: &Layout,
+    outside: &mut O,
+    reading: u64,
+    commands: &[PanelCommand],
+    heard: &mut Heard,
+    desk: &mut Desk,
+) -> Result<(), AllocError>
+    ensures { OnOk result ((calls : List Call) × Calls (O.told outside.old) (O.told outside.new) calls × AsksEach layout.now (flat_map asked_by commands.now) heard.old calls heard.new × Notes desk.old desk.new) }
+{
+    for command in commands {
+        ask_wanted(alloc, layout, outside, reading, command, heard, desk)?;
+    }
+    Ok(())
+}
+
+/// Asks of the node what a command asks of an interlocking. All else is noted as not taken here.
+fn ask_wanted<O: Outside>(
+    alloc: Global,
+    layout: &Layout,
+    outside: &mut O,
+    reading: u64,
+    command: &PanelCommand,
+    heard: &mut Heard,
+    desk: &mut Desk,
+) -> Result<(), AllocError>
+    ensures { OnOk result ((calls : List Call) × Calls (O.told outside.old) (O.told outside.new) calls × AsksEach layout.now (asked_by command.now) heard.old calls heard.new × Notes desk.old desk.new) }
+{
+    match operator_command(command) {
+        Some(command) => ask(alloc, layout, outside, reading, command, heard, desk),
+        None => {
+            let line = format!(in alloc; "{reading} an occupancy or a fault = not taken here")?;
+            desk.note(line.as_str())
+        }
+    }
+}
+
+/// What of a command an interlocking is asked, if anything is.
+fn operator_command(command: &PanelCommand) -> Option<OperatorCommand>
+    ensures { option_to_list result ≡ asked_by command.now }
+{
+    match command {
+        PanelCommand::Event(Event::Request(command)) => Some(OperatorCommand::One(*command)),
+        PanelCommand::CancelAll => Some(OperatorCommand::CancelAll),
+        _ => None,
+    }
+}
+
+/// Asks a command of the node. Where its line can't be written whole, that is noted.
+fn ask<O: Outside>(
+    alloc: Global,
+    layout: &Layout,
+    outside: &mut O,
+    reading: u64,
+    command: OperatorCommand,
+    heard: &mut Heard,
+    desk: &mut Desk,
+) -> Result<(), AllocError>
+    ensures { OnOk result ((calls : List Call) × Calls (O.told outside.old) (O.told outside.new) calls × AsksEach layout.now (command ∷ []) heard.old calls heard.new × Notes desk.old desk.new) }
+{
+    heard.asked.reserve(1)?;
+    let text = CommandText { layout, command };
+    let line = format!(in alloc; "{text}")?;
+    match outside.write_line(line.as_str()) {
+        Ok(()) => {
+            let _ = heard.asked.push(command);
+            Ok(())
+        }
+        Err(_) => note_command(alloc, layout, reading, command, "lost", desk),
+    }
+}

@@ -1,0 +1,125 @@
+//! What `station panel --node` does.
+
+ghost use Rattle.std.specs.Prelude.{◌≤◌};
+
+use crate::attendance::attend_node;
+use crate::failure::NodePanelFailure;
+use crate::heard::Heard;
+use node_network::{Caller, NodeClock};
+use panel_connections::Loopback;
+use panel_desk::node_lines::ixl_rules::control_table::Checked;
+use panel_desk::{Desk, PageAsked, Pictured, open_desk};
+use station_check::{table_of, tell};
+use std::alloc::Global;
+use std::io::Write;
+use std::net::{Ipv4Addr, Net, SocketAddr};
+use std::random::RandomSource;
+use std::time::Clock as Timer;
+
+/// What a panel of a node is asked.
+#[derive(Clone, Copy, Debug)]
+pub struct Asked<'a> {
+    pub page: PageAsked<'a>,
+    /// The address at which the node serves its operator.
+    pub node: &'a str,
+    /// For how many milliseconds it stands, if not for ever.
+    pub for_ms: Option<u64>,
+}
+
+/// Attends a panel of an interlocking that runs as a process of its own. A browser of this machine gets a page, whose address is
+/// written to `out`. The node is called again where it doesn't answer. The status is 0, or 1 where anything failed; `err` is then told
+/// why.
+pub fn panel_of_node<R: Net + Timer + RandomSource + AllocGlobal, O: Write, E: Write>(
+    rt: &R,
+    asked: &Asked<'_>,
+    out: &mut O,
+    err: &mut E,
+) -> u8
+    ensures { result ≤ 1 }
+{
+    let table = match table_of(rt.alloc(), asked.page.layout) {
+        Ok(table) => table,
+        Err(failure) => {
+            tell(&failure, err);
+            return 1;
+        }
+    };
+    match open(rt, asked, &table, out) {
+        Ok(()) => 0,
+        Err(failure) => {
+            // Where this can't be written, the status has to do.
+            let _ = err.writeln(format_args!("{failure}"));
+            1
+        }
+    }
+}
+
+/// Opens what the panel has outside.
+fn open<R: Net + Timer + RandomSource + AllocGlobal, O: Write>(
+    rt: &R,
+    asked: &Asked<'_>,
+    table: &Checked,
+    out: &mut O,
+) -> Result<(), NodePanelFailure> {
+    let Ok(address) = asked.node.parse::<SocketAddr>() else {
+        return Err(NodePanelFailure::Address);
+    };
+    let Ok(clock) = NodeClock::start(rt, 0) else {
+        return Err(NodePanelFailure::NoClock);
+    };
+    let Ok(listener) = Loopback::open(rt, page_address(asked.page.port)) else {
+        return Err(NodePanelFailure::NoPort);
+    };
+    let caller = Caller::new(rt.alloc(), clock, rt, address);
+    attend_opened(rt, asked, table, caller, listener, out)
+}
+
+/// Opens the desk, tells where the page is, and attends the panel.
+fn attend_opened<R: Net + Timer + RandomSource + AllocGlobal, O: Write>(
+    rt: &R,
+    asked: &Asked<'_>,
+    table: &Checked,
+    mut caller: Caller<'_, R>,
+    mut listener: Loopback,
+    out: &mut O,
+) -> Result<(), NodePanelFailure> {
+    let (mut heard, mut desk) = open_room(rt, rt.alloc(), table, &asked.page)?;
+    tell_address(rt.alloc(), asked.page.port, out)?;
+    attend_node(
+        rt,
+        rt.alloc(),
+        table.layout(),
+        &mut caller,
+        &mut listener,
+        &mut heard,
+        &mut desk,
+        asked.for_ms.unwrap_or(u64::MAX),
+    )?;
+    Ok(())
+}
+
+/// What was told of a station before anything was, and the desk that shows it.
+fn open_room<R: RandomSource>(
+    rt: &R,
+    alloc: Global,
+    table: &Checked,
+    page: &PageAsked<'_>,
+) -> Result<(Heard, Desk), NodePanelFailure> {
+    let heard = Heard::nothing(alloc, table.layout())?;
+    let places = heard.picture(alloc)?.len();
+    let desk = open_desk(rt, alloc, table.copy(alloc)?, places, page)?;
+    Ok((heard, desk))
+}
+
+/// An address of the loopback interface.
+fn page_address(port: u16) -> SocketAddr {
+    SocketAddr::from((Ipv4Addr::LOCALHOST, port))
+}
+
+/// Tells where the page is.
+fn tell_address<O: Write>(alloc: Global, port: u16, out: &mut O) -> Result<(), NodePanelFailure> {
+    let line = format!(in alloc; "http://127.0.0.1:{port}/")?;
+    out.writeln(line.as_str())?;
+    out.flush()?;
+    Ok(())
+}

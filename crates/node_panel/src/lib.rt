@@ -1,0 +1,20 @@
+//! A signaller's panel of an interlocking that runs as a process of its own: it is joined to its node by the lines of an operator, shows
+//! what the node tells, and asks of it what a browser asks for.
+#![tactic(auto)]
+
+mod asking;
+mod attendance;
+mod command;
+mod failure;
+mod heard;
+mod hearing;
+mod known_read;
+mod laws;
+mod pictured;
+mod told;
+
+pub use attendance::attend_node;
+pub use command::{Asked, panel_of_node};
+pub use heard::Heard;
+pub use laws::lines_are_read_again;
+pub use told::{Told, read_told};
