@@ -1,2 +1,8 @@
 pub mod WorldAnswers
 pub mod Verdicts
+pub mod EventAnswers
+pub mod Noted
+pub mod Rounds
+pub mod Transcripts
+pub mod Safety
+pub mod Outsets

@@ -49,3 +49,11 @@ pub told_differs : {E : Type 0} (site : Site) (first : Played) (entries : List E
     → IfOk told (λ verdict. (first : Played) × IsFirst site first × ((line : ℕ) → (verdict ≡ Differs line) ↔ AnswersOtherwiseAt line first entries))
 told_differs site first entries (Ok verdict) begins judged = (first, begins, differs_exactly first entries verdict judged)
 told_differs site first entries (Err error) begins judged = tt
+
+-- a first world answers as the verdict says
+pub judged : {site : Site} {entries : List Entry} (verdict : Replayed)
+    → ((first : Played) × IsFirst site first × ((verdict ≡ Same) ↔ AnswersSame first entries))
+    → ((first : Played) × IsFirst site first × ((line : ℕ) → (verdict ≡ Differs line) ↔ AnswersOtherwiseAt line first entries))
+    → (first : Played) × IsFirst site first × Judges answer after first entries verdict
+judged Same same differs = (same.0, same.1, same.2.0 refl)
+judged (Differs line) same differs = (differs.0, differs.1, (differs.2 line).0 refl)

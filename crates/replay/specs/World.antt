@@ -1,4 +1,4 @@
--- A world to which events are tried one after another: the first one, and what it answers.
+-- A world to which events are tried one after another, and which lines play: how it begins, what it answers, and what is seen of it.
 use Rattle.std.specs.Prelude.{◌≡◌, ◌+◌, ℕ, List, Option, Some, None, Result, Ok, Err}
 use Rattle.simulator.specs.layout.Entries.{Site}
 use Rattle.simulator.specs.layout.Once.{Once}
@@ -7,16 +7,23 @@ use Rattle.simulator.specs.ixl_table.Table.{IsTableOf}
 use Rattle.simulator.specs.simulator_event.declared.event.Event.{Event}
 use Rattle.simulator.specs.simulator_event.refused.Refused.{Refused}
 use Rattle.simulator.specs.simulator_event.declared.reply.Answer.{Answer}
-use Rattle.simulator.specs.World.{View}
-use Rattle.simulator.specs.simulator_run.First.{first_world}
+use Rattle.simulator.specs.World.{IsPicture, View}
+use Rattle.simulator.specs.simulator_run.First.{IsOutsetOf, Outset, first_world, world_at}
+use Rattle.simulator.specs.simulator_run.Flow.{stations}
 use Rattle.simulator.specs.simulator_run.Happens.{answered}
-use Rattle.simulator.specs.simulator_run.Tried.{Played, after, refusal_of}
+use Rattle.simulator.specs.simulator_run.Seen.{IsSnapshotOf}
+pub use Rattle.simulator.specs.simulator_run.Tried.{Played, after, receiver, refusal_of, world_where}
+use Rattle.simulator.specs.simulator_snapshot.Safe.{Safe}
+use Rattle.simulator.specs.simulator_snapshot.declared.snapshot.Snapshot.{Snapshot}
 use Rattle.replay_lines.specs.Replay.{AllAgree, DiffersBehind}
 use Rattle.replay_lines.specs.declared.session.Entry.{Entry}
+use Rattle.replay.specs.Sight.{Sight}
 
 -- a world as events are tried on it: how much room it has doesn't matter
 abbrev pub played : View → Played
 played world = record { sited = world.sited; run = world.run }
+
+-- ---- how it begins
 
 -- The first world of a layout, which is a station in which no name stands twice, and of the layout's own table.
 pub record IsFirst (site : Site) (first : Played) : Type 0 where
@@ -26,6 +33,18 @@ pub record IsFirst (site : Site) (first : Played) : Type 0 where
   pub table : IsTableOf first.sited.site first.sited.table
   pub run_is : first.run ≡ first_world first.sited.site first.sited.table
 
+-- A world of a layout that lies so when it is started. The layout is a station in which no name stands twice, and the table
+-- is its own. The first world (`IsFirst`) is the one in which every point stands left and every section is clear.
+pub record IsAt (site : Site) (outset : Outset) (first : Played) : Type 0 where
+  pub site_is : first.sited.site ≡ site
+  pub once : Once site
+  pub station : IsStation site
+  pub table : IsTableOf first.sited.site first.sited.table
+  pub fits : IsOutsetOf site outset
+  pub run_is : first.run ≡ world_at first.sited.site first.sited.table outset
+
+-- ---- what it answers
+
 -- what is answered: why an event can't happen, or the answer where it happens
 abbrev pub answer_where : Option Refused → Answer → Result Answer Refused
 answer_where (Some why) answer = Err why
@@ -34,6 +53,31 @@ answer_where None answer = Ok answer
 -- what `World::apply` answers
 abbrev pub answer : Played → Event → Result Answer Refused
 answer world event = answer_where (refusal_of event world) (answered world.sited.site world.sited.table event world.run)
+
+-- ---- what is seen
+
+-- Whatever is seen of a world is safe: each signal that shows an aspect other than stop is protected by exactly one held route.
+abbrev pub IsSafe : Played → Type 0
+IsSafe world = (seen : Snapshot) → IsSnapshotOf world.sited.table world.run seen → Safe world.sited.site seen
+
+abbrev pub sight_of_worlds : Sight Played
+sight_of_worlds = record {
+  IsAt = IsAt;
+  answer = answer;
+  station = stations;
+  IsText = λ world. IsPicture world.sited world.run;
+}
+
+-- ---- events one after another
+
+-- Events that were tried one after another lead from a first world to this one: those that can't happen leave the world as it is.
+pub data ComesFrom (first : Played) : Played → Type 0 where
+  begins : ComesFrom first first
+  goes_on : {now : Played} → ComesFrom first now → (event : Event) → ComesFrom first (after now event)
+
+-- Whatever is seen of any world to which events lead from this one is safe.
+abbrev pub AllSafe : Played → Type 0
+AllSafe first = (now : Played) → ComesFrom first now → IsSafe now
 
 -- ---- sessions
 

@@ -9,14 +9,6 @@
 
 use node_traffic::{Asked as NodeCapture, capture_node_to_file, decode_node_text, ends_text};
 use panel_page::PAGE;
-use station_chart::station_traffic::station_decode::decode_text;
-use station_chart::station_traffic::station_run::station_sim::station_check::check_text;
-use station_chart::station_traffic::station_run::station_sim::{replay_text, sim_text};
-use station_chart::station_traffic::station_run::{self, Asked as Run, Limits, PanelAsked};
-use station_chart::station_traffic::{
-    Asked as Capture, Endpoint, capture_to_file, decode_session_text,
-};
-use station_chart::{Cut, chart_text};
 use station_command::{
     Asked, Error, Failure, is_memory, lines_of, read_words, text_of, texts_of, words,
 };
@@ -24,6 +16,13 @@ use station_explain::explain_text;
 use station_node::node_network::WaitedStream;
 use station_node::{self, Asked as Node, layout_digest, replay_node_text};
 use station_plan_text::plan_text;
+use station_record::station_decode::decode_text;
+use station_record::station_run::replay::station_check::check_text;
+use station_record::station_run::replay::{replay_text, sim_text};
+use station_record::station_run::{self, Asked as Run, Limits, PanelAsked};
+use station_record::{
+    Asked as Capture, Cut, Endpoint, capture_to_file, chart_text, decode_session_text,
+};
 use station_table::{Form, table_text};
 use std::io::{BufWriter, IsTerminal};
 use std::process::ExitCode;

@@ -20,4 +20,4 @@ pub use prepared::{Prepared, prepare};
 pub use station_panel::Limits;
 
 // What crates above need of the crates below.
-pub use station_sim;
+pub use replay;

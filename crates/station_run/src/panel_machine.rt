@@ -8,12 +8,12 @@ use crate::failure::RunFailure;
 use crate::machine::{Machine, fail, open};
 use crate::prepared::{Prepared, prepare};
 use bytes::Bytes;
+use replay::station_check::Failure;
 use station_panel::station_network::station_drive::{Clock, Datagrams, Station};
 use station_panel::{
     About, Board, Desk, Disturbed, Ending, Limits, Listens, Loopback, Noting, Pictured, about_text,
     attend, places,
 };
-use station_sim::station_check::Failure;
 use std::alloc::{AllocError, Global};
 use std::fs::Files;
 use std::io;

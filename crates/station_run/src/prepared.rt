@@ -2,8 +2,8 @@
 
 ghost use Rattle.std.specs.Prelude.{◌≡◌, ◌≤◌, ◌++◌, List, ℕ, codes, IfErr, IfOk, IsErr, OnErr, OnOk, length};
 ghost use Rattle.std.specs.Io.KnownBytes.{Appends};
-ghost use Rattle.station_sim.specs.replay_lines.Names.{node_names};
-ghost use Rattle.station_sim.specs.simulator.World.{IsPicture};
+ghost use Rattle.replay.specs.replay_lines.Names.{node_names};
+ghost use Rattle.replay.specs.simulator.World.{IsPicture};
 ghost use Rattle.station_run.specs.Failures.{Leaves, Tells};
 ghost use Rattle.station_run.specs.Inside.{IsLate};
 ghost use Rattle.station_run.specs.Runs.{CanRun, EndsEarly, ExplainsTexts, IsPrepared, IsRun};
@@ -12,11 +12,10 @@ ghost use Rattle.station_run.specs.declared.failure.RunFailure.{RunFailure as Wh
 
 use crate::driven_world::Running;
 use crate::failure::{RunFailure, tell_run};
+use replay::simulator::{Event, World};
+use replay::station_check::{Failure, table_of};
+use replay::{node_count, played_worlds_are_safe, read_script};
 use station_panel::station_network::station_drive::{Clock, Datagrams, Station, drive};
-use station_sim::played_worlds_are_safe;
-use station_sim::replay::simulator::{Event, World};
-use station_sim::replay::{node_count, read_script};
-use station_sim::station_check::{Failure, table_of};
 use std::alloc::Global;
 use std::io::Write;
 

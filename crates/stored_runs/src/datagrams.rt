@@ -3,7 +3,7 @@
 use crate::failure::Failure;
 use crate::files::{parts, read};
 use crate::status::write_end;
-use station_chart::station_traffic::station_decode::decode_text;
+use station_record::station_decode::decode_text;
 use std::alloc::Global;
 use std::io;
 use std::io::Write;

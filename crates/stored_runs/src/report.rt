@@ -2,8 +2,8 @@
 
 use crate::failure::Failure;
 use crate::status::write_end;
-use station_chart::station_traffic::station_run::station_sim::station_check::check_text;
 use station_explain::explain_text;
+use station_record::station_run::replay::station_check::check_text;
 use std::alloc::{AllocError, Global};
 use std::io;
 use std::io::Write;

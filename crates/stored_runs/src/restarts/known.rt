@@ -1,6 +1,6 @@
 //! What events say of a node.
 
-use station_chart::station_traffic::station_run::station_sim::replay::simulator::{Event, NodeId};
+use station_record::station_run::replay::simulator::{Event, NodeId};
 
 /// How many microseconds a millisecond has.
 const MICROS: u64 = 1000;

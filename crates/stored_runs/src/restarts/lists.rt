@@ -5,10 +5,8 @@ use crate::files::read;
 use crate::restarts::trials::{List, events_of};
 use control_table::Checked;
 use replay_words::{Words, decimal};
-use station_chart::station_traffic::station_run::station_sim::replay::{
-    SimLine, node_named, read_lines,
-};
-use station_chart::station_traffic::station_run::station_sim::station_check::table_of;
+use station_record::station_run::replay::station_check::table_of;
+use station_record::station_run::replay::{SimLine, node_named, read_lines};
 use std::io::Write;
 
 /// A line: a list has a name, a layout, lines, what follows behind them, a number, and nodes.

@@ -6,9 +6,9 @@ use crate::restarts::run::Run;
 use crate::restarts::tally::Tally;
 use crate::restarts::watch::STATION;
 use control_table::Checked;
-use station_chart::station_traffic::station_run::station_sim::replay::SimLine;
-use station_chart::station_traffic::station_run::station_sim::replay::simulator::simulator_run::ixl_rules::Command;
-use station_chart::station_traffic::station_run::station_sim::replay::simulator::{Event, NodeId};
+use station_record::station_run::replay::SimLine;
+use station_record::station_run::replay::simulator::simulator_run::ixl_rules::Command;
+use station_record::station_run::replay::simulator::{Event, NodeId};
 use std::alloc::Global;
 
 /// How many more times the interlocking is made anew in every second run.

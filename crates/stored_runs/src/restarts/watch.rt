@@ -3,10 +3,8 @@
 use crate::restarts::fault::Fault;
 use crate::restarts::known::Known;
 use crate::restarts::tally::{Tally, count};
-use station_chart::station_traffic::station_run::station_sim::replay::simulator::simulator_run::ixl_rules::Refusal;
-use station_chart::station_traffic::station_run::station_sim::replay::simulator::{
-    Answer, Event, NodeId, Refused,
-};
+use station_record::station_run::replay::simulator::simulator_run::ixl_rules::Refusal;
+use station_record::station_run::replay::simulator::{Answer, Event, NodeId, Refused};
 
 /// For how many microseconds an interlocking that was made holds.
 const HOLD: u64 = 6_000_000;

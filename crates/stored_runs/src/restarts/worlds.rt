@@ -4,11 +4,8 @@ use crate::restarts::fault::Fault;
 use control_table::Checked;
 use control_table::layout::{PointId, SignalId};
 use control_table::sci_telegram::{Aspect, Side};
-use station_chart::station_traffic::station_run::station_sim::receiver;
-use station_chart::station_traffic::station_run::station_sim::replay::node_count;
-use station_chart::station_traffic::station_run::station_sim::replay::simulator::{
-    Answer, Event, RawDatagram, Refused, World,
-};
+use station_record::station_run::replay::simulator::{Answer, Event, RawDatagram, Refused, World};
+use station_record::station_run::replay::{node_count, receiver};
 use std::alloc::{AllocError, Global};
 
 /// A new world.

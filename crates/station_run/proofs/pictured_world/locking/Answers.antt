@@ -1,7 +1,7 @@
 use Rattle.std.proofs.Common.{◌≡◌, ◌∙◌, List, length, ap, arith}
-use Rattle.station_sim.specs.ixl_table.Table.{SitedTable}
-use Rattle.station_sim.specs.ixl_rules.Table.{Row}
-use Rattle.station_sim.specs.simulator.ixl_state.State.{StateView}
+use Rattle.replay.specs.ixl_table.Table.{SitedTable}
+use Rattle.replay.specs.ixl_rules.Table.{Row}
+use Rattle.replay.specs.simulator.ixl_state.State.{StateView}
 use Rattle.station_run.specs.Panel.{locking}
 use Rattle.station_run.proofs.Seen.{locking_next}
 use Rattle.station_run.proofs.pictured_world.locking.Goals as goal

@@ -1,5 +1,5 @@
 use Rattle.station_run.specs.Worlds.{played}
-use Rattle.station_sim.specs.World.{IsFirst}
+use Rattle.replay.specs.World.{IsFirst}
 use Rattle.station_run.proofs.prepared.prepare.Goals as goal
 
 pub returns-clause-prepared : goal.returns-clause-prepared

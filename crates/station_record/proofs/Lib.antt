@@ -1,0 +1,14 @@
+pub mod Applied
+pub mod Places
+pub mod Lines
+pub mod Behind
+pub mod Captures
+pub mod NoCapture
+pub mod Ended
+pub mod Agreed
+pub mod Stories
+pub mod NoChart
+pub mod Ready
+pub mod LanesMore
+pub mod Looks
+pub mod Events

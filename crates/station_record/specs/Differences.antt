@@ -1,0 +1,21 @@
+-- Why it isn't told what happens in a session.
+use Rattle.std.specs.Prelude.{List}
+use Rattle.station_run.specs.replay.World.{AnswersOtherwiseAt, IsFirst}
+use Rattle.station_run.specs.replay.layout.Entries.{Site}
+use Rattle.station_run.specs.replay.simulator_run.Tried.{Played}
+use Rattle.station_run.specs.replay.replay_lines.declared.session.Entry.{Entry}
+use Rattle.station_run.specs.replay.station_check.declared.failure.Failure.TheVariants as station
+use Rattle.station_record.specs.declared.chart_failure.ChartFailure.{ChartFailure}
+use Rattle.station_record.specs.declared.chart_failure.ChartFailure.TheVariants.{Differs, Station}
+
+-- An event answers otherwise than it was recorded, the first of a session that begins with this world; or memory is lacking.
+abbrev pub DiffersFrom : Played → List Entry → ChartFailure → Type 0
+DiffersFrom first entries (Differs line) = AnswersOtherwiseAt line first entries
+DiffersFrom first entries (Station station.OutOfMemory) = Unit {0}
+DiffersFrom first entries why = ⊥
+
+-- So it is from a first world of a layout on; or memory is lacking.
+abbrev pub DiffersIn : Site → List Entry → ChartFailure → Type 0
+DiffersIn site entries (Differs line) = (first : Played) × IsFirst site first × AnswersOtherwiseAt line first entries
+DiffersIn site entries (Station station.OutOfMemory) = Unit {0}
+DiffersIn site entries why = ⊥

@@ -1,0 +1,34 @@
+-- A capture as it grows, and why there is none.
+use Rattle.std.specs.Prelude.{◌≡◌, ℕ, List, [], ◌∷◌, ◌++◌, Option, Some, None}
+use Rattle.capture_file.specs.Blocks.{packet_block}
+use Rattle.capture_file.specs.Captures.{IsCapture}
+use Rattle.capture_file.specs.Journeys.{Sent}
+use Rattle.capture_file.specs.declared.journey.Endpoint.{Endpoint}
+use Rattle.station_run.specs.replay.replay_lines.declared.session.Entry.{Entry}
+use Rattle.station_run.specs.replay.layout.Entries.{Site}
+use Rattle.station_run.specs.replay.rasta_core.Links.{OnLink}
+use Rattle.station_run.specs.replay.station_check.declared.failure.Failure.TheVariants.{OutOfMemory}
+use Rattle.station_record.specs.CapturedSession.{HasTooLong, SendsTooLong, captured}
+use Rattle.station_record.specs.declared.capture_failure.CaptureFailure.{CaptureFailure}
+use Rattle.station_record.specs.declared.capture_failure.CaptureFailure.TheVariants.{Station, TooLong}
+
+-- a datagram was added to a capture
+pub record Adds (given : List Endpoint) (one : OnLink) (old new : List ℕ) : Type 0 where
+  pub exact : new ≡ old ++ packet_block (captured given one)
+  pub is : (sent : List Sent) → IsCapture sent old → IsCapture (sent ++ captured given one ∷ []) new
+
+-- so it was, if there is one
+abbrev pub Captures : List Endpoint → Option OnLink → List ℕ → List ℕ → Type 0
+Captures given None old new = new ≡ old
+Captures given (Some one) old new = Adds given one old new
+
+abbrev pub IsNoCapture : List OnLink → CaptureFailure → Type 0
+IsNoCapture sent (Station OutOfMemory) = Unit {0}
+IsNoCapture sent TooLong = HasTooLong sent
+IsNoCapture sent why = ⊥
+
+-- why a session has none
+abbrev pub IsNoFile : Site → List Entry → CaptureFailure → Type 0
+IsNoFile site entries (Station OutOfMemory) = Unit {0}
+IsNoFile site entries TooLong = SendsTooLong site entries
+IsNoFile site entries why = ⊥

@@ -1,0 +1,178 @@
+//! A session, applied again to a world, and what changes in it.
+
+ghost use Rattle.std.specs.Prelude.{◌≡◌, ◌++◌, IfErr, IfOk, List, OnOk, ◌↔◌, IsTrue, map};
+ghost use Rattle.station_run.specs.replay.World.{AnswersSame, IsFirst, answer, played};
+ghost use Rattle.station_run.specs.replay.simulator_run.Interlocking.{held_of};
+ghost use Rattle.station_run.specs.replay.simulator_run.Tried.{Played, after};
+ghost use Rattle.station_record.specs.Changes.{TellsLane, TellsLanes, change_to, watch_of};
+ghost use Rattle.station_record.specs.Differences.{DiffersFrom, DiffersIn};
+ghost use Rattle.station_record.specs.Seen.{seen_at};
+ghost use Rattle.station_record.specs.Story.{IsStoryOf};
+ghost use Rattle.lane_chart.specs.declared.change.Change.{Change as ChangeTold};
+
+use crate::chart_failure::ChartFailure;
+use crate::happening::add_happening;
+use crate::lane_list::lanes_of;
+use crate::replayed::first_world;
+use crate::seen::seen_at;
+use crate::watch::Watch;
+use control_table::Checked;
+use lane_chart::{Change, Happening, Lane, Seen};
+use station_run::replay::simulator::{Answer, Held, Refused, World};
+use station_run::replay::{Entry, recorded, try_event};
+use std::alloc::{AllocError, Global};
+
+/// What happens in a session.
+#[derive(Debug, Drop)]
+pub struct Story {
+    /// What each lane shows at first, and then each change, in the order of the session.
+    pub changes: Vec<Change>,
+    /// The commands and restarts, in their order.
+    pub happenings: Vec<Happening>,
+    /// True time at its end, in microseconds.
+    pub end: u64,
+}
+
+fn is_same(one: Seen, other: Seen) -> bool
+    ensures { IsTrue result ↔ (one ≡ other) }
+{
+    one == other
+}
+
+/// Looks at a lane, and adds that it changed, if it did.
+#[tactic(auto, using(crate::proofs::Looks::nothing_told, crate::proofs::Looks::change_told))]
+fn look(
+    world: &World,
+    held: &[Held],
+    line: usize,
+    watch: Watch,
+    changes: &mut Vec<Change>,
+) -> Result<Seen, AllocError>
+    requires held { held.now ≡ held_of world.now.sited.table world.now.run.station world.now.run.frozen }
+    ensures seen { IfOk result (λ seen. seen ≡ seen_at (played world.now) watch.lane) }
+    ensures told { OnOk result ((told : List ChangeTold) × TellsLane line (played world.now) watch told × (changes.new.items ≡ changes.old.items ++ told)) }
+{
+    let lane = watch.lane;
+    let seen = seen_at(world, held, lane);
+    if is_same(watch.seen, seen) {
+        return Ok(seen);
+    }
+    let time = world.time();
+    changes.push(Change {
+        line,
+        time,
+        lane,
+        seen,
+    })?;
+    Ok(seen)
+}
+
+/// Looks at each lane behind an event, and adds what changed.
+fn look_at_all(
+    alloc: Global,
+    world: &World,
+    line: usize,
+    watches: &[Watch],
+    changes: &mut Vec<Change>,
+) -> Result<Vec<Watch>, AllocError>
+    ensures next { IfOk result (λ next. next.items ≡ map (λ watch. watch_of (played world.now) watch.lane) watches.now) }
+    ensures told { OnOk result ((told : List ChangeTold) × TellsLanes line (played world.now) watches.now told × (changes.new.items ≡ changes.old.items ++ told)) }
+{
+    let held = world.held();
+    let mut next = Vec::with_capacity(alloc, watches.len())?;
+    for watch in watches {
+        let seen = look(world, &held, line, *watch, changes)?;
+        next.push(Watch {
+            lane: watch.lane,
+            seen,
+        })?;
+    }
+    Ok(next)
+}
+
+/// What the lanes show at first.
+fn first_watches(alloc: Global, world: &World, lanes: &[Lane]) -> Result<Vec<Watch>, AllocError>
+    ensures { IfOk result (λ watches. watches.items ≡ map (watch_of (played world.now)) lanes.now) }
+{
+    let held = world.held();
+    let mut watches = Vec::new(alloc);
+    for lane in lanes {
+        let seen = seen_at(world, &held, *lane);
+        watches.push(Watch { lane: *lane, seen })?;
+    }
+    Ok(watches)
+}
+
+/// That the lanes show this at first.
+fn first_changes(alloc: Global, world: &World, lanes: &[Lane]) -> Result<Vec<Change>, AllocError>
+    ensures { IfOk result (λ changes. changes.items ≡ map (change_to 0 (played world.now)) lanes.now) }
+{
+    let held = world.held();
+    let time = world.time();
+    let mut changes = Vec::new(alloc);
+    for lane in lanes {
+        let seen = seen_at(world, &held, *lane);
+        changes.push(Change {
+            line: 0,
+            time,
+            lane: *lane,
+            seen,
+        })?;
+    }
+    Ok(changes)
+}
+
+fn is_answered(one: &Result<Answer, Refused>, other: &Result<Answer, Refused>) -> bool
+    ensures { IsTrue result ↔ (one.now ≡ other.now) }
+{
+    one == other
+}
+
+/// Applies the event of an entry, and tells whether it answers as it was recorded. One that can't happen leaves the world as
+/// it is.
+fn agrees(world: &mut World, entry: &Entry) -> Result<bool, AllocError>
+    ensures same { IfOk result (λ same. IsTrue same ↔ (answer (played world.old) entry.now.event ≡ entry.now.answer)) }
+    ensures happens { OnOk result (played world.new ≡ after (played world.old) entry.now.event) }
+{
+    let answer = recorded(try_event(world, &entry.event));
+    if let Err(Refused::OutOfMemory) = answer {
+        return Err(AllocError);
+    }
+    Ok(is_answered(&answer, &entry.answer))
+}
+
+/// Applies the events of a session to a world, and tells what happens, unless an event answers otherwise than it was
+/// recorded.
+fn story_from(alloc: Global, world: &mut World, entries: &[Entry]) -> Result<Story, ChartFailure>
+    ensures agree { OnOk result (AnswersSame (played world.old) entries.now) }
+    ensures told { IfOk result (IsStoryOf (played world.old) entries.now) }
+    ensures differs { IfErr result (DiffersFrom (played world.old) entries.now) }
+{
+    let lanes = lanes_of(alloc, world.table().layout())?;
+    let mut changes = first_changes(alloc, world, &lanes)?;
+    let mut watches = first_watches(alloc, world, &lanes)?;
+    let mut happenings = Vec::new(alloc);
+    for (place, entry) in entries.iter().enumerate() {
+        add_happening(alloc, world, place + 1, entry, &mut happenings)?;
+        if !agrees(world, entry)? {
+            return Err(ChartFailure::Differs(place as u64 + 1));
+        }
+        let next = look_at_all(alloc, world, place + 1, &watches, &mut changes)?;
+        watches = next;
+    }
+    Ok(Story {
+        changes,
+        happenings,
+        end: world.time(),
+    })
+}
+
+/// What happens in a session on a station of this table, from its first world on, where each event answers as it was
+/// recorded. Otherwise the error tells of the first that doesn't, or memory was refused.
+pub fn story_of(alloc: Global, table: Checked, entries: &[Entry]) -> Result<Story, ChartFailure>
+    ensures told { IfOk result (λ story. (first : Played) × IsFirst table first × AnswersSame first entries.now × IsStoryOf first entries.now story) }
+    ensures differs { IfErr result (DiffersIn table entries.now) }
+{
+    let mut world = first_world(alloc, table)?;
+    story_from(alloc, &mut world, entries)
+}

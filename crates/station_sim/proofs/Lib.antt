@@ -1,7 +1,0 @@
-pub mod EventAnswers
-pub mod Noted
-pub mod Rounds
-pub mod Transcripts
-pub mod Safety
-pub mod Outsets
-pub mod Verdicts

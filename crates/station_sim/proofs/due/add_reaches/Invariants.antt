@@ -1,7 +1,0 @@
-use Rattle.std.proofs.Common.{◌≡◌, ◌++◌, drop}
-use Rattle.replay.specs.simulator.simulator_run.Flow.{reaches}
-use Rattle.station_sim.proofs.due.add_reaches.Given as goal
-
--- what was added so far, and behind it what is left
-abbrev pub invariant-loop-place : goal.invariant-loop-place
-invariant-loop-place l = l.due.items ++ reaches l.passed l.place (drop l.place l.drives) ≡ l.fn.due.items ++ reaches l.passed 0 l.drives

@@ -1,8 +1,0 @@
-use Rattle.std.proofs.Common.{◌≡◌}
-use Rattle.replay.specs.simulator.simulator_run.Flow.{rounds}
-use Rattle.station_sim.specs.inside.Runs.{flowing_of}
-use Rattle.station_sim.proofs.run.Run.flow.Given as goal
-
--- so many rounds were done
-abbrev pub invariant-loop : goal.invariant-loop
-invariant-loop g l = flowing_of g.S.Playable.state l.self ≡ rounds g.S.Playable.sight.station l.counter (flowing_of g.S.Playable.state l.fn.self)

@@ -1,6 +1,0 @@
--- How a station lies when it is started, as it is kept.
-use Rattle.replay.specs.simulator.simulator_run.First.{Outset}
-use Rattle.station_sim.specs.declared.outset.Outset.{Outset as Kept}
-
-abbrev pub outset_in : Kept → Outset
-outset_in kept = record { positions = kept.positions.items; occupancies = kept.occupancies.items }

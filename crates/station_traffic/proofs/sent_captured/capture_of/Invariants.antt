@@ -1,6 +1,0 @@
-use Rattle.std.proofs.Common.{take}
-use Rattle.station_traffic.specs.CapturedSession.{IsCaptureOf}
-use Rattle.station_traffic.proofs.sent_captured.capture_of.Given as goal
-
-abbrev pub invariant-loop-place : goal.invariant-loop-place
-invariant-loop-place l = IsCaptureOf l.given (take l.place l.network.sent) l.file.items
