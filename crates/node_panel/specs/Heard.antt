@@ -4,7 +4,7 @@ use Rattle.std.specs.Str.{bytes_eq}
 use Rattle.panel_desk.specs.declared.panel_line.Mode.{Mode}
 use Rattle.panel_desk.specs.declared.panel_line.Mode.TheVariants as mode
 use Rattle.panel_desk.specs.declared.panel_line.PanelLine.{PanelLine}
-use Rattle.panel_desk.specs.declared.panel_line.PanelLine.TheVariants.{Interlocking, Silent}
+use Rattle.panel_desk.specs.declared.panel_line.PanelLine.TheVariants.{Interlocking, Silent, Time}
 use Rattle.panel_desk.specs.declared.panel_line.PanelLine.TheVariants as shows
 use Rattle.panel_desk.specs.node_lines.ixl_rules.declared.command.Command.TheVariants.{Resume}
 use Rattle.panel_desk.specs.node_lines.layout.Entries.{Site}
@@ -26,6 +26,8 @@ use Rattle.node_panel.specs.declared.told.Told.{Told}
 use Rattle.node_panel.specs.declared.told.Told.TheVariants.{Answer, Tells}
 
 pub record HeardView : Type 0 where
+  -- the operator's clock, in milliseconds
+  pub millis : ℕ
   -- whether it told anything
   pub joined : Bool
   -- what it takes
@@ -46,8 +48,9 @@ pub record HeardView : Type 0 where
 -- ---- nothing was told
 
 -- of so many controllers, sections, points, signals and routes
-abbrev pub nothing_heard : ℕ → ℕ → ℕ → ℕ → ℕ → HeardView
-nothing_heard controllers sections points signals routes = record {
+abbrev pub nothing_heard : ℕ → ℕ → ℕ → ℕ → ℕ → ℕ → HeardView
+nothing_heard millis controllers sections points signals routes = record {
+  millis = millis;
   joined = false;
   mode = mode.Ready;
   links = replicate controllers false;
@@ -61,11 +64,11 @@ nothing_heard controllers sections points signals routes = record {
 
 abbrev pub unheard : Site → HeardView
 unheard site =
-    nothing_heard (length site.signals + (length site.points + length site.detectors)) (length site.sections) (length site.points) (length site.signals) (length site.routes)
+    nothing_heard 0 (length site.signals + (length site.points + length site.detectors)) (length site.sections) (length site.points) (length site.signals) (length site.routes)
 
 -- as if nothing had been told
 abbrev pub forgotten : HeardView → HeardView
-forgotten heard = nothing_heard (length heard.links) (length heard.sections) (length heard.points) (length heard.authorities) (length heard.routes)
+forgotten heard = nothing_heard heard.millis (length heard.links) (length heard.sections) (length heard.points) (length heard.authorities) (length heard.routes)
 
 -- ---- something is told
 
@@ -148,5 +151,5 @@ route_line place is_set = shows.Known (Route (record { 0 = place }) is_set)
 -- A line of each thing. The node's own link is the operator's: it is ready where the node told anything.
 abbrev pub pictured : HeardView → List PanelLine
 pictured heard =
-    Interlocking heard.mode ∷ link_line 0 heard.joined ∷ (each link_line 1 heard.links ++ (each section_line 0 heard.sections
+    Time heard.millis ∷ Interlocking heard.mode ∷ link_line 0 heard.joined ∷ (each link_line 1 heard.links ++ (each section_line 0 heard.sections
     ++ (each point_line 0 heard.points ++ (each authority_line 0 heard.authorities ++ (each indication_line 0 heard.indications ++ each route_line 0 heard.routes)))))

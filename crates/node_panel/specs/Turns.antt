@@ -52,18 +52,22 @@ abbrev pub begun : Bool → HeardView → HeardView
 begun true heard = forgotten heard
 begun false heard = heard
 
+-- at a reading of the operator's clock
+abbrev pub timed : ℕ → HeardView → HeardView
+timed reading heard = record heard { millis = reading }
+
 -- What waited at the desk was taken; what is told from here on has the next number.
 abbrev pub opened : DeskView → DeskView
 opened desk = record desk { waiting = []; board = numbered desk.board }
 
 -- These were all calls of a turn behind its reading, in their order: whether the node was joined anew; the lines that it told; and each
 -- command that waited, once. Then the desk shows what is known, a line at each place.
-pub record IsLived (site : Site) (calls : List Call) (old new : Moment) : Type 0 where
+pub record IsLived (site : Site) (reading : ℕ) (calls : List Call) (old new : Moment) : Type 0 where
   pub began : Bool
   pub lines : List LineHeard
   pub asked : List Call
   pub are : calls ≡ AsksListener began ∷ (map AsksLine lines ++ asked)
-  pub asks : AsksEach site (flat_map asked_by old.desk.waiting) (heard_all site lines (begun began old.heard)) asked new.heard
+  pub asks : AsksEach site (flat_map asked_by old.desk.waiting) (heard_all site lines (timed reading (begun began old.heard))) asked new.heard
   pub noted : DeskView
   pub notes : Notes (opened old.desk) noted
   pub shows : new.desk ≡ record noted { board = shown_all site 0 (pictured new.heard) noted.board }
@@ -75,7 +79,7 @@ pub record IsTurn (site : Site) (calls : List Call) (old new : Moment) : Type 0 
   pub serves : Serves Answered old.desk served
   pub behind : List Call
   pub are : calls ≡ Rests ∷ Reads reading ∷ behind
-  pub lived : IsLived site behind (record old { desk = served }) new
+  pub lived : IsLived site reading behind (record old { desk = served }) new
 
 -- turns with these calls led from one moment to another
 pub data Turns (site : Site) (first : Moment) : List Call → Moment → Type 0 where

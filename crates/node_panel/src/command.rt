@@ -6,13 +6,13 @@ use crate::attendance::attend_node;
 use crate::failure::NodePanelFailure;
 use crate::heard::Heard;
 use node_network::{Caller, NodeClock};
-use panel_connections::Loopback;
+use panel_connections::{Loopback, tell_address};
 use panel_desk::node_lines::ixl_rules::control_table::Checked;
 use panel_desk::{Desk, PageAsked, Pictured, open_desk};
 use station_check::{table_of, tell};
 use std::alloc::Global;
 use std::io::Write;
-use std::net::{Ipv4Addr, Net, SocketAddr};
+use std::net::{Net, SocketAddr};
 use std::random::RandomSource;
 use std::time::Clock as Timer;
 
@@ -20,6 +20,8 @@ use std::time::Clock as Timer;
 #[derive(Clone, Copy, Debug)]
 pub struct Asked<'a> {
     pub page: PageAsked<'a>,
+    /// The path of a record. None is written: the node writes one.
+    pub record: Option<&'a str>,
     /// The address at which the node serves its operator.
     pub node: &'a str,
     /// For how many milliseconds it stands, if not for ever.
@@ -61,13 +63,16 @@ fn open<R: Net + Timer + RandomSource + AllocGlobal, O: Write>(
     table: &Checked,
     out: &mut O,
 ) -> Result<(), NodePanelFailure> {
+    if asked.record.is_some() {
+        return Err(NodePanelFailure::Record);
+    }
     let Ok(address) = asked.node.parse::<SocketAddr>() else {
         return Err(NodePanelFailure::Address);
     };
     let Ok(clock) = NodeClock::start(rt, 0) else {
         return Err(NodePanelFailure::NoClock);
     };
-    let Ok(listener) = Loopback::open(rt, page_address(asked.page.port)) else {
+    let Ok(listener) = Loopback::open(rt, asked.page.port) else {
         return Err(NodePanelFailure::NoPort);
     };
     let caller = Caller::new(rt.alloc(), clock, rt, address);
@@ -84,7 +89,7 @@ fn attend_opened<R: Net + Timer + RandomSource + AllocGlobal, O: Write>(
     out: &mut O,
 ) -> Result<(), NodePanelFailure> {
     let (mut heard, mut desk) = open_room(rt, rt.alloc(), table, &asked.page)?;
-    tell_address(rt.alloc(), asked.page.port, out)?;
+    tell_address(asked.page.port, out)?;
     attend_node(
         rt,
         rt.alloc(),
@@ -109,17 +114,4 @@ fn open_room<R: RandomSource>(
     let places = heard.picture(alloc)?.len();
     let desk = open_desk(rt, alloc, table.copy(alloc)?, places, page)?;
     Ok((heard, desk))
-}
-
-/// An address of the loopback interface.
-fn page_address(port: u16) -> SocketAddr {
-    SocketAddr::from((Ipv4Addr::LOCALHOST, port))
-}
-
-/// Tells where the page is.
-fn tell_address<O: Write>(alloc: Global, port: u16, out: &mut O) -> Result<(), NodePanelFailure> {
-    let line = format!(in alloc; "http://127.0.0.1:{port}/")?;
-    out.writeln(line.as_str())?;
-    out.flush()?;
-    Ok(())
 }

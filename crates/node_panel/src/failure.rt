@@ -9,6 +9,8 @@ use thiserror::Error;
 pub(crate) enum NodePanelFailure {
     #[error("the address of the node is an IP address and a port")]
     Address,
+    #[error("a panel of a node writes no record: the node does, with its own --record")]
+    Record,
     #[error("the clock cannot be read")]
     NoClock,
     #[error("the port of the page cannot be opened")]

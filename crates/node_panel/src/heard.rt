@@ -18,6 +18,7 @@ use std::marker::Model;
 /// answer yet.
 #[derive(Debug, Drop)]
 pub struct Heard {
+    pub(crate) millis: u64,
     pub(crate) joined: bool,
     pub(crate) mode: Mode,
     pub(crate) links: Vec<bool>,
@@ -34,7 +35,7 @@ impl Model for Heard {
 
     ghost Value = { HeardView };
 
-    ghost view = { λ h. record { joined = h.joined; mode = h.mode; links = h.links.items; sections = h.sections.items; points = h.points.items; authorities = h.authorities.items; indications = h.indications.items; routes = h.routes.items; asked = h.asked.items } };
+    ghost view = { λ h. record { millis = h.millis; joined = h.joined; mode = h.mode; links = h.links.items; sections = h.sections.items; points = h.points.items; authorities = h.authorities.items; indications = h.indications.items; routes = h.routes.items; asked = h.asked.items } };
 }
 
 impl Heard {
@@ -46,6 +47,7 @@ impl Heard {
         let points = layout.points().len();
         let controllers = signals.saturating_add(points.saturating_add(layout.detectors().len()));
         Ok(Heard {
+            millis: 0,
             joined: false,
             mode: Mode::Ready,
             links: vec![in alloc; false; controllers]?,

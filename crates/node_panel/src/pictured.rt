@@ -20,6 +20,8 @@ impl Pictured for Heard {
 
     fn picture(&self, alloc: Global) -> Result<Vec<PanelLine>, AllocError> {
         let mut lines = Vec::new(alloc);
+        let millis = self.millis;
+        lines.push(PanelLine::Time { millis })?;
         lines.push(PanelLine::Interlocking(self.mode))?;
         lines.push(link_line(0, self.joined))?;
         add_links(&mut lines, &self.links)?;

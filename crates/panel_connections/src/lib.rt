@@ -7,4 +7,4 @@ mod listener;
 mod peer;
 
 pub use connections::Connections;
-pub use listener::{Listens, Loopback};
+pub use listener::{Listens, Loopback, tell_address};

@@ -3,7 +3,7 @@
 use mio::net::{TcpListener, TcpStream};
 use std::io;
 use std::io::{Read, Write};
-use std::net::{Net, SocketAddr};
+use std::net::{Ipv4Addr, Net, SocketAddr};
 
 /// Where connections come from.
 pub trait Listens {
@@ -21,8 +21,9 @@ pub struct Loopback {
 }
 
 impl Loopback {
-    /// Listens at an address.
-    pub fn open(net: &impl Net, address: SocketAddr) -> io::Result<Loopback> {
+    /// Listens at a port, any that is free where it is 0.
+    pub fn open(net: &impl Net, port: u16) -> io::Result<Loopback> {
+        let address = SocketAddr::from((Ipv4Addr::LOCALHOST, port));
         Ok(Loopback {
             listener: TcpListener::bind(net, address)?,
         })
@@ -43,4 +44,10 @@ impl Listens for Loopback {
             Err(_) => None,
         }
     }
+}
+
+/// Tells where the page is that is served at a port.
+pub fn tell_address<O: Write>(port: u16, out: &mut O) -> io::Result<()> {
+    out.writeln(format_args!("http://127.0.0.1:{port}/"))?;
+    out.flush()
 }

@@ -313,6 +313,8 @@ const occupancy = name => first("stands", name) || first("section", name);
 const reported = name => first("section", name) || (first("link", layout.detectorOf.get(name)) === "ready" ? first("stands", name) : "unknown");
 const authority = name => { const said = words("signal", name); return said[0] === "stop" || said.length < 2 ? null : said[1]; };
 const isWorld = () => station.kind === "world";
+// A panel of a node that doesn't answer: nothing is known then.
+const isApart = () => !isWorld() && first("link", layout.nodes[0]) === "lost";
 
 function element(parent, tag, attributes, text) {
   const made = document.createElementNS(SVG, tag);
@@ -450,7 +452,7 @@ function paintSignal(name) {
   const of = group("signal", name);
   const given = first("signal", name), indicated = first("indicates", name), way = authority(name);
   setClasses(of, [...ASPECTS, "unknown"], [aspect(name)]);
-  of?.classList.toggle("unlike", !isWorld() && given !== "" && indicated !== "" && given !== indicated);
+  of?.classList.toggle("unlike", !isWorld() && !["", "unknown"].includes(indicated) && given !== indicated);
   of?.classList.toggle("lost", first("link", name) === "lost");
   of?.setAttribute("aria-label", "signal " + name + " shows " + aspect(name) + (way === null ? "" : ", route " + way) + (first("link", name) === "lost" ? ", its link is down" : ""));
 }
@@ -641,6 +643,7 @@ function tellAnswer(line, answer) {
     if (code === "8" && meant) light("signal", meant.entry);
     if ((code === "4" || code === "9") && meant) light("route", meant.name);
   } else if (word === "no") say(line + " can't happen: " + (IMPOSSIBLE[code] || answer), "refused");
+  else if (word === "lost") say(line + ": the node doesn't answer", "refused");
   else say(line + ": " + answer, "");
 }
 
@@ -662,7 +665,7 @@ function log(line) {
   const [, time, rest] = line.match(/^(\d+) (.*)$/) || [null, "", line];
   const [what, answer] = rest.split(" = ");
   const own = asked.get(what), isOwn = own && performance.now() - own.at < 5000;
-  const isRefused = /^(refused|no)\b/.test(answer || "");
+  const isRefused = /^(refused|no|lost|not)\b/.test(answer || "");
   const kind = isRefused ? "refused" : /^(occupy|clear) /.test(what) ? "moved" : "asked";
   addRow(time === "" ? "" : clock(+time), kind, answer ? worded(what) + ": " + answered(answer) : what);
   if (answer && isOwn && !(own.isQuiet && answer === "ok")) tellAnswer(what, answer);
@@ -674,6 +677,7 @@ const worded = line => line.replace(/^(restart \S+) .*$/, "$1");
 function answered(answer) {
   const [word, code, name] = answer.split(" ");
   if (word === "refused") return "refused, " + (REFUSALS[code] || (() => answer))(name);
+  if (word === "lost") return "not asked, since the node doesn't answer";
   return word === "no" ? "can't happen, " + (IMPOSSIBLE[code] || answer) : answer;
 }
 
@@ -1019,6 +1023,7 @@ let heldSince = null;
 
 function paintHeader() {
   const mode = first("ixl", ""), left = heldSince === null ? "" : Math.max(0, Math.ceil((6000 - (now() - heldSince)) / 1000));
+  if (isApart()) return paintApart();
   by("p-mode").textContent = {ready: "takes commands", holding: heldSince === null ? "holds for 6 s" : "holds: " + left + " s", resume: "waits for resume"}[mode] || "no answer yet";
   by("p-mode").dataset.mode = mode;
   by("p-resume").hidden = mode !== "resume";
@@ -1029,6 +1034,14 @@ function paintHeader() {
   const [bytes, limit] = words("memory", "").map(Number);
   by("p-memory").textContent = limit ? (bytes / 1048576).toFixed(1) + " of " + Math.round(limit / 1048576) + " MiB" : "";
   by("p-memory").dataset.bad = bytes > limit * 0.9 ? "yes" : "no";
+}
+
+function paintApart() {
+  by("p-mode").textContent = "the node " + layout.nodes[0] + " doesn't answer";
+  by("p-mode").dataset.mode = "gone";
+  by("p-resume").hidden = true;
+  by("p-time").textContent = clock(first("time", "") || now());
+  by("p-links").textContent = "";
 }
 
 // A line is a kind and its words; the kinds of one thing alone have no name.
@@ -1096,7 +1109,7 @@ async function askOn() {
     by("p-mode").textContent = "the panel doesn't answer";
     by("p-mode").dataset.mode = "gone";
   }
-  document.body.classList.toggle("p-gone", isGone);
+  document.body.classList.toggle("p-gone", isGone || isApart());
   setTimeout(askOn, wait);
 }
 

@@ -7,6 +7,7 @@
 //! answers otherwise than it was recorded.
 #![tactic(auto)]
 
+use node_panel::{Asked as NodePanel, panel_of_node};
 use node_traffic::{Asked as NodeCapture, capture_node_to_file, decode_node_text, ends_text};
 use panel_page::PAGE;
 use station_command::{
@@ -19,7 +20,7 @@ use station_plan_text::plan_text;
 use station_record::station_decode::decode_text;
 use station_record::station_run::replay::station_check::check_text;
 use station_record::station_run::replay::{replay_text, sim_text};
-use station_record::station_run::{self, Asked as Run, Limits, PanelAsked};
+use station_record::station_run::{self, Asked as Run, Limits, PageAsked, PanelAsked};
 use station_record::{
     Asked as Capture, Cut, Endpoint, capture_to_file, chart_text, decode_session_text,
 };
@@ -60,8 +61,18 @@ fn main(rt: HostRuntime) -> ExitCode {
                     port,
                     record,
                     for_ms,
+                    node,
                 },
-            ) => panel_file(&rt, layout, port, record, for_ms),
+            ) => {
+                let port = port.unwrap_or(PORT) as u16;
+                let panelled = Panelled {
+                    port,
+                    record,
+                    for_ms,
+                    node,
+                };
+                panel_file(&rt, layout, panelled)
+            }
             Ok(
                 Asked::Replay {
                     layout,
@@ -225,42 +236,68 @@ const RECORD: &str = "panel.session";
 /// Up to how many bytes of datagrams a panel stands: 1 GiB.
 const MEMORY: u64 = 1 << 30;
 
-/// `panel FILE [--port P] [--record R] [--for MS]`.
-fn panel_file(
-    rt: &HostRuntime,
-    file: &str,
-    port: Option<u64>,
-    record: Option<&str>,
+/// Of what a panel is opened.
+#[derive(Clone, Copy)]
+struct Panelled<'a> {
+    port: u16,
+    record: Option<&'a str>,
     for_ms: Option<u64>,
-) -> u8 {
-    let limits = Limits {
-        for_ms: for_ms.unwrap_or(u64::MAX),
-        memory: MEMORY,
-    };
-    let port = port.unwrap_or(PORT) as u16;
+    node: Option<&'a str>,
+}
+
+/// `panel FILE [--port P] [--record R] [--for MS] [--node ADDRESS]`.
+fn panel_file(rt: &HostRuntime, file: &str, panelled: Panelled<'_>) -> u8 {
     match text_of(rt, file) {
-        Ok(text) => panel(rt, text.as_str(), port, record.unwrap_or(RECORD), limits),
+        Ok(text) => panel_with_plan(rt, text.as_str(), panelled),
         Err(failure) => fail(rt, &failure),
     }
 }
 
-/// Has a station operated from a browser. Its track plan is drawn first.
-fn panel(rt: &HostRuntime, layout: &str, port: u16, record: &str, limits: Limits) -> u8 {
+/// Opens a panel of a layout. Its track plan is drawn first.
+fn panel_with_plan(rt: &HostRuntime, layout: &str, panelled: Panelled<'_>) -> u8 {
     let mut plan = Vec::new(rt.alloc());
     let status = plan_text(rt.alloc(), layout, None, None, &mut plan, &mut rt.stderr());
     if status != 0 {
         return status;
     }
-    let asked = PanelAsked {
+    let page = PageAsked {
         layout,
         plan: str::from_utf8(&plan).unwrap_or(""),
         page: PAGE,
         version: VERSION,
-        port,
-        record,
-        limits,
+        port: panelled.port,
+        kind: "world",
+        record: panelled.record.unwrap_or(RECORD),
     };
+    match panelled.node {
+        Some(node) => panel_node(rt, page, node, panelled),
+        None => panel(rt, page, panelled.for_ms),
+    }
+}
+
+/// Has a station operated from a browser.
+fn panel(rt: &HostRuntime, page: PageAsked<'_>, for_ms: Option<u64>) -> u8 {
+    let limits = Limits {
+        for_ms: for_ms.unwrap_or(u64::MAX),
+        memory: MEMORY,
+    };
+    let asked = PanelAsked { page, limits };
     station_run::panel(rt, &asked, &mut rt.stdout(), &mut rt.stderr())
+}
+
+/// Has the node of an interlocking operated from a browser.
+fn panel_node(rt: &HostRuntime, page: PageAsked<'_>, node: &str, panelled: Panelled<'_>) -> u8 {
+    let asked = NodePanel {
+        page: PageAsked {
+            kind: "node",
+            record: "",
+            ..page
+        },
+        record: panelled.record,
+        node,
+        for_ms: panelled.for_ms,
+    };
+    panel_of_node(rt, &asked, &mut rt.stdout(), &mut rt.stderr())
 }
 
 /// `replay FILE RECORD [--node NAME]`.

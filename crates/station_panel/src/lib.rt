@@ -20,10 +20,9 @@ pub use noting::Noting;
 pub use seat::places;
 
 // What a panel is made of.
-pub use panel_connections::{Listens, Loopback};
+pub use panel_connections::{Listens, Loopback, tell_address};
 pub use panel_desk::node_lines::{Authority, Known, LinkState};
-pub use panel_desk::panel_board::{About, Board, about_text};
-pub use panel_desk::{Desk, Mode, PanelLine, Pictured};
+pub use panel_desk::{Desk, Mode, PageAsked, PanelLine, Pictured, open_desk};
 
 // What crates above need of the crates below.
 pub use station_network;

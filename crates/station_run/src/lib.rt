@@ -17,7 +17,7 @@ pub use failure::RunFailure;
 pub use machine::{Asked, run};
 pub use panel_machine::{PanelAsked, attend_station, panel};
 pub use prepared::{Prepared, prepare};
-pub use station_panel::Limits;
+pub use station_panel::{Limits, PageAsked};
 
 // What crates above need of the crates below.
 pub use replay;

@@ -7,45 +7,24 @@ use crate::driven_world::Running;
 use crate::failure::RunFailure;
 use crate::machine::{Machine, fail, open};
 use crate::prepared::{Prepared, prepare};
-use bytes::Bytes;
 use replay::station_check::Failure;
 use station_panel::station_network::station_drive::{Clock, Datagrams, Station};
 use station_panel::{
-    About, Board, Desk, Disturbed, Ending, Limits, Listens, Loopback, Noting, Pictured, about_text,
-    attend, places,
+    Desk, Disturbed, Ending, Limits, Listens, Loopback, Noting, PageAsked, attend, open_desk,
+    places, tell_address,
 };
-use std::alloc::{AllocError, Global};
+use std::alloc::Global;
 use std::fs::Files;
-use std::io;
 use std::io::Write;
-use std::net::{Ipv4Addr, Net, SocketAddr};
+use std::net::Net;
 use std::random::RandomSource;
 use std::time::Clock as Timer;
 
 /// What `station panel` is asked.
 #[derive(Clone, Copy, Debug)]
 pub struct PanelAsked<'a> {
-    /// The text of the layout.
-    pub layout: &'a str,
-    /// Its track plan, as SVG.
-    pub plan: &'a str,
-    /// The page that is served.
-    pub page: &'static str,
-    /// The version of the program.
-    pub version: &'a str,
-    /// The port of the page, on the loopback interface.
-    pub port: u16,
-    /// The path of the record.
-    pub record: &'a str,
+    pub page: PageAsked<'a>,
     pub limits: Limits,
-}
-
-/// By what a browser knows the panel, and what its page commands with.
-#[derive(Drop)]
-struct Names {
-    host: String,
-    origin: String,
-    token: String,
 }
 
 /// Attends a panel of a new station of a layout: its nodes run over sockets, as `run` has them, each event is recorded, and a
@@ -59,13 +38,13 @@ pub fn panel<R: Files + Net + Timer + RandomSource + AllocGlobal, O: Write, E: W
     err: &mut E,
 ) -> u8
     ensures status { result ≤ 1 }
-    ensures faulty { (CanRun asked.now.layout.now [] → ⊥) → result ≡ 1 }
+    ensures faulty { (CanRun asked.now.page.layout.now [] → ⊥) → result ≡ 1 }
 {
-    let prepared = match prepare(rt.alloc(), asked.layout, "") {
+    let prepared = match prepare(rt.alloc(), asked.page.layout, "") {
         Ok(prepared) => prepared,
         Err(failure) => return fail(RunFailure::Failed(failure), err),
     };
-    match open(rt, prepared.nodes(), asked.record) {
+    match open(rt, prepared.nodes(), asked.page.record) {
         Ok(machine) => attend_machine(rt, prepared, machine, asked, out, err),
         Err(failure) => fail(failure, err),
     }
@@ -88,7 +67,7 @@ fn attend_machine<R: Files + Net + Timer + RandomSource + AllocGlobal, O: Write,
         clock,
     } = machine;
     let (mut recorder, mut clock) = (recorder, clock);
-    match Loopback::open(rt, address(asked.port)) {
+    match Loopback::open(rt, asked.page.port) {
         Ok(mut listener) => attend_station(
             rt,
             rt.alloc(),
@@ -156,7 +135,8 @@ fn open_room<R: RandomSource, N: Drop>(
     net: N,
     asked: &PanelAsked<'_>,
 ) -> Result<Room<N>, RunFailure> {
-    let desk = open_desk(rt, alloc, &station, asked)?;
+    let table = station.table().copy(alloc)?;
+    let desk = open_desk(rt, alloc, table, places(alloc, &station)?, &asked.page)?;
     let net = Disturbed::of(alloc, net, station.table().layout())?;
     Ok(Room {
         station: Noting::of(alloc, station),
@@ -177,7 +157,7 @@ fn attend_room<R: RandomSource, N: Datagrams + Drop, C: Clock, W: Write, L: List
     out: &mut O,
 ) -> Result<Ending, RunFailure> {
     let mut room = room;
-    tell_address(alloc, asked.port, out)?;
+    tell_address(asked.page.port, out)?;
     let ending = attend(
         rt,
         alloc,
@@ -192,19 +172,6 @@ fn attend_room<R: RandomSource, N: Datagrams + Drop, C: Clock, W: Write, L: List
     Ok(ending)
 }
 
-/// An address of the loopback interface.
-fn address(port: u16) -> SocketAddr {
-    SocketAddr::from((Ipv4Addr::LOCALHOST, port))
-}
-
-/// Tells where the page is.
-fn tell_address<O: Write>(alloc: Global, port: u16, out: &mut O) -> Result<(), RunFailure> {
-    let line = format!(in alloc; "http://127.0.0.1:{port}/")?;
-    out.writeln(line.as_str())?;
-    out.flush()?;
-    Ok(())
-}
-
 /// Tells why a panel ended, and answers the status to end with.
 fn tell_ending<O: Write>(ending: Ending, out: &mut O) -> u8
     ensures { result ≤ 1 }
@@ -217,63 +184,4 @@ fn tell_ending<O: Write>(ending: Ending, out: &mut O) -> u8
         Ok(()) => 0,
         Err(_) => 1,
     }
-}
-
-/// The desk of a station.
-fn open_desk<R: RandomSource, S: Station + Pictured>(
-    rt: &R,
-    alloc: Global,
-    station: &S,
-    asked: &PanelAsked<'_>,
-) -> Result<Desk, RunFailure> {
-    let names = draw_names(rt, alloc, asked.port)?;
-    let told = told_once(alloc, station, asked, names.token.as_str())?;
-    let board = Board::new(alloc, places(alloc, station)?)?;
-    let table = station.table().copy(alloc)?;
-    let Names {
-        host,
-        origin,
-        token,
-    } = names;
-    let page = Bytes::from_static(asked.page.as_bytes());
-    Ok(Desk::new(alloc, table, host, origin, token, page, told, board))
-}
-
-/// By what a browser knows a panel at a port, and a token that is drawn for it.
-fn draw_names<R: RandomSource>(rt: &R, alloc: Global, port: u16) -> Result<Names, RunFailure> {
-    let (first, second) = (drawn(rt)?, drawn(rt)?);
-    let host = format!(in alloc; "127.0.0.1:{port}")?;
-    let origin = format!(in alloc; "http://127.0.0.1:{port}")?;
-    let token = format!(in alloc; "{first}-{second}")?;
-    Ok(Names {
-        host,
-        origin,
-        token,
-    })
-}
-
-/// A number that is drawn from the machine's random source.
-fn drawn<R: RandomSource>(rt: &R) -> Result<u64, RunFailure> {
-    let mut bytes = [0; 8];
-    rt.fill_bytes(&mut bytes)?;
-    Ok(u64::from_le_bytes(bytes))
-}
-
-/// What a page is told once.
-fn told_once<S: Station>(
-    alloc: Global,
-    station: &S,
-    asked: &PanelAsked<'_>,
-    token: &str,
-) -> Result<Bytes, AllocError> {
-    let told = About {
-        name: station.table().layout().station().name.as_str(),
-        version: asked.version,
-        kind: "world",
-        token,
-        record: asked.record,
-        plan: asked.plan,
-        layout: asked.layout,
-    };
-    Bytes::from_string(about_text(alloc, &told)?)
 }

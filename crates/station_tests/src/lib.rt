@@ -23,6 +23,10 @@ mod pair;
 #[cfg(test)]
 mod panel;
 #[cfg(test)]
+mod panel_bench;
+#[cfg(test)]
+mod panel_of_node;
+#[cfg(test)]
 mod run_bench;
 #[cfg(test)]
 mod runs;

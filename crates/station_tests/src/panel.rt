@@ -1,141 +1,21 @@
 //! Panels of the small station: over memory, where requests come in known rounds and their answers are kept, and over the loopback
 //! interface.
 
+use crate::panel_bench::{Asks, Sevens, Visit, Visits, count, has, page};
 use crate::run_bench::{SMALL, is_same};
 use station_panel::station_network::{MemoryNetwork, SteppingClock};
 use station_panel::{Limits, Listens, Loopback};
 use station_record::station_run::{PanelAsked, attend_station, prepare};
 use std::alloc::Global;
 use std::cell::RefCell;
-use std::io;
 use std::io::{Read, Write};
-use std::net::{Ipv4Addr, Net, SocketAddr, TcpStream};
+use std::net::{Net, TcpStream};
 use std::process::Abort;
-use std::random::RandomSource;
-
-/// The token that is drawn from bytes of 7.
-const TOKEN: &str = "506381209866536711-506381209866536711";
-
-/// A source whose bytes are known.
-struct Sevens;
-
-impl RandomSource for Sevens {
-    fn fill_bytes(&self, buf: &mut [u8]) -> io::Result<()> {
-        buf.fill(7);
-        Ok(())
-    }
-}
-
-/// A request.
-#[derive(Clone, Copy)]
-enum Asks {
-    /// Of the panel's page, for a target.
-    Get(&'static str),
-    /// Of the page, with a command.
-    Post(&'static str),
-    /// Of anybody, with these fields and this body.
-    Other(&'static str),
-}
-
-/// What a panel is asked, and in which round.
-type Visit = (u64, Asks);
-
-/// A connection that has one request.
-#[derive(Drop)]
-struct Wire<'a> {
-    request: String,
-    read: usize,
-    told: &'a RefCell<Vec<u8>>,
-}
-
-impl<'a> Read for Wire<'a> {
-    fn read(&mut self, buf: &mut [u8]) -> io::Result<usize> {
-        let bytes = self.request.as_bytes();
-        let (_, left) = bytes.split_at(self.read.min(bytes.len()));
-        let count = left.len().min(buf.len());
-        if count == 0 {
-            return Err(io::Error::from(io::ErrorKind::WouldBlock));
-        }
-        let (front, _) = left.split_at(count);
-        let (place, _) = buf.split_at_mut(count);
-        place.copy_from_slice(front);
-        self.read += count;
-        Ok(count)
-    }
-}
-
-impl<'a> Write for Wire<'a> {
-    fn write(&mut self, buf: &[u8]) -> io::Result<usize> {
-        match self.told.try_borrow_mut() {
-            Ok(mut told) => told.extend_from_slice(buf)?,
-            Err(_) => return Err(io::Error::from(io::ErrorKind::Other)),
-        }
-        Ok(buf.len())
-    }
-
-    fn flush(&mut self) -> io::Result<()> {
-        Ok(())
-    }
-}
-
-/// Where the connections of visits come from.
-#[derive(Drop)]
-struct Visits<'a> {
-    alloc: Global,
-    left: &'static [Visit],
-    round: u64,
-    told: &'a RefCell<Vec<u8>>,
-}
-
-impl<'a> Listens for Visits<'a> {
-    type Stream = Wire<'a>;
-
-    fn accept(&mut self) -> Option<Wire<'a>> {
-        if let Some(visit) = self.left.first() {
-            if visit.0 <= self.round {
-                let (_, left) = self.left.split_at(1);
-                self.left = left;
-                return wire(self.alloc, visit.1, self.told);
-            }
-        }
-        self.round = self.round.saturating_add(1);
-        None
-    }
-}
-
-/// A connection with a request.
-fn wire<'a>(alloc: Global, asks: Asks, told: &'a RefCell<Vec<u8>>) -> Option<Wire<'a>> {
-    let request = match asks {
-        Asks::Get(target) => {
-            format!(in alloc; "GET {target} HTTP/1.1\r\nHost: 127.0.0.1:8080\r\n\r\n")
-        }
-        Asks::Post(line) => {
-            let length = line.len();
-            format!(in alloc;
-                "POST /command HTTP/1.1\r\nHost: 127.0.0.1:8080\r\nOrigin: http://127.0.0.1:8080\r\nX-Token: {TOKEN}\r\nContent-Length: {length}\r\n\r\n{line}"
-            )
-        }
-        Asks::Other(text) => String::from_str(alloc, text),
-    };
-    match request {
-        Ok(request) => Some(Wire {
-            request,
-            read: 0,
-            told,
-        }),
-        Err(_) => None,
-    }
-}
 
 /// What a panel is asked in a test, at a port.
 fn asked<'a>(port: u16, for_ms: u64) -> PanelAsked<'a> {
     PanelAsked {
-        layout: SMALL,
-        plan: "<svg/>",
-        page: "<p>the page</p>",
-        version: "1",
-        port,
-        record: "panel.session",
+        page: page(port),
         limits: Limits {
             for_ms,
             memory: 1 << 30,
@@ -154,12 +34,7 @@ struct Left {
 fn attend(rt: &impl Abort, alloc: Global, visits: &'static [Visit], for_ms: u64) -> Left {
     let told = RefCell::new(Vec::new(alloc));
     let mut record = Vec::new(alloc);
-    let mut listener = Visits {
-        alloc,
-        left: visits,
-        round: 0,
-        told: &told,
-    };
+    let mut listener = Visits::new(alloc, visits, &told);
     let status = attend_small(rt, alloc, &mut listener, &mut record, &asked(8080, for_ms));
     assert!(rt; status == 0);
     Left {
@@ -192,24 +67,6 @@ fn attend_small<L: Listens>(
         &mut out,
         &mut err,
     )
-}
-
-/// Whether a text has a part.
-fn has(text: &[u8], part: &str) -> bool {
-    text.windows(part.len())
-        .any(|window| window == part.as_bytes())
-}
-
-/// How many answers have this status.
-fn count(told: &[u8], status: &str) -> usize {
-    let mut answers = 0;
-    for place in 0..told.len() {
-        let (_, rest) = told.split_at(place);
-        if rest.starts_with(b"HTTP/1.1 ") && rest.split_at(9).1.starts_with(status.as_bytes()) {
-            answers += 1;
-        }
-    }
-    answers
 }
 
 /// Each refusal, and what stands in its place where nothing is wrong.
@@ -285,8 +142,7 @@ fn a_session_of_requests_replays_as_the_same(rt: HostRuntime) {
 
 /// What is answered over the loopback interface to a request for the page.
 fn page_over_loopback(rt: &(impl Abort + Net), alloc: Global) -> Vec<u8> {
-    let anywhere = SocketAddr::from((Ipv4Addr::LOCALHOST, 0));
-    let mut listener = Loopback::open(rt, anywhere).expect(rt, "a listener");
+    let mut listener = Loopback::open(rt, 0).expect(rt, "a listener");
     let address = listener.address().expect(rt, "its address");
     let mut browser = TcpStream::connect(rt, address).expect(rt, "a connection");
     let port = address.port();

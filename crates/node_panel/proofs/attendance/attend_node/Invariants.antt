@@ -1,0 +1,11 @@
+use Rattle.std.proofs.Common.{List}
+use Rattle.node_drive.specs.Calls.{Call, Calls}
+use Rattle.node_panel.specs.Turns.{Turns}
+use Rattle.node_panel.proofs.attendance.attend_node.Given as goal
+
+-- the turns so far
+abbrev pub invariant-loop : goal.invariant-loop
+invariant-loop g l =
+    (calls : List Call)
+    × Calls (g.O.Outside.told l.fn.outside) (g.O.Outside.told l.outside) calls
+    × Turns l.layout (record { heard = l.fn.heard; desk = l.fn.desk }) calls (record { heard = l.heard; desk = l.desk })

@@ -1,0 +1,164 @@
+//! Panels of an interlocking's node, over memory: what the node tells is brought, and what is asked of it is kept.
+
+use crate::panel_bench::{Asks, Sevens, Visit, Visits, count, has, page};
+use crate::run_bench::SMALL;
+use node_network::MemoryOutside;
+use node_panel::{Heard, attend_node};
+use station_panel::{Desk, Pictured, open_desk};
+use station_record::station_run::replay::station_check::table_of;
+use std::alloc::Global;
+use std::cell::RefCell;
+use std::process::Abort;
+
+/// What the node tells, what is asked of it meanwhile, and up to which reading.
+type Stage = (&'static [&'static str], &'static [Visit], u64);
+
+/// A panel of the small station's node.
+#[derive(Drop)]
+struct Seat {
+    outside: MemoryOutside,
+    heard: Heard,
+    desk: Desk,
+}
+
+/// A panel whose node is joined in its first turn.
+fn seat(rt: &impl Abort, alloc: Global) -> Seat {
+    let table = table_of(alloc, SMALL).expect(rt, "a table");
+    let heard = Heard::nothing(alloc, table.layout()).expect(rt, "nothing heard");
+    let places = heard.picture(alloc).expect(rt, "a picture").len();
+    let desk = open_desk(&Sevens, alloc, table, places, &page(8080)).expect(rt, "a desk");
+    let mut outside = MemoryOutside::new(alloc, 0, 10);
+    outside.listen();
+    Seat {
+        outside,
+        heard,
+        desk,
+    }
+}
+
+/// Attends a panel for a stage, and answers what browsers were told.
+fn attend(rt: &impl Abort, alloc: Global, seat: &mut Seat, stage: &Stage) -> Vec<u8> {
+    let (lines, visits, until) = *stage;
+    for line in lines {
+        seat.outside.bring_line(line).expect(rt, "a line");
+    }
+    let told = RefCell::new(Vec::new(alloc));
+    attend_until(
+        rt,
+        alloc,
+        seat,
+        &mut Visits::new(alloc, visits, &told),
+        until,
+    );
+    told.try_replace(Vec::new(alloc))
+        .expect(rt, "what was told")
+}
+
+/// Attends a panel up to a reading, for the browsers of a listener.
+fn attend_until(
+    rt: &impl Abort,
+    alloc: Global,
+    seat: &mut Seat,
+    visits: &mut Visits<'_>,
+    until: u64,
+) {
+    let table = table_of(alloc, SMALL).expect(rt, "a table");
+    let attended = attend_node(
+        &Sevens,
+        alloc,
+        table.layout(),
+        &mut seat.outside,
+        visits,
+        &mut seat.heard,
+        &mut seat.desk,
+        until,
+    );
+    assert!(rt; attended.is_ok());
+}
+
+/// Whether the next line that was asked of the node is this.
+fn asks(rt: &impl Abort, seat: &mut Seat, line: &str) -> bool {
+    seat.outside
+        .take_written()
+        .is_some_and(|written| written.as_str() == line)
+}
+
+/// All that stands is told, the operator resumes, and sets a route.
+const JOINED: Stage = (
+    &[
+        "link S1 ready",
+        "link P1 ready",
+        "section GA clear",
+        "section GP unknown",
+        "point P1 left",
+        "signal S1 stop -",
+        "indicates S1 stop",
+        "route R2 free",
+        "waiting for resume",
+        "what no node tells",
+    ],
+    &[
+        (1, Asks::Get("/state?after=0")),
+        (2, Asks::Post("resume")),
+        (3, Asks::Post("set R2")),
+        (4, Asks::Post("occupy GA")),
+    ],
+    200,
+);
+
+/// The route comes, and all are cancelled.
+const SET: Stage = (
+    &[
+        "accepted",
+        "accepted",
+        "route R2 set",
+        "signal S1 proceed R2",
+        "indicates S1 proceed",
+    ],
+    &[
+        (1, Asks::Get("/state?after=0")),
+        (2, Asks::Post("cancel all")),
+        (3, Asks::Post("set R1")),
+    ],
+    400,
+);
+
+/// A command is refused, and a link is lost.
+const LOST: Stage = (
+    &["accepted", "refused 5 R2", "link S1 lost"],
+    &[(1, Asks::Get("/state?after=0"))],
+    600,
+);
+
+/// The node has gone.
+const GONE: Stage = (&[], &[(2, Asks::Get("/state?after=0"))], 800);
+
+#[test]
+fn a_panel_shows_what_a_node_tells(rt: HostRuntime) {
+    let mut seat = seat(&rt, rt.alloc());
+    let told = attend(&rt, rt.alloc(), &mut seat, &JOINED);
+    assert!(rt; has(&told, "link IXL1 ready") && has(&told, "link S1 ready"));
+    assert!(rt; has(&told, "section GP unknown") && has(&told, "indicates S1 stop"));
+    assert!(rt; has(&told, "indicates S3 unknown") && has(&told, "ixl resume"));
+    assert!(rt; count(&told, "202") == 3);
+    assert!(rt; asks(&rt, &mut seat, "resume") && asks(&rt, &mut seat, "set R2"));
+    assert!(rt; seat.outside.take_written().is_none());
+    let told = attend(&rt, rt.alloc(), &mut seat, &SET);
+    assert!(rt; has(&told, "ixl ready") && has(&told, "set R2 = accepted"));
+    assert!(rt; has(&told, "signal S1 proceed R2") && has(&told, "indicates S1 proceed"));
+    assert!(rt; has(&told, "not taken here"));
+    assert!(rt; asks(&rt, &mut seat, "cancel all") && asks(&rt, &mut seat, "set R1"));
+}
+
+#[test]
+fn a_panel_knows_nothing_of_a_node_that_has_gone(rt: HostRuntime) {
+    let mut seat = seat(&rt, rt.alloc());
+    attend(&rt, rt.alloc(), &mut seat, &JOINED);
+    attend(&rt, rt.alloc(), &mut seat, &SET);
+    let told = attend(&rt, rt.alloc(), &mut seat, &LOST);
+    assert!(rt; has(&told, "set R1 = refused 5 R2"));
+    assert!(rt; has(&told, "link S1 lost") && has(&told, "indicates S1 unknown"));
+    seat.outside.close();
+    let told = attend(&rt, rt.alloc(), &mut seat, &GONE);
+    assert!(rt; has(&told, "link IXL1 lost") && has(&told, "signal S1 stop -"));
+}
