@@ -1,5 +1,5 @@
 -- Calls one behind another.
-use Rattle.std.proofs.Common.{◌≡◌, ℕ, List, [], ◌∷◌, ◌++◌, Option, Some, None, refl, sym, ap, ◌∙◌, subst, append_assoc, append-nil}
+use Rattle.std.proofs.Common.{◌≡◌, ◌≤◌, ℕ, List, [], ◌∷◌, ◌++◌, Option, Some, None, refl, sym, ap, ◌∙◌, subst, append_assoc, append-nil, arith}
 use Rattle.node_drive.specs.Calls.{Call, Calls, Grows, Reads, Rises, Told}
 
 grows_none : {A : Type 0} (told : Option (List A)) → Grows told told []
@@ -28,3 +28,19 @@ calls_on {a} {b} {c} {one} {other} p q = record {
 
 pub calls_same : {a b : Told} {one other : List Call} → one ≡ other → Calls a b one → Calls a b other
 calls_same {a} {b} is p = subst (λ (l : List Call). Calls a b l) is p
+
+rises_le : (a b : ℕ) (all : List Call) → Rises a all b → a ≤ b
+rises_le a b [] p = omega (arith, p)
+rises_le a b (Reads reading ∷ all) p =
+    let first = p.0 in
+    let rest = rises_le reading b all p.1 in
+    omega (arith, first, rest)
+rises_le a b (call ∷ all) p = rises_le a b all p
+
+-- the clock hasn't fallen
+pub latest_rises : {a b : Told} {all : List Call} → Calls a b all → a.latest ≤ b.latest
+latest_rises {a} {b} {all} called = rises_le a.latest b.latest all called.rises
+
+-- a reading is the latest
+pub reading_is : {a b : Told} {reading : ℕ} → Calls a b (Reads reading ∷ []) → b.latest ≡ reading
+reading_is called = called.rises.1

@@ -1,3 +1,4 @@
 pub mod CallsOn
 pub mod Lists
 pub mod ReadAgain
+pub mod Successes

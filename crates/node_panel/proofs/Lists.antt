@@ -1,11 +1,43 @@
 -- What is heard, asked and shown, one after another.
-use Rattle.std.proofs.Common.{◌≡◌, ◌∙◌, ◌+◌, ◌<◌, ℕ, suc, List, [], ◌∷◌, ◌++◌, map, drop, length, get_or, refl, sym, ap, subst, append_assoc, append-nil, drop-cons, arith}
-use Rattle.panel_desk.specs.declared.panel_line.PanelLine.{PanelLine}
+use Rattle.std.proofs.Common.{◌≡◌, ◌∙◌, ◌+◌, ◌<◌, ◌≤◌, ℕ, zero, suc, Bool, false, List, [], ◌∷◌, ◌++◌, map, take, drop, length, replicate, slice_set, get_or, Option, None, refl, sym, ap, append_assoc, append-nil, arith, Vec}
+use Rattle.std.specs.List.{flat_map}
+use Rattle.std.specs.Vec.{with_items}
+use Rattle.std.proofs.lemmas.List.{with_items_is}
+use Rattle.panel_desk.specs.declared.panel_line.Mode.TheVariants.{Ready}
 use Rattle.panel_desk.specs.node_lines.layout.Entries.{Site}
+use Rattle.panel_desk.specs.node_lines.sci_telegram.declared.message.Aspect.{Aspect}
+use Rattle.panel_desk.specs.node_lines.sci_telegram.declared.message.Occupancy.{Occupancy}
+use Rattle.panel_desk.specs.node_lines.sci_telegram.declared.message.Side.{Side}
+use Rattle.panel_desk.specs.node_lines.declared.operator_line.Authority.{Authority}
 use Rattle.panel_desk.specs.node_lines.declared.operator_command.OperatorCommand.{OperatorCommand}
 use Rattle.node_drive.specs.Calls.{AsksLine, Call, LineHeard}
-use Rattle.node_panel.specs.Heard.{HeardView, each, heard_all, heard_by}
+use Rattle.node_panel.specs.Heard.{HeardView, forgotten, heard_all, heard_by}
 use Rattle.node_panel.specs.Turns.{AsksEach, asks, breaks_off, none}
+
+set_next : {A : Type 0} (place : ℕ) (value : A) (all : List A) → place < length all
+    → slice_set (replicate place value ++ drop place all) place value ≡ replicate (suc place) value ++ drop (suc place) all
+set_next place value [] below = absurd (omega (arith, below))
+set_next zero value (first ∷ others) below = refl
+set_next (suc place) value (first ∷ others) below = ap (λ l. value ∷ l) (set_next place value others (omega (arith, below)))
+
+pub set_length : {A : Type 0} (place : ℕ) (value : A) (all : List A) → length (slice_set all place value) ≡ length all
+set_length place value [] = refl
+set_length zero value (first ∷ others) = refl
+set_length (suc place) value (first ∷ others) = ap suc (set_length place value others)
+
+-- one more has the value
+pub put_next : {A : Type 0} (place : ℕ) (value : A) (now all : List A) → place < length all → now ≡ replicate place value ++ drop place all
+    → slice_set now place value ≡ replicate (place + 1) value ++ drop (place + 1) all
+put_next place value now all below is =
+    let next : suc place ≡ place + 1 = omega arith in
+    ap (λ l. slice_set l place value) is ∙ set_next place value all below ∙ ap (λ p. replicate p value ++ drop p all) next
+
+-- all have it
+pub put_whole : {A : Type 0} (place : ℕ) (value : A) (all : List A) → length all ≤ place → place ≤ length all → replicate place value ++ drop place all ≡ replicate (length all) value
+put_whole zero value [] above below = refl
+put_whole (suc place) value [] above below = absurd (omega (arith, below))
+put_whole zero value (first ∷ others) above below = absurd (omega (arith, above))
+put_whole (suc place) value (first ∷ others) above below = ap (λ l. value ∷ l) (put_whole place value others (omega (arith, above)) (omega (arith, below)))
 
 pub lines_next : (lines : List LineHeard) (line : LineHeard) → map AsksLine lines ++ AsksLine line ∷ [] ≡ map AsksLine (lines ++ line ∷ [])
 lines_next [] line = refl
@@ -21,3 +53,56 @@ pub asked_on : {site : Site} (one other : List OperatorCommand) (calls more : Li
 asked_on [] other calls more first mid last none q = q
 asked_on (command ∷ one) other _ more first mid last (asks p) q = asks (asked_on one other _ more _ mid last p q)
 asked_on (command ∷ one) other _ more first mid last (breaks_off p) q = breaks_off (asked_on one other _ more _ mid last p q)
+
+-- one more is taken
+next_taken : {A B : Type 0} (f : A → List B) (place : ℕ) (all : List A) (other : A) → place < length all → flat_map f (take place all) ++ f (get_or all place other) ≡ flat_map f (take (suc place) all)
+next_taken f place [] other below = absurd (omega (arith, below))
+next_taken f zero (first ∷ others) other below = sym (append-nil (f first))
+next_taken f (suc place) (first ∷ others) other below =
+    append_assoc (f first) (flat_map f (take place others)) (f (get_or others place other)) ∙ ap (λ l. f first ++ l) (next_taken f place others other (omega (arith, below)))
+
+pub one_taken : {A B : Type 0} (f : A → List B) (place : ℕ) (all : List A) (item other : A) → place < length all → item ≡ get_or all place other
+    → flat_map f (take place all) ++ f item ≡ flat_map f (take (place + 1) all)
+one_taken f place all item other below is =
+    let next : suc place ≡ place + 1 = omega arith in
+    ap (λ one. flat_map f (take place all) ++ f one) is ∙ next_taken f place all other below ∙ ap (λ p. flat_map f (take p all)) next
+
+as_many : {A : Type 0} (count : ℕ) (value : A) → length (replicate count value) ≡ count
+as_many zero value = refl
+as_many (suc more) value = ap suc (as_many more value)
+
+-- a vector of which all elements were made the same has these
+pub all_put : {A Z : Type 0} (vec : Vec A Z) (old new : List A) (value : A) → old ≡ vec.items → new ≡ replicate (length old) value → (with_items vec new).items ≡ replicate (length vec.items) value
+all_put vec old new value is put =
+    let long : length new ≡ vec.len = ap (λ l. length l) put ∙ as_many (length old) value ∙ ap (λ l. length l) is ∙ sym vec.ok.0 in
+    with_items_is vec new long ∙ put ∙ ap (λ l. replicate (length l) value) is
+
+-- what was heard has these lists, each of which is as if nothing had been told
+pub is_forgotten : (heard : HeardView) (links : List Bool) (sections : List (Option Occupancy)) (points : List (Option Side)) (authorities : List (Option Authority)) (indications : List (Option Aspect))
+    (routes : List Bool) (asked : List OperatorCommand) → links ≡ replicate (length heard.links) false → sections ≡ replicate (length heard.sections) None → points ≡ replicate (length heard.points) None
+    → authorities ≡ replicate (length heard.authorities) None → indications ≡ replicate (length heard.indications) None → routes ≡ replicate (length heard.routes) false → asked ≡ []
+    → record {
+      millis = heard.millis;
+      joined = false;
+      mode = Ready;
+      links = links;
+      sections = sections;
+      points = points;
+      authorities = authorities;
+      indications = indications;
+      routes = routes;
+      asked = asked;
+    } ≡ forgotten heard
+is_forgotten heard links sections points authorities indications routes asked a b d e f h k =
+    λ i. record {
+      millis = heard.millis;
+      joined = false;
+      mode = Ready;
+      links = a i;
+      sections = b i;
+      points = d i;
+      authorities = e i;
+      indications = f i;
+      routes = h i;
+      asked = k i;
+    }

@@ -1,5 +1,5 @@
 -- The words of a line say again what it tells.
-use Rattle.std.proofs.Common.{◌≡◌, ◌≢◌, ◌<◌, ◌∙◌, ◌++◌, ℕ, zero, suc, ◌&&◌, nat_lt, Bool, true, false, List, [], ◌∷◌, codes, length, map, Option, Some, None, slice_get, Result, Ok, refl, sym, ap, arith, if◌then◌else◌}
+use Rattle.std.proofs.Common.{◌≡◌, ◌≢◌, ◌<◌, ◌∙◌, ◌++◌, ℕ, zero, suc, ◌&&◌, nat_lt, Bool, true, false, List, [], ◌∷◌, codes, length, map, Option, Some, None, slice_get, Result, Ok, refl, ap, arith, if◌then◌else◌}
 use Rattle.std.specs.List.{join_with_byte}
 use Rattle.std.specs.Option.{option_map, option_map_or}
 use Rattle.std.proofs.lemmas.Bool.Decides.{nat_tests}
@@ -22,14 +22,13 @@ use Rattle.panel_desk.specs.node_lines.sci_telegram.declared.message.Occupancy.T
 use Rattle.panel_desk.specs.node_lines.sci_telegram.declared.message.Side.{Side}
 use Rattle.panel_desk.specs.node_lines.sci_telegram.declared.message.Side.TheVariants.{Left, Right}
 use Rattle.panel_desk.specs.node_lines.simulator_event.declared.event.NodeId.{NodeId}
-use Rattle.panel_desk.specs.node_lines.Known.{aspect_word, authority_text, known_occupancy_word, known_side_word, known_text, link_word, node_word, route_state_word, signal_word}
+use Rattle.panel_desk.specs.node_lines.Known.{aspect_word, known_text, node_word, signal_word}
 use Rattle.panel_desk.specs.node_lines.declared.operator_line.Authority.{Authority}
 use Rattle.panel_desk.specs.node_lines.declared.operator_line.Known.{Known}
 use Rattle.panel_desk.specs.node_lines.declared.operator_line.Known.TheVariants as known
 use Rattle.panel_desk.specs.node_lines.declared.operator_line.LinkState.{LinkState}
 use Rattle.panel_desk.specs.node_lines.declared.operator_line.LinkState.TheVariants.{Ready, Lost}
 use Rattle.node_panel.specs.Lines.{IsOf, authority_said, known_route, route_of, signal_named, signal_of, told_known, told_said}
-use Rattle.node_panel.specs.declared.told.Told.{Told}
 use Rattle.node_panel.specs.declared.told.Told.TheVariants.{Tells}
 
 -- what the crates below say of the names of a layout

@@ -47,28 +47,33 @@ pub record HeardView : Type 0 where
 
 -- ---- nothing was told
 
--- of so many controllers, sections, points, signals and routes
-abbrev pub nothing_heard : ℕ → ℕ → ℕ → ℕ → ℕ → ℕ → HeardView
-nothing_heard millis controllers sections points signals routes = record {
-  millis = millis;
+abbrev pub unheard : Site → HeardView
+unheard site = record {
+  millis = 0;
   joined = false;
   mode = mode.Ready;
-  links = replicate controllers false;
-  sections = replicate sections None;
-  points = replicate points None;
-  authorities = replicate signals None;
-  indications = replicate signals None;
-  routes = replicate routes false;
+  links = replicate (length site.signals + (length site.points + length site.detectors)) false;
+  sections = replicate (length site.sections) None;
+  points = replicate (length site.points) None;
+  authorities = replicate (length site.signals) None;
+  indications = replicate (length site.signals) None;
+  routes = replicate (length site.routes) false;
   asked = [];
 }
 
-abbrev pub unheard : Site → HeardView
-unheard site =
-    nothing_heard 0 (length site.signals + (length site.points + length site.detectors)) (length site.sections) (length site.points) (length site.signals) (length site.routes)
-
 -- as if nothing had been told
 abbrev pub forgotten : HeardView → HeardView
-forgotten heard = nothing_heard heard.millis (length heard.links) (length heard.sections) (length heard.points) (length heard.authorities) (length heard.routes)
+forgotten heard = record heard {
+  joined = false;
+  mode = mode.Ready;
+  links = replicate (length heard.links) false;
+  sections = replicate (length heard.sections) None;
+  points = replicate (length heard.points) None;
+  authorities = replicate (length heard.authorities) None;
+  indications = replicate (length heard.indications) None;
+  routes = replicate (length heard.routes) false;
+  asked = [];
+}
 
 -- ---- something is told
 

@@ -15,7 +15,6 @@ use Rattle.panel_desk.specs.node_lines.sci_telegram.declared.message.Occupancy.{
 use Rattle.panel_desk.specs.node_lines.sci_telegram.declared.message.Occupancy.TheVariants.{Clear, Occupied}
 use Rattle.panel_desk.specs.node_lines.sci_telegram.declared.message.Side.{Side}
 use Rattle.panel_desk.specs.node_lines.sci_telegram.declared.message.Side.TheVariants.{Left, Right}
-use Rattle.panel_desk.specs.node_lines.simulator_event.declared.event.NodeId.{NodeId}
 use Rattle.panel_desk.specs.node_lines.declared.operator_line.Authority.{Authority}
 use Rattle.panel_desk.specs.node_lines.declared.operator_line.Known.{Known}
 use Rattle.panel_desk.specs.node_lines.declared.operator_line.Known.TheVariants as known

@@ -1,6 +1,6 @@
 -- The turns of a panel of an interlocking's node: requests are answered, what the node tells is heard, what was asked for is asked of
 -- the node, and the desk shows what is known then.
-use Rattle.std.specs.Prelude.{◌≡◌, ℕ, Bool, true, false, List, [], ◌∷◌, ◌++◌, map, if◌then◌else◌}
+use Rattle.std.specs.Prelude.{◌≡◌, ℕ, Bool, true, false, List, [], ◌∷◌, ◌++◌, map}
 use Rattle.std.specs.List.{flat_map}
 use Rattle.panel_connections.specs.Served.{Serves}
 use Rattle.panel_desk.specs.Answers.{Answered, DeskView}

@@ -78,14 +78,10 @@ fn ask<O: Outside>(
 ) -> Result<(), AllocError>
     ensures { OnOk result ((calls : List Call) × Calls (O.told outside.old) (O.told outside.new) calls × AsksEach layout.now (command ∷ []) heard.old calls heard.new × Notes desk.old desk.new) }
 {
-    heard.asked.reserve(1)?;
     let text = CommandText { layout, command };
     let line = format!(in alloc; "{text}")?;
     match outside.write_line(line.as_str()) {
-        Ok(()) => {
-            let _ = heard.asked.push(command);
-            Ok(())
-        }
+        Ok(()) => heard.ask(command),
         Err(_) => note_command(alloc, layout, reading, command, "lost", desk),
     }
 }

@@ -57,10 +57,8 @@ fn turn<O: Outside>(
 ) -> Result<(), AllocError>
     ensures { OnOk result ((calls : List Call) × Calls (O.told outside.old) (O.told outside.new) calls × IsLived layout.now reading calls (record { heard = heard.old; desk = desk.old }) (record { heard = heard.new; desk = desk.new })) }
 {
-    if outside.has_listener() {
-        heard.forget();
-    }
-    heard.millis = reading;
+    let began = outside.has_listener();
+    heard.begin(began, reading);
     let commands = desk.take();
     desk.count();
     hear_lines(alloc, layout, outside, reading, heard, desk)?;

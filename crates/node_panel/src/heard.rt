@@ -1,8 +1,8 @@
 //! What an interlocking's node has told.
 
-ghost use Rattle.std.specs.Prelude.{◌≡◌, IfOk, None, length, replicate};
+ghost use Rattle.std.specs.Prelude.{◌≡◌, ◌∷◌, ◌++◌, [], IfOk, OnOk, length, replicate};
 ghost use Rattle.node_panel.specs.Heard.{answered_by, forgotten, mode_after, put, put_at, put_link, told_by, unheard};
-ghost use Rattle.panel_desk.specs.node_lines.declared.operator_line.LinkState.TheVariants.{Ready};
+ghost use Rattle.node_panel.specs.Turns.{begun, timed};
 
 use crate::told::Told;
 use panel_desk::Mode;
@@ -66,13 +66,31 @@ impl Heard {
     {
         self.joined = false;
         self.mode = Mode::Ready;
-        self.links.fill(false);
-        self.sections.fill(None);
-        self.points.fill(None);
-        self.authorities.fill(None);
-        self.indications.fill(None);
-        self.routes.fill(false);
+        put_all(&mut self.links, false);
+        put_all(&mut self.sections, None);
+        put_all(&mut self.points, None);
+        put_all(&mut self.authorities, None);
+        put_all(&mut self.indications, None);
+        put_all(&mut self.routes, false);
         self.asked.clear();
+    }
+
+    /// A turn begins at a reading. All that was told is forgotten where the node was joined anew.
+    pub(crate) fn begin(&mut self, began: bool, millis: u64)
+        ensures { self.new ≡ timed millis (begun began self.old) }
+    {
+        if began {
+            self.forget();
+        }
+        self.millis = millis;
+    }
+
+    /// A command was asked of the node.
+    pub(crate) fn ask(&mut self, command: OperatorCommand) -> Result<(), AllocError>
+        ensures { OnOk result (self.new ≡ record self.old { asked = self.old.asked ++ command ∷ [] }) }
+    {
+        self.asked.push(command)?;
+        Ok(())
     }
 
     /// A line tells something. It answers the command to which it is the answer, if it is one.
@@ -148,6 +166,15 @@ fn mode_after(command: OperatorCommand, text: &str, before: Mode) -> Mode
     match command {
         OperatorCommand::One(Command::Resume) if text == "accepted" => Mode::Ready,
         _ => before,
+    }
+}
+
+/// Puts a value at each place.
+fn put_all<T: Copy>(all: &mut [T], value: T)
+    ensures { all.new ≡ replicate (length all.old) value }
+{
+    for place in 0..all.len() {
+        all[place] = value;
     }
 }
 

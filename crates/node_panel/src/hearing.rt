@@ -46,15 +46,13 @@ fn hear_next<O: Outside>(
 ) -> Result<bool, AllocError>
     ensures { OnOk result ((line : LineHeard) × Calls (O.told outside.old) (O.told outside.new) (AsksLine line ∷ []) × (heard.new ≡ heard_by layout.now line heard.old) × Notes desk.old desk.new) }
 {
-    match outside.next_line(alloc)? {
+    let line = outside.next_line(alloc)?;
+    match line {
         NextLine::Text(text) => {
             hear_text(alloc, layout, text.as_str(), reading, heard, desk)?;
             Ok(true)
         }
-        NextLine::Nothing => {
-            desk.places();
-            Ok(false)
-        }
+        NextLine::Nothing => Ok(false),
         NextLine::Closed => {
             heard.forget();
             Ok(false)
