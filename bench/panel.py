@@ -4,10 +4,12 @@ signaller does, and looks at what is drawn. A judge that knows the layout alone 
 between them: each lit signal has a route whose points are all drawn right and still, and no two such routes conflict. It ends with a table
 of what was seen, and with status 1 where anything was unsafe or didn't come.
 
-    python3 bench/panel.py STATION [--to FOLDER] [--size 1280x720] [walk] [storm] [load]
+    python3 bench/panel.py STATION [--to FOLDER] [--size 1280x720] [walk] [nodes] [storm] [load]
 
 walk       on Halden and on Neustadt: a refusal and its cause, a route by two clicks, a train through the station, a point that doesn't
            arrive, a link that is cut, a restart of the interlocking, a route by the keyboard; then the record is replayed
+nodes      the same page for nodes that run as processes of their own: a route by two clicks, a train, all cancelled by a key; the
+           interlocking's process is killed, and started again
 storm      five commands a second for 60 s, drawn from a seed: routes, occupancies, and every kind of fault
 load       50 clients that ask as the page does, for 60 s, beside 100 connections that stay half open: how long rounds took
 """
@@ -47,9 +49,13 @@ class Panel:
         self.program, self.layout, self.record = program, layout, pathlib.Path(folder, "panel.session")
         with socket.create_server(("127.0.0.1", 0)) as free:
             self.port = free.getsockname()[1]
-        words = [program, "panel", layout, "--port", str(self.port), "--record", str(self.record)]
+        words = [program, "panel", layout, "--port", str(self.port), *self.joined()]
         self.process = subprocess.Popen(words, stdout=subprocess.PIPE, text=True)
         self.address = self.process.stdout.readline().split()[-1]
+
+    def joined(self):
+        """What stands behind it: a station of its own, with a record."""
+        return ["--record", str(self.record)]
 
     def end(self):
         self.process.terminate()
@@ -67,6 +73,47 @@ class Panel:
         said = subprocess.run([self.program, "replay", self.layout, str(self.record)], stdout=subprocess.PIPE, stderr=subprocess.STDOUT, text=True)
         last = said.stdout.strip().splitlines()[-1:] or [""]
         return said.returncode == 0 and last[0] == "same", last[0]
+
+
+class PanelOfNodes(Panel):
+    """A panel that is joined to an interlocking's process. All nodes run as processes, with field equipment that is played."""
+
+    def joined(self):
+        with open(self.layout, "rb") as file:
+            told = tomllib.load(file)
+        self.name = told["station"]["name"]
+        names = [self.name] + [it["name"] for kind in ("signal", "point", "detector") for it in told.get(kind, [])]
+        *ports, self.operator = free_ports(len(names) + 1)
+        self.addresses = self.record.with_name("addresses.toml")
+        self.addresses.write_text("".join(f'{name} = "127.0.0.1:{port}"\n' for name, port in zip(names, ports)))
+        words = [sys.executable, str(TOP / "examples" / "machines" / "field.py"), self.program, self.layout, str(self.addresses)]
+        self.field = subprocess.Popen(words, stdin=subprocess.PIPE, stdout=subprocess.DEVNULL, stderr=subprocess.DEVNULL, text=True)
+        self.start_node()
+        return ["--node", f"127.0.0.1:{self.operator}"]
+
+    def start_node(self):
+        words = [self.program, "node", self.layout, self.name, "--addresses", str(self.addresses), "--operator", f"127.0.0.1:{self.operator}"]
+        self.node = subprocess.Popen(words, stdin=subprocess.DEVNULL, stderr=subprocess.DEVNULL)
+
+    def kill_node(self):
+        self.node.kill()
+        self.node.wait()
+
+    def say(self, line):
+        """To the field: a section is occupied or cleared."""
+        print(line, file=self.field.stdin, flush=True)
+
+    def end(self):
+        super().end()
+        self.kill_node()
+        self.say("stop")
+        self.field.stdin.close()
+        self.field.wait()
+
+
+def free_ports(count):
+    with contextlib.ExitStack() as held:
+        return [held.enter_context(socket.create_server(("127.0.0.1", 0))).getsockname()[1] for _ in range(count)]
 
 
 class Browser:
@@ -187,9 +234,11 @@ DRAWN = """(() => {
 
 
 class Judge:
-    """Knows the layout alone: the routes, what each requires, and which conflict."""
+    """Knows the layout alone: the routes, what each requires, and which conflict. Of nodes it may be that a signal is drawn dark, since
+    nothing is known of it."""
 
-    def __init__(self, layout):
+    def __init__(self, layout, rest=("stop",)):
+        self.rest = rest
         with open(layout, "rb") as file:
             self.told = tomllib.load(file)
         self.sections = {it["name"]: it["section"] for kind in ("track", "point") for it in self.told.get(kind, [])}
@@ -214,7 +263,7 @@ class Judge:
                 and all(lies[point] == side for point, side in self.needs(it).items())]
 
     def look(self, drawn):
-        lit = {signal: aspect for signal, aspect in drawn["shows"].items() if aspect != "stop"}
+        lit = {signal: aspect for signal, aspect in drawn["shows"].items() if aspect not in self.rest}
         self.looks += 1
         self.lit = max(self.lit, len(lit))
         meant = [self.candidates(signal, aspect, drawn["lies"]) for signal, aspect in lit.items()]
@@ -243,7 +292,7 @@ class Signaller:
         while not (came := holds(drawn := self.drawn())) and time.monotonic() - began < seconds:
             time.sleep(0.1)
         took = time.monotonic() - began
-        lit = ", ".join(f"{signal} {aspect}" for signal, aspect in drawn["shows"].items() if aspect != "stop")
+        lit = ", ".join(f"{signal} {aspect}" for signal, aspect in drawn["shows"].items() if aspect not in self.judge.rest)
         self.rows.append((step, "came" if came else "DIDN'T COME", f"{took:.1f} s", lit or "none"))
         if not came:
             raise TimeoutError(step)
@@ -389,6 +438,48 @@ def walk(program, layout, size, folder):
     return all(row[1] == "came" for row in signaller.rows) and not judge.unsafe and not faults
 
 
+def nodes(program, layout, size, folder):
+    with tempfile.TemporaryDirectory() as place:
+        panel, judge, steps = PanelOfNodes(program, layout, place), Judge(layout, ("stop", "dark")), WALKS[pathlib.Path(layout).stem]
+        signaller = Signaller(panel, judge, size, folder)
+        signaller.name += "-nodes"
+        try:
+            signaller.opened()
+            signaller.resume()
+            work_on_nodes(signaller, panel, steps.routes[0])
+        except TimeoutError:
+            print("drawn last:", json.dumps(signaller.drawn()))
+            signaller.shot("lacks")
+        finally:
+            faults = signaller.browser.faults
+            signaller.browser.end()
+            panel.end()
+    print(f"\n{signaller.name}: {judge.looks} looks, {judge.lit} signals lit at once, {len(judge.unsafe)} unsafe, {len(faults)} faults of the page\n")
+    print(table(("step", "", "after", "lit signals"), signaller.rows), flush=True)
+    return all(row[1] == "came" for row in signaller.rows) and not judge.unsafe and not faults
+
+
+def work_on_nodes(signaller, panel, route):
+    section = signaller.judge.routes[route]["approach"][-1]
+    panel.say(f"occupy {section}")
+    signaller.wait(f"{section} is reported occupied", lambda it: section in it["occupied"], 5)
+    signaller.set(route)
+    signaller.shot("proceed")
+    signaller.browser.key("x")
+    signaller.wait("one key cancels all", lambda it: set(it["shows"].values()) == {"stop"}, 10)
+    panel.say(f"clear {section}")
+    signaller.wait(f"{section} is reported clear", lambda it: section not in it["occupied"], 5)
+    panel.kill_node()
+    signaller.wait("the interlocking's process is killed: nothing is known", lambda it: it["mode"] == "gone" and set(it["shows"].values()) == {"dark"}, 10)
+    signaller.shot("gone")
+    panel.start_node()
+    signaller.wait("it is started again: it holds", lambda it: it["mode"] == "holding", 10)
+    signaller.wait("it waits for resume, all links up", lambda it: it["mode"] == "resume" and it["lost"] == "all links up", 40)
+    signaller.resume()
+    signaller.by_keys(route)
+    signaller.shot("again")
+
+
 def drawn_command(draw, judge, held):
     """A command of any kind that the page gives, routes more often than faults."""
     told, route = judge.told, draw.choice(list(judge.routes))
@@ -522,7 +613,7 @@ def main():
     words.add_argument("--to", type=pathlib.Path, help="a folder for pictures of the page")
     words.add_argument("--size", default="1280x720", type=lambda text: tuple(map(int, text.split("x"))))
     words.add_argument("--layout", action="append", help="examples/halden.toml and examples/neustadt.toml, if not said")
-    words.add_argument("kinds", nargs="*", default=["walk", "storm", "load"])
+    words.add_argument("kinds", nargs="*", default=["walk", "nodes", "storm", "load"])
     given = words.parse_intermixed_args()
     if given.to:
         given.to.mkdir(parents=True, exist_ok=True)

@@ -699,6 +699,8 @@ const MODES = {ready: "the interlocking takes commands", holding: "the interlock
 
 function report(key, said) {
   const [kind, name] = key.split(" "), text = REPORTS[kind]?.(name, said);
+  // Where the node doesn't answer nothing is known: one line tells that.
+  if (isApart() && name !== layout.nodes[0]) return;
   if (text) addRow(clock(now()), said === "lost" || said === "unknown" ? "loss" : "report", text);
 }
 
