@@ -55,5 +55,5 @@ pub judged : {site : Site} {entries : List Entry} (verdict : Replayed)
     → ((first : Played) × IsFirst site first × ((verdict ≡ Same) ↔ AnswersSame first entries))
     → ((first : Played) × IsFirst site first × ((line : ℕ) → (verdict ≡ Differs line) ↔ AnswersOtherwiseAt line first entries))
     → (first : Played) × IsFirst site first × Judges answer after first entries verdict
-judged Same same differs = (same.0, same.1, same.2.0 refl)
-judged (Differs line) same differs = (differs.0, differs.1, (differs.2 line).0 refl)
+judged Same same apart = (same.0, same.1, same.2.0 refl)
+judged (Differs line) same apart = (apart.0, apart.1, (apart.2 line).0 refl)
