@@ -4,3 +4,4 @@ pub mod NodeEnds
 pub mod Internet
 pub mod Blocks
 pub mod Captures
+pub mod Faults

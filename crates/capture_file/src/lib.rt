@@ -3,6 +3,7 @@
 
 mod block;
 mod checksum;
+mod fault;
 mod internet;
 mod journey;
 mod laws;
@@ -10,6 +11,7 @@ mod node_end;
 mod out_file;
 
 pub use block::{begin, push_datagram};
+pub use fault::{CaptureFault, fault_line};
 pub use journey::{Endpoint, Journey, MOST_BYTES};
 pub use laws::carries_go_around;
 pub use node_end::end_of;

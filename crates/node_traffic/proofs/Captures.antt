@@ -10,7 +10,8 @@ use Rattle.node_traffic.specs.CapturedRecord.{HasTooLong, IsCaptureOf, captured}
 use Rattle.node_traffic.specs.NodeTraffic.{Passed}
 use Rattle.node_traffic.specs.inside.CapturesSoFar.{Adds, HasTooLongOf, IsNoCapture}
 use Rattle.node_traffic.specs.declared.capture_failure.CaptureFailure.{CaptureFailure}
-use Rattle.node_traffic.specs.declared.capture_failure.CaptureFailure.TheVariants.{Station, TooLong, Exists, CannotWrite}
+use Rattle.node_traffic.specs.declared.capture_failure.CaptureFailure.TheVariants.{Station, Capture}
+use Rattle.capture_file.specs.declared.fault.CaptureFault.TheVariants.{TooLong, Exists, CannotWrite}
 use Rattle.station_check.specs.declared.failure.Failure.TheVariants.{Layout, Table, Line, OutOfMemory, NotWritten}
 use Rattle.node_traffic.specs.inside.Passing.{seen}
 use Rattle.node_traffic.specs.declared.passage.Passed.{Passed as Code}
@@ -73,6 +74,6 @@ fails given node all left more one file why (Err other) split is before told = s
     none (Station (Line fault)) is = is
     none (Station OutOfMemory) is = tt
     none (Station NotWritten) is = is
-    none TooLong is = too_long given node all left more one file split is before
-    none Exists is = is
-    none CannotWrite is = is
+    none (Capture TooLong) is = too_long given node all left more one file split is before
+    none (Capture Exists) is = is
+    none (Capture CannotWrite) is = is

@@ -2,18 +2,21 @@
 use Rattle.std.proofs.Common.{◌≡◌, ℕ, List, IsOk, Option, Result, Ok, Err, map, refl, subst, sym}
 use Rattle.std.specs.Prelude.{IfErr, IfOk, IsErrAnd, OnOk}
 use Rattle.std.specs.Io.KnownBytes.{Appends}
+use Rattle.capture_file.specs.Faults.{IsOfFile}
+use Rattle.capture_file.specs.declared.fault.CaptureFault.{CaptureFault}
+use Rattle.capture_file.specs.declared.fault.CaptureFault.TheVariants.{TooLong, Exists, CannotWrite}
 use Rattle.capture_file.specs.declared.journey.Endpoint.{Endpoint}
 use Rattle.control_table.specs.layout.Entries.{Site}
 use Rattle.station_check.specs.Failures.{Leaves}
 use Rattle.station_check.specs.declared.failure.Failure.{Failure}
 use Rattle.station_check.specs.declared.failure.Failure.TheVariants.{Layout, Table, Line, OutOfMemory, NotWritten}
-use Rattle.node_traffic.specs.CapturedRecord.{Explains, IsCaptureOf, IsRecordCapture}
+use Rattle.node_traffic.specs.CapturedRecord.{Explains, HasCapture, IsCaptureOf, IsRecordCapture}
 use Rattle.node_traffic.specs.DecodedRecord.{CanRead, ExplainsRecord, IsDecoded}
 use Rattle.node_traffic.specs.NodeLines.{lines_text}
 use Rattle.node_traffic.specs.NodeTraffic.{traffic}
 use Rattle.node_traffic.specs.RecordLines.{told}
 use Rattle.node_traffic.specs.declared.capture_failure.CaptureFailure.{CaptureFailure}
-use Rattle.node_traffic.specs.declared.capture_failure.CaptureFailure.TheVariants.{Station, TooLong, Exists, CannotWrite}
+use Rattle.node_traffic.specs.declared.capture_failure.CaptureFailure.TheVariants.{Station, Capture}
 use Rattle.node_traffic.specs.declared.record.Record.{Record}
 use Rattle.node_traffic.specs.inside.CapturesSoFar.{IsNoCapture}
 use Rattle.node_traffic.specs.inside.SoundTexts.{AreTexts, IsLate}
@@ -77,11 +80,17 @@ no_capture layout name text site read given (Station (Table fault)) are so = abs
 no_capture layout name text site read given (Station (Line fault)) are so = absurd so
 no_capture layout name text site read given (Station OutOfMemory) are so = can_read layout name text site read are
 no_capture layout name text site read given (Station NotWritten) are so = absurd so
-no_capture layout name text site read given TooLong are so = record { site = site; sound = are.sound; head = read.head; lines = map told read.lines.items; says = are.says; has = so }
-no_capture layout name text site read given Exists are so = absurd so
-no_capture layout name text site read given CannotWrite are so = absurd so
+no_capture layout name text site read given (Capture TooLong) are so = record { site = site; sound = are.sound; head = read.head; lines = map told read.lines.items; says = are.says; has = so }
+no_capture layout name text site read given (Capture Exists) are so = absurd so
+no_capture layout name text site read given (Capture CannotWrite) are so = absurd so
 
 pub none_told : {T : Type 0} (layout name text : List ℕ) (site : Site) (read : Record) (given : List Endpoint) (tried : Result T CaptureFailure) → AreTexts layout name text site read
     → IfErr tried (IsNoCapture (traffic read.head.node 0 (map told read.lines.items))) → IfErr tried (Explains layout name text given)
 none_told layout name text site read given (Ok file) are so = tt
 none_told layout name text site read given (Err why) are so = no_capture layout name text site read given why are so
+
+-- or the file of one is at fault
+pub file_at_fault : (layout name text : List ℕ) (given : List Endpoint) (fault : CaptureFault) → HasCapture layout name text given → IsOfFile fault → Explains layout name text given (Capture fault)
+file_at_fault layout name text given TooLong has is = absurd is
+file_at_fault layout name text given Exists has is = has
+file_at_fault layout name text given CannotWrite has is = has

@@ -1,11 +1,13 @@
 -- What a node's record comes to as a capture.
-use Rattle.std.specs.Prelude.{◌≡◌, ◌<◌, ◌*◌, ◌-◌, ◌^◌, ℕ, min, List, [], ◌∷◌, ◌++◌, length, map, take, codes, slice_get, Option, Some, None, Ok}
+use Rattle.std.specs.Prelude.{◌≡◌, ◌<◌, ◌*◌, ◌-◌, ◌^◌, ℕ, min, List, [], ◌∷◌, ◌++◌, length, map, take, slice_get, Option, Some, None, Ok}
 use Rattle.std.specs.Io.KnownBytes.{Appends}
 use Rattle.std.specs.List.{flat_map}
 use Rattle.capture_file.specs.Blocks.{head, packet_block}
 use Rattle.capture_file.specs.Captures.{IsCapture}
 use Rattle.capture_file.specs.Journeys.{Sent as Captured}
+use Rattle.capture_file.specs.Faults.{fault_line}
 use Rattle.capture_file.specs.NodeEnds.{end_of}
+use Rattle.capture_file.specs.declared.fault.CaptureFault.TheVariants.{TooLong, Exists, CannotWrite}
 use Rattle.capture_file.specs.declared.journey.Endpoint.{Endpoint}
 use Rattle.capture_file.specs.declared.journey.Journey.{Journey}
 use Rattle.control_table.specs.layout.Entries.{Site}
@@ -17,7 +19,7 @@ use Rattle.node_traffic.specs.NodeTraffic.{Passed, traffic}
 use Rattle.node_traffic.specs.RecordLines.{Line}
 use Rattle.node_traffic.specs.Records.{record_said}
 use Rattle.node_traffic.specs.declared.capture_failure.CaptureFailure.{CaptureFailure}
-use Rattle.node_traffic.specs.declared.capture_failure.CaptureFailure.TheVariants.{Station, TooLong, Exists, CannotWrite}
+use Rattle.node_traffic.specs.declared.capture_failure.CaptureFailure.TheVariants.{Station, Capture}
 use Rattle.node_traffic.specs.declared.passage.Way.{Way}
 use Rattle.node_traffic.specs.declared.passage.Way.TheVariants.{Sent, Came}
 use Rattle.node_traffic.specs.declared.record_head.Head.{Head as RecordHead}
@@ -103,16 +105,14 @@ pub record HasCapture (layout name text : List ℕ) (given : List Endpoint) : Ty
 -- too, or the system doesn't write it.
 abbrev pub Explains : List ℕ → List ℕ → List ℕ → List Endpoint → CaptureFailure → Type 0
 Explains layout name text given (Station why) = ExplainsRecord layout name text why
-Explains layout name text given TooLong = IsTooLong layout name text
-Explains layout name text given Exists = HasCapture layout name text given
-Explains layout name text given CannotWrite = HasCapture layout name text given
+Explains layout name text given (Capture TooLong) = IsTooLong layout name text
+Explains layout name text given (Capture Exists) = HasCapture layout name text given
+Explains layout name text given (Capture CannotWrite) = HasCapture layout name text given
 
 -- the line that tells why
 abbrev pub told_line : CaptureFailure → List ℕ
 told_line (Station why) = station_line why
-told_line TooLong = codes "capture fault 1 TooLong\n"
-told_line Exists = codes "capture fault 2 Exists\n"
-told_line CannotWrite = codes "cannot write\n"
+told_line (Capture fault) = fault_line fault
 
 -- This line was told, as far as the writer took it, and nothing else.
 abbrev pub Tells : CaptureFailure → Option (List ℕ) → Option (List ℕ) → Type 0

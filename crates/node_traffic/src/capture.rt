@@ -13,7 +13,7 @@ use crate::passage::{Passed, Reception, Way, traffic_of};
 use crate::passed_line::why_text;
 use crate::record::Record;
 use crate::texts::read_texts;
-use capture_file::{Endpoint, Journey, MOST_BYTES, begin, end_of, push_datagram};
+use capture_file::{CaptureFault, Endpoint, Journey, MOST_BYTES, begin, end_of, push_datagram};
 use std::alloc::Global;
 
 /// How many microseconds a millisecond has.
@@ -86,7 +86,7 @@ fn push_passed(
     ensures failed { IfErr result (HasTooLongOf (seen one.now)) }
 {
     if one.bytes.len() > MOST_BYTES {
-        return Err(CaptureFailure::TooLong);
+        return Err(CaptureFailure::Capture(CaptureFault::TooLong));
     }
     let comment = comment(one.way);
     push_datagram(alloc, file, &journey(given, node, one), one.bytes, comment)?;

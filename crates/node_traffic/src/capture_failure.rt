@@ -3,30 +3,19 @@
 ghost use Rattle.std.specs.Prelude.{◌≡◌};
 ghost use Rattle.node_traffic.specs.CapturedRecord.{Tells};
 
+use capture_file::{CaptureFault, fault_line};
 use replay_words::write_as_taken;
 use station_check::{Failure, tell};
 use std::alloc::AllocError;
 use std::io::Write;
-
-/// What is told of a datagram that is too long, and of a file that is there already, by the numbers and names of the faults.
-const TOO_LONG: &str = "capture fault 1 TooLong\n";
-
-const EXISTS: &str = "capture fault 2 Exists\n";
-
-/// What is told where the system doesn't open or write a file.
-const CANNOT_WRITE: &str = "cannot write\n";
 
 /// Why there is no capture of a record.
 #[derive(Debug, Drop)]
 pub enum CaptureFailure {
     /// A text is faulty, or memory is lacking.
     Station(Failure),
-    /// A datagram has more bytes than a capture takes.
-    TooLong,
-    /// There is a file of that name, which isn't to be written over.
-    Exists,
-    /// The system doesn't open or write the file.
-    CannotWrite,
+    /// A datagram is too long, or there is no new file.
+    Capture(CaptureFault),
 }
 
 impl From<Failure> for CaptureFailure {
@@ -36,6 +25,16 @@ impl From<Failure> for CaptureFailure {
 
     fn from(why: Failure) -> CaptureFailure {
         CaptureFailure::Station(why)
+    }
+}
+
+impl From<CaptureFault> for CaptureFailure {
+    ghost use Rattle.node_traffic.specs.declared.capture_failure.CaptureFailure.TheVariants.{Capture};
+
+    ghost from_gives = { λ fault failure. failure ≡ Capture fault };
+
+    fn from(fault: CaptureFault) -> CaptureFailure {
+        CaptureFailure::Capture(fault)
     }
 }
 
@@ -56,14 +55,8 @@ pub(crate) fn tell_capture_failure<E: Write>(failure: &CaptureFailure, err: &mut
 {
     match failure {
         CaptureFailure::Station(failure) => tell(failure, err),
-        CaptureFailure::TooLong => {
-            write_as_taken(TOO_LONG.as_bytes(), err);
-        }
-        CaptureFailure::Exists => {
-            write_as_taken(EXISTS.as_bytes(), err);
-        }
-        CaptureFailure::CannotWrite => {
-            write_as_taken(CANNOT_WRITE.as_bytes(), err);
+        CaptureFailure::Capture(fault) => {
+            write_as_taken(fault_line(*fault).as_bytes(), err);
         }
     }
 }

@@ -8,7 +8,6 @@ use crate::capture::node_capture;
 use crate::capture_failure::{CaptureFailure, tell_capture_failure};
 use capture_file::{Endpoint, write_file};
 use std::fs::Files;
-use std::io;
 use std::io::Write;
 
 /// What `station capture` is asked of a node's record: the texts of the layout and of the record, the name of the node, where the
@@ -62,9 +61,6 @@ fn write_capture<R: Files + AllocGlobal>(rt: &R, asked: &Asked<'_>) -> Result<()
         asked.recording,
         asked.endpoints,
     )?;
-    match write_file(rt, asked.out, asked.force, &capture) {
-        Ok(()) => Ok(()),
-        Err(error) if error.kind() == io::ErrorKind::AlreadyExists => Err(CaptureFailure::Exists),
-        Err(_) => Err(CaptureFailure::CannotWrite),
-    }
+    write_file(rt, asked.out, asked.force, &capture)?;
+    Ok(())
 }

@@ -6,6 +6,7 @@ use Rattle.std.proofs.lemmas.Option.{slice_get_cases}
 use Rattle.capture_file.specs.Blocks.{head, packet_block}
 use Rattle.capture_file.specs.Captures.{IsCapture}
 use Rattle.capture_file.specs.Journeys.{Sent}
+use Rattle.capture_file.specs.declared.fault.CaptureFault.TheVariants.{TooLong, Exists, CannotWrite}
 use Rattle.capture_file.specs.declared.journey.Endpoint.{Endpoint}
 use Rattle.station_run.specs.replay.rasta_core.Links.{OnLink}
 use Rattle.station_run.specs.replay.World.{IsFirst, Played}
@@ -15,7 +16,7 @@ use Rattle.station_run.specs.replay.station_check.declared.failure.Failure.TheVa
 use Rattle.station_record.specs.CapturedSession.{IsCaptureOf, IsFileOf, captured}
 use Rattle.station_record.specs.Traffic.{left_by}
 use Rattle.station_record.specs.declared.capture_failure.CaptureFailure.{CaptureFailure}
-use Rattle.station_record.specs.declared.capture_failure.CaptureFailure.TheVariants.{Station, TooLong}
+use Rattle.station_record.specs.declared.capture_failure.CaptureFailure.TheVariants.{Station, Capture}
 use Rattle.station_record.specs.inside.CapturesSoFar.{Adds, Captures, IsNoCapture, IsNoFile}
 
 pub begins : (given : List Endpoint) (file : List ℕ) → file ≡ head → IsCapture [] file → IsCaptureOf given [] file
@@ -64,7 +65,9 @@ no_file site first entries (Station (Table fault)) begins so = so
 no_file site first entries (Station (Line fault)) begins so = so
 no_file site first entries (Station OutOfMemory) begins so = tt
 no_file site first entries (Station NotWritten) begins so = so
-no_file site first entries TooLong begins so = record { first = first; begins = begins; has = so }
+no_file site first entries (Capture TooLong) begins so = record { first = first; begins = begins; has = so }
+no_file site first entries (Capture Exists) begins so = so
+no_file site first entries (Capture CannotWrite) begins so = so
 
 pub no_file_told : {F : Type 0} (site : Site) (first : Played) (entries : List Entry) (tried : Result F CaptureFailure) → IsFirst site first
     → IfErr tried (IsNoCapture (left_by first entries).run.sent) → IfErr tried (IsNoFile site entries)

@@ -4,7 +4,9 @@ use Rattle.std.specs.Io.KnownBytes.{Appends}
 use Rattle.std.specs.List.{flat_map}
 use Rattle.capture_file.specs.Blocks.{head, packet_block}
 use Rattle.capture_file.specs.Captures.{IsCapture}
+use Rattle.capture_file.specs.Faults.{fault_line}
 use Rattle.capture_file.specs.NodeEnds.{end_of}
+use Rattle.capture_file.specs.declared.fault.CaptureFault.TheVariants.{TooLong}
 use Rattle.capture_file.specs.Journeys.{Sent}
 use Rattle.capture_file.specs.declared.journey.Endpoint.{Endpoint}
 use Rattle.capture_file.specs.declared.journey.Journey.{Journey}
@@ -19,7 +21,7 @@ use Rattle.station_run.specs.replay.station_check.Report.{IsSound}
 use Rattle.station_run.specs.replay.station_check.declared.failure.Failure.TheVariants as station
 use Rattle.station_record.specs.Traffic.{left_by, sender}
 use Rattle.station_record.specs.declared.capture_failure.CaptureFailure.{CaptureFailure}
-use Rattle.station_record.specs.declared.capture_failure.CaptureFailure.TheVariants.{Station, TooLong}
+use Rattle.station_record.specs.declared.capture_failure.CaptureFailure.TheVariants.{Station, Capture}
 
 -- ---- datagrams
 
@@ -92,7 +94,8 @@ pub record IsCaptured (layout text : List ℕ) (given : List Endpoint) (before n
 -- Why no capture is written: as a session isn't replayed, or a datagram is too long.
 abbrev pub Explains : List ℕ → List ℕ → CaptureFailure → Type 0
 Explains layout text (Station why) = ExplainsStation layout text why
-Explains layout text TooLong = IsTooLong layout text
+Explains layout text (Capture TooLong) = IsTooLong layout text
+Explains layout text (Capture fault) = ⊥
 
 -- The writer stays as it is, unless the capture was begun.
 abbrev pub Leaves : {W : Type 0} → CaptureFailure → W → W → Type 0
@@ -102,7 +105,7 @@ Leaves why old new = new ≡ old
 -- the line that tells why
 abbrev pub told_line : CaptureFailure → List ℕ
 told_line (Station why) = station_line why
-told_line TooLong = codes "capture fault 1 TooLong\n"
+told_line (Capture fault) = fault_line fault
 
 -- This line was told, as far as the writer took it, and nothing else.
 abbrev pub Tells : CaptureFailure → Option (List ℕ) → Option (List ℕ) → Type 0

@@ -1,24 +1,22 @@
-//! Why no capture is written, and how that is told.
+//! Why there is no capture of a session, and how that is told.
 
 ghost use Rattle.std.specs.Prelude.{◌≡◌};
 ghost use Rattle.station_record.specs.CapturedSession.{Tells};
 
+use capture_file::{CaptureFault, fault_line};
 use replay_words::write_as_taken;
 use station_run::replay::station_check::{Failure as StationFailure, tell};
 use std::alloc::AllocError;
 use std::io;
 use std::io::Write;
 
-/// What is told of a datagram that is too long, by the number and the name of the fault.
-const TOO_LONG: &str = "capture fault 1 TooLong\n";
-
-/// Why no capture is written.
+/// Why there is no capture of a session.
 #[derive(Debug, Drop)]
 pub(crate) enum CaptureFailure {
     /// A text is faulty, memory is lacking, or the capture couldn't be written.
     Station(StationFailure),
-    /// A datagram has more bytes than a capture takes.
-    TooLong,
+    /// A datagram is too long, or there is no new file.
+    Capture(CaptureFault),
 }
 
 impl From<StationFailure> for CaptureFailure {
@@ -28,6 +26,16 @@ impl From<StationFailure> for CaptureFailure {
 
     fn from(why: StationFailure) -> CaptureFailure {
         CaptureFailure::Station(why)
+    }
+}
+
+impl From<CaptureFault> for CaptureFailure {
+    ghost use Rattle.station_record.specs.declared.capture_failure.CaptureFailure.TheVariants.{Capture};
+
+    ghost from_gives = { λ fault failure. failure ≡ Capture fault };
+
+    fn from(fault: CaptureFault) -> CaptureFailure {
+        CaptureFailure::Capture(fault)
     }
 }
 
@@ -53,14 +61,14 @@ impl From<io::Error> for CaptureFailure {
     }
 }
 
-/// Writes why no capture is written, or as much of it as the writer takes.
+/// Writes why there is no capture, or as much of it as the writer takes.
 pub(crate) fn tell_failure<E: Write>(failure: &CaptureFailure, err: &mut E)
     ensures { Tells failure.now (E.contents err.old) (E.contents err.new) }
 {
     match failure {
         CaptureFailure::Station(failure) => tell(failure, err),
-        CaptureFailure::TooLong => {
-            write_as_taken(TOO_LONG.as_bytes(), err);
+        CaptureFailure::Capture(fault) => {
+            write_as_taken(fault_line(*fault).as_bytes(), err);
         }
     }
 }

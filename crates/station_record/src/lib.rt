@@ -11,7 +11,6 @@ mod decode;
 mod ends;
 mod event_lines;
 mod fate;
-mod file_failure;
 mod happening;
 mod lane_list;
 mod line;

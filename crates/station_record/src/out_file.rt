@@ -5,10 +5,9 @@ ghost use Rattle.station_run.specs.replay.ReplayedSession.{CanReplay};
 ghost use Rattle.station_record.specs.CaptureFiles.{Explained, Explains, HasCapture};
 
 use crate::capture::session_capture;
-use crate::file_failure::{FileFailure, tell_file_failure};
+use crate::capture_failure::{CaptureFailure, tell_failure};
 use capture_file::{Endpoint, write_file};
 use std::fs::Files;
-use std::io;
 use std::io::Write;
 
 /// What `station capture` is asked: the texts of the layout and of the record, where the nodes are found, where the capture
@@ -42,22 +41,19 @@ pub fn capture_to_file<R: Files + AllocGlobal, E: Write>(
     match write_capture(rt, asked) {
         Ok(()) => 0,
         Err(failure) => {
-            tell_file_failure(&failure, err);
+            tell_failure(&failure, err);
             1
         }
     }
 }
 
 /// Makes the capture, and then writes its file.
-fn write_capture<R: Files + AllocGlobal>(rt: &R, asked: &Asked<'_>) -> Result<(), FileFailure>
+fn write_capture<R: Files + AllocGlobal>(rt: &R, asked: &Asked<'_>) -> Result<(), CaptureFailure>
     ensures done { OnOk result (HasCapture asked.now.layout.now asked.now.recording.now asked.now.endpoints.now) }
     ensures faulty { (CanReplay asked.now.layout.now asked.now.recording.now → ⊥) → IsErr result }
     ensures explains { IfErr result (Explains asked.now.layout.now asked.now.recording.now asked.now.endpoints.now) }
 {
     let capture = session_capture(rt.alloc(), asked.layout, asked.recording, asked.endpoints)?;
-    match write_file(rt, asked.out, asked.force, &capture) {
-        Ok(()) => Ok(()),
-        Err(error) if error.kind() == io::ErrorKind::AlreadyExists => Err(FileFailure::Exists),
-        Err(_) => Err(FileFailure::CannotWrite),
-    }
+    write_file(rt, asked.out, asked.force, &capture)?;
+    Ok(())
 }

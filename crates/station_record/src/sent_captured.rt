@@ -7,7 +7,7 @@ ghost use Rattle.station_record.specs.inside.CapturesSoFar.{Captures, IsNoCaptur
 
 use crate::capture_failure::CaptureFailure;
 use crate::ends::sender;
-use capture_file::{Endpoint, Journey, MOST_BYTES, begin, end_of, push_datagram};
+use capture_file::{CaptureFault, Endpoint, Journey, MOST_BYTES, begin, end_of, push_datagram};
 use station_run::replay::receiver;
 use station_run::replay::simulator::simulator_field::{Network, SentOn};
 use std::alloc::Global;
@@ -45,7 +45,7 @@ fn push_sent(
         return Ok(());
     };
     if one.bytes.len() > MOST_BYTES {
-        return Err(CaptureFailure::TooLong);
+        return Err(CaptureFailure::Capture(CaptureFault::TooLong));
     }
     push_datagram(
         alloc,

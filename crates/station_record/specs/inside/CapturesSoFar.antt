@@ -3,6 +3,7 @@ use Rattle.std.specs.Prelude.{◌≡◌, ℕ, List, [], ◌∷◌, ◌++◌, Opt
 use Rattle.capture_file.specs.Blocks.{packet_block}
 use Rattle.capture_file.specs.Captures.{IsCapture}
 use Rattle.capture_file.specs.Journeys.{Sent}
+use Rattle.capture_file.specs.declared.fault.CaptureFault.TheVariants.{TooLong}
 use Rattle.capture_file.specs.declared.journey.Endpoint.{Endpoint}
 use Rattle.station_run.specs.replay.replay_lines.declared.session.Entry.{Entry}
 use Rattle.station_run.specs.replay.layout.Entries.{Site}
@@ -10,7 +11,7 @@ use Rattle.station_run.specs.replay.rasta_core.Links.{OnLink}
 use Rattle.station_run.specs.replay.station_check.declared.failure.Failure.TheVariants.{OutOfMemory}
 use Rattle.station_record.specs.CapturedSession.{HasTooLong, SendsTooLong, captured}
 use Rattle.station_record.specs.declared.capture_failure.CaptureFailure.{CaptureFailure}
-use Rattle.station_record.specs.declared.capture_failure.CaptureFailure.TheVariants.{Station, TooLong}
+use Rattle.station_record.specs.declared.capture_failure.CaptureFailure.TheVariants.{Station, Capture}
 
 -- a datagram was added to a capture
 pub record Adds (given : List Endpoint) (one : OnLink) (old new : List ℕ) : Type 0 where
@@ -24,11 +25,11 @@ Captures given (Some one) old new = Adds given one old new
 
 abbrev pub IsNoCapture : List OnLink → CaptureFailure → Type 0
 IsNoCapture sent (Station OutOfMemory) = Unit {0}
-IsNoCapture sent TooLong = HasTooLong sent
+IsNoCapture sent (Capture TooLong) = HasTooLong sent
 IsNoCapture sent why = ⊥
 
 -- why a session has none
 abbrev pub IsNoFile : Site → List Entry → CaptureFailure → Type 0
 IsNoFile site entries (Station OutOfMemory) = Unit {0}
-IsNoFile site entries TooLong = SendsTooLong site entries
+IsNoFile site entries (Capture TooLong) = SendsTooLong site entries
 IsNoFile site entries why = ⊥
