@@ -36,3 +36,17 @@ pub(crate) fn push_escaped(svg: &mut Vec<u8>, text: &str) -> Result<(), AllocErr
     }
     Ok(())
 }
+
+/// Adds a text between two others, so that none of it is markup.
+pub(crate) fn push_between(
+    svg: &mut Vec<u8>,
+    before: &[u8],
+    text: &str,
+    behind: &[u8],
+) -> Result<(), AllocError>
+    ensures { OnOk result (svg.new.items ≡ svg.old.items ++ (before.now ++ (escaped text.now ++ behind.now))) }
+{
+    svg.extend_from_slice(before)?;
+    push_escaped(svg, text)?;
+    svg.extend_from_slice(behind)
+}

@@ -3,7 +3,7 @@
 use crate::shape::Mark;
 
 /// A part of a plane.
-#[derive(Clone, Copy, Debug, PartialEq, Eq)]
+#[derive(Clone, Copy)]
 pub struct Frame {
     /// Its left border.
     pub left: i32,
@@ -16,7 +16,7 @@ pub struct Frame {
 }
 
 /// A part of what is drawn, laid somewhere on the paper.
-#[derive(Clone, Copy, Debug, PartialEq, Eq)]
+#[derive(Clone, Copy)]
 pub struct Strip {
     /// Where on the paper it lies.
     pub at: Frame,
@@ -25,7 +25,7 @@ pub struct Strip {
 }
 
 /// Shapes that belong together.
-#[derive(Debug, Drop)]
+#[derive(Drop)]
 pub struct Group {
     /// The identity, which no other group of a picture should have.
     pub id: String,
@@ -38,7 +38,7 @@ pub struct Group {
 }
 
 /// A picture. Without strips the paper shows what is drawn as it lies; otherwise each strip shows its part.
-#[derive(Debug, Drop)]
+#[derive(Drop)]
 pub struct Picture {
     /// What a viewer says of it.
     pub title: String,

@@ -1,7 +1,7 @@
 //! What is drawn.
 
 /// A place in a picture, in units: `x` to the right, `y` down.
-#[derive(Clone, Copy, Debug, PartialEq, Eq)]
+#[derive(Clone, Copy, PartialEq, Eq)]
 pub struct Spot {
     /// How far to the right it lies.
     pub x: i32,
@@ -10,7 +10,7 @@ pub struct Spot {
 }
 
 /// Which part of a text lies at its spot.
-#[derive(Clone, Copy, Debug, PartialEq, Eq)]
+#[derive(Clone, Copy)]
 pub enum Anchor {
     /// Its first letter.
     Start,
@@ -21,7 +21,7 @@ pub enum Anchor {
 }
 
 /// A shape.
-#[derive(Debug, Drop)]
+#[derive(Drop)]
 pub enum Shape {
     /// A straight line.
     Line {
@@ -62,7 +62,7 @@ pub enum Shape {
 }
 
 /// A shape with the class by which a style knows it.
-#[derive(Debug, Drop)]
+#[derive(Drop)]
 pub struct Mark {
     /// The words of its class.
     pub class: String,

@@ -1,19 +1,20 @@
 //! The text of a shape.
 
-ghost use Rattle.std.specs.Prelude.{◌≡◌, ◌++◌, OnOk, IfOk, string_bytes};
-ghost use Rattle.drawing.specs.Svg.{anchored_text, shape_opening, shape_rest, spot_text, spots_text, mark_text, marks_text, points_rest, words_rest, circle_rest, line_rest, rectangle_rest, standing_text, text_rest};
+ghost use Rattle.std.specs.Prelude.{◌≡◌, ◌++◌, OnOk};
+ghost use Rattle.drawing.specs.Svg.{anchored_text, shape_opening, shape_rest, spot_text, spots_text, mark_text, marks_text, points_rest, words_rest, circle_rest, line_rest, rectangle_rest};
 
-use crate::escaped::push_escaped;
+use crate::escaped::{push_between, push_escaped};
 use crate::shape::{Anchor, Mark, Shape, Spot};
 use std::alloc::{AllocError, Global};
 
-/// The text of a spot.
-fn spot_text(alloc: Global, spot: Spot) -> Result<String, AllocError>
-    ensures { IfOk result (λ text. string_bytes text ≡ spot_text spot) }
+/// Adds the text of a spot.
+fn push_spot(svg: &mut Vec<u8>, alloc: Global, spot: Spot) -> Result<(), AllocError>
+    ensures { OnOk result (svg.new.items ≡ svg.old.items ++ spot_text spot) }
 {
     let x = spot.x;
     let y = spot.y;
-    format!(in alloc; " {x},{y}")
+    let text = format!(in alloc; " {x},{y}")?;
+    svg.extend_from_slice(text.as_bytes())
 }
 
 /// Adds the text of each spot.
@@ -21,81 +22,66 @@ fn push_spots(svg: &mut Vec<u8>, alloc: Global, spots: &[Spot]) -> Result<(), Al
     ensures { OnOk result (svg.new.items ≡ svg.old.items ++ spots_text spots.now) }
 {
     for spot in spots {
-        let text = spot_text(alloc, *spot)?;
-        svg.extend_from_slice(text.as_bytes())?;
+        push_spot(svg, alloc, *spot)?;
     }
     Ok(())
 }
 
 /// Adds where a line leads.
-fn line_text(alloc: Global, from: Spot, to: Spot) -> Result<String, AllocError>
-    ensures { IfOk result (λ text. string_bytes text ≡ line_rest from to) }
+fn push_line(svg: &mut Vec<u8>, alloc: Global, from: Spot, to: Spot) -> Result<(), AllocError>
+    ensures { OnOk result (svg.new.items ≡ svg.old.items ++ line_rest from to) }
 {
     let x1 = from.x;
     let y1 = from.y;
     let x2 = to.x;
     let y2 = to.y;
-    format!(in alloc; "\" x1=\"{x1}\" y1=\"{y1}\" x2=\"{x2}\" y2=\"{y2}\"/>\n")
+    let text = format!(in alloc; "\" x1=\"{x1}\" y1=\"{y1}\" x2=\"{x2}\" y2=\"{y2}\"/>\n")?;
+    svg.extend_from_slice(text.as_bytes())
 }
 
-/// Where a circle lies.
-fn circle_text(alloc: Global, centre: Spot, radius: u32) -> Result<String, AllocError>
-    ensures { IfOk result (λ text. string_bytes text ≡ circle_rest centre radius) }
+/// Adds where a circle lies.
+fn push_circle(
+    svg: &mut Vec<u8>,
+    alloc: Global,
+    centre: Spot,
+    radius: u32,
+) -> Result<(), AllocError>
+    ensures { OnOk result (svg.new.items ≡ svg.old.items ++ circle_rest centre radius) }
 {
     let x = centre.x;
     let y = centre.y;
-    format!(in alloc; "\" cx=\"{x}\" cy=\"{y}\" r=\"{radius}\"/>\n")
+    let text = format!(in alloc; "\" cx=\"{x}\" cy=\"{y}\" r=\"{radius}\"/>\n")?;
+    svg.extend_from_slice(text.as_bytes())
 }
 
-/// Where a rectangle lies.
-fn rectangle_text(
+/// Adds where a rectangle lies.
+fn push_rectangle(
+    svg: &mut Vec<u8>,
     alloc: Global,
     corner: Spot,
     width: u32,
     height: u32,
-) -> Result<String, AllocError>
-    ensures { IfOk result (λ text. string_bytes text ≡ rectangle_rest corner width height) }
+) -> Result<(), AllocError>
+    ensures { OnOk result (svg.new.items ≡ svg.old.items ++ rectangle_rest corner width height) }
 {
     let x = corner.x;
     let y = corner.y;
-    format!(in alloc; "\" x=\"{x}\" y=\"{y}\" width=\"{width}\" height=\"{height}\"/>\n")
+    let text = format!(in alloc;
+        "\" x=\"{x}\" y=\"{y}\" width=\"{width}\" height=\"{height}\"/>\n"
+    )?;
+    svg.extend_from_slice(text.as_bytes())
 }
 
-/// Where a text stands.
-#[tactic(auto, unfolding(crate::specs::Svg::standing_text))]
-fn standing_text(alloc: Global, at: Spot) -> Result<String, AllocError>
-    ensures { IfOk result (λ text. string_bytes text ≡ standing_text at) }
-{
-    let x = at.x;
-    let y = at.y;
-    format!(in alloc; "\" x=\"{x}\" y=\"{y}")
-}
-
-/// Adds which part of a text lies where it stands.
+/// Which part of a text lies where it stands.
 #[tactic(auto, unfolding(crate::specs::Svg::anchored_text))]
-fn push_anchor(svg: &mut Vec<u8>, anchor: Anchor) -> Result<(), AllocError>
-    ensures { OnOk result (svg.new.items ≡ svg.old.items ++ anchored_text anchor) }
+fn anchored(anchor: Anchor) -> &'static str
+    ensures { result.now ≡ anchored_text anchor }
 {
     match anchor {
-        Anchor::Start => svg.extend_from_slice(b"\" text-anchor=\"start\">"),
-        Anchor::Middle => svg.extend_from_slice(b"\" text-anchor=\"middle\">"),
-        Anchor::End => svg.extend_from_slice(b"\" text-anchor=\"end\">"),
+        Anchor::Start => "\" text-anchor=\"start\">",
+        Anchor::Middle => "\" text-anchor=\"middle\">",
+        Anchor::End => "\" text-anchor=\"end\">",
     }
-}
-
-/// Adds where a text stands, and which part of it lies there.
-#[tactic(auto, unfolding(crate::specs::Svg::text_rest))]
-fn push_standing(
-    svg: &mut Vec<u8>,
-    alloc: Global,
-    at: Spot,
-    anchor: Anchor,
-) -> Result<(), AllocError>
-    ensures { OnOk result (svg.new.items ≡ svg.old.items ++ text_rest at anchor) }
-{
-    let standing = standing_text(alloc, at)?;
-    svg.extend_from_slice(standing.as_bytes())?;
-    push_anchor(svg, anchor)
 }
 
 /// How a shape's text begins.
@@ -122,6 +108,7 @@ fn push_points(svg: &mut Vec<u8>, alloc: Global, spots: &[Spot]) -> Result<(), A
 }
 
 /// Adds a text where it stands.
+#[tactic(auto, unfolding(crate::specs::Svg::text_rest, crate::specs::Svg::standing_text))]
 fn push_words(
     svg: &mut Vec<u8>,
     alloc: Global,
@@ -131,16 +118,11 @@ fn push_words(
 ) -> Result<(), AllocError>
     ensures { OnOk result (svg.new.items ≡ svg.old.items ++ words_rest at anchor words.now) }
 {
-    push_standing(svg, alloc, at, anchor)?;
-    push_escaped(svg, words)?;
-    svg.extend_from_slice(b"</text>\n")
-}
-
-/// Adds a text.
-fn push_text(svg: &mut Vec<u8>, text: &String) -> Result<(), AllocError>
-    ensures { OnOk result (svg.new.items ≡ svg.old.items ++ string_bytes text.now) }
-{
-    svg.extend_from_slice(text.as_bytes())
+    let x = at.x;
+    let y = at.y;
+    let anchored = anchored(anchor);
+    let standing = format!(in alloc; "\" x=\"{x}\" y=\"{y}{anchored}")?;
+    push_between(svg, standing.as_bytes(), words, b"</text>\n")
 }
 
 /// Adds what stands behind the class of a shape.
@@ -148,24 +130,15 @@ fn push_rest(svg: &mut Vec<u8>, alloc: Global, shape: &Shape) -> Result<(), Allo
     ensures { OnOk result (svg.new.items ≡ svg.old.items ++ shape_rest shape.now) }
 {
     match shape {
-        Shape::Line { from, to } => {
-            let text = line_text(alloc, *from, *to)?;
-            push_text(svg, &text)
-        }
+        Shape::Line { from, to } => push_line(svg, alloc, *from, *to),
         Shape::Polyline(spots) => push_points(svg, alloc, spots.as_slice()),
         Shape::Polygon(spots) => push_points(svg, alloc, spots.as_slice()),
-        Shape::Circle { centre, radius } => {
-            let text = circle_text(alloc, *centre, *radius)?;
-            push_text(svg, &text)
-        }
+        Shape::Circle { centre, radius } => push_circle(svg, alloc, *centre, *radius),
         Shape::Rectangle {
             corner,
             width,
             height,
-        } => {
-            let text = rectangle_text(alloc, *corner, *width, *height)?;
-            push_text(svg, &text)
-        }
+        } => push_rectangle(svg, alloc, *corner, *width, *height),
         Shape::Text { at, anchor, words } => push_words(svg, alloc, *at, *anchor, words.as_str()),
     }
 }

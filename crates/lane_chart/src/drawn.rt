@@ -13,7 +13,7 @@ use control_table::layout::Layout;
 use std::alloc::{AllocError, Global};
 
 /// A row with the spans of its bands.
-#[derive(Debug, Drop)]
+#[derive(Drop)]
 pub struct DrawnRow {
     /// What it is for.
     pub row: Row,

@@ -4,7 +4,7 @@ use control_table::layout::RouteId;
 use control_table::sci_telegram::{Aspect, Occupancy, Position, Side};
 
 /// What is followed of signals, points, sections, routes and links.
-#[derive(Clone, Copy, Debug, PartialEq, Eq)]
+#[derive(Clone, Copy, Debug)]
 pub enum Kind {
     /// What a signal shows.
     Aspect,
@@ -27,7 +27,7 @@ pub enum Kind {
 }
 
 /// What is followed through a session: of a signal, a point, a section, a route or a link, by its place in the layout.
-#[derive(Clone, Copy, Debug, PartialEq, Eq)]
+#[derive(Clone, Copy, Debug)]
 pub struct Lane {
     pub kind: Kind,
     pub place: usize,

@@ -54,10 +54,11 @@ impl Marks {
         ensures drawn { OnOk result (strokes self.new.marks.items ≡ strokes self.old.marks.items ++ arrow class.now at.x ∷ []) }
         ensures named { OnOk result (named self.new.marks.items ≡ named self.old.marks.items) }
     {
+        let top = at.y.saturating_sub(8);
+        let left = spot(at.x.saturating_sub(4), top);
+        let right = spot(at.x.saturating_add(4), top);
         let mut spots = Vec::new(self.alloc);
-        spots.push(at)?;
-        spots.push(spot(at.x.saturating_sub(4), at.y.saturating_sub(8)))?;
-        spots.push(spot(at.x.saturating_add(4), at.y.saturating_sub(8)))?;
+        spots.extend_from_slice(&[at, left, right])?;
         self.add(class, Shape::Polygon(spots))
     }
 

@@ -36,11 +36,12 @@ fn height_of(rows: &[DrawnRow]) -> i32 {
 }
 
 /// A group of these marks, which a viewer calls by its class.
-fn group(alloc: Global, id: String, class: &str, marks: Marks) -> Result<Group, AllocError>
-    ensures { IfOk result (λ group. face_of group ≡ record { id = string_bytes id; title = string_bytes id; strokes = strokes marks.marks.items; name = named marks.marks.items }) }
+fn group(alloc: Global, id: &str, class: &str, marks: Marks) -> Result<Group, AllocError>
+    ensures { IfOk result (λ group. face_of group ≡ record { id = id.now; title = id.now; strokes = strokes marks.marks.items; name = named marks.marks.items }) }
 {
+    let title = String::from_str(alloc, id)?;
+    let id = String::from_str(alloc, id)?;
     let class = String::from_str(alloc, class)?;
-    let title = String::from_str(alloc, id.as_str())?;
     Ok(Group {
         id,
         class,
@@ -49,18 +50,28 @@ fn group(alloc: Global, id: String, class: &str, marks: Marks) -> Result<Group, 
     })
 }
 
-/// The axis as a group, with the name of the station and what part of time is drawn.
-fn axis_group(alloc: Global, scene: Scene<'_>, bottom: i32) -> Result<Group, AllocError>
-    ensures { IfOk result (λ group. string_bytes group.id ≡ axis_id) }
-{
-    let mut marks = Marks::new(alloc);
+/// Draws the name of the station, what part of time is drawn, and the axis.
+fn draw_frame(
+    marks: &mut Marks,
+    alloc: Global,
+    scene: Scene<'_>,
+    bottom: i32,
+) -> Result<(), AllocError> {
     let name = scene.layout.station().name.as_str();
     let from = scene.window.from / MICROS;
     let to = scene.window.to / MICROS;
     let words = format!(in alloc; "{name}: {from} to {to} ms of true time")?;
     marks.text("heading", spot(20, 24), Anchor::Start, words.as_str())?;
-    draw_axis(&mut marks, alloc, scene.window, bottom)?;
-    group(alloc, String::from_str(alloc, "axis")?, "axis", marks)
+    draw_axis(marks, alloc, scene.window, bottom)
+}
+
+/// The axis as a group, with the name of the station and what part of time is drawn.
+fn axis_group(alloc: Global, scene: Scene<'_>, bottom: i32) -> Result<Group, AllocError>
+    ensures { IfOk result (λ group. string_bytes group.id ≡ axis_id) }
+{
+    let mut marks = Marks::new(alloc);
+    draw_frame(&mut marks, alloc, scene, bottom)?;
+    group(alloc, "axis", "axis", marks)
 }
 
 /// What the marks mean, as a group.
@@ -69,7 +80,7 @@ fn legend_group(alloc: Global, top: i32) -> Result<Group, AllocError>
 {
     let mut marks = Marks::new(alloc);
     draw_legend(&mut marks, top)?;
-    group(alloc, String::from_str(alloc, "legend")?, "legend", marks)
+    group(alloc, "legend", "legend", marks)
 }
 
 /// A row as a group under a heading, from this height on.
@@ -88,7 +99,7 @@ fn row_group(
     let kind = kind_word(subject.sort);
     let id = id_of(alloc, &subject)?;
     let class = format!(in alloc; "{kind} {id}")?;
-    group(alloc, id, class.as_str(), marks)
+    group(alloc, id.as_str(), class.as_str(), marks)
 }
 
 /// What stands before a row of a kind: its word, unless the row above is of this kind.

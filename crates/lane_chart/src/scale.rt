@@ -14,7 +14,7 @@ pub(crate) const RIGHT: i32 = 1570;
 pub(crate) const MICROS: u64 = 1000;
 
 /// The part of true time that is drawn, in microseconds.
-#[derive(Clone, Copy, Debug)]
+#[derive(Clone, Copy)]
 pub struct Window {
     /// Where it begins.
     pub from: u64,

@@ -12,7 +12,7 @@ use crate::scale::{WIDTH, Window};
 use std::alloc::{AllocError, Global};
 
 /// What a lane shows from one unit of the chart to another.
-#[derive(Clone, Copy, Debug)]
+#[derive(Clone, Copy)]
 pub struct Span {
     /// The unit in which it begins.
     pub left: u64,

@@ -7,7 +7,7 @@ use control_table::sci_telegram::Name;
 use std::alloc::{AllocError, Global};
 
 /// What a row of a chart is for.
-#[derive(Clone, Copy, Debug, PartialEq, Eq)]
+#[derive(Clone, Copy)]
 pub enum Sort {
     /// A signal: its aspect, and the route that is held for it.
     Signal,
@@ -34,7 +34,7 @@ pub enum Sort {
 }
 
 /// What a row is for, with its name.
-#[derive(Clone, Copy, Debug)]
+#[derive(Clone, Copy)]
 pub struct Subject {
     /// What it is for.
     pub sort: Sort,
@@ -43,7 +43,7 @@ pub struct Subject {
 }
 
 /// A row of a chart.
-#[derive(Clone, Copy, Debug)]
+#[derive(Clone, Copy)]
 pub struct Row {
     /// What it is for.
     pub subject: Subject,

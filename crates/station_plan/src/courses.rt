@@ -6,30 +6,23 @@ use crate::yard::{Place, Yard, ends, port_number};
 use std::alloc::{AllocError, Global};
 
 /// How far the search has come with an element.
-#[derive(Clone, Copy, PartialEq, Eq)]
+#[derive(Clone, Copy)]
 enum Search {
     New,
     Open,
     Done,
 }
 
-/// Which joints go on, and an order of the elements in which each stands behind those at its left.
+/// Which joints go on, and an order of the elements in which each stands before those at its left: found by a search for
+/// circles, depth first.
 #[derive(Drop)]
 pub(crate) struct Courses {
     /// For each port: whether it is joined by a joint that goes on.
     onward: Vec<bool>,
-    /// The elements, from left to right.
+    /// The elements, from right to left.
     pub(crate) order: Vec<usize>,
-}
-
-/// A search for circles, depth first.
-#[derive(Drop)]
-struct Walk {
     states: Vec<Search>,
-    onward: Vec<bool>,
     stack: Vec<(usize, usize)>,
-    /// The elements of which all that lies at their right is done, in this order.
-    done: Vec<usize>,
 }
 
 impl Courses {
@@ -38,61 +31,13 @@ impl Courses {
         Courses {
             onward: Vec::new(alloc),
             order: Vec::new(alloc),
-        }
-    }
-
-    /// The courses of a layout.
-    pub(crate) fn lay(
-        &mut self,
-        alloc: Global,
-        yard: &Yard,
-        directions: &Directions,
-    ) -> Result<(), AllocError> {
-        let mut walk = Walk {
             states: Vec::new(alloc),
-            onward: Vec::new(alloc),
             stack: Vec::new(alloc),
-            done: Vec::new(alloc),
-        };
-        walk.go(alloc, yard, directions)?;
-        self.order = backward(alloc, &walk.done)?;
-        self.onward = walk.onward;
-        Ok(())
-    }
-
-    /// The port to which a port is joined by a joint that goes on.
-    pub(crate) fn mate(&self, yard: &Yard, place: Place) -> Option<Place> {
-        if at(&self.onward, port_number(place), false) {
-            yard.mate(place)
-        } else {
-            None
         }
     }
-}
 
-/// A list backward.
-fn backward(alloc: Global, list: &[usize]) -> Result<Vec<usize>, AllocError> {
-    let mut turned = Vec::new(alloc);
-    for value in list.iter().rev() {
-        turned.push(*value)?;
-    }
-    Ok(turned)
-}
-
-/// For each port: whether its joint leads from a right side to a left side.
-fn straight(alloc: Global, yard: &Yard, directions: &Directions) -> Result<Vec<bool>, AllocError> {
-    let mut straight = filled(alloc, yard.mates.len(), false)?;
-    for (first, second) in &yard.joints {
-        let goes_on = directions.is_right(*first) != directions.is_right(*second);
-        put(&mut straight, port_number(*first), goes_on);
-        put(&mut straight, port_number(*second), goes_on);
-    }
-    Ok(straight)
-}
-
-impl Walk {
-    /// Goes over all elements: first from those at whose left there is nothing.
-    fn go(
+    /// The courses of a layout. The search goes over all elements: first from those at whose left there is nothing.
+    pub(crate) fn lay(
         &mut self,
         alloc: Global,
         yard: &Yard,
@@ -109,6 +54,15 @@ impl Walk {
             self.visit(yard, directions, element)?;
         }
         Ok(())
+    }
+
+    /// The port to which a port is joined by a joint that goes on.
+    pub(crate) fn mate(&self, yard: &Yard, place: Place) -> Option<Place> {
+        if at(&self.onward, port_number(place), false) {
+            yard.mate(place)
+        } else {
+            None
+        }
     }
 
     /// The port that is joined to one of a side by a joint that goes on.
@@ -152,7 +106,7 @@ impl Walk {
     }
 
     fn open(&mut self, element: usize) -> Result<(), AllocError> {
-        if at(&self.states, element, Search::Done) == Search::New {
+        if matches!(at(&self.states, element, Search::Done), Search::New) {
             put(&mut self.states, element, Search::Open);
             self.stack.push((element, 0))?;
         }
@@ -178,7 +132,7 @@ impl Walk {
             }
             None => {
                 put(&mut self.states, element, Search::Done);
-                self.done.push(element)?;
+                self.order.push(element)?;
                 Ok(())
             }
         }
@@ -186,11 +140,22 @@ impl Walk {
 
     /// Goes over a joint. One into an element that is still open closes a circle.
     fn follow(&mut self, place: Place, mate: Place) -> Result<(), AllocError> {
-        if at(&self.states, mate.element, Search::Done) == Search::Open {
+        if matches!(at(&self.states, mate.element, Search::Done), Search::Open) {
             put(&mut self.onward, port_number(place), false);
             put(&mut self.onward, port_number(mate), false);
             return Ok(());
         }
         self.open(mate.element)
     }
+}
+
+/// For each port: whether its joint leads from a right side to a left side.
+fn straight(alloc: Global, yard: &Yard, directions: &Directions) -> Result<Vec<bool>, AllocError> {
+    let mut straight = filled(alloc, yard.mates.len(), false)?;
+    for (first, second) in &yard.joints {
+        let goes_on = directions.is_right(*first) != directions.is_right(*second);
+        put(&mut straight, port_number(*first), goes_on);
+        put(&mut straight, port_number(*second), goes_on);
+    }
+    Ok(straight)
 }

@@ -13,7 +13,7 @@ use std::alloc::{AllocError, Global};
 const FAR: usize = 1000;
 
 /// What a leg is joined to.
-#[derive(Clone, Copy, PartialEq, Eq, PartialOrd)]
+#[derive(Clone, Copy)]
 enum Joined {
     /// To nothing, or where the line turns back.
     Open,
@@ -23,15 +23,23 @@ enum Joined {
     Other,
 }
 
-/// How good a way is behind a leg; the least one is the best.
-#[derive(Clone, Copy, PartialEq, Eq, PartialOrd)]
-struct Way {
-    /// How many points it passes to a border, at best.
-    points: usize,
-    /// How much shorter it is than the longest that could be.
-    shortness: usize,
-    /// The number of the element to which the leg leads.
-    element: usize,
+/// The base of the number of a way, whose digits are at most `FAR`.
+const BASE: usize = 1001;
+
+/// The number of the worst way.
+const WORST: usize = 1_003_003_000;
+
+/// What a way counts more by which a row is lost.
+const LOST: usize = 2_000_000_000;
+
+/// How good a way is behind a leg, as a number; the least one is the best. Its digits: how many points it passes to a border,
+/// at best; how much shorter it is than the longest that could be; the number of the element to which the leg leads.
+fn way(points: usize, shortness: usize, element: usize) -> usize {
+    points
+        .saturating_mul(BASE)
+        .saturating_add(shortness)
+        .saturating_mul(BASE)
+        .saturating_add(element)
 }
 
 /// What is known of the layout when legs are chosen.
@@ -147,13 +155,10 @@ impl MainLegs {
 
     /// Settles a point of which both legs lead to legs: the row of one peer goes on over it.
     fn settle(&mut self, ground: Lines<'_>, ways: &Ways, element: usize) {
-        let left = self.loss(ground, ways, element, Side::Left);
-        let right = self.loss(ground, ways, element, Side::Right);
-        let side = if right < left {
-            Side::Right
-        } else {
-            Side::Left
-        };
+        let side = better(
+            self.loss(ground, ways, element, Side::Left),
+            self.loss(ground, ways, element, Side::Right),
+        );
         put(&mut self.legs, element, Some(side));
         let place = Place {
             element,
@@ -165,13 +170,13 @@ impl MainLegs {
     }
 
     /// What is lost where the row goes on by a leg: whether its peer has to give up its row, and how good that is.
-    fn loss(&self, ground: Lines<'_>, ways: &Ways, element: usize, side: Side) -> (bool, Way) {
+    fn loss(&self, ground: Lines<'_>, ways: &Ways, element: usize, side: Side) -> usize {
         let place = Place {
             element,
             end: leg(side),
         };
         let Some(mate) = ground.courses.mate(&ground.yard, place) else {
-            return (true, way_behind(ground, ways, place));
+            return way_behind(ground, ways, place).saturating_add(LOST);
         };
         match at(&self.legs, mate.element, None) {
             Some(given) if side_of(mate.end) != Some(given) => {
@@ -179,19 +184,12 @@ impl MainLegs {
                     element: mate.element,
                     end: leg(given),
                 };
-                (true, worse_first(way_behind(ground, ways, lost)))
+                WORST
+                    .saturating_sub(way_behind(ground, ways, lost))
+                    .saturating_add(LOST)
             }
-            _ => (false, way_behind(ground, ways, place)),
+            _ => way_behind(ground, ways, place),
         }
-    }
-}
-
-/// A way by which worse ones come first.
-fn worse_first(way: Way) -> Way {
-    Way {
-        points: FAR.saturating_sub(way.points),
-        shortness: FAR.saturating_sub(way.shortness),
-        element: FAR.saturating_sub(way.element),
     }
 }
 
@@ -217,11 +215,11 @@ impl Ways {
 
     /// Counts the points that the ways to borders pass.
     fn count_points(&mut self, ground: Lines<'_>) {
-        for element in ground.courses.order.iter().copied() {
+        for element in ground.courses.order.iter().rev().copied() {
             let count = fewest(ground, &self.left, element, false);
             put(&mut self.left, element, count);
         }
-        for element in ground.courses.order.iter().rev().copied() {
+        for element in ground.courses.order.iter().copied() {
             let count = fewest(ground, &self.right, element, true);
             put(&mut self.right, element, count);
         }
@@ -266,13 +264,9 @@ fn behind(ground: Lines<'_>, known: &Vec<usize>, place: Place) -> usize {
 }
 
 /// The way behind a leg.
-fn way_behind(ground: Lines<'_>, ways: &Ways, place: Place) -> Way {
+fn way_behind(ground: Lines<'_>, ways: &Ways, place: Place) -> usize {
     let Some(mate) = ground.courses.mate(&ground.yard, place) else {
-        return Way {
-            points: FAR,
-            shortness: FAR,
-            element: FAR,
-        };
+        return WORST;
     };
     let right = ground.directions.is_right(place);
     let passed = if right { &ways.right } else { &ways.left };
@@ -281,11 +275,11 @@ fn way_behind(ground: Lines<'_>, ways: &Ways, place: Place) -> Way {
     } else {
         &ground.ranks.inward
     };
-    Way {
-        points: at(passed, mate.element, FAR),
-        shortness: FAR.saturating_sub(at(lengths, mate.element, 0)),
-        element: mate.element,
-    }
+    way(
+        at(passed, mate.element, FAR),
+        FAR.saturating_sub(at(lengths, mate.element, 0)),
+        mate.element,
+    )
 }
 
 /// What a leg is joined to.
@@ -318,25 +312,20 @@ fn plain(ground: Lines<'_>, ways: &Ways, element: usize) -> Option<Side> {
             Side::Right
         });
     }
-    let (left_joined, right_joined) = (joined_to(ground, left), joined_to(ground, right));
-    if left_joined != right_joined {
-        return Some(if left_joined < right_joined {
-            Side::Right
-        } else {
-            Side::Left
-        });
-    }
-    match left_joined {
-        Joined::Open => Some(Side::Left),
-        Joined::Leg => None,
-        Joined::Other => Some(better(
+    match (joined_to(ground, left), joined_to(ground, right)) {
+        (Joined::Open, Joined::Open) => Some(Side::Left),
+        (Joined::Leg, Joined::Leg) => None,
+        (Joined::Other, Joined::Other) => Some(better(
             way_behind(ground, ways, left),
             way_behind(ground, ways, right),
         )),
+        (Joined::Open, _) | (Joined::Leg, Joined::Other) => Some(Side::Right),
+        (_, Joined::Open) | (Joined::Other, Joined::Leg) => Some(Side::Left),
     }
 }
 
-fn better(left: Way, right: Way) -> Side {
+/// The side of the better of two ways, which is the left one where they are equally good.
+fn better(left: usize, right: usize) -> Side {
     if right < left {
         Side::Right
     } else {

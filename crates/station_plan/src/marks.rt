@@ -61,9 +61,7 @@ impl Marks {
             return self.line(class, from, to);
         }
         let mut spots = Vec::new(self.alloc);
-        spots.push(from)?;
-        spots.push(corner)?;
-        spots.push(to)?;
+        spots.extend_from_slice(&[from, corner, to])?;
         self.add(class, Shape::Polyline(spots))
     }
 
@@ -79,9 +77,7 @@ impl Marks {
         ensures named { OnOk result (written self.new.marks.items ≡ written self.old.marks.items) }
     {
         let mut spots = Vec::new(self.alloc);
-        spots.push(one)?;
-        spots.push(two)?;
-        spots.push(three)?;
+        spots.extend_from_slice(&[one, two, three])?;
         self.add(class, Shape::Polygon(spots))
     }
 

@@ -23,6 +23,46 @@ pub(crate) fn draw_heading(
     marks.text("heading", spot(x, y), Anchor::Start, name)
 }
 
+/// What is drawn before the words of a line.
+#[derive(Clone, Copy)]
+enum Sample {
+    /// A line of this class.
+    Line(&'static str),
+    /// The leg of a point that protects a flank, with its guard.
+    Guard,
+    /// The lamps of a signal, by their classes.
+    Lamps(&'static str, &'static str),
+}
+
+/// What marks a route, behind its own line.
+const ROUTE_LINES: &[(Sample, &str)] = &[
+    (
+        Sample::Guard,
+        "point that protects its flank, and the leg to which it has to lie",
+    ),
+    (
+        Sample::Line("sample approach-sample"),
+        "section of its approach",
+    ),
+];
+
+/// What marks what is seen.
+const SEEN_LINES: &[(Sample, &str)] = &[
+    (Sample::Line("sample occupied-sample"), "occupied section"),
+    (
+        Sample::Line("sample unknown-sample"),
+        "section of which nothing is known",
+    ),
+    (Sample::Line("sample set-sample"), "route that is set"),
+    (Sample::Lamps("lamp red", "lamp"), "stop"),
+    (Sample::Lamps("lamp", "lamp green"), "proceed"),
+    (Sample::Lamps("lamp yellow", "lamp yellow"), "slow"),
+    (
+        Sample::Line("sample off-sample"),
+        "leg to which a point doesn't lie; dashed while it has no end position",
+    ),
+];
+
 /// Draws what the marks of a route and of what is seen mean, from a line on.
 pub(crate) fn draw_legend(
     marks: &mut Marks,
@@ -34,85 +74,39 @@ pub(crate) fn draw_legend(
 ) -> Result<(), AllocError> {
     let mut down = y;
     if let Some(words) = route_words(alloc, layout, shown)? {
-        draw_route_legend(marks, spot(x, down), words.as_str())?;
+        let sample = Sample::Line("sample path-sample");
+        draw_line(marks, spot(x, down), sample, words.as_str())?;
+        draw_lines(marks, spot(x, down + LINES), ROUTE_LINES)?;
         down = down + LINES.times(3);
     }
     if shown.seen.is_some() {
-        draw_seen_legend(marks, spot(x, down))?;
+        draw_lines(marks, spot(x, down), SEEN_LINES)?;
     }
     Ok(())
 }
 
-/// A text behind a sample.
-fn draw_words(marks: &mut Marks, at: Spot, words: &str) -> Result<(), AllocError> {
+/// Draws lines of the legend, each below the one before.
+fn draw_lines(marks: &mut Marks, at: Spot, lines: &[(Sample, &str)]) -> Result<(), AllocError> {
+    let mut next = at;
+    for (sample, words) in lines {
+        draw_line(marks, next, *sample, words)?;
+        next = moved(next, 0, LINES.0);
+    }
+    Ok(())
+}
+
+/// Draws a line of the legend: a sample, and what it means.
+fn draw_line(marks: &mut Marks, at: Spot, sample: Sample, words: &str) -> Result<(), AllocError> {
+    match sample {
+        Sample::Line(class) => marks.line(class, moved(at, 0, -4), moved(at, 22, -4))?,
+        Sample::Guard => {
+            marks.line("flank-sample", moved(at, 4, -4), moved(at, 22, -4))?;
+            marks.circle("guard", moved(at, 4, -4), 4)?;
+        }
+        Sample::Lamps(first, second) => {
+            marks.circle(first, moved(at, 8, -4), 4)?;
+            marks.circle(second, moved(at, 16, -4), 4)?;
+        }
+    }
     marks.text("label", moved(at, 30, 0), Anchor::Start, words)
-}
-
-/// A line as a sample, and what it means.
-fn draw_sample(marks: &mut Marks, at: Spot, class: &str, words: &str) -> Result<(), AllocError> {
-    marks.line(class, moved(at, 0, -4), moved(at, 22, -4))?;
-    draw_words(marks, at, words)
-}
-
-/// The place so many lines below another.
-fn below(at: Spot, lines: i32) -> Spot {
-    moved(at, 0, LINES.times(lines).0)
-}
-
-/// What marks a route.
-fn draw_route_legend(marks: &mut Marks, at: Spot, words: &str) -> Result<(), AllocError> {
-    draw_sample(marks, at, "sample path-sample", words)?;
-    let next = below(at, 1);
-    marks.line("flank-sample", moved(next, 4, -4), moved(next, 22, -4))?;
-    marks.circle("guard", moved(next, 4, -4), 4)?;
-    draw_words(
-        marks,
-        next,
-        "point that protects its flank, and the leg to which it has to lie",
-    )?;
-    draw_sample(
-        marks,
-        below(at, 2),
-        "sample approach-sample",
-        "section of its approach",
-    )
-}
-
-/// What marks what is seen.
-fn draw_seen_legend(marks: &mut Marks, at: Spot) -> Result<(), AllocError> {
-    draw_sample(marks, at, "sample occupied-sample", "occupied section")?;
-    draw_sample(
-        marks,
-        below(at, 1),
-        "sample unknown-sample",
-        "section of which nothing is known",
-    )?;
-    draw_sample(
-        marks,
-        below(at, 2),
-        "sample set-sample",
-        "route that is set",
-    )?;
-    draw_lamps(marks, below(at, 3), "lamp red", "lamp", "stop")?;
-    draw_lamps(marks, below(at, 4), "lamp", "lamp green", "proceed")?;
-    draw_lamps(marks, below(at, 5), "lamp yellow", "lamp yellow", "slow")?;
-    draw_sample(
-        marks,
-        below(at, 6),
-        "sample off-sample",
-        "leg to which a point doesn't lie; dashed while it has no end position",
-    )
-}
-
-/// Two lamps of a signal.
-fn draw_lamps(
-    marks: &mut Marks,
-    at: Spot,
-    first: &str,
-    second: &str,
-    words: &str,
-) -> Result<(), AllocError> {
-    marks.circle(first, moved(at, 8, -4), 4)?;
-    marks.circle(second, moved(at, 16, -4), 4)?;
-    draw_words(marks, at, words)
 }

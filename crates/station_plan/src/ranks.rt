@@ -36,11 +36,11 @@ impl Ranks {
         courses: &Courses,
     ) -> Result<(), AllocError> {
         self.inward = filled(alloc, yard.size(), 1)?;
-        for element in courses.order.iter().copied() {
+        for element in courses.order.iter().rev().copied() {
             lengthen(&mut self.inward, yard, directions, courses, element, true);
         }
         self.onward = filled(alloc, yard.size(), 1)?;
-        for element in courses.order.iter().rev().copied() {
+        for element in courses.order.iter().copied() {
             lengthen(&mut self.onward, yard, directions, courses, element, false);
         }
         self.ranks = settled(alloc, yard, directions, &self.inward)?;

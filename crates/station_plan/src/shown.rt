@@ -9,7 +9,7 @@ use control_table::sci_telegram::{Aspect, Occupancy, Position, Side};
 use std::alloc::{AllocError, Global};
 
 /// What is seen of a station. What a list lacks isn't known.
-#[derive(Debug, Drop)]
+#[derive(Drop)]
 pub struct Seen {
     /// What each signal shows.
     pub aspects: Vec<Option<Aspect>>,
@@ -22,7 +22,7 @@ pub struct Seen {
 }
 
 /// What a plan shows beside the layout.
-#[derive(Debug, Drop)]
+#[derive(Drop)]
 pub struct Shown {
     /// The route that is drawn thick, with its flank points and approach sections marked.
     pub route: Option<RouteId>,

@@ -5,7 +5,7 @@ use control_table::sci_telegram::Name;
 use drawing::Mark;
 
 /// What a thing in a plan stands for, with its name.
-#[derive(Clone, Copy, Debug)]
+#[derive(Clone, Copy)]
 pub enum Subject {
     /// A detection section.
     Section(Name),
@@ -30,7 +30,7 @@ pub enum Subject {
 }
 
 /// What is drawn of one subject.
-#[derive(Debug, Drop)]
+#[derive(Drop)]
 pub struct Thing {
     /// What it stands for.
     pub subject: Subject,

@@ -12,7 +12,7 @@ use control_table::{Checked, RouteMasks};
 use std::alloc::{AllocError, Global};
 
 /// Which reasons two routes have to conflict.
-#[derive(Clone, Copy, Debug, PartialEq, Eq)]
+#[derive(Clone, Copy)]
 pub struct ConflictReasons {
     /// They have the same entry signal.
     pub entry: bool,

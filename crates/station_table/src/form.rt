@@ -1,7 +1,7 @@
 //! How a table is written.
 
 /// How a table is written.
-#[derive(Clone, Copy, Debug, PartialEq, Eq)]
+#[derive(Clone, Copy)]
 pub enum Form {
     /// In Markdown: each line with a bar round each cell, and a rule below the heads.
     Markdown,
