@@ -409,58 +409,64 @@ class Signaller:
         self.wait(f"{route} by keys: its signal clears", self.lit(route))
 
 
-def walk(program, layout, size, folder):
-    with tempfile.TemporaryDirectory() as place:
-        panel, judge, steps = Panel(program, layout, place), Judge(layout), WALKS[pathlib.Path(layout).stem]
-        signaller = Signaller(panel, judge, size, folder)
-        try:
-            signaller.opened()
-            signaller.shot("opened")
-            signaller.resume()
-            signaller.refuse(steps.routes[0])
-            signaller.set(steps.routes[0])
-            signaller.shot("proceed")
-            signaller.drive(steps)
-            signaller.jam(steps.moving)
-            signaller.cut(steps.moving)
-            signaller.restart(steps.routes[0])
-        except TimeoutError:
-            print("drawn last:", json.dumps(signaller.drawn()))
-            signaller.shot("lacks")
-        finally:
-            faults = signaller.browser.faults
-            signaller.browser.end()
-            panel.end()
-        same, said = panel.replays()
-        signaller.rows.append(("the record is replayed", "came" if same else "DIDN'T COME", "", said))
+def worked(signaller, panel, does):
+    """Does something at the page, and ends the browser and the panel. It answers the faults of the page."""
+    try:
+        does()
+    except TimeoutError:
+        print("drawn last:", json.dumps(signaller.drawn()))
+        signaller.shot("lacks")
+    finally:
+        faults = signaller.browser.faults
+        signaller.browser.end()
+        panel.end()
+    return faults
+
+
+def is_well(signaller, faults):
+    """Prints what came, and answers whether all of it did, and nothing was unsafe."""
+    judge = signaller.judge
     print(f"\n{signaller.name}: {judge.looks} looks, {judge.lit} signals lit at once, {len(judge.unsafe)} unsafe, {len(faults)} faults of the page\n")
     print(table(("step", "", "after", "lit signals"), signaller.rows), flush=True)
     return all(row[1] == "came" for row in signaller.rows) and not judge.unsafe and not faults
+
+
+def walk(program, layout, size, folder):
+    with tempfile.TemporaryDirectory() as place:
+        panel = Panel(program, layout, place)
+        signaller = Signaller(panel, Judge(layout), size, folder)
+        faults = worked(signaller, panel, lambda: walk_over(signaller, WALKS[pathlib.Path(layout).stem]))
+        same, said = panel.replays()
+        signaller.rows.append(("the record is replayed", "came" if same else "DIDN'T COME", "", said))
+    return is_well(signaller, faults)
+
+
+def walk_over(signaller, steps):
+    signaller.opened()
+    signaller.shot("opened")
+    signaller.resume()
+    signaller.refuse(steps.routes[0])
+    signaller.set(steps.routes[0])
+    signaller.shot("proceed")
+    signaller.drive(steps)
+    signaller.jam(steps.moving)
+    signaller.cut(steps.moving)
+    signaller.restart(steps.routes[0])
 
 
 def nodes(program, layout, size, folder):
     with tempfile.TemporaryDirectory() as place:
-        panel, judge, steps = PanelOfNodes(program, layout, place), Judge(layout, ("stop", "dark")), WALKS[pathlib.Path(layout).stem]
-        signaller = Signaller(panel, judge, size, folder)
+        panel = PanelOfNodes(program, layout, place)
+        signaller = Signaller(panel, Judge(layout, ("stop", "dark")), size, folder)
         signaller.name += "-nodes"
-        try:
-            signaller.opened()
-            signaller.resume()
-            work_on_nodes(signaller, panel, steps.routes[0])
-        except TimeoutError:
-            print("drawn last:", json.dumps(signaller.drawn()))
-            signaller.shot("lacks")
-        finally:
-            faults = signaller.browser.faults
-            signaller.browser.end()
-            panel.end()
-    print(f"\n{signaller.name}: {judge.looks} looks, {judge.lit} signals lit at once, {len(judge.unsafe)} unsafe, {len(faults)} faults of the page\n")
-    print(table(("step", "", "after", "lit signals"), signaller.rows), flush=True)
-    return all(row[1] == "came" for row in signaller.rows) and not judge.unsafe and not faults
+        faults = worked(signaller, panel, lambda: work_on_nodes(signaller, panel, WALKS[pathlib.Path(layout).stem].routes[0]))
+    return is_well(signaller, faults)
 
 
 def work_on_nodes(signaller, panel, route):
     section = signaller.judge.routes[route]["approach"][-1]
+    signaller.opened()
+    signaller.resume()
     panel.say(f"occupy {section}")
     signaller.wait(f"{section} is reported occupied", lambda it: section in it["occupied"], 5)
     signaller.set(route)
