@@ -17,6 +17,7 @@ Commands:
   table    Prints the control table of a layout
   sim      Applies lines of events to a station of a layout
   run      Runs a station of a layout over loopback sockets
+  panel    Opens a signaller's panel of a station in a browser
   replay   Applies a recorded session to a station of a layout again
   chart    Draws a session as a chart over true time
   decode   Puts a datagram, or those of a session, into words
@@ -195,6 +196,44 @@ Options:
 
       --for <MS>
           How long the station runs, from 1000 to 600000 milliseconds
+
+  -h, --help
+          Print help (see a summary with '-h')
+";
+
+const PANEL_HELP: &str = "Opens a signaller's panel of a station in a browser.
+
+The station runs as by run, and each event is recorded with what it answered. It begins with each point
+at left and each section clear. The address of a page is printed, for a browser on this machine. The
+page shows the track plan as the station stands. On it a person sets and cancels routes, drives trains,
+and disturbs the station: cuts links, loses and delays datagrams, makes nodes anew, jams points.
+
+It runs until it is stopped, or until the datagrams that were sent take 1 GiB.
+
+With --node the station isn't run here: its interlocking runs as node runs one with --operator, and the
+panel is joined to it as its operator. The page then shows what the interlocking knows, and sets and
+cancels routes. The node writes the record, so --record isn't taken with --node.
+
+Example: station panel examples/junction.toml
+
+Usage: station panel [OPTIONS] <FILE>
+
+Arguments:
+  <FILE>
+          The layout, a TOML file
+
+Options:
+      --port <P>
+          The port of the page, from 1 to 65535, else 8080
+
+      --record <R>
+          The file to which the session is written, else panel.session
+
+      --for <MS>
+          How long the panel stands, from 1000 to 600000 milliseconds, else until it is stopped
+
+      --node <ADDRESS>
+          The address at which the interlocking's node serves its operator: the panel is joined to it
 
   -h, --help
           Print help (see a summary with '-h')
@@ -461,6 +500,7 @@ const HELPED: &[Printed] = &[
     ("station sim --help", 0, SIM_HELP),
     ("station help replay", 0, REPLAY_HELP),
     ("station run --help", 0, RUN_HELP),
+    ("station panel --help", 0, PANEL_HELP),
     ("station chart --help", 0, CHART_HELP),
     ("station decode -h", 0, SHORT_DECODE_HELP),
     ("station capture --help", 0, CAPTURE_HELP),
