@@ -106,7 +106,7 @@ impl<'a> Listens for Visits<'a> {
             if visit.0 <= self.round {
                 let (_, left) = self.left.split_at(1);
                 self.left = left;
-                return wire(self.alloc, visit.1, self.told);
+                return connection(self.alloc, visit.1, self.told);
             }
         }
         self.round = self.round.saturating_add(1);
@@ -115,7 +115,7 @@ impl<'a> Listens for Visits<'a> {
 }
 
 /// A connection with a request.
-fn wire<'a>(alloc: Global, asks: Asks, told: &'a RefCell<Vec<u8>>) -> Option<Wire<'a>> {
+fn connection<'a>(alloc: Global, asks: Asks, told: &'a RefCell<Vec<u8>>) -> Option<Wire<'a>> {
     let request = match asks {
         Asks::Get(target) => {
             format!(in alloc; "GET {target} HTTP/1.1\r\nHost: 127.0.0.1:8080\r\n\r\n")

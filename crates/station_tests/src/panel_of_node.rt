@@ -22,7 +22,7 @@ struct Seat {
 }
 
 /// A panel whose node is joined in its first turn.
-fn seat(rt: &impl Abort, alloc: Global) -> Seat {
+fn panel_joined(rt: &impl Abort, alloc: Global) -> Seat {
     let table = table_of(alloc, SMALL).expect(rt, "a table");
     let heard = Heard::nothing(alloc, table.layout()).expect(rt, "nothing heard");
     let places = heard.picture(alloc).expect(rt, "a picture").len();
@@ -135,7 +135,7 @@ const GONE: Stage = (&[], &[(2, Asks::Get("/state?after=0"))], 800);
 
 #[test]
 fn a_panel_shows_what_a_node_tells(rt: HostRuntime) {
-    let mut seat = seat(&rt, rt.alloc());
+    let mut seat = panel_joined(&rt, rt.alloc());
     let told = attend(&rt, rt.alloc(), &mut seat, &JOINED);
     assert!(rt; has(&told, "link IXL1 ready") && has(&told, "link S1 ready"));
     assert!(rt; has(&told, "section GP unknown") && has(&told, "indicates S1 stop"));
@@ -152,7 +152,7 @@ fn a_panel_shows_what_a_node_tells(rt: HostRuntime) {
 
 #[test]
 fn a_panel_knows_nothing_of_a_node_that_has_gone(rt: HostRuntime) {
-    let mut seat = seat(&rt, rt.alloc());
+    let mut seat = panel_joined(&rt, rt.alloc());
     attend(&rt, rt.alloc(), &mut seat, &JOINED);
     attend(&rt, rt.alloc(), &mut seat, &SET);
     let told = attend(&rt, rt.alloc(), &mut seat, &LOST);
