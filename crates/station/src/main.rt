@@ -64,9 +64,8 @@ fn main(rt: HostRuntime) -> ExitCode {
                     node,
                 },
             ) => {
-                let port = port.unwrap_or(PORT) as u16;
                 let panelled = Panelled {
-                    port,
+                    port: port_of(port),
                     record,
                     for_ms,
                     node,
@@ -228,7 +227,15 @@ fn run_files(rt: &HostRuntime, layout: &str, script: &str, record: &str, for_ms:
 const VERSION: &str = "1.0.0";
 
 /// The port of a panel's page, where the words say none.
-const PORT: u64 = 8080;
+const PORT: u16 = 8080;
+
+/// The port of a page: the one that is given, which has 16 bits.
+fn port_of(given: Option<u64>) -> u16 {
+    match given {
+        Some(port) => u16::try_from(port).unwrap_or(PORT),
+        None => PORT,
+    }
+}
 
 /// The record of a panel, where the words name none.
 const RECORD: &str = "panel.session";

@@ -153,17 +153,22 @@ pub(crate) fn page<'a>(port: u16) -> PageAsked<'a> {
 
 /// Whether a text has a part.
 pub(crate) fn has(text: &[u8], part: &str) -> bool {
-    text.windows(part.len())
-        .any(|window| window == part.as_bytes())
+    for place in 0..text.len() {
+        let (_, rest) = text.split_at(place);
+        if rest.starts_with(part.as_bytes()) {
+            return true;
+        }
+    }
+    false
 }
 
 /// How many answers have this status.
 pub(crate) fn count(told: &[u8], status: &str) -> usize {
-    let mut answers = 0;
+    let mut answers = 0usize;
     for place in 0..told.len() {
         let (_, rest) = told.split_at(place);
         if rest.starts_with(b"HTTP/1.1 ") && rest.split_at(9).1.starts_with(status.as_bytes()) {
-            answers += 1;
+            answers = answers.saturating_add(1);
         }
     }
     answers
