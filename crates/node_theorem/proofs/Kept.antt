@@ -2,11 +2,11 @@
 use Rattle.std.proofs.Common.{◌≡◌, ℕ, Option, Some, None, refl}
 use Rattle.node_kinds.specs.node_drive.node_lines.Orders.{aspect_ordered, side_ordered}
 use Rattle.node_kinds.specs.Controllers.{drive_order, lamp_order}
-use Rattle.simulator_run.specs.sci_telegram.declared.message.Aspect.{Aspect}
-use Rattle.simulator_run.specs.sci_telegram.declared.message.Aspect.TheVariants as aspects
-use Rattle.simulator_run.specs.point_ctl.Drive.{driven_by}
-use Rattle.simulator_run.specs.point_ctl.declared.drive.Drive.{Drive}
-use Rattle.simulator_run.specs.signal_ctl.Lamp.{Lamp, aspect_shown}
+use Rattle.node_kinds.specs.simulator_run.sci_telegram.declared.message.Aspect.{Aspect}
+use Rattle.node_kinds.specs.simulator_run.sci_telegram.declared.message.Aspect.TheVariants as aspects
+use Rattle.node_kinds.specs.simulator_run.point_ctl.Drive.{driven_by}
+use Rattle.node_kinds.specs.simulator_run.point_ctl.declared.drive.Drive.{Drive}
+use Rattle.node_kinds.specs.simulator_run.signal_ctl.Lamp.{Lamp, aspect_shown}
 
 by_aspect : (aspect : Aspect) (until now : ℕ) → aspect_ordered (lamp_order (record { indicated = aspect; until = until })) now ≡ aspect_shown (record { indicated = aspect; until = until }) now
 by_aspect aspects.Stop until now = refl

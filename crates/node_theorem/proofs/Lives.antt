@@ -6,10 +6,10 @@ use Rattle.node_kinds.specs.node_drive.Lives.{state_after}
 use Rattle.node_kinds.specs.Controllers.{Controller, controller}
 use Rattle.node_kinds.specs.Interlockings.{InterlockingNode, interlocking_kind}
 use Rattle.simulator_nodes.specs.Lives.{host_after, ixl_after}
-use Rattle.simulator_run.specs.ixl_rules.Step as ixl
-use Rattle.simulator_run.specs.layout.Entries.{Site}
-use Rattle.simulator_run.specs.object_host.Behaviour.{Behaviour}
-use Rattle.simulator_run.specs.object_host.declared.input.Input.{Input}
+use Rattle.node_kinds.specs.simulator_run.ixl_rules.Step as ixl
+use Rattle.node_kinds.specs.simulator_run.layout.Entries.{Site}
+use Rattle.node_kinds.specs.simulator_run.object_host.Behaviour.{Behaviour}
+use Rattle.node_kinds.specs.simulator_run.object_host.declared.input.Input.{Input}
 
 pub controller_lives : {Object Contacts : Type 0} (does : Behaviour Object) (order : Object → Option Order) (meaning : Site → List ℕ → Contacts → Meaning Input) (contact : Input → Contacts → Contacts)
     (inputs : List (ℕ × Input)) (c : Controller Object Contacts) → (state_after (controller does order meaning contact) inputs c).host ≡ host_after does inputs c.host

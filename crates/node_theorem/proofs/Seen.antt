@@ -1,26 +1,26 @@
 -- What processes show is what their nodes show.
 use Rattle.std.proofs.Common.{◌≡◌, ◌∙◌, ℕ, List, [], Option, Some, None, IsSome, ap, refl, sym, slice_get}
-use Rattle.simulator_run.specs.layout.Entries.{Site}
-use Rattle.simulator_run.specs.layout.declared.entries.Point.{Point as PointEntry}
-use Rattle.simulator_run.specs.layout.declared.entries.Signal.{Signal as SignalEntry}
-use Rattle.simulator_run.specs.sci_telegram.declared.message.Aspect.{Aspect}
-use Rattle.simulator_run.specs.sci_telegram.declared.message.Position.{Position}
-use Rattle.simulator_run.specs.sci_telegram.declared.message.Side.{Side}
-use Rattle.simulator_run.specs.rasta_core.Ends.{reading_of}
-use Rattle.simulator_run.specs.object_host.Host.{HostState}
-use Rattle.simulator_run.specs.object_host.declared.input.Input.{Input}
-use Rattle.simulator_run.specs.signal_ctl.Lamp.{Lamp, aspect_shown}
-use Rattle.simulator_run.specs.signal_ctl.Signal.{SignalState, signal_behaviour}
-use Rattle.simulator_run.specs.point_ctl.Controlled.{point_behaviour}
-use Rattle.simulator_run.specs.point_ctl.Drive.{PointState, drive_of, drives, driven_by as drive_at}
-use Rattle.simulator_run.specs.point_ctl.declared.drive.Drive.{Drive}
-use Rattle.simulator_run.specs.ixl_rules.State.{IxlState}
-use Rattle.simulator_run.specs.ixl_rules.Step as ixl
-use Rattle.simulator_run.specs.ixl_rules.Table.{Table}
-use Rattle.simulator_run.specs.simulator_event.declared.event.Event.{Event}
-use Rattle.simulator_run.specs.First.{Outset, new_ixl, new_point, new_signal}
-use Rattle.simulator_run.specs.Interlocking.{held_of}
-use Rattle.simulator_run.specs.simulator_snapshot.declared.snapshot.Snapshot.{Snapshot}
+use Rattle.node_kinds.specs.simulator_run.layout.Entries.{Site}
+use Rattle.node_kinds.specs.simulator_run.layout.declared.entries.Point.{Point as PointEntry}
+use Rattle.node_kinds.specs.simulator_run.layout.declared.entries.Signal.{Signal as SignalEntry}
+use Rattle.node_kinds.specs.simulator_run.sci_telegram.declared.message.Aspect.{Aspect}
+use Rattle.node_kinds.specs.simulator_run.sci_telegram.declared.message.Position.{Position}
+use Rattle.node_kinds.specs.simulator_run.sci_telegram.declared.message.Side.{Side}
+use Rattle.node_kinds.specs.simulator_run.rasta_core.Ends.{reading_of}
+use Rattle.node_kinds.specs.simulator_run.object_host.Host.{HostState}
+use Rattle.node_kinds.specs.simulator_run.object_host.declared.input.Input.{Input}
+use Rattle.node_kinds.specs.simulator_run.signal_ctl.Lamp.{Lamp, aspect_shown}
+use Rattle.node_kinds.specs.simulator_run.signal_ctl.Signal.{SignalState, signal_behaviour}
+use Rattle.node_kinds.specs.simulator_run.point_ctl.Controlled.{point_behaviour}
+use Rattle.node_kinds.specs.simulator_run.point_ctl.Drive.{PointState, drive_of, drives, driven_by as drive_at}
+use Rattle.node_kinds.specs.simulator_run.point_ctl.declared.drive.Drive.{Drive}
+use Rattle.node_kinds.specs.simulator_run.ixl_rules.State.{IxlState}
+use Rattle.node_kinds.specs.simulator_run.ixl_rules.Step as ixl
+use Rattle.node_kinds.specs.simulator_run.ixl_rules.Table.{Table}
+use Rattle.node_kinds.specs.simulator_run.simulator_event.declared.event.Event.{Event}
+use Rattle.node_kinds.specs.simulator_run.First.{Outset, new_ixl, new_point, new_signal}
+use Rattle.node_kinds.specs.simulator_run.Interlocking.{held_of}
+use Rattle.node_kinds.specs.simulator_run.simulator_snapshot.declared.snapshot.Snapshot.{Snapshot}
 use Rattle.simulator_nodes.specs.Lives.{Life, first_life, host_after, ixl_after}
 use Rattle.simulator_nodes.specs.Said.{last_line, lines_after}
 use Rattle.simulator_nodes.specs.Shown.{AreAll, IsOfNodes, frozen_in, host_now, interlocking_life, interlocking_now, point_life, signal_life, signal_shows}

@@ -1,22 +1,22 @@
 -- What the processes of a station's nodes show, drive and hold.
 use Rattle.std.specs.Prelude.{◌≡◌, ℕ, List, [], Option, Some, None, slice_get}
-use Rattle.simulator_run.specs.layout.Entries.{Site}
-use Rattle.simulator_run.specs.layout.declared.entries.Point.{Point as PointEntry}
-use Rattle.simulator_run.specs.layout.declared.entries.Signal.{Signal as SignalEntry}
-use Rattle.simulator_run.specs.sci_telegram.declared.message.Aspect.{Aspect}
-use Rattle.simulator_run.specs.sci_telegram.declared.message.Aspect.TheVariants as aspects
-use Rattle.simulator_run.specs.sci_telegram.declared.message.Position.{Position}
-use Rattle.simulator_run.specs.sci_telegram.declared.message.Side.{Side}
-use Rattle.simulator_run.specs.rasta_core.Ends.{reading_of}
-use Rattle.simulator_run.specs.object_host.declared.input.Input.{Input}
-use Rattle.simulator_run.specs.signal_ctl.Signal.{SignalState}
-use Rattle.simulator_run.specs.point_ctl.Drive.{PointState}
-use Rattle.simulator_run.specs.ixl_rules.Step as ixl
-use Rattle.simulator_run.specs.ixl_rules.Table.{Table}
-use Rattle.simulator_run.specs.simulator_event.declared.event.Event.{Event}
-use Rattle.simulator_run.specs.First.{Outset, new_ixl, new_point, new_signal}
-use Rattle.simulator_run.specs.Interlocking.{held_of}
-use Rattle.simulator_run.specs.simulator_snapshot.declared.snapshot.Snapshot.{Snapshot}
+use Rattle.node_kinds.specs.simulator_run.layout.Entries.{Site}
+use Rattle.node_kinds.specs.simulator_run.layout.declared.entries.Point.{Point as PointEntry}
+use Rattle.node_kinds.specs.simulator_run.layout.declared.entries.Signal.{Signal as SignalEntry}
+use Rattle.node_kinds.specs.simulator_run.sci_telegram.declared.message.Aspect.{Aspect}
+use Rattle.node_kinds.specs.simulator_run.sci_telegram.declared.message.Aspect.TheVariants as aspects
+use Rattle.node_kinds.specs.simulator_run.sci_telegram.declared.message.Position.{Position}
+use Rattle.node_kinds.specs.simulator_run.sci_telegram.declared.message.Side.{Side}
+use Rattle.node_kinds.specs.simulator_run.rasta_core.Ends.{reading_of}
+use Rattle.node_kinds.specs.simulator_run.object_host.declared.input.Input.{Input}
+use Rattle.node_kinds.specs.simulator_run.signal_ctl.Signal.{SignalState}
+use Rattle.node_kinds.specs.simulator_run.point_ctl.Drive.{PointState}
+use Rattle.node_kinds.specs.simulator_run.ixl_rules.Step as ixl
+use Rattle.node_kinds.specs.simulator_run.ixl_rules.Table.{Table}
+use Rattle.node_kinds.specs.simulator_run.simulator_event.declared.event.Event.{Event}
+use Rattle.node_kinds.specs.simulator_run.First.{Outset, new_ixl, new_point, new_signal}
+use Rattle.node_kinds.specs.simulator_run.Interlocking.{held_of}
+use Rattle.node_kinds.specs.simulator_run.simulator_snapshot.declared.snapshot.Snapshot.{Snapshot}
 use Rattle.simulator_nodes.specs.Lives.{Life, first_life}
 use Rattle.simulator_nodes.specs.Shown.{AreAll, frozen_in, interlocking_life, point_life, signal_life}
 use Rattle.node_kinds.specs.node_drive.node_lines.Orders.{aspect_ordered, side_ordered}

@@ -6,8 +6,8 @@ use node_kinds::node_drive::Behaves;
 pub struct Signals;
 
 impl Behaves for Signals {
-    ghost use Rattle.simulator_run.specs.object_host.declared.input.Input.{Input as HostInput};
-    ghost use Rattle.simulator_run.specs.signal_ctl.Signal.{SignalState};
+    ghost use Rattle.node_kinds.specs.simulator_run.object_host.declared.input.Input.{Input as HostInput};
+    ghost use Rattle.node_kinds.specs.simulator_run.signal_ctl.Signal.{SignalState};
     ghost use Rattle.node_kinds.specs.Controllers.{Controller, signal_kind};
 
     ghost State = { Controller SignalState (Unit {0}) };
@@ -21,9 +21,9 @@ impl Behaves for Signals {
 pub struct Points;
 
 impl Behaves for Points {
-    ghost use Rattle.simulator_run.specs.object_host.declared.input.Input.{Input as HostInput};
-    ghost use Rattle.simulator_run.specs.point_ctl.Drive.{PointState};
-    ghost use Rattle.simulator_run.specs.sci_telegram.declared.message.Position.{Position};
+    ghost use Rattle.node_kinds.specs.simulator_run.object_host.declared.input.Input.{Input as HostInput};
+    ghost use Rattle.node_kinds.specs.simulator_run.point_ctl.Drive.{PointState};
+    ghost use Rattle.node_kinds.specs.simulator_run.sci_telegram.declared.message.Position.{Position};
     ghost use Rattle.node_kinds.specs.Controllers.{Controller, point_kind};
 
     ghost State = { Controller PointState Position };
@@ -37,7 +37,7 @@ impl Behaves for Points {
 pub struct Interlockings;
 
 impl Behaves for Interlockings {
-    ghost use Rattle.simulator_run.specs.ixl_rules.Step as ixl;
+    ghost use Rattle.node_kinds.specs.simulator_run.ixl_rules.Step as ixl;
     ghost use Rattle.node_kinds.specs.Interlockings.{InterlockingNode, interlocking_kind};
 
     ghost State = { InterlockingNode };

@@ -6,16 +6,16 @@ ghost use Rattle.node_kinds.specs.Interlockings.{InterlockingNode, interlocking_
 ghost use Rattle.node_kinds.specs.node_drive.Lives.{state_after};
 ghost use Rattle.node_kinds.specs.node_drive.node_lines.Orders.{aspect_ordered, side_ordered};
 ghost use Rattle.simulator_nodes.specs.Lives.{host_after, ixl_after};
-ghost use Rattle.simulator_run.specs.ixl_rules.Step as ixl;
-ghost use Rattle.simulator_run.specs.object_host.declared.input.Input.{Input};
-ghost use Rattle.simulator_run.specs.point_ctl.Controlled.{point_behaviour};
-ghost use Rattle.simulator_run.specs.point_ctl.Drive.{PointState, driven_by};
-ghost use Rattle.simulator_run.specs.point_ctl.declared.drive.Drive.{Drive};
-ghost use Rattle.simulator_run.specs.sci_telegram.declared.message.Position.{Position};
-ghost use Rattle.simulator_run.specs.signal_ctl.Lamp.{Lamp, aspect_shown};
-ghost use Rattle.simulator_run.specs.signal_ctl.Signal.{SignalState, signal_behaviour};
-ghost use Rattle.simulator_run.specs.tds_ctl.Controlled.{detection_behaviour};
-ghost use Rattle.simulator_run.specs.tds_ctl.declared.section.Section.{Section as SectionState};
+ghost use Rattle.node_kinds.specs.simulator_run.ixl_rules.Step as ixl;
+ghost use Rattle.node_kinds.specs.simulator_run.object_host.declared.input.Input.{Input};
+ghost use Rattle.node_kinds.specs.simulator_run.point_ctl.Controlled.{point_behaviour};
+ghost use Rattle.node_kinds.specs.simulator_run.point_ctl.Drive.{PointState, driven_by};
+ghost use Rattle.node_kinds.specs.simulator_run.point_ctl.declared.drive.Drive.{Drive};
+ghost use Rattle.node_kinds.specs.simulator_run.sci_telegram.declared.message.Position.{Position};
+ghost use Rattle.node_kinds.specs.simulator_run.signal_ctl.Lamp.{Lamp, aspect_shown};
+ghost use Rattle.node_kinds.specs.simulator_run.signal_ctl.Signal.{SignalState, signal_behaviour};
+ghost use Rattle.node_kinds.specs.simulator_run.tds_ctl.Controlled.{detection_behaviour};
+ghost use Rattle.node_kinds.specs.simulator_run.tds_ctl.declared.section.Section.{Section as SectionState};
 
 /// A controller by its rounds is one by its life: its steps are those of a world's controller.
 #[tactic(auto, using(crate::proofs::Lives::controller_lives))]

@@ -1,16 +1,16 @@
 //! What the processes of a station's nodes do is safe.
 
 ghost use Rattle.std.specs.Prelude.{List};
-ghost use Rattle.simulator_run.specs.First.{IsOutsetOf, Outset, world_at};
-ghost use Rattle.simulator_run.specs.Run.{CanHappen};
-ghost use Rattle.simulator_run.specs.ixl_rules.Table.{Table};
-ghost use Rattle.simulator_run.specs.layout.Entries.{Site};
-ghost use Rattle.simulator_run.specs.layout.Once.{Once};
-ghost use Rattle.simulator_run.specs.layout.Station.{IsStation};
-ghost use Rattle.simulator_run.specs.simulator_event.declared.event.Event.{Event};
-ghost use Rattle.simulator_run.specs.simulator_snapshot.Safe.{Safe};
-ghost use Rattle.simulator_run.specs.simulator_snapshot.declared.snapshot.Snapshot.{Snapshot};
-ghost use Rattle.ixl_table.specs.Table.{IsTableOf};
+ghost use Rattle.node_kinds.specs.simulator_run.First.{IsOutsetOf, Outset, world_at};
+ghost use Rattle.node_kinds.specs.simulator_run.Run.{CanHappen};
+ghost use Rattle.node_kinds.specs.simulator_run.ixl_rules.Table.{Table};
+ghost use Rattle.node_kinds.specs.simulator_run.layout.Entries.{Site};
+ghost use Rattle.node_kinds.specs.simulator_run.layout.Once.{Once};
+ghost use Rattle.node_kinds.specs.simulator_run.layout.Station.{IsStation};
+ghost use Rattle.node_kinds.specs.simulator_run.simulator_event.declared.event.Event.{Event};
+ghost use Rattle.node_kinds.specs.simulator_run.simulator_snapshot.Safe.{Safe};
+ghost use Rattle.node_kinds.specs.simulator_run.simulator_snapshot.declared.snapshot.Snapshot.{Snapshot};
+ghost use Rattle.node_kinds.specs.ixl_table.Table.{IsTableOf};
 ghost use Rattle.node_theorem.specs.Processes.{AreOf, IsOfProcesses, Processes};
 
 use crate::kinds::{Interlockings, Points, Signals};
