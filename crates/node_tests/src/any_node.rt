@@ -1,11 +1,10 @@
 //! A node of any kind.
 
-ghost use Rattle.std.specs.Prelude.{◌≡◌, ◌≤◌, IfOk, IsSomeAnd, OnOk};
+ghost use Rattle.std.specs.Prelude.{◌≡◌, ◌≤◌, IfOk, OnOk};
 ghost use Rattle.node_tests.specs.Reached.{reached};
 
-use crate::desk::Desk;
 use crate::station::{D1, INTERLOCKING, P1, S1};
-use node_kinds::node_drive::{Course, NodeFault, drive};
+use node_kinds::node_drive::{Course, Node, NodeFault, Outside, drive};
 use node_kinds::simulator_run::ixl_rules::control_table::Checked;
 use node_kinds::simulator_run::ixl_rules::control_table::sci_telegram::{Occupancy, Position};
 use node_kinds::{DetectorNode, InterlockingNode, PointNode, SignalNode};
@@ -20,28 +19,34 @@ pub(crate) enum AnyNode<'a> {
     Detector(DetectorNode<'a>),
 }
 
-/// How a node begins: at which reading of its clock, from which number on it numbers its PDUs, and where its point lies.
+/// How a process begins.
 #[derive(Clone, Copy)]
 pub(crate) struct Beginning {
+    pub(crate) number: usize,
+    /// Whether it has a node.
+    pub(crate) runs: bool,
+    /// What its clock reads, and by how much that grows in a round.
     pub(crate) now: u64,
+    pub(crate) step: u64,
+    /// From which number on it numbers its PDUs.
     pub(crate) first: u32,
+    /// How its point lies, if it has one.
     pub(crate) lies: Position,
 }
 
-/// The node of this number. Each section is clear.
+/// The node of a process that begins. Each section is clear.
 pub(crate) fn made<'a>(
     alloc: Global,
     table: &'a Checked,
-    number: usize,
     begins: Beginning,
 ) -> Result<AnyNode<'a>, AllocError>
     ensures { IfOk result (λ node. reached node ≡ begins.now) }
 {
-    match number {
+    match begins.number {
         INTERLOCKING => made_interlocking(alloc, table, begins),
         P1 => made_point(alloc, table, begins),
         D1 => made_detector(alloc, table, begins),
-        _ => made_signal(alloc, table, number.saturating_sub(S1), begins),
+        _ => made_signal(alloc, table, begins),
     }
 }
 
@@ -60,11 +65,11 @@ fn made_interlocking<'a>(
 fn made_signal<'a>(
     alloc: Global,
     table: &'a Checked,
-    place: usize,
     begins: Beginning,
 ) -> Result<AnyNode<'a>, AllocError>
     ensures { IfOk result (λ node. reached node ≡ begins.now) }
 {
+    let place = begins.number.saturating_sub(S1);
     if place >= table.layout().signals().len() {
         return Err(AllocError);
     }
@@ -102,20 +107,34 @@ fn made_detector<'a>(
 }
 
 /// Drives a node for one round behind one that ticked at `before`. It answers the reading of its tick.
-pub(crate) fn drive_once(
+pub(crate) fn drive_once<O: Outside>(
     alloc: Global,
     node: &mut AnyNode<'_>,
     course: &mut Course,
-    desk: &mut Desk<'_>,
+    outside: &mut O,
     before: u64,
 ) -> Result<u64, NodeFault>
-    requires { reached node.old ≤ desk.old.memory.latest }
-    ensures { OnOk result (reached node.new ≤ desk.new.memory.latest) }
+    requires { reached node.old ≤ (O.told outside.old).latest }
+    ensures { OnOk result (reached node.new ≤ (O.told outside.new).latest) }
 {
     match node {
-        AnyNode::Interlocking(node) => drive(alloc, node, course, desk, before, 0),
-        AnyNode::Signal(node) => drive(alloc, node, course, desk, before, 0),
-        AnyNode::Point(node) => drive(alloc, node, course, desk, before, 0),
-        AnyNode::Detector(node) => drive(alloc, node, course, desk, before, 0),
+        AnyNode::Interlocking(node) => drive_kind(alloc, node, course, outside, before),
+        AnyNode::Signal(node) => drive_kind(alloc, node, course, outside, before),
+        AnyNode::Point(node) => drive_kind(alloc, node, course, outside, before),
+        AnyNode::Detector(node) => drive_kind(alloc, node, course, outside, before),
     }
+}
+
+/// The same for a node of a kind.
+fn drive_kind<N: Node, O: Outside>(
+    alloc: Global,
+    node: &mut N,
+    course: &mut Course,
+    outside: &mut O,
+    before: u64,
+) -> Result<u64, NodeFault>
+    requires { (N.node node.old).reached ≤ (O.told outside.old).latest }
+    ensures { OnOk result ((N.node node.new).reached ≤ (O.told outside.new).latest) }
+{
+    drive(alloc, node, course, outside, before, 0)
 }

@@ -1,58 +1,17 @@
 //! What was seen to change.
 
-use crate::station::name;
-use node_kinds::simulator_run::ixl_rules::control_table::sci_telegram::Position;
-use std::alloc::Global;
-use std::fmt;
+use crate::failure::Failure;
+use std::alloc::{AllocError, Global};
 
-/// A change that is seen in the field, or told to the operator.
-#[derive(Clone, Copy)]
-pub(crate) enum Change {
-    /// The lamp of a signal shows proceed.
-    Lit(usize),
-    /// It shows stop.
-    Dark(usize),
-    /// The point of a node lies so.
-    Lies(usize, Position),
-    /// The route is set.
-    Set,
-    /// It is free again.
-    Freed,
-    /// A node is made anew.
-    MadeAnew(usize),
-    /// A process ended before its time.
-    Ended(usize),
-    /// A lamp shows proceed over a point that doesn't lie for it.
-    Unsafe,
-}
-
-impl fmt::Display for Change {
-    fn fmt<W: fmt::Write>(&self, f: &mut fmt::Formatter<W>) -> fmt::Result {
-        match *self {
-            Change::Lit(number) => write!(f, "{} proceed", name(number)),
-            Change::Dark(number) => write!(f, "{} stop", name(number)),
-            Change::Lies(number, position) => write!(f, "{} {}", name(number), word(position)),
-            Change::Set => f.write_str("R1 set"),
-            Change::Freed => f.write_str("R1 free"),
-            Change::MadeAnew(number) => write!(f, "{} anew", name(number)),
-            Change::Ended(number) => write!(f, "{} ended", name(number)),
-            Change::Unsafe => f.write_str("UNSAFE"),
-        }
-    }
-}
-
-fn word(position: Position) -> &'static str {
-    match position {
-        Position::Right => "right",
-        Position::Left => "left",
-        Position::NoEndPosition => "none",
-    }
-}
-
-/// What was seen to change, oldest first.
+/// What was seen to change in the field, or told to the operator.
 #[derive(Drop)]
 pub(crate) struct Seen {
-    pub(crate) changes: Vec<Change>,
+    alloc: Global,
+    /// In words, oldest first.
+    text: String,
+    /// How often the operator was told that a link became ready, and that one was lost.
+    pub(crate) ready: u64,
+    pub(crate) lost: u64,
     /// Whether memory was lacking somewhere.
     pub(crate) is_lacking: bool,
 }
@@ -60,21 +19,43 @@ pub(crate) struct Seen {
 impl Seen {
     pub(crate) fn new(alloc: Global) -> Seen {
         Seen {
-            changes: Vec::new(alloc),
+            alloc,
+            text: String::new(alloc),
+            ready: 0,
+            lost: 0,
             is_lacking: false,
         }
     }
 
-    pub(crate) fn note(&mut self, change: Change) {
-        if self.changes.push(change).is_err() {
-            self.is_lacking = true;
-        }
+    /// A thing changed.
+    pub(crate) fn note(&mut self, thing: &str, change: &str) {
+        self.is_lacking |= self.add(thing, change).is_err();
     }
 
-    /// What was tried needs memory.
-    pub(crate) fn tried<E: Drop>(&mut self, tried: Result<(), E>) {
-        if tried.is_err() {
-            self.is_lacking = true;
+    fn add(&mut self, thing: &str, change: &str) -> Result<(), AllocError> {
+        let mark = if self.text.is_empty() { "" } else { "," };
+        let words = format!(in self.alloc; "{mark} {thing} {change}")?;
+        self.text.push_str(words.as_str())
+    }
+
+    /// The operator is told a line.
+    pub(crate) fn listen(&mut self, line: &str) {
+        match line {
+            "route R1 set" => self.note("R1", "set"),
+            "route R1 free" => self.note("R1", "free"),
+            _ => {}
         }
+        self.ready = self
+            .ready
+            .saturating_add(u64::from(line.ends_with(" ready")));
+        self.lost = self.lost.saturating_add(u64::from(line.ends_with(" lost")));
+    }
+
+    /// What changed, in words.
+    pub(crate) fn text(&self) -> Result<&str, Failure> {
+        if self.is_lacking {
+            return Err(Failure::from(AllocError));
+        }
+        Ok(self.text.as_str())
     }
 }

@@ -1,4 +1,4 @@
-//! What a node of a story has outside: a clock and lines over memory, and a network over memory or over a socket of its own.
+//! What a node has outside: a clock and lines over memory, and a network over memory or over a socket of its own.
 
 ghost use Rattle.std.specs.Prelude.{◌≡◌};
 
@@ -11,7 +11,7 @@ use std::alloc::{AllocError, Global};
 use std::net::SocketAddr;
 
 /// A machine whose lines and whose clock nothing is asked for.
-type Wire<'a> = Machine<'a, HostRuntime, &'static [u8], Vec<u8>, Vec<u8>>;
+pub(crate) type Wire<'a> = Machine<'a, HostRuntime, &'static [u8], Vec<u8>, Vec<u8>>;
 
 /// The addresses of all nodes in their order, on this machine.
 #[derive(Clone, Copy)]
@@ -20,53 +20,62 @@ pub(crate) struct Addressed<'a> {
     pub(crate) addresses: &'a [SocketAddr],
 }
 
+/// Opens the socket of a node, at the node's own address.
+pub(crate) fn opened<'a>(
+    alloc: Global,
+    addressed: Addressed<'a>,
+    number: usize,
+) -> Result<Wire<'a>, Failure> {
+    let Addressed { net, addresses } = addressed;
+    let (Ok(clock), Ok(socket)) = (
+        NodeClock::start(net, 0),
+        NodeSocket::open(net, alloc, addresses, NodeId(number)),
+    ) else {
+        return Err(Failure("error: a socket cannot be opened"));
+    };
+    let nothing: &'static [u8] = &[];
+    let lines = Lines::of_field(nothing, Vec::new(alloc));
+    Ok(Machine::new(alloc, clock, socket, lines, Vec::new(alloc)))
+}
+
+/// Who has a round while a process rests.
+pub(crate) trait Others {
+    /// They have their round, beside a process that has this outside.
+    fn go_on_beside(&mut self, memory: &mut MemoryOutside);
+}
+
+/// Nobody, where each process is driven for a round at a time.
+#[derive(Drop)]
+pub(crate) struct Nobody;
+
+impl Others for Nobody {
+    fn go_on_beside(&mut self, _memory: &mut MemoryOutside) {}
+}
+
 /// What a node has outside.
 #[derive(Drop)]
-pub(crate) struct Desk<'a> {
-    pub(crate) memory: MemoryOutside,
+pub(crate) struct Desk<'d, 'a, O> {
+    /// What its clock read last.
+    pub(crate) latest: u64,
+    pub(crate) memory: &'d mut MemoryOutside,
     /// Its socket, if it has one.
-    wire: Option<Wire<'a>>,
+    pub(crate) wire: &'d mut Option<Wire<'a>>,
+    pub(crate) others: &'d mut O,
 }
 
-impl<'a> Desk<'a> {
-    /// A clock with this reading, which goes on by a step in each round, and no socket.
-    pub(crate) fn new(alloc: Global, now: u64, step: u64) -> Desk<'a> {
-        let mut memory = MemoryOutside::new(alloc, now, step);
-        memory.forget();
-        Desk { memory, wire: None }
-    }
-
-    /// Opens the socket of a node, at the node's own address.
-    pub(crate) fn open(
-        &mut self,
-        alloc: Global,
-        addressed: Addressed<'a>,
-        number: usize,
-    ) -> Result<(), Failure>
-        ensures { self.new.memory ≡ self.old.memory }
-    {
-        let own = NodeId(number);
-        let socket = NodeSocket::open(addressed.net, alloc, addressed.addresses, own)?;
-        let clock = NodeClock::start(addressed.net, 0)?;
-        let nothing: &'static [u8] = &[];
-        let lines = Lines::of_field(nothing, Vec::new(alloc));
-        let wire = Machine::new(alloc, clock, socket, lines, Vec::new(alloc));
-        self.wire = Some(wire);
-        Ok(())
-    }
-}
-
-impl<'a> Outside for Desk<'a> {
+impl<'d, 'a, O: Others> Outside for Desk<'d, 'a, O> {
     ghost use Rattle.std.specs.Prelude.{None};
 
-    ghost told = { λ desk. record { calls = None; latest = desk.memory.latest } };
+    ghost told = { λ desk. record { calls = None; latest = desk.latest } };
 
     fn rest(&mut self) {
+        self.others.go_on_beside(self.memory);
         self.memory.rest();
     }
 
     fn read_clock(&mut self) -> u64 {
-        self.memory.read_clock()
+        self.latest = self.latest.max(self.memory.read_clock());
+        self.latest
     }
 
     fn has_listener(&mut self) -> bool {
@@ -78,17 +87,11 @@ impl<'a> Outside for Desk<'a> {
     }
 
     fn next_datagram(&mut self) -> Option<Arrived> {
-        match &mut self.wire {
-            Some(wire) => wire.next_datagram(),
-            None => self.memory.next_datagram(),
-        }
+        next_datagram(self.wire, self.memory)
     }
 
     fn throw_away(&mut self) {
-        match &mut self.wire {
-            Some(wire) => wire.throw_away(),
-            None => self.memory.throw_away(),
-        }
+        throw_away(self.wire, self.memory);
     }
 
     fn write_line(&mut self, text: &str) -> Result<(), BrokenOff> {
@@ -96,13 +99,32 @@ impl<'a> Outside for Desk<'a> {
     }
 
     fn send(&mut self, to: NodeId, bytes: &[u8]) {
-        match &mut self.wire {
-            Some(wire) => wire.send(to, bytes),
-            None => self.memory.send(to, bytes),
-        }
+        send(self.wire, self.memory, to, bytes);
     }
 
     fn complain(&mut self, line: u64, fault: Fault) {
         self.memory.complain(line, fault);
+    }
+}
+
+/// The next datagram on a socket, or over memory where there is none.
+fn next_datagram(wire: &mut Option<Wire<'_>>, memory: &mut MemoryOutside) -> Option<Arrived> {
+    match wire {
+        Some(wire) => wire.next_datagram(),
+        None => memory.next_datagram(),
+    }
+}
+
+fn throw_away(wire: &mut Option<Wire<'_>>, memory: &mut MemoryOutside) {
+    match wire {
+        Some(wire) => wire.throw_away(),
+        None => memory.throw_away(),
+    }
+}
+
+fn send(wire: &mut Option<Wire<'_>>, memory: &mut MemoryOutside, to: NodeId, bytes: &[u8]) {
+    match wire {
+        Some(wire) => wire.send(to, bytes),
+        None => memory.send(to, bytes),
     }
 }

@@ -3,28 +3,29 @@
 //! `rest ROUNDS` lets the station rest for so many rounds of 10 ms over memory, and prints how many links became ready and were lost.
 #![tactic(auto)]
 
-mod addresses;
 mod any_node;
 mod changes;
 mod desk;
 mod failure;
 mod gear;
-mod guest;
-mod lamp;
-mod motor;
 mod place;
 mod plant;
+mod process;
 mod records;
 mod script;
-mod seat;
 mod station;
 mod stories;
 
+use crate::desk::Addressed;
 use crate::failure::Failure;
+use crate::process::{Maker, Seat};
+use crate::station::NAMES;
 use crate::stories::{tell_all, tell_rest};
+use node_kinds::simulator_run::ixl_rules::control_table::Checked;
 use std::alloc::Global;
 use std::env;
 use std::io::{BufWriter, Write};
+use std::net::{IpAddr, Ipv4Addr, Net, SocketAddr, UdpSocket};
 use std::process::ExitCode;
 
 fn main(rt: HostRuntime) -> ExitCode {
@@ -32,7 +33,7 @@ fn main(rt: HostRuntime) -> ExitCode {
         Ok(()) => ExitCode::SUCCESS,
         Err(failure) => {
             // Where this can't be written, the status has to do.
-            let _ = eprintln!(rt; "{}", failure.text());
+            let _ = eprintln!(rt; "{}", failure.0);
             ExitCode::FAILURE
         }
     }
@@ -40,39 +41,79 @@ fn main(rt: HostRuntime) -> ExitCode {
 
 /// Plays what the words ask for.
 fn play(rt: &HostRuntime) -> Result<(), Failure> {
-    let rounds = asked(&words(rt)?)?;
     let table = station::table(rt.alloc())?;
     let mut out = BufWriter::new(rt.alloc(), rt.stdout())?;
-    match rounds {
-        Some(rounds) => tell_rest(rt.alloc(), &table, &mut out, rounds)?,
-        None => tell_all(rt, &table, &mut out)?,
+    play_over(rt, &table, &mut out)
+}
+
+/// The same with a station, and what is written to.
+fn play_over<'a, W: Write>(
+    rt: &'a HostRuntime,
+    table: &'a Checked,
+    out: &mut W,
+) -> Result<(), Failure> {
+    let over_memory = Maker {
+        table,
+        addressed: None,
+    };
+    match rounds_of_rest(rt)? {
+        Some(rounds) => {
+            tell_rest::<Maker<'_>, Seat<'_>, W>(rt.alloc(), &over_memory, out, rounds)?;
+        }
+        None => {
+            let addresses = free_addresses(rt, rt.alloc(), NAMES.len())?;
+            let addressed = Addressed {
+                net: rt,
+                addresses: &addresses,
+            };
+            let over_sockets = Maker {
+                table,
+                addressed: Some(addressed),
+            };
+            tell_all::<Maker<'_>, Seat<'_>, W>(rt, table, &over_memory, &over_sockets, out)?;
+        }
     }
     out.flush()?;
     Ok(())
 }
 
-/// The words of the command line.
-fn words(rt: &HostRuntime) -> Result<Vec<String>, Failure> {
+/// For how many rounds the station is to rest, if the words of the command line ask for that.
+fn rounds_of_rest(rt: &HostRuntime) -> Result<Option<u64>, Failure> {
+    let unknown = Failure("error: the words are `rest` and a number of rounds, or none");
     let Ok(words) = env::args(rt) else {
-        return Err(Failure::Words);
+        return Err(unknown);
     };
-    match words.collect(rt.alloc()) {
-        Ok(words) => Ok(words),
-        Err(_) => Err(Failure::OutOfMemory),
+    let words = words.collect::<Vec<String>>(rt.alloc())?;
+    match (words.len(), words.get(1), words.get(2)) {
+        (0 | 1, _, _) => Ok(None),
+        (_, Some(first), Some(second)) if first.as_str() == "rest" => {
+            match second.as_str().parse::<u64>() {
+                Ok(rounds) => Ok(Some(rounds)),
+                Err(_) => Err(unknown),
+            }
+        }
+        _ => Err(unknown),
     }
 }
 
-/// For how many rounds the station is to rest, if it is.
-fn asked(words: &[String]) -> Result<Option<u64>, Failure> {
-    let (Some(first), Some(second)) = (words.get(1), words.get(2)) else {
-        return if words.len() <= 1 {
-            Ok(None)
-        } else {
-            Err(Failure::Words)
+/// So many addresses of the loopback interface, each with a port that the system gave.
+fn free_addresses(net: &impl Net, alloc: Global, count: usize) -> Result<Vec<SocketAddr>, Failure> {
+    let anywhere = SocketAddr::new(IpAddr::V4(Ipv4Addr::LOCALHOST), 0);
+    let (mut sockets, mut addresses) = (Vec::new(alloc), Vec::new(alloc));
+    for _ in 0..count {
+        // All are held until the last is found, so that none is found twice.
+        let Ok(socket) = net.bind_udp(anywhere) else {
+            return Err(Failure("error: a socket cannot be opened"));
         };
-    };
-    match second.as_str().parse::<u64>() {
-        Ok(rounds) if first.as_str() == "rest" => Ok(Some(rounds)),
-        _ => Err(Failure::Words),
+        addresses.push(address_of(&socket)?)?;
+        sockets.push(socket)?;
+    }
+    Ok(addresses)
+}
+
+fn address_of(socket: &UdpSocket) -> Result<SocketAddr, Failure> {
+    match socket.local_addr() {
+        Ok(address) => Ok(address),
+        Err(_) => Err(Failure("error: a socket cannot be opened")),
     }
 }

@@ -1,98 +1,87 @@
 //! A node with its equipment.
 
-use crate::changes::{Change, Seen};
-use crate::gear::{Gear, Heard, reach};
-use crate::seat::Seat;
+use crate::changes::Seen;
+use crate::gear::Gear;
+use crate::process::Process;
+use crate::station::{D1, P1, name};
 use node_kinds::node_drive::NodeFault;
+use node_kinds::node_drive::node_lines::read_order;
 use node_kinds::simulator_run::ixl_rules::control_table::sci_telegram::Position;
 use std::alloc::Global;
 
-/// A node with its equipment.
+/// A node with its equipment, or its operator.
 #[derive(Drop)]
-pub(crate) struct Place<'a> {
+pub(crate) struct Place<P> {
     pub(crate) number: usize,
-    pub(crate) seat: Seat<'a>,
+    pub(crate) process: P,
     pub(crate) gear: Gear,
     /// Whether the equipment says when an order is in force.
     pub(crate) answers: bool,
 }
 
-impl<'a> Place<'a> {
-    /// The process ends, and its socket is closed. It answers where its point lies, if it has one.
-    pub(crate) fn end(&mut self, empty: Seat<'a>) -> Position {
-        self.seat = empty;
-        self.gear.end();
-        self.gear.lies()
-    }
-
-    /// Another process begins.
-    pub(crate) fn begin(&mut self, seat: Seat<'a>, seen: &mut Seen) {
-        self.seat = seat;
-        self.tell_contacts(seen);
+impl<P: Process> Place<P> {
+    /// A line comes to the node.
+    pub(crate) fn bring_line(&mut self, line: &str, seen: &mut Seen) {
+        seen.is_lacking |= self.process.memory().bring_line(line).is_err();
     }
 
     /// The equipment tells how its contacts stand.
     pub(crate) fn tell_contacts(&mut self, seen: &mut Seen) {
-        for line in self.gear.contacts() {
-            let brought = self.seat.bring_line(*line);
-            seen.tried(brought);
+        for line in contacts(self.number, self.gear.lies) {
+            self.bring_line(*line, seen);
         }
     }
 
     /// Lets the node run for a round. Of the next calls of its network the one of the number `failing` fails; it answers the number
     /// behind the round.
     pub(crate) fn run(&mut self, alloc: Global, failing: u64, seen: &mut Seen) -> u64 {
-        self.seat.fail_after(failing);
-        match self.seat.round(alloc) {
+        self.process.memory().fail_after(failing);
+        match self.process.round(alloc) {
             Ok(()) => {}
             Err(NodeFault::OutOfMemory) => seen.is_lacking = true,
-            Err(_) => seen.note(Change::Ended(self.number)),
+            Err(_) => seen.note(name(self.number), "ended"),
         }
-        self.seat.fail_after(0)
+        self.process.memory().fail_after(0)
     }
 
     /// The equipment hears what the node wrote, and goes on.
     pub(crate) fn equip(&mut self, alloc: Global, now: u64, seen: &mut Seen) {
         for _ in 0..u64::MAX {
-            let Some(line) = self.seat.take_written() else {
+            let Some(line) = self.process.memory().take_written() else {
                 break;
             };
-            let heard = self.gear.hear(line.as_str());
-            self.answer(alloc, heard, seen);
+            self.hear(alloc, line.as_str(), seen);
         }
-        if let Some(change) = self.gear.go_on(self.number, now) {
-            seen.note(change);
-            self.report(change, seen);
-        }
-    }
-
-    /// What comes of a line.
-    fn answer(&mut self, alloc: Global, heard: Heard, seen: &mut Seen) {
-        match heard {
-            Heard::Order(number) if self.answers => self.say_done(alloc, number, seen),
-            Heard::Change(change) => seen.note(change),
-            Heard::Order(_) | Heard::Nothing => {}
+        if let Some(change) = self.gear.go_on(now) {
+            seen.note(name(self.number), change);
+            self.tell_contacts(seen);
         }
     }
 
-    /// The equipment says that an order is in force.
-    fn say_done(&mut self, alloc: Global, number: u64, seen: &mut Seen) {
-        match format!(in alloc; "done {number}") {
-            Ok(line) => {
-                let brought = self.seat.bring_line(line.as_str());
-                seen.tried(brought);
-            }
+    /// A line of the node is heard: by its equipment, which says when an order is in force, or by the operator.
+    fn hear(&mut self, alloc: Global, line: &str, seen: &mut Seen) {
+        let Ok(order) = read_order(line) else {
+            seen.listen(line);
+            return;
+        };
+        self.gear.take(order.order);
+        if !self.answers {
+            return;
+        }
+        match format!(in alloc; "done {}", order.number) {
+            Ok(line) => self.bring_line(line.as_str(), seen),
             Err(_) => seen.is_lacking = true,
         }
     }
+}
 
-    /// The contacts of a point tell what changed.
-    fn report(&mut self, change: Change, seen: &mut Seen) {
-        if let Change::Lies(_, position) = change {
-            for line in reach(position) {
-                let brought = self.seat.bring_line(*line);
-                seen.tried(brought);
-            }
-        }
+/// What the contacts of a node tell: how its point lies, or that the sections of the detector are clear.
+fn contacts(number: usize, lies: Position) -> &'static [&'static str] {
+    match (number, lies) {
+        (P1, Position::Left) => &["reach left"],
+        (P1, Position::Right) => &["reach right"],
+        (P1, Position::NoEndPosition) => &["reach none"],
+        (D1, _) => &["clear GA", "clear GP", "clear G1", "clear G2"],
+        _ => &[],
     }
 }

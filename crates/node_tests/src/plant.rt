@@ -1,84 +1,99 @@
 //! The small station: its nodes, their equipment, and the network between them.
 
-ghost use Rattle.std.specs.Prelude.{◌≡◌};
-
-use crate::changes::{Change, Seen};
-use crate::desk::{Addressed, Desk};
+use crate::any_node::Beginning;
+use crate::changes::Seen;
+use crate::desk::Others;
 use crate::failure::Failure;
 use crate::gear::Gear;
 use crate::place::Place;
+use crate::process::{Makes, Process, put};
 use crate::script::{Act, Row};
-use crate::seat::Seat;
-use crate::station::{NAMES, P1, S1, S3, S4};
-use node_kinds::simulator_run::ixl_rules::control_table::Checked;
+use crate::station::{NAMES, P1, S1, S3, S4, name};
 use node_kinds::simulator_run::ixl_rules::control_table::sci_telegram::Position;
+use node_kinds::simulator_run::simulator_event::NodeId;
+use station_node::node_network::MemoryOutside;
 use std::alloc::Global;
+use std::mem;
 
 /// What the clock of each node reads before the first round.
 pub(crate) const BEGINS: u64 = 5000;
 
+/// How many milliseconds two rounds of a story are apart.
+pub(crate) const STEP: u64 = 40;
+
 /// How a station is played.
 #[derive(Clone, Copy)]
-pub(crate) struct Played<'a> {
+pub(crate) struct Played {
     pub(crate) alloc: Global,
-    pub(crate) table: &'a Checked,
     /// What happens.
     pub(crate) script: &'static [Row],
     /// How many milliseconds two rounds are apart.
     pub(crate) step: u64,
-    /// The addresses of its nodes, if they have sockets.
-    pub(crate) addressed: Option<Addressed<'a>>,
     /// The node with which the story is played, where it is one of a node.
     pub(crate) chosen: usize,
     /// The node whose process is played elsewhere, if one is.
     pub(crate) guest: Option<usize>,
+    /// Which call of the network fails, counted from 1; none at 0.
+    pub(crate) failing: u64,
+}
+
+impl Played {
+    /// With rounds 40 ms apart. No call of the network fails.
+    pub(crate) fn new(alloc: Global, script: &'static [Row]) -> Played {
+        Played {
+            alloc,
+            script,
+            step: STEP,
+            chosen: 0,
+            guest: None,
+            failing: 0,
+        }
+    }
 }
 
 /// The small station.
 #[derive(Drop)]
-pub(crate) struct Plant<'a> {
-    pub(crate) played: Played<'a>,
-    pub(crate) places: Vec<Place<'a>>,
+pub(crate) struct Plant<'m, M, P> {
+    makes: &'m M,
+    played: Played,
+    places: Vec<Place<P>>,
     pub(crate) seen: Seen,
     /// How many rounds were played.
     round: u64,
     /// How many processes were made.
     made: u32,
-    /// Which of the next calls of the network fails, counted from 1; none at 0.
-    pub(crate) failing: u64,
     is_unsafe: bool,
 }
 
-impl<'a> Plant<'a> {
-    /// Each node begins.
-    pub(crate) fn new(played: Played<'a>) -> Result<Plant<'a>, Failure> {
-        let alloc = played.alloc;
-        let mut plant = Plant {
+impl<'m, M: Makes<P>, P: Process> Plant<'m, M, P> {
+    /// A station without nodes.
+    pub(crate) fn new(makes: &'m M, played: Played) -> Plant<'m, M, P> {
+        Plant {
+            makes,
             played,
-            places: Vec::new(alloc),
-            seen: Seen::new(alloc),
+            places: Vec::new(played.alloc),
+            seen: Seen::new(played.alloc),
             round: 0,
             made: 0,
-            failing: 0,
             is_unsafe: false,
-        };
-        for number in 0..NAMES.len() {
-            plant.add(number)?;
         }
-        Ok(plant)
+    }
+
+    /// Each node begins.
+    pub(crate) fn begin(&mut self) -> Result<(), Failure> {
+        for number in 0..NAMES.len() {
+            self.add(number)?;
+        }
+        Ok(())
     }
 
     /// A node begins, with equipment of its own.
     fn add(&mut self, number: usize) -> Result<(), Failure> {
-        let gear = Gear::of(number);
-        let seat = if self.played.guest == Some(number) {
-            Seat::empty(self.played.alloc, self.desk())
-        } else {
-            self.begun(number, gear.lies())?
-        };
+        let gear = Gear::new();
+        let runs = self.played.guest != Some(number);
         let mut place = Place {
             number,
-            seat,
+            process: self.begun(number, runs, gear.lies)?,
             gear,
             answers: true,
         };
@@ -92,49 +107,46 @@ impl<'a> Plant<'a> {
         BEGINS.saturating_add(self.played.step.saturating_mul(self.round))
     }
 
-    /// What a node that begins has outside, without a socket.
-    fn desk(&self) -> Desk<'a> {
-        Desk::new(self.played.alloc, self.now(), self.played.step)
-    }
-
-    /// The process of a node begins. Each numbers its PDUs from another number on.
-    fn begun(&mut self, number: usize, lies: Position) -> Result<Seat<'a>, Failure> {
-        let Played {
-            alloc,
-            table,
-            addressed,
-            ..
-        } = self.played;
-        let mut desk = self.desk();
-        if let Some(addressed) = addressed {
-            desk.open(alloc, addressed, number)?;
-        }
+    /// A process that begins. Each numbers its PDUs from another number on.
+    fn begun(&mut self, number: usize, runs: bool, lies: Position) -> Result<P, Failure> {
         self.made = self.made.wrapping_add(1);
-        let first = self.made.wrapping_mul(0xfff_fff0);
-        Ok(Seat::begun(alloc, table, number, first, lies, desk)?)
+        let begins = Beginning {
+            number,
+            runs,
+            now: self.now(),
+            step: self.played.step,
+            first: self.made.wrapping_mul(0xfff_fff0),
+            lies,
+        };
+        self.makes.begun(self.played.alloc, begins)
     }
 
     /// The process of a node ends, and a new one begins.
     fn make_anew(&mut self, number: usize) -> Result<(), Failure> {
-        let lies = self.end(number);
-        let seat = self.begun(number, lies)?;
-        self.seen.note(Change::MadeAnew(number));
+        let lies = match self.places.get(number) {
+            Some(place) => place.gear.lies,
+            None => Position::NoEndPosition,
+        };
+        self.replace(number, false, lies)?;
+        self.replace(number, true, lies)?;
+        self.seen.note(name(number), "anew");
         if let Some(place) = self.places.get_mut(number) {
-            place.begin(seat, &mut self.seen);
+            place.gear.end();
+            place.tell_contacts(&mut self.seen);
         }
         Ok(())
     }
 
-    /// The process of a node ends. It answers where its point lies, if it has one.
-    fn end(&mut self, number: usize) -> Position {
-        let empty = Seat::empty(self.played.alloc, self.desk());
-        match self.places.get_mut(number) {
-            Some(place) => place.end(empty),
-            None => Position::NoEndPosition,
+    /// Another process, or none with a node, takes the place of one.
+    fn replace(&mut self, number: usize, runs: bool, lies: Position) -> Result<(), Failure> {
+        let process = self.begun(number, runs, lies)?;
+        if let Some(place) = self.places.get_mut(number) {
+            put(&mut place.process, process);
         }
+        Ok(())
     }
 
-    /// What a script has before this round happens.
+    /// What the script has before this round happens.
     fn act(&mut self) -> Result<(), Failure> {
         for (round, act) in self.played.script {
             if *round == self.round {
@@ -148,7 +160,7 @@ impl<'a> Plant<'a> {
         match act {
             Act::Say(line) => {
                 if let Some(place) = self.places.first_mut() {
-                    place.seat.bring_line(line)?;
+                    place.bring_line(line, &mut self.seen);
                 }
             }
             Act::MakeAnew(number) => self.make_anew(number)?,
@@ -163,90 +175,107 @@ impl<'a> Plant<'a> {
     }
 
     /// A round of each node, and of its equipment.
-    pub(crate) fn go_on(&mut self) -> Result<(), Failure> {
+    fn go_on(&mut self) -> Result<(), Failure> {
         self.act()?;
-        let alloc = self.played.alloc;
-        for place in &mut self.places {
-            self.failing = place.run(alloc, self.failing, &mut self.seen);
-        }
-        for number in 0..self.places.len() {
-            carry(&mut self.places, number, &mut self.seen);
-        }
+        self.run();
+        self.carry();
         self.round = self.round.saturating_add(1);
-        let now = self.now();
-        for place in &mut self.places {
-            place.equip(alloc, now, &mut self.seen);
-        }
-        self.judge(now);
+        self.equip();
+        self.judge();
         Ok(())
     }
 
-    /// Whether what the lamps show is safe is noted, once.
-    fn judge(&mut self, now: u64) {
-        if !self.is_unsafe && !is_safe(&self.places, now) {
-            self.is_unsafe = true;
-            self.seen.note(Change::Unsafe);
+    /// A round of each node.
+    fn run(&mut self) {
+        for place in &mut self.places {
+            self.played.failing = place.run(self.played.alloc, self.played.failing, &mut self.seen);
         }
     }
 
-    /// So many rounds.
+    /// What was sent is brought to whom it is for.
+    fn carry(&mut self) {
+        for number in 0..self.places.len() {
+            self.carry_from(number);
+        }
+    }
+
+    fn carry_from(&mut self, from: usize) {
+        for _ in 0..u64::MAX {
+            let Some(sender) = self.places.get_mut(from) else {
+                return;
+            };
+            let Some((to, bytes)) = sender.process.memory().take_sent() else {
+                return;
+            };
+            if let Some(receiver) = self.places.get_mut(to.0) {
+                let brought = receiver.process.memory().bring(Some(NodeId(from)), &bytes);
+                self.seen.is_lacking |= brought.is_err();
+            }
+        }
+    }
+
+    /// The equipment of each node hears what its node wrote, and goes on.
+    fn equip(&mut self) {
+        let now = self.now();
+        for place in &mut self.places {
+            place.equip(self.played.alloc, now, &mut self.seen);
+        }
+    }
+
+    /// Whether what the lamps show is safe is noted, once.
+    fn judge(&mut self) {
+        if !self.is_unsafe && !self.is_safe() {
+            self.is_unsafe = true;
+            self.seen.note("lamps", "UNSAFE");
+        }
+    }
+
+    /// Whether the lamps show what the point allows: one over either leg from the tip, the other one from its left leg.
+    fn is_safe(&self) -> bool {
+        let lies = match self.places.get(P1) {
+            Some(place) => place.gear.lies,
+            None => return false,
+        };
+        let is_still = !self.is_on(P1);
+        let fits = match (self.is_on(S1), self.is_on(S3)) {
+            (false, false) => true,
+            (true, false) => is_still && lies != Position::NoEndPosition,
+            (false, true) => is_still && lies == Position::Left,
+            (true, true) => false,
+        };
+        fits && !self.is_on(S4)
+    }
+
+    /// Whether the lamp of a node shows proceed, or its motor drives.
+    fn is_on(&self, number: usize) -> bool {
+        match self.places.get(number) {
+            Some(place) => place.gear.is_on(self.now()),
+            None => false,
+        }
+    }
+
+    /// Each node begins, and has so many rounds.
     pub(crate) fn play(&mut self, rounds: u64) -> Result<(), Failure> {
+        self.begin()?;
         for _ in 0..rounds {
             self.go_on()?;
         }
         Ok(())
     }
-}
 
-/// What a node sent is brought to whom it is for.
-fn carry(places: &mut [Place<'_>], from: usize, seen: &mut Seen) {
-    for _ in 0..u64::MAX {
-        let Some(sender) = places.get_mut(from) else {
-            return;
-        };
-        let Some((to, bytes)) = sender.seat.take_sent() else {
-            return;
-        };
-        if let Some(receiver) = places.get_mut(to.0) {
-            let brought = receiver.seat.bring(from, &bytes);
-            seen.tried(brought);
+    /// The process that is played elsewhere gets what came to it, and what it wrote and sent is taken.
+    pub(crate) fn exchange(&mut self, memory: &mut MemoryOutside) {
+        let guest = self.played.guest.unwrap_or(NAMES.len());
+        if let Some(place) = self.places.get_mut(guest) {
+            mem::swap(place.process.memory(), memory);
         }
     }
 }
 
-/// Whether a lamp shows proceed.
-fn is_lit(places: &[Place<'_>], number: usize, now: u64) -> bool {
-    match places.get(number) {
-        Some(
-            Place {
-                gear: Gear::Lamp(lamp),
-                ..
-            },
-        ) => lamp.is_lit(now),
-        _ => false,
+impl<'m, M: Makes<P>, P: Process> Others for Plant<'m, M, P> {
+    fn go_on_beside(&mut self, memory: &mut MemoryOutside) {
+        self.exchange(memory);
+        self.seen.is_lacking |= self.go_on().is_err();
+        self.exchange(memory);
     }
-}
-
-/// Whether the lamps show what the point allows: one over either leg from the tip, the other one from its left leg.
-fn is_safe(places: &[Place<'_>], now: u64) -> bool {
-    let Some(
-        Place {
-            gear: Gear::Motor(motor),
-            ..
-        },
-    ) = places.get(P1)
-    else {
-        return false;
-    };
-    let (from_tip, from_left) = (is_lit(places, S1, now), is_lit(places, S3, now));
-    let is_left = motor.lies == Position::Left;
-    let is_right = motor.lies == Position::Right;
-    let is_still = !motor.is_driven(now);
-    let fits = match (from_tip, from_left) {
-        (false, false) => true,
-        (true, false) => is_still && (is_left || is_right),
-        (false, true) => is_still && is_left,
-        (true, true) => false,
-    };
-    fits && !is_lit(places, S4, now)
 }

@@ -43,10 +43,10 @@ pub(crate) fn name(number: usize) -> &'static str {
 /// Its control table.
 pub(crate) fn table(alloc: Global) -> Result<Checked, Failure> {
     let Ok(layout) = Layout::read(alloc, SMALL) else {
-        return Err(Failure::Layout);
+        return Err(Failure("error: the layout is not sound"));
     };
     match check(alloc, layout) {
         Ok(table) => Ok(table),
-        Err(_) => Err(Failure::Layout),
+        Err(_) => Err(Failure("error: the layout is not sound")),
     }
 }

@@ -1,23 +1,19 @@
 //! What is played, and what is told of it.
 
-use crate::addresses::free;
 use crate::changes::Seen;
-use crate::desk::Addressed;
 use crate::failure::Failure;
-use crate::gear::Gear;
 use crate::plant::{Plant, Played};
+use crate::process::{Makes, Process};
 use crate::records::verdict;
 use crate::script::{
     APPROACH_ROUNDS, APPROACH_UNKNOWN, DONE_NO_MORE, MADE_ANEW, MADE_ANEW_ROUNDS, NEVER_DONE,
     PROCEED, PROCEED_ROUNDS, REST, Row, SILENT_ROUNDS, TWO_RESTARTS, TWO_RESTARTS_ROUNDS,
 };
-use crate::station::{INTERLOCKING, NAMES, name};
+use crate::station::{D1, INTERLOCKING, NAMES, P1, S1, S3, S4, name};
 use node_kinds::simulator_run::ixl_rules::control_table::Checked;
 use std::alloc::Global;
 use std::io::Write;
-
-/// How many milliseconds two rounds of a story are apart.
-const STEP: u64 = 40;
+use std::mem;
 
 /// How many milliseconds two rounds of a station at rest are apart.
 const REST_STEP: u64 = 10;
@@ -25,24 +21,34 @@ const REST_STEP: u64 = 10;
 /// How many calls of the network fail, each in a run of its own.
 const FAILING: u64 = 300;
 
-/// A story: what happens in it, and for how many rounds it is played.
+/// A story: what happens in it, to which node where the script has one chosen, and for how many rounds it is played.
 #[derive(Clone, Copy)]
 struct Story {
     name: &'static str,
     script: &'static [Row],
+    chosen: usize,
     rounds: u64,
 }
 
 const TO_PROCEED: Story = Story {
     name: "to proceed and to stop",
     script: PROCEED,
+    chosen: 0,
     rounds: PROCEED_ROUNDS,
 };
 
 const RESTARTS: Story = Story {
     name: "two nodes made anew",
     script: TWO_RESTARTS,
+    chosen: 0,
     rounds: TWO_RESTARTS_ROUNDS,
+};
+
+const RESTART: Story = Story {
+    name: "a node made anew at proceed",
+    script: MADE_ANEW,
+    chosen: INTERLOCKING,
+    rounds: MADE_ANEW_ROUNDS,
 };
 
 /// Those that are played over memory, each once.
@@ -52,96 +58,101 @@ const STORIES: &[Story] = &[
     Story {
         name: "the detector made anew at proceed, and its approach lock",
         script: APPROACH_UNKNOWN,
+        chosen: 0,
         rounds: APPROACH_ROUNDS,
     },
     Story {
         name: "equipment that never says done",
         script: NEVER_DONE,
+        chosen: 0,
         rounds: SILENT_ROUNDS,
     },
     Story {
         name: "equipment that says done no more",
         script: DONE_NO_MORE,
+        chosen: 0,
         rounds: SILENT_ROUNDS,
+    },
+    RESTART,
+    Story {
+        chosen: S1,
+        ..RESTART
+    },
+    Story {
+        chosen: S3,
+        ..RESTART
+    },
+    Story {
+        chosen: S4,
+        ..RESTART
+    },
+    Story {
+        chosen: P1,
+        ..RESTART
+    },
+    Story {
+        chosen: D1,
+        ..RESTART
     },
 ];
 
-const RESTART: Story = Story {
-    name: "a node made anew at proceed",
-    script: MADE_ANEW,
-    rounds: MADE_ANEW_ROUNDS,
-};
-
-/// How a story is played over memory, with this node chosen.
-fn over_memory<'a>(alloc: Global, table: &'a Checked, story: Story, chosen: usize) -> Played<'a> {
-    Played {
-        alloc,
-        table,
-        script: story.script,
-        step: STEP,
-        addressed: None,
-        chosen,
-        guest: None,
-    }
-}
-
-/// Plays all stories, and writes what was seen of each.
-pub(crate) fn tell_all<W: Write>(
+/// Plays all stories, and writes what was seen of each: over memory, but one over sockets too.
+pub(crate) fn tell_all<M: Makes<P>, P: Process, W: Write>(
     rt: &HostRuntime,
     table: &Checked,
+    over_memory: &M,
+    over_sockets: &M,
     out: &mut W,
 ) -> Result<(), Failure> {
-    let alloc = rt.alloc();
     for story in STORIES {
-        tell(out, *story, over_memory(alloc, table, *story, 0))?;
+        tell::<M, P, W>(rt.alloc(), over_memory, *story, out)?;
     }
-    for number in 0..NAMES.len() {
-        tell(out, RESTART, over_memory(alloc, table, RESTART, number))?;
-    }
-    tell_sockets(rt, table, out)?;
-    tell_failing(alloc, table, out)?;
-    for number in 0..NAMES.len() {
-        let verdict = verdict(rt, table, number)?;
-        writeln!(out, "record of {}: {verdict}", name(number))?;
-    }
-    Ok(())
+    writeln!(out, "over sockets")?;
+    tell::<M, P, W>(rt.alloc(), over_sockets, RESTARTS, out)?;
+    tell_failing::<M, P, W>(rt.alloc(), over_memory, out)?;
+    tell_records::<M, P, W>(rt, table, over_memory, out)
 }
 
 /// Plays a story, and writes what was seen.
-fn tell<W: Write>(out: &mut W, story: Story, played: Played<'_>) -> Result<(), Failure> {
-    let text = seen_of(story, played, 0)?;
-    writeln!(out, "{}:{text}", story.name)?;
+fn tell<M: Makes<P>, P: Process, W: Write>(
+    alloc: Global,
+    makes: &M,
+    story: Story,
+    out: &mut W,
+) -> Result<(), Failure> {
+    let mut seen = Seen::new(alloc);
+    let played = Played {
+        chosen: story.chosen,
+        ..Played::new(alloc, story.script)
+    };
+    play::<M, P>(makes, played, story.rounds, &mut seen)?;
+    writeln!(out, "{}:{}", story.name, seen.text()?)?;
     Ok(())
 }
 
-/// Plays the story of two restarts with a socket for each node.
-fn tell_sockets<'a, W: Write>(
-    rt: &'a HostRuntime,
-    table: &'a Checked,
-    out: &mut W,
+/// Plays a station. What was seen is put in the place of `seen`.
+fn play<M: Makes<P>, P: Process>(
+    makes: &M,
+    played: Played,
+    rounds: u64,
+    seen: &mut Seen,
 ) -> Result<(), Failure> {
-    let addresses = free(rt, rt.alloc(), NAMES.len())?;
-    let addressed = Addressed {
-        net: rt,
-        addresses: &addresses,
-    };
-    let played = Played {
-        addressed: Some(addressed),
-        ..over_memory(rt.alloc(), table, RESTARTS, 0)
-    };
-    writeln!(out, "over sockets")?;
-    tell(out, RESTARTS, played)
+    let mut plant = Plant::<M, P>::new(makes, played);
+    let done = plant.play(rounds);
+    mem::swap(&mut plant.seen, seen);
+    done
 }
 
 /// Plays the first story once for each call of the network that fails, and writes how often the same was seen.
-fn tell_failing<W: Write>(alloc: Global, table: &Checked, out: &mut W) -> Result<(), Failure> {
-    let played = over_memory(alloc, table, TO_PROCEED, 0);
-    let wanted = seen_of(TO_PROCEED, played, 0)?;
-    let mut same: u64 = 0;
-    for failing in 0..FAILING {
-        let text = seen_of(TO_PROCEED, played, failing.saturating_add(1))?;
-        same = same.saturating_add(u64::from(text.as_str() == wanted.as_str()));
-    }
+fn tell_failing<M: Makes<P>, P: Process, W: Write>(
+    alloc: Global,
+    makes: &M,
+    out: &mut W,
+) -> Result<(), Failure> {
+    let mut wanted = Seen::new(alloc);
+    let played = Played::new(alloc, PROCEED);
+    play::<M, P>(makes, played, PROCEED_ROUNDS, &mut wanted)?;
+    let same = count_same::<M, P>(makes, played, wanted.text()?)?;
     writeln!(
         out,
         "{FAILING} calls of the network, each failing once: the same {same} times"
@@ -149,52 +160,60 @@ fn tell_failing<W: Write>(alloc: Global, table: &Checked, out: &mut W) -> Result
     Ok(())
 }
 
-/// Plays a story where a call of the network fails, or none at 0. It answers what was seen.
-fn seen_of(story: Story, played: Played<'_>, failing: u64) -> Result<String, Failure> {
-    let mut plant = Plant::new(played)?;
-    plant.failing = failing;
-    plant.play(story.rounds)?;
-    told(played.alloc, &plant.seen)
+/// With how many of the failing calls the same is seen.
+fn count_same<M: Makes<P>, P: Process>(
+    makes: &M,
+    played: Played,
+    wanted: &str,
+) -> Result<u64, Failure> {
+    let mut same: u64 = 0;
+    for failing in 0..FAILING {
+        let failing = failing.saturating_add(1);
+        let is_same = is_same::<M, P>(makes, Played { failing, ..played }, wanted)?;
+        same = same.saturating_add(u64::from(is_same));
+    }
+    Ok(same)
 }
 
-/// What was seen, in words.
-fn told(alloc: Global, seen: &Seen) -> Result<String, Failure> {
-    if seen.is_lacking {
-        return Err(Failure::OutOfMemory);
+fn is_same<M: Makes<P>, P: Process>(
+    makes: &M,
+    played: Played,
+    wanted: &str,
+) -> Result<bool, Failure> {
+    let mut seen = Seen::new(played.alloc);
+    play::<M, P>(makes, played, PROCEED_ROUNDS, &mut seen)?;
+    Ok(seen.text()? == wanted)
+}
+
+/// Runs the whole process of each node while the others are played, and writes what comes of its record.
+fn tell_records<M: Makes<P>, P: Process, W: Write>(
+    rt: &HostRuntime,
+    table: &Checked,
+    makes: &M,
+    out: &mut W,
+) -> Result<(), Failure> {
+    for number in 0..NAMES.len() {
+        let verdict = verdict::<M, P>(rt, table, makes, number)?;
+        writeln!(out, "record of {}: {verdict}", name(number))?;
     }
-    let mut text = String::new(alloc);
-    let mut mark = "";
-    for change in &seen.changes {
-        let word = format!(in alloc; "{mark} {change}")?;
-        text.push_str(word.as_str())?;
-        mark = ",";
-    }
-    Ok(text)
+    Ok(())
 }
 
 /// Lets the station rest for so many rounds, and writes how often a link became ready, and how often one was lost.
-pub(crate) fn tell_rest<W: Write>(
+pub(crate) fn tell_rest<M: Makes<P>, P: Process, W: Write>(
     alloc: Global,
-    table: &Checked,
+    makes: &M,
     out: &mut W,
     rounds: u64,
 ) -> Result<(), Failure> {
-    let mut plant = Plant::new(Played {
-        alloc,
-        table,
-        script: REST,
+    let mut seen = Seen::new(alloc);
+    let played = Played {
         step: REST_STEP,
-        addressed: None,
-        chosen: 0,
-        guest: None,
-    })?;
-    plant.play(rounds)?;
-    if plant.seen.is_lacking {
-        return Err(Failure::OutOfMemory);
-    }
-    let links = plant.places.get(INTERLOCKING).map(|place| place.gear);
-    if let Some(Gear::Operator { ready, lost }) = links {
-        writeln!(out, "{rounds} rounds: {ready} links ready, {lost} lost")?;
-    }
+        ..Played::new(alloc, REST)
+    };
+    play::<M, P>(makes, played, rounds, &mut seen)?;
+    seen.text()?;
+    let Seen { ready, lost, .. } = &seen;
+    writeln!(out, "{rounds} rounds: {ready} links ready, {lost} lost")?;
     Ok(())
 }
