@@ -33,12 +33,22 @@ pub mod HostLinks
 mod Telling
 pub mod ClientLinks
 pub mod IxlClients
+pub mod StationKeeps
 pub mod Standing
+pub mod HostKeeps
+pub mod MatchedEnds
 pub mod Moments
 pub mod AtLink
 pub mod Ready
+pub mod GivenPrefix
 pub mod HostSaid
 pub mod HostWorld
 pub mod ControllerSaid
+pub mod ControllersOnLinks
 pub mod StationSaid
+pub mod AlwaysOnLinks
 pub mod AlwaysSaid
+pub mod ClientTalk
+pub mod IxlSoFar
+pub mod StationTalk
+pub mod AlwaysTalked

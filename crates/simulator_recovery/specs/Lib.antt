@@ -4,3 +4,5 @@ pub mod Conversation
 pub mod Silence
 pub mod Counts
 pub mod Ready
+pub mod Matched
+pub mod ClientSaid

@@ -3,11 +3,14 @@
 //! is no code here but laws.
 #![tactic(auto)]
 
+mod clients;
 mod conversation;
 mod counts;
 mod laws;
+mod matched;
 mod silence;
 
+pub use clients::clients_have_said_what_their_stages_tell;
 pub use conversation::{
     clients_act_on_what_they_expect, clients_count_what_they_act_on, clients_expect_what_hosts_say,
     commands_are_expected, hosts_act_on_what_they_expect, hosts_count_what_they_act_on,
@@ -24,4 +27,5 @@ pub use laws::{
     good_rounds_are_events, good_rounds_leave_fresh_datagrams, good_rounds_take_their_time,
     links_are_ready, links_come_up, links_that_are_up_are_in_one_connection, the_hold_ends,
 };
+pub use matched::stations_are_matched;
 pub use silence::{connections_end_in_silence, lamps_fall_in_silence, points_rest_in_silence};
