@@ -111,7 +111,7 @@ said_ever site node peer s count taken items few has = by_stage s has
 -- ---- one item that is acted on
 
 -- how an item leads from one stage to the next
-data Goes (peer : PeerState) (old new : Stage) : Type 0 where
+pub data Goes (peer : PeerState) (old new : Stage) : Type 0 where
   starts : old ≡ stage.AwaitsStart → new ≡ stage.AwaitsStatus (length peer.objects) → Goes peer old new
   tells : (left : ℕ) → old ≡ stage.AwaitsStatus left → new ≡ stage.AwaitsStatus (left - 1) → Goes peer old new
   completes : old ≡ stage.AwaitsStatus 0 → new ≡ stage.Completed → Goes peer old new
@@ -119,7 +119,7 @@ data Goes (peer : PeerState) (old new : Stage) : Type 0 where
   answers : old ≡ stage.AwaitsReport → new ≡ stage.Completed → Goes peer old new
 
 -- it closes the link, or leads on, or the client asks for the initialisation
-data Fate (now : ℕ) (item : List ℕ) (part after : ClientSoFar) : Type 0 where
+pub data Fate (now : ℕ) (item : List ℕ) (part after : ClientSoFar) : Type 0 where
   closes : (why : Reason) → after ≡ calling now (Closes why) part → Fate now item part after
   goes : after.client.link ≡ part.client.link → after.calls ≡ part.calls → after.client.peer ≡ part.client.peer → length after.acted ≡ length part.acted + 1 → Goes part.client.peer part.client.stage after.client.stage → Fate now item part after
   asks : part.client.stage ≡ stage.AwaitsAnswer → after ≡ at_stage stage.AwaitsStart (saying now InitialisationRequest (acted_on item part)) → Fate now item part after
@@ -136,7 +136,7 @@ is_none : (n : ℕ) → (n == 0) ≡ true → n ≡ 0
 is_none n e = grind (arith, nat_tests)
 
 module _ (now : ℕ) (item : List ℕ) (part : ClientSoFar) where
-  abbrev On : ClientSoFar → Type 0
+  abbrev pub On : ClientSoFar → Type 0
   On after = Fate now item part after
 
   violates : On (calling now (Closes reason.State) part)
@@ -201,7 +201,7 @@ module _ (now : ℕ) (item : List ℕ) (part : ClientSoFar) where
   read how_far (Ok telegram) is = either (λ what. On (following now item what part)) (is_for_client part.client.peer telegram) _ _ (λ e. told_by telegram.sender telegram.message how_far is) violates
   read how_far (Err fault) is = violates
 
-  fate : On (acting now item part)
+  pub fate : On (acting now item part)
   unfolding acting
   fate = read part.client.stage (reading item) refl
 
@@ -231,25 +231,24 @@ module _ (site : Site) (node : Node) (peer : PeerState) (of : OfNode node peer) 
 
   -- ---- in the middle of a step: so many items that were taken are still to be acted on
 
-  record Midway (left : ℕ) (s : Stage) (g t : List (List ℕ)) : Type 0 where
-    count : ℕ
-    sum : count + left ≡ length t
-    acted : ClientHasActedOn peer s count
-    said : ClientHasSaid site node peer s count g
+  pub record Midway (left : ℕ) (s : Stage) (g t : List (List ℕ)) : Type 0 where
+    pub count : ℕ
+    pub sum : count + left ≡ length t
+    pub acted : ClientHasActedOn peer s count
+    pub said : ClientHasSaid site node peer s count g
 
-  record Mid (left : ℕ) (part : ClientSoFar) : Type 0 where
-    g : List (List ℕ)
-    t : List (List ℕ)
-    tracks : Tracks part g t
-    peer_is : part.client.peer ≡ peer
-    ever : ClientSaid site node peer (length t) g
-    inside : is_up part.client.link.phase ≡ true → Midway left part.client.stage g t
-    starting : is_open part.client.link.phase ≡ true → is_up part.client.link.phase ≡ false → (g ≡ []) × (t ≡ [])
+  pub record Mid (left : ℕ) (part : ClientSoFar) (t : List (List ℕ)) : Type 0 where
+    pub g : List (List ℕ)
+    pub tracks : Tracks part g t
+    pub peer_is : part.client.peer ≡ peer
+    pub ever : ClientSaid site node peer (length t) g
+    pub inside : is_up part.client.link.phase ≡ true → Midway left part.client.stage g t
+    pub starting : is_open part.client.link.phase ≡ true → is_up part.client.link.phase ≡ false → (g ≡ []) × (t ≡ [])
 
   -- and a client that is up isn't outside
-  record Risen (left : ℕ) (part : ClientSoFar) : Type 0 where
-    mid : Mid left part
-    risen : is_up part.client.link.phase ≡ true → is_outside part.client.stage ≡ false
+  pub record Risen (left : ℕ) (part : ClientSoFar) (t : List (List ℕ)) : Type 0 where
+    pub mid : Mid left part t
+    pub risen : is_up part.client.link.phase ≡ true → is_outside part.client.stage ≡ false
 
   -- ---- a telegram that is posted
 
@@ -373,14 +372,14 @@ module _ (site : Site) (node : Node) (peer : PeerState) (of : OfNode node peer) 
   said_item : (told : Initialisation) (part : ClientSoFar) → part.client.peer ≡ peer → writing (telegram_to part.client.peer (message.Initialisation part.client.peer.protocol told)) ≡ item_of peer told
   said_item told part e = ap (λ (p : PeerState). item_of p told) e
 
-  one_risen : (item : List ℕ) (left : ℕ) (part : ClientSoFar) → Risen (suc left) part → Risen left (acting now item part)
+  pub one_risen : (item : List ℕ) (left : ℕ) (part : ClientSoFar) (t : List (List ℕ)) → Risen (suc left) part t → Risen left (acting now item part) t
   unfolding calling
-  one_risen item left part r = choose (fate now item part)
+  one_risen item left part t r = choose (fate now item part)
     where
       done : ClientSoFar
       done = acting now item part
 
-      mid : Mid (suc left) part
+      mid : Mid (suc left) part t
       mid = r.mid
 
       counts : Counts part done
@@ -393,14 +392,13 @@ module _ (site : Site) (node : Node) (peer : PeerState) (of : OfNode node peer) 
       acted_then count e has = subst (λ (n : ℕ). ClientHasActedOn peer done.client.stage (count + n)) (let a = counts.acted in omega (arith, a, e))
           (subst (λ (p : PeerState). ClientHasActedOn p done.client.stage (count + counts.more)) mid.peer_is (counts.on count (subst (λ (p : PeerState). ClientHasActedOn p part.client.stage count) (sym mid.peer_is) has)))
 
-      shut : (why : Reason) → Risen left (calling now (Closes why) part)
+      shut : (why : Reason) → Risen left (calling now (Closes why) part) t
       shut why =
           let closed = close_closes now why part.client.link
           in record {
             mid = record {
               g = mid.g;
-              t = mid.t;
-              tracks = called (Closes why) part mid.g mid.t mid.tracks;
+              tracks = called (Closes why) part mid.g t mid.tracks;
               peer_is = mid.peer_is;
               ever = mid.ever;
               inside = λ up. absurd (false≢true (sym closed ∙ up_open _ up));
@@ -409,8 +407,8 @@ module _ (site : Site) (node : Node) (peer : PeerState) (of : OfNode node peer) 
             risen = λ up. absurd (false≢true (sym closed ∙ up_open _ up));
           }
 
-      asked_so : part.client.stage ≡ stage.AwaitsAnswer → length done.acted ≡ length part.acted + 1 → (after : ClientSoFar) → done ≡ after → after ≡ at_stage stage.AwaitsStart (saying now InitialisationRequest (acted_on item part)) → Risen left after
-      asked_so is acted_one after same at = subst (Risen left) (sym at) (by_post (posts told (acted_on item part) mid.g mid.t (record { link_is = mid.tracks.link_is; gave = mid.tracks.gave; took = mid.tracks.took })))
+      asked_so : part.client.stage ≡ stage.AwaitsAnswer → length done.acted ≡ length part.acted + 1 → (after : ClientSoFar) → done ≡ after → after ≡ at_stage stage.AwaitsStart (saying now InitialisationRequest (acted_on item part)) → Risen left after t
+      asked_so is acted_one after same at = subst (λ (p : ClientSoFar). Risen left p t) (sym at) (by_post (posts told (acted_on item part) mid.g t (record { link_is = mid.tracks.link_is; gave = mid.tracks.gave; took = mid.tracks.took })))
         where
           told : Message
           told = message.Initialisation part.client.peer.protocol InitialisationRequest
@@ -427,21 +425,20 @@ module _ (site : Site) (node : Node) (peer : PeerState) (of : OfNode node peer) 
           peer_then : then_at.client.peer ≡ peer
           peer_then = posted_at now told stage.AwaitsStart (acted_on item part) ∙ mid.peer_is
 
-          by_post : Posted (writing (telegram_to part.client.peer told)) (acted_on item part) said mid.g mid.t → Risen left then_at
+          by_post : Posted (writing (telegram_to part.client.peer told)) (acted_on item part) said mid.g t → Risen left then_at t
           by_post (accepted up tr) = record {
             mid = record {
               g = mid.g ++ item_of peer InitialisationRequest ∷ [];
-              t = mid.t;
-              tracks = let at_item = subst (λ (i : List ℕ). Tracks said (mid.g ++ i ∷ []) mid.t) (said_item InitialisationRequest part mid.peer_is) tr in record { link_is = at_item.link_is; gave = at_item.gave; took = at_item.took };
+              tracks = let at_item = subst (λ (i : List ℕ). Tracks said (mid.g ++ i ∷ []) t) (said_item InitialisationRequest part mid.peer_is) tr in record { link_is = at_item.link_is; gave = at_item.gave; took = at_item.took };
               peer_is = peer_then;
-              ever = said_ever site node peer stage.AwaitsStart m.count (length mid.t) (mid.g ++ item_of peer InitialisationRequest ∷ []) (let s = m.sum in omega (arith, s)) two;
+              ever = said_ever site node peer stage.AwaitsStart m.count (length t) (mid.g ++ item_of peer InitialisationRequest ∷ []) (let s = m.sum in omega (arith, s)) two;
               inside = λ u. record { count = m.count + 1; sum = let s = m.sum in omega (arith, s); acted = subst (λ (s : Stage). ClientHasActedOn peer s (m.count + 1)) stage_now (acted_then m.count acted_one m.acted); said = two };
               starting = λ opened down. absurd (false≢true (sym down ∙ up_then opened));
             };
             risen = λ u. refl;
           }
             where
-              m : Midway (suc left) part.client.stage mid.g mid.t
+              m : Midway (suc left) part.client.stage mid.g t
               m = mid.inside up
 
               two : mid.g ++ item_of peer InitialisationRequest ∷ [] ≡ item_of peer (VersionCheck peer.version) ∷ item_of peer InitialisationRequest ∷ []
@@ -452,7 +449,6 @@ module _ (site : Site) (node : Node) (peer : PeerState) (of : OfNode node peer) 
           by_post (refused down was tr) = record {
             mid = record {
               g = mid.g;
-              t = mid.t;
               tracks = record { link_is = tr.link_is; gave = tr.gave; took = tr.took };
               peer_is = peer_then;
               ever = mid.ever;
@@ -462,12 +458,11 @@ module _ (site : Site) (node : Node) (peer : PeerState) (of : OfNode node peer) 
             risen = λ u. refl;
           }
 
-      choose : Fate now item part done → Risen left done
-      choose (closes why e) = subst (Risen left) (sym e) (shut why)
+      choose : Fate now item part done → Risen left done t
+      choose (closes why e) = subst (λ (p : ClientSoFar). Risen left p t) (sym e) (shut why)
       choose (goes same called_same peer_same acted_one on) = record {
         mid = record {
           g = mid.g;
-          t = mid.t;
           tracks = record {
             link_is = same ∙ mid.tracks.link_is ∙ ap (λ (cs : List LinkCall). (all_made now (map (as_call connection) cs) link).link) (sym called_same);
             gave = ap (λ (cs : List LinkCall). given_after now (map (as_call connection) cs) link given) called_same ∙ mid.tracks.gave;
@@ -490,17 +485,16 @@ module _ (site : Site) (node : Node) (peer : PeerState) (of : OfNode node peer) 
           at_peer = subst (λ (p : PeerState). Goes p part.client.stage done.client.stage) mid.peer_is on
       choose (asks is at) = asked_so is (ap (λ (p : ClientSoFar). length p.acted) at ∙ ap length (posted_acted now _ (acted_on item part)) ∙ count_one part.acted item) done refl at
 
-  all_risen : (items : List (List ℕ)) (part : ClientSoFar) → Risen (length items) part → Risen 0 (acting_all now items part)
+  all_risen : (items : List (List ℕ)) (part : ClientSoFar) (t : List (List ℕ)) → Risen (length items) part t → Risen 0 (acting_all now items part) t
   unfolding acting_all
-  all_risen [] part r = r
-  all_risen (item ∷ others) part r = choose (is_open part.client.link.phase) refl (all_risen others (acting now item part) (one_risen item (length others) part r))
+  all_risen [] part t r = r
+  all_risen (item ∷ others) part t r = choose (is_open part.client.link.phase) refl (all_risen others (acting now item part) t (one_risen item (length others) part t r))
     where
-      choose : (b : Bool) → is_open part.client.link.phase ≡ b → Risen 0 (acting_all now others (acting now item part)) → Risen 0 (if b then acting_all now others (acting now item part) else part)
+      choose : (b : Bool) → is_open part.client.link.phase ≡ b → Risen 0 (acting_all now others (acting now item part)) t → Risen 0 (if b then acting_all now others (acting now item part) else part) t
       choose true e so = so
       choose false e so = record {
         mid = record {
           g = r.mid.g;
-          t = r.mid.t;
           tracks = r.mid.tracks;
           peer_is = r.mid.peer_is;
           ever = r.mid.ever;
@@ -511,9 +505,9 @@ module _ (site : Site) (node : Node) (peer : PeerState) (of : OfNode node peer) 
       }
 
   -- a connection that has come up
-  rising_risen : (left : ℕ) (part : ClientSoFar) → Mid left part → Risen left (rising now part)
+  pub rising_risen : (left : ℕ) (part : ClientSoFar) (t : List (List ℕ)) → Mid left part t → Risen left (rising now part) t
   unfolding rising
-  rising_risen left part mid = choose part.client.stage refl (is_up part.client.link.phase) refl
+  rising_risen left part t mid = choose part.client.stage refl (is_up part.client.link.phase) refl
     where
       told : Message
       told = message.Initialisation part.client.peer.protocol (VersionCheck part.client.peer.version)
@@ -527,12 +521,11 @@ module _ (site : Site) (node : Node) (peer : PeerState) (of : OfNode node peer) 
       item_is : writing (telegram_to part.client.peer told) ≡ item_of peer (VersionCheck peer.version)
       item_is = ap (λ (p : PeerState). item_of p (VersionCheck p.version)) mid.peer_is
 
-      said_risen : part.client.stage ≡ stage.Outside → Posted (writing (telegram_to part.client.peer told)) part said mid.g mid.t → Risen left then_at
+      said_risen : part.client.stage ≡ stage.Outside → Posted (writing (telegram_to part.client.peer told)) part said mid.g t → Risen left then_at t
       said_risen is (accepted up tr) = record {
         mid = record {
           g = mid.g ++ item_of peer (VersionCheck peer.version) ∷ [];
-          t = mid.t;
-          tracks = let at_item = subst (λ (i : List ℕ). Tracks said (mid.g ++ i ∷ []) mid.t) item_is tr in record { link_is = at_item.link_is; gave = at_item.gave; took = at_item.took };
+          tracks = let at_item = subst (λ (i : List ℕ). Tracks said (mid.g ++ i ∷ []) t) item_is tr in record { link_is = at_item.link_is; gave = at_item.gave; took = at_item.took };
           peer_is = posted_at now told stage.AwaitsAnswer part ∙ mid.peer_is;
           ever = checked one;
           inside = λ u. record { count = m.count; sum = m.sum; acted = subst (λ (s : Stage). ClientHasActedOn peer s m.count) is m.acted; said = one };
@@ -541,7 +534,7 @@ module _ (site : Site) (node : Node) (peer : PeerState) (of : OfNode node peer) 
         risen = λ u. refl;
       }
         where
-          m : Midway left part.client.stage mid.g mid.t
+          m : Midway left part.client.stage mid.g t
           m = mid.inside up
 
           one : mid.g ++ item_of peer (VersionCheck peer.version) ∷ [] ≡ item_of peer (VersionCheck peer.version) ∷ []
@@ -549,7 +542,6 @@ module _ (site : Site) (node : Node) (peer : PeerState) (of : OfNode node peer) 
       said_risen is (refused down was tr) = record {
         mid = record {
           g = mid.g;
-          t = mid.t;
           tracks = record { link_is = tr.link_is; gave = tr.gave; took = tr.took };
           peer_is = posted_at now told stage.AwaitsAnswer part ∙ mid.peer_is;
           ever = mid.ever;
@@ -559,11 +551,11 @@ module _ (site : Site) (node : Node) (peer : PeerState) (of : OfNode node peer) 
         risen = λ u. refl;
       }
 
-      as_it_is : (is_up part.client.link.phase ≡ true → is_outside part.client.stage ≡ false) → Risen left part
+      as_it_is : (is_up part.client.link.phase ≡ true → is_outside part.client.stage ≡ false) → Risen left part t
       as_it_is so = record { mid = mid; risen = so }
 
-      choose : (s : Stage) → part.client.stage ≡ s → (b : Bool) → is_up part.client.link.phase ≡ b → Risen left (if is_outside s && b then then_at else part)
-      choose stage.Outside e true f = said_risen e (posts told part mid.g mid.t mid.tracks)
+      choose : (s : Stage) → part.client.stage ≡ s → (b : Bool) → is_up part.client.link.phase ≡ b → Risen left (if is_outside s && b then then_at else part) t
+      choose stage.Outside e true f = said_risen e (posts told part mid.g t mid.tracks)
       choose stage.Outside e false f = as_it_is (λ up. absurd (false≢true (sym f ∙ up)))
       choose stage.AwaitsAnswer e b f = as_it_is (λ up. ap is_outside e)
       choose stage.AwaitsStart e b f = as_it_is (λ up. ap is_outside e)
@@ -580,11 +572,11 @@ module _ (site : Site) (node : Node) (peer : PeerState) (of : OfNode node peer) 
     pub talks : ClientTalks site node client (given_after now (map (as_call connection) calls) link given) (taken_after now (map (as_call connection) calls) link taken)
 
   -- the end of a part
-  fallen_so_far : (part : ClientSoFar) → Risen 0 part → SoFar (fallen part.client) part.calls
+  fallen_so_far : (part : ClientSoFar) (t : List (List ℕ)) → Risen 0 part t → SoFar (fallen part.client) part.calls
   unfolding fallen
-  fallen_so_far part r = choose (is_up part.client.link.phase) refl
+  fallen_so_far part t r = choose (is_up part.client.link.phase) refl
     where
-      mid : Mid 0 part
+      mid : Mid 0 part t
       mid = r.mid
 
       gave : List (List ℕ)
@@ -595,9 +587,9 @@ module _ (site : Site) (node : Node) (peer : PeerState) (of : OfNode node peer) 
 
       ever : ClientSaid site node part.client.peer (length took) gave
       ever = subst (λ (p : PeerState). ClientSaid site node p (length took) gave) (sym mid.peer_is)
-          (subst (λ (list : List (List ℕ)). ClientSaid site node peer (length list) gave) (sym mid.tracks.took) (subst (ClientSaid site node peer (length mid.t)) (sym mid.tracks.gave) mid.ever))
+          (subst (λ (list : List (List ℕ)). ClientSaid site node peer (length list) gave) (sym mid.tracks.took) (subst (ClientSaid site node peer (length t)) (sym mid.tracks.gave) mid.ever))
 
-      count_is : (m : Midway 0 part.client.stage mid.g mid.t) → m.count ≡ length took
+      count_is : (m : Midway 0 part.client.stage mid.g t) → m.count ≡ length took
       count_is m = let s = m.sum in let same = ap length mid.tracks.took in omega (arith, s, same)
 
       choose : (b : Bool) → is_up part.client.link.phase ≡ b → SoFar (if b then part.client else record part.client { stage = stage.Outside }) part.calls
@@ -626,11 +618,10 @@ module _ (site : Site) (node : Node) (peer : PeerState) (of : OfNode node peer) 
       }
 
   -- and its beginning, behind these calls
-  mid_of : (part : ClientSoFar) → SoFar part.client part.calls → Risen 0 part
+  pub mid_of : (part : ClientSoFar) → SoFar part.client part.calls → Risen 0 part (taken_after now (map (as_call connection) part.calls) link taken)
   mid_of part so = record {
     mid = record {
       g = gave;
-      t = took;
       tracks = record { link_is = so.link_is; gave = refl; took = refl };
       peer_is = so.peer_is;
       ever = subst (λ (p : PeerState). ClientSaid site node p (length took) gave) so.peer_is so.talks.ever;
@@ -663,7 +654,7 @@ module _ (site : Site) (node : Node) (peer : PeerState) (of : OfNode node peer) 
   pub hearing_so_far : (bytes : List ℕ) (part : ClientSoFar) → (is_open (receiving now bytes part.client.link).link.phase ≡ true → (is_open part.client.link.phase ≡ true) × (((receiving now bytes part.client.link).items ≡ []) ⊎ (is_up (receiving now bytes part.client.link).link.phase ≡ true))
       × (is_up part.client.link.phase ≡ true → is_up (receiving now bytes part.client.link).link.phase ≡ true)) → SoFar part.client part.calls → SoFar (hearing now bytes part).client (hearing now bytes part).calls
   unfolding hearing calling
-  hearing_so_far bytes part comes so = fallen_so_far (acting_all now items (rising now received)) (all_risen items (rising now received) (rising_risen (length items) received came_mid))
+  hearing_so_far bytes part comes so = fallen_so_far (acting_all now items (rising now received)) (t ++ items) (all_risen items (rising now received) (t ++ items) (rising_risen (length items) received (t ++ items) came_mid))
     where
       received : ClientSoFar
       received = calling now (Receives bytes) part
@@ -671,19 +662,22 @@ module _ (site : Site) (node : Node) (peer : PeerState) (of : OfNode node peer) 
       items : List (List ℕ)
       items = (receiving now bytes part.client.link).items
 
-      r : Risen 0 part
+      t : List (List ℕ)
+      t = taken_after now (map (as_call connection) part.calls) link taken
+
+      r : Risen 0 part t
       r = mid_of part so
 
-      sum_so : (count : ℕ) (t : List (List ℕ)) → count + 0 ≡ length t → count + length items ≡ length (t ++ items)
-      sum_so count t e = let both = append_length t items in omega (arith, e, both)
+      sum_so : (count : ℕ) (u : List (List ℕ)) → count + 0 ≡ length u → count + length items ≡ length (u ++ items)
+      sum_so count u e = let both = append_length u items in omega (arith, e, both)
         where
           append_length : (one other : List (List ℕ)) → length (one ++ other) ≡ length one + length other
           append_length [] other = omega arith
           append_length (first ∷ one) other = let e = append_length one other in omega (arith, e)
 
-      longer : (t : List (List ℕ)) → length t ≤ length (t ++ items)
+      longer : (u : List (List ℕ)) → length u ≤ length (u ++ items)
       longer [] = omega arith
-      longer (first ∷ t) = let l = longer t in omega (arith, l)
+      longer (first ∷ u) = let l = longer u in omega (arith, l)
 
       ever_more : (n m : ℕ) (g : List (List ℕ)) → n ≤ m → ClientSaid site node peer n g → ClientSaid site node peer m g
       ever_more n m g few (nothing e) = nothing e
@@ -696,35 +690,34 @@ module _ (site : Site) (node : Node) (peer : PeerState) (of : OfNode node peer) 
           more (Point place) moves (inr some) = inr (omega (arith, some, few))
           more (Detector place) moves waits = tt
 
-      came_mid : Mid (length items) received
+      came_mid : Mid (length items) received (t ++ items)
       came_mid = record {
         g = r.mid.g;
-        t = r.mid.t ++ items;
-        tracks = called (Receives bytes) part r.mid.g r.mid.t r.mid.tracks;
+        tracks = called (Receives bytes) part r.mid.g t r.mid.tracks;
         peer_is = r.mid.peer_is;
-        ever = ever_more (length r.mid.t) (length (r.mid.t ++ items)) r.mid.g (longer r.mid.t) r.mid.ever;
+        ever = ever_more (length t) (length (t ++ items)) r.mid.g (longer t) r.mid.ever;
         inside = λ up. was_up up (comes (up_open _ up)) (is_up part.client.link.phase) refl;
         starting = λ opened down. starts_so down (comes opened) (is_up part.client.link.phase) refl;
       }
         where
-          none_then : (t : List (List ℕ)) → t ≡ [] → items ≡ [] → t ++ items ≡ []
-          none_then t e f = cc (e, f)
+          none_then : (u : List (List ℕ)) → u ≡ [] → items ≡ [] → u ++ items ≡ []
+          none_then u e f = cc (e, f)
 
           starts_so : is_up (receiving now bytes part.client.link).link.phase ≡ false → (is_open part.client.link.phase ≡ true) × ((items ≡ []) ⊎ (is_up (receiving now bytes part.client.link).link.phase ≡ true))
-              × (is_up part.client.link.phase ≡ true → is_up (receiving now bytes part.client.link).link.phase ≡ true) → (b : Bool) → is_up part.client.link.phase ≡ b → (r.mid.g ≡ []) × (r.mid.t ++ items ≡ [])
+              × (is_up part.client.link.phase ≡ true → is_up (receiving now bytes part.client.link).link.phase ≡ true) → (b : Bool) → is_up part.client.link.phase ≡ b → (r.mid.g ≡ []) × (t ++ items ≡ [])
           starts_so down (opened, some, stays) true e = absurd (false≢true (sym down ∙ stays e))
           starts_so down (opened, inr up, stays) false e = absurd (false≢true (sym down ∙ up))
-          starts_so down (opened, inl none, stays) false e = let s = r.mid.starting opened e in (s.0, none_then r.mid.t s.1 none)
+          starts_so down (opened, inl none, stays) false e = let s = r.mid.starting opened e in (s.0, none_then t s.1 none)
 
           was_up : is_up (receiving now bytes part.client.link).link.phase ≡ true → (is_open part.client.link.phase ≡ true) × ((items ≡ []) ⊎ (is_up (receiving now bytes part.client.link).link.phase ≡ true))
-              × (is_up part.client.link.phase ≡ true → is_up (receiving now bytes part.client.link).link.phase ≡ true) → (b : Bool) → is_up part.client.link.phase ≡ b → Midway (length items) part.client.stage r.mid.g (r.mid.t ++ items)
-          was_up up (opened, some, stays) true e = let m = r.mid.inside e in record { count = m.count; sum = sum_so m.count r.mid.t m.sum; acted = m.acted; said = m.said }
+              × (is_up part.client.link.phase ≡ true → is_up (receiving now bytes part.client.link).link.phase ≡ true) → (b : Bool) → is_up part.client.link.phase ≡ b → Midway (length items) part.client.stage r.mid.g (t ++ items)
+          was_up up (opened, some, stays) true e = let m = r.mid.inside e in record { count = m.count; sum = sum_so m.count t m.sum; acted = m.acted; said = m.said }
           was_up up (opened, some, stays) false e =
               let s = r.mid.starting opened e
               in let out = outside_is part.client.stage (not_false (is_outside part.client.stage) (is_up part.client.link.phase) so.talks.outside e)
               in record {
                 count = 0;
-                sum = sum_so 0 r.mid.t (sym (ap length s.1));
+                sum = sum_so 0 t (sym (ap length s.1));
                 acted = subst (λ (x : Stage). ClientHasActedOn peer x 0) (sym out) refl;
                 said = subst (λ (x : Stage). ClientHasSaid site node peer x 0 r.mid.g) (sym out) s.0;
               }
@@ -734,7 +727,7 @@ module _ (site : Site) (node : Node) (peer : PeerState) (of : OfNode node peer) 
       → ((count : ℕ) (g : List (List ℕ)) → ClientHasSaid site node peer part.client.stage count g → ClientHasSaid site node peer (stage_after_command command part.client.stage) count (g ++ commanded peer command ∷ []))
       → SoFar part.client part.calls → SoFar (commanding now command part).client (commanding now command part).calls
   unfolding commanding
-  commanding_so_far command part ready leads so = subst (λ (calls : List LinkCall). SoFar (fallen then_at.client) calls) refl (fallen_so_far then_at (by_post (posts told part mid.g mid.t mid.tracks)))
+  commanding_so_far command part ready leads so = subst (λ (calls : List LinkCall). SoFar (fallen then_at.client) calls) refl (fallen_so_far then_at t (by_post (posts told part mid.g t mid.tracks)))
     where
       told : Message
       told = message_of command
@@ -748,7 +741,10 @@ module _ (site : Site) (node : Node) (peer : PeerState) (of : OfNode node peer) 
       then_at : ClientSoFar
       then_at = at_stage next said
 
-      mid : Mid 0 part
+      t : List (List ℕ)
+      t = taken_after now (map (as_call connection) part.calls) link taken
+
+      mid : Mid 0 part t
       mid = (mid_of part so).mid
 
       item_is : writing (telegram_to part.client.peer told) ≡ commanded peer command
@@ -776,11 +772,10 @@ module _ (site : Site) (node : Node) (peer : PeerState) (of : OfNode node peer) 
       acted_same (commands.Move side) stage.Completed count has = has
       acted_same (commands.Move side) stage.AwaitsReport count has = has
 
-      by_post : Posted (writing (telegram_to part.client.peer told)) part said mid.g mid.t → Risen 0 then_at
+      by_post : Posted (writing (telegram_to part.client.peer told)) part said mid.g t → Risen 0 then_at t
       by_post (refused down was tr) = record {
         mid = record {
           g = mid.g;
-          t = mid.t;
           tracks = record { link_is = tr.link_is; gave = tr.gave; took = tr.took };
           peer_is = posted_at now told next part ∙ mid.peer_is;
           ever = mid.ever;
@@ -792,28 +787,30 @@ module _ (site : Site) (node : Node) (peer : PeerState) (of : OfNode node peer) 
       by_post (accepted up tr) = record {
         mid = record {
           g = more;
-          t = mid.t;
-          tracks = let at_item = subst (λ (i : List ℕ). Tracks said (mid.g ++ i ∷ []) mid.t) item_is tr in record { link_is = at_item.link_is; gave = at_item.gave; took = at_item.took };
+          tracks = let at_item = subst (λ (i : List ℕ). Tracks said (mid.g ++ i ∷ []) t) item_is tr in record { link_is = at_item.link_is; gave = at_item.gave; took = at_item.took };
           peer_is = posted_at now told next part ∙ mid.peer_is;
-          ever = said_ever site node peer next m.count (length mid.t) more (let s = m.sum in omega (arith, s)) (leads m.count mid.g m.said);
+          ever = said_ever site node peer next m.count (length t) more (let s = m.sum in omega (arith, s)) (leads m.count mid.g m.said);
           inside = λ u. record { count = m.count; sum = m.sum; acted = acted_same command part.client.stage m.count m.acted; said = leads m.count mid.g m.said };
           starting = λ opened down. absurd (false≢true (sym down ∙ posted_up told part opened up));
         };
         risen = λ u. inside_still command part.client.stage ready;
       }
         where
-          m : Midway 0 part.client.stage mid.g mid.t
+          m : Midway 0 part.client.stage mid.g t
           m = mid.inside up
 
   -- a tick
   pub ticking_so_far : (part : ClientSoFar) → SoFar part.client part.calls → SoFar (ticking now part).client (ticking now part).calls
   unfolding ticking calling link_ticking beating opening opens requesting beginning sending
-  ticking_so_far part so = fallen_so_far (calling now Opens (calling now Ticks part)) (opened_risen (opens now ticked.client.link) refl)
+  ticking_so_far part so = by_opened_of (opens now ticked.client.link) (opened_risen (opens now ticked.client.link) refl)
     where
       ticked : ClientSoFar
       ticked = calling now Ticks part
 
-      r : Risen 0 part
+      t : List (List ℕ)
+      t = taken_after now (map (as_call connection) part.calls) link taken
+
+      r : Risen 0 part t
       r = mid_of part so
 
       same_phase : (x : LinkState) (b : Bool) → (if b then sending Heartbeat x else silent x).link.phase ≡ x.phase
@@ -824,12 +821,11 @@ module _ (site : Site) (node : Node) (peer : PeerState) (of : OfNode node peer) 
       ticked_phase e = ap (λ (s : Step). (beating s.link).link.phase) (tick_was_open now part.client.link e).0
           ∙ same_phase (record part.client.link { clock = now }) (is_up part.client.link.phase && nat_le 300 (now - part.client.link.sent_at))
 
-      ticked_mid : Risen 0 ticked
+      ticked_mid : Risen 0 ticked t
       ticked_mid = record {
         mid = record {
           g = r.mid.g;
-          t = r.mid.t;
-          tracks = called Ticks part r.mid.g r.mid.t r.mid.tracks;
+          tracks = called Ticks part r.mid.g t r.mid.tracks;
           peer_is = r.mid.peer_is;
           ever = r.mid.ever;
           inside = λ up. r.mid.inside (ap is_up (sym (ticked_phase (up_open _ up))) ∙ up);
@@ -848,12 +844,14 @@ module _ (site : Site) (node : Node) (peer : PeerState) (of : OfNode node peer) 
           by_entered : (opening now ticked.client.link).link ≡ (entered now ticked.client.link).link → is_open (opening now ticked.client.link).link.phase ≡ true → (opening now ticked.client.link).link.phase ≡ ticked.client.link.phase
           by_entered same up = ap (λ (l : LinkState). l.phase) same ∙ ap (λ (s : Step). s.link.phase) (entered_open now ticked.client.link (ap (λ (l : LinkState). is_open l.phase) (sym same) ∙ up)).0
 
-      opened_risen : (b : Bool) → opens now ticked.client.link ≡ b → Risen 0 (calling now Opens ticked)
+      by_opened_of : (b : Bool) → Risen 0 (calling now Opens ticked) (if b then [] else t) → SoFar (fallen (calling now Opens ticked).client) (calling now Opens ticked).calls
+      by_opened_of b r = fallen_so_far (calling now Opens ticked) (if b then [] else t) r
+
+      opened_risen : (b : Bool) → opens now ticked.client.link ≡ b → Risen 0 (calling now Opens ticked) (if b then [] else t)
       opened_risen true e = record {
         mid = record {
           g = [];
-          t = [];
-          tracks = subst (λ (b : Bool). Tracks (calling now Opens ticked) (if b then [] else ticked_mid.mid.g) (if b then [] else ticked_mid.mid.t)) e (called Opens ticked ticked_mid.mid.g ticked_mid.mid.t ticked_mid.mid.tracks);
+          tracks = subst (λ (b : Bool). Tracks (calling now Opens ticked) (if b then [] else ticked_mid.mid.g) (if b then [] else t)) e (called Opens ticked ticked_mid.mid.g t ticked_mid.mid.tracks);
           peer_is = ticked_mid.mid.peer_is;
           ever = nothing refl;
           inside = λ up. absurd (false≢true (sym (ap is_up (start_phase e)) ∙ up));
@@ -864,8 +862,7 @@ module _ (site : Site) (node : Node) (peer : PeerState) (of : OfNode node peer) 
       opened_risen false e = record {
         mid = record {
           g = ticked_mid.mid.g;
-          t = ticked_mid.mid.t;
-          tracks = subst (λ (b : Bool). Tracks (calling now Opens ticked) (if b then [] else ticked_mid.mid.g) (if b then [] else ticked_mid.mid.t)) e (called Opens ticked ticked_mid.mid.g ticked_mid.mid.t ticked_mid.mid.tracks);
+          tracks = subst (λ (b : Bool). Tracks (calling now Opens ticked) (if b then [] else ticked_mid.mid.g) (if b then [] else t)) e (called Opens ticked ticked_mid.mid.g t ticked_mid.mid.tracks);
           peer_is = ticked_mid.mid.peer_is;
           ever = ticked_mid.mid.ever;
           inside = λ up. ticked_mid.mid.inside (ap is_up (sym (stays_phase e (up_open _ up))) ∙ up);

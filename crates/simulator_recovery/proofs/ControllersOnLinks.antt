@@ -67,23 +67,31 @@ set_there (x ∷ xs) (suc place) new (suc k) y e = choose (set_there xs place ne
 same_number : (a b : ℕ) → (a == b) ≡ true → a ≡ b
 same_number a b e = grind (arith, nat_tests)
 
-abbrev given_at : Links → ℕ → List (List ℕ)
-given_at network link = (network.ends link).server.given
+-- what an end gave and took in its last connection
+pub record Lists : Type 0 where
+  pub given : List (List ℕ)
+  pub taken : List (List ℕ)
+
+abbrev pub lists_of : EndState → Lists
+lists_of end = record { given = end.given; taken = end.taken }
+
+abbrev pub lists_at : Links → ℕ → Lists
+lists_at network link = lists_of (network.ends link).server
 
 -- an end that is made anew keeps what it gave
-anew_gave : (link : ℕ) (who : Role) (clock first : ℕ) (network : Links) (other : ℕ) → given_at (happened_to (RestartsOn link who clock first) network) other ≡ given_at network other
+anew_keeps : (link : ℕ) (who : Role) (clock first : ℕ) (network : Links) (other : ℕ) → lists_at (happened_to (RestartsOn link who clock first) network) other ≡ lists_at network other
 unfolding restarted end_restarted
-anew_gave link who clock first network other = choose who (other == link) refl
+anew_keeps link who clock first network other = choose who (other == link) refl
   where
-    choose : (w : Role) (b : Bool) → (other == link) ≡ b → given_at (happened_to (RestartsOn link w clock first) network) other ≡ given_at network other
-    choose role.Client true e = rw (e, given_at) (ap (given_at network) (sym (same_number other link e)))
-    choose role.Client false e = rw (e, given_at) refl
-    choose role.Server true e = rw (e, given_at) (ap (given_at network) (sym (same_number other link e)))
-    choose role.Server false e = rw (e, given_at) refl
+    choose : (w : Role) (b : Bool) → (other == link) ≡ b → lists_at (happened_to (RestartsOn link w clock first) network) other ≡ lists_at network other
+    choose role.Client true e = rw (e, lists_at) (ap (lists_at network) (sym (same_number other link e)))
+    choose role.Client false e = rw (e, lists_at) refl
+    choose role.Server true e = rw (e, lists_at) (ap (lists_at network) (sym (same_number other link e)))
+    choose role.Server false e = rw (e, lists_at) refl
 
-all_anew_gave : (who : Role) (clock : ℕ) (firsts : ℕ → ℕ) (numbers : List ℕ) (network : Links) (other : ℕ) → given_at (run_links (restarts_of who clock firsts numbers) network) other ≡ given_at network other
-all_anew_gave who clock firsts [] network other = refl
-all_anew_gave who clock firsts (first ∷ others) network other = all_anew_gave who clock firsts others (happened_to (RestartsOn first who clock (firsts first)) network) other ∙ anew_gave first who clock (firsts first) network other
+all_anew_keeps : (who : Role) (clock : ℕ) (firsts : ℕ → ℕ) (numbers : List ℕ) (network : Links) (other : ℕ) → lists_at (run_links (restarts_of who clock firsts numbers) network) other ≡ lists_at network other
+all_anew_keeps who clock firsts [] network other = refl
+all_anew_keeps who clock firsts (first ∷ others) network other = all_anew_keeps who clock firsts others (happened_to (RestartsOn first who clock (firsts first)) network) other ∙ anew_keeps first who clock (firsts first) network other
 
 all_called : (connection : ℕ) (calls : List LinkCall) (ends : Ends) → called_all connection calls ends ≡ run (calls_at role.Server (map (as_call connection) calls)) ends
 unfolding called_all
@@ -101,30 +109,30 @@ pub record CallLaws : Type 0 where
 -- ---- the controllers of one kind
 
 -- something of each controller of a list, and of what its end has given
-abbrev pub OnEach : {Object : Type 0} → (ℕ → HostState Object → List (List ℕ) → Type 0) → (ℕ → ℕ) → List (ClockedControllerState Object) → Links → Type 0
-OnEach {Object} Holds at servers network = (place : ℕ) (c : ClockedControllerState Object) → slice_get servers place ≡ Some c → Holds place c.host (given_at network (at place))
+abbrev pub OnEach : {Object : Type 0} → (ℕ → HostState Object → Lists → Type 0) → (ℕ → ℕ) → List (ClockedControllerState Object) → Links → Type 0
+OnEach {Object} Holds at servers network = (place : ℕ) (c : ClockedControllerState Object) → slice_get servers place ≡ Some c → Holds place c.host (lists_at network (at place))
 
 -- what a step of such a controller keeps, from an end that is its own
-abbrev pub StepKeeps : {Object : Type 0} → Behaviour Object → (ℕ → HostState Object → List (List ℕ) → Type 0) → Type 0
+abbrev pub StepKeeps : {Object : Type 0} → Behaviour Object → (ℕ → HostState Object → Lists → Type 0) → Type 0
 StepKeeps {Object} does Holds = (input : HostInput) (connection place : ℕ) (c : ClockedControllerState Object) (ends : Ends) → ends.server.link ≡ settled (reading_of c.clock) c.host.link → ends.server.clock ≡ c.clock
-    → Holds place c.host ends.server.given → Holds place (step_of does input c).host (called_all connection (step_of does input c).calls ends).server.given
+    → Holds place c.host (lists_of ends.server) → Holds place (step_of does input c).host (lists_of (called_all connection (step_of does input c).calls ends).server)
 
-held_same : {Object : Type 0} (Holds : ℕ → HostState Object → List (List ℕ) → Type 0) (at : ℕ → ℕ) (servers : List (ClockedControllerState Object)) (old new : Links)
-    → ((place : ℕ) (c : ClockedControllerState Object) → slice_get servers place ≡ Some c → given_at new (at place) ≡ given_at old (at place)) → OnEach Holds at servers old → OnEach Holds at servers new
+held_same : {Object : Type 0} (Holds : ℕ → HostState Object → Lists → Type 0) (at : ℕ → ℕ) (servers : List (ClockedControllerState Object)) (old new : Links)
+    → ((place : ℕ) (c : ClockedControllerState Object) → slice_get servers place ≡ Some c → lists_at new (at place) ≡ lists_at old (at place)) → OnEach Holds at servers old → OnEach Holds at servers new
 held_same Holds at servers old new same held place c e = subst (Holds place c.host) (sym (same place c e)) (held place c e)
 
 module _ (laws : CallLaws) where
   elsewhere : {Object : Type 0} (does : Behaviour Object) (input : HostInput) (connection link : ℕ) (found : Option (ClockedControllerState Object)) (before : Links) (other : ℕ)
-      → ((c : ClockedControllerState Object) → found ≡ Some c → other ≢ link) → given_at (run_links (host_events does input connection link found) before) other ≡ given_at before other
+      → ((c : ClockedControllerState Object) → found ≡ Some c → other ≢ link) → lists_at (run_links (host_events does input connection link found) before) other ≡ lists_at before other
   elsewhere does input connection link None before other differ = refl
-  elsewhere does input connection link (Some c) before other differ = ap (λ (e : EndState). e.given) (laws.others role.Server link other (map (as_call connection) (step_of does input c).calls) before (differ c refl) role.Server)
+  elsewhere does input connection link (Some c) before other differ = ap lists_of (laws.others role.Server link other (map (as_call connection) (step_of does input c).calls) before (differ c refl) role.Server)
 
   -- the end of a controller
   record IsEndOf {Object : Type 0} (c : ClockedControllerState Object) (end : EndState) : Type 0 where
     link_is : end.link ≡ settled (reading_of c.clock) c.host.link
     clock_is : end.clock ≡ c.clock
 
-  module _ {Object : Type 0} (does : Behaviour Object) (Holds : ℕ → HostState Object → List (List ℕ) → Type 0) (keeps : StepKeeps does Holds) (at : ℕ → ℕ) (apart : (k place : ℕ) → k ≢ place → at k ≢ at place) where
+  module _ {Object : Type 0} (does : Behaviour Object) (Holds : ℕ → HostState Object → Lists → Type 0) (keeps : StepKeeps does Holds) (at : ℕ → ℕ) (apart : (k place : ℕ) → k ≢ place → at k ≢ at place) where
     stepped_held : (input : HostInput) (connection time place : ℕ) (found : Option (ClockedControllerState Object)) (all : Stepped Object) (before : Links) → slice_get all.servers place ≡ found
         → ((c : ClockedControllerState Object) → slice_get all.servers place ≡ Some c → IsEndOf c (before.ends (at place)).server)
         → OnEach Holds at all.servers before → OnEach Holds at (stepped_at does input connection time (at place) place found all).servers (run_links (host_events does input connection (at place) found) before)
@@ -141,49 +149,49 @@ module _ (laws : CallLaws) where
         own : seen (at place) after ≡ called_all connection (step_of does input c).calls (seen (at place) before)
         own = laws.own role.Server (at place) (map (as_call connection) (step_of does input c).calls) before ∙ sym (all_called connection (step_of does input c).calls (seen (at place) before))
 
-        new_held : Holds place new.host (given_at after (at place))
-        new_held = let end = ends c e in subst (λ (s : Ends). Holds place new.host s.server.given) (sym own) (keeps input connection place c (seen (at place) before) end.link_is end.clock_is (held place c e))
+        new_held : Holds place new.host (lists_at after (at place))
+        new_held = let end = ends c e in subst (λ (s : Ends). Holds place new.host (lists_of s.server)) (sym own) (keeps input connection place c (seen (at place) before) end.link_is end.clock_is (held place c e))
 
-        choose : (k : ℕ) (one : ClockedControllerState Object) → ((k ≡ place) × (one ≡ new)) ⊎ ((k ≢ place) × (slice_get all.servers k ≡ Some one)) → Holds k one.host (given_at after (at k))
-        choose k one (inl (f, g)) = subst (λ (n : ℕ). Holds n one.host (given_at after (at n))) (sym f) (subst (λ (x : ClockedControllerState Object). Holds place x.host (given_at after (at place))) (sym g) new_held)
+        choose : (k : ℕ) (one : ClockedControllerState Object) → ((k ≡ place) × (one ≡ new)) ⊎ ((k ≢ place) × (slice_get all.servers k ≡ Some one)) → Holds k one.host (lists_at after (at k))
+        choose k one (inl (f, g)) = subst (λ (n : ℕ). Holds n one.host (lists_at after (at n))) (sym f) (subst (λ (x : ClockedControllerState Object). Holds place x.host (lists_at after (at place))) (sym g) new_held)
         choose k one (inr (f, g)) = subst (Holds k one.host) (sym (elsewhere does input connection (at place) (Some c) before (at k) (λ x h. apart k place f))) (held k one g)
 
 -- time goes on
-later_held : {Object : Type 0} (Holds : ℕ → HostState Object → List (List ℕ) → Type 0) (at : ℕ → ℕ) (moment : ℕ) (steps : List ℕ) (servers : List (ClockedControllerState Object)) (network : Links) → OnEach Holds at servers network → OnEach Holds at (all_later moment steps servers) network
+later_held : {Object : Type 0} (Holds : ℕ → HostState Object → Lists → Type 0) (at : ℕ → ℕ) (moment : ℕ) (steps : List ℕ) (servers : List (ClockedControllerState Object)) (network : Links) → OnEach Holds at servers network → OnEach Holds at (all_later moment steps servers) network
 later_held {Object} Holds at moment steps servers network held place one e = let found = later_at moment steps servers place one e in
-    subst (λ (h : HostState Object). Holds place h (given_at network (at place))) (sym found.2) (held place found.0 found.1)
+    subst (λ (h : HostState Object). Holds place h (lists_at network (at place))) (sym found.2) (held place found.0 found.1)
 
 -- a controller is made anew
-anew_held : {Object : Type 0} (Holds : ℕ → HostState Object → List (List ℕ) → Type 0) (at : ℕ → ℕ) (host : HostState Object) (clock moment place : ℕ) (servers : List (ClockedControllerState Object)) (network : Links)
-    → ((x : ClockedControllerState Object) → slice_get servers place ≡ Some x → Holds place host (given_at network (at place)))
+anew_held : {Object : Type 0} (Holds : ℕ → HostState Object → Lists → Type 0) (at : ℕ → ℕ) (host : HostState Object) (clock moment place : ℕ) (servers : List (ClockedControllerState Object)) (network : Links)
+    → ((x : ClockedControllerState Object) → slice_get servers place ≡ Some x → Holds place host (lists_at network (at place)))
     → OnEach Holds at servers network → OnEach Holds at (changed (controller_anew host clock moment) place servers) network
 unfolding controller_anew
 anew_held {Object} Holds at host clock moment place servers network made held k one e = choose (changed_at (controller_anew host clock moment) place servers k one e)
   where
-    choose : ((k ≡ place) × (x : ClockedControllerState Object) × (slice_get servers place ≡ Some x) × (one ≡ controller_anew host clock moment x)) ⊎ (slice_get servers k ≡ Some one) → Holds k one.host (given_at network (at k))
-    choose (inl (f, x, g, h)) = subst (λ (n : ℕ). Holds n one.host (given_at network (at n))) (sym f) (subst (λ (c : ClockedControllerState Object). Holds place c.host (given_at network (at place))) (sym h) (made x g))
+    choose : ((k ≡ place) × (x : ClockedControllerState Object) × (slice_get servers place ≡ Some x) × (one ≡ controller_anew host clock moment x)) ⊎ (slice_get servers k ≡ Some one) → Holds k one.host (lists_at network (at k))
+    choose (inl (f, x, g, h)) = subst (λ (n : ℕ). Holds n one.host (lists_at network (at n))) (sym f) (subst (λ (c : ClockedControllerState Object). Holds place c.host (lists_at network (at place))) (sym h) (made x g))
     choose (inr f) = held k one f
 
 -- ---- an event
 
 -- what is kept of the controllers of a station, with what their ends have given: by their steps, and where they are made anew
-pub record ControllersKeep (site : Site) (OfSignal : ℕ → HostState SignalState → List (List ℕ) → Type 0) (OfPoint : ℕ → HostState PointState → List (List ℕ) → Type 0) (OfDetector : ℕ → HostState (List Section) → List (List ℕ) → Type 0) : Type 0 where
+pub record ControllersKeep (site : Site) (OfSignal : ℕ → HostState SignalState → Lists → Type 0) (OfPoint : ℕ → HostState PointState → Lists → Type 0) (OfDetector : ℕ → HostState (List Section) → Lists → Type 0) : Type 0 where
   pub signals : StepKeeps signal_behaviour OfSignal
   pub points : StepKeeps point_behaviour OfPoint
   pub detectors : StepKeeps detection_behaviour OfDetector
-  pub new_signals : (begins : Beginning) (place : ℕ) (entry : SignalEntry) (old : HostState SignalState) (items : List (List ℕ)) → slice_get site.signals place ≡ Some entry → OfSignal place old items → OfSignal place (new_signal site begins entry) items
-  pub new_points : (begins : Beginning) (position : Position) (place : ℕ) (entry : PointEntry) (old : HostState PointState) (items : List (List ℕ)) → slice_get site.points place ≡ Some entry → OfPoint place old items → OfPoint place (new_point site begins position entry) items
-  pub new_detectors : (begins : Beginning) (occupied : List Occupancy) (place : ℕ) (entry : DetectorEntry) (old : HostState (List Section)) (items : List (List ℕ)) → slice_get site.detectors place ≡ Some entry → OfDetector place old items
+  pub new_signals : (begins : Beginning) (place : ℕ) (entry : SignalEntry) (old : HostState SignalState) (items : Lists) → slice_get site.signals place ≡ Some entry → OfSignal place old items → OfSignal place (new_signal site begins entry) items
+  pub new_points : (begins : Beginning) (position : Position) (place : ℕ) (entry : PointEntry) (old : HostState PointState) (items : Lists) → slice_get site.points place ≡ Some entry → OfPoint place old items → OfPoint place (new_point site begins position entry) items
+  pub new_detectors : (begins : Beginning) (occupied : List Occupancy) (place : ℕ) (entry : DetectorEntry) (old : HostState (List Section)) (items : Lists) → slice_get site.detectors place ≡ Some entry → OfDetector place old items
       → OfDetector place (new_detector site begins occupied entry) items
 
 -- of each controller of a station
-pub record OnControllers (site : Site) (OfSignal : ℕ → HostState SignalState → List (List ℕ) → Type 0) (OfPoint : ℕ → HostState PointState → List (List ℕ) → Type 0) (OfDetector : ℕ → HostState (List Section) → List (List ℕ) → Type 0)
+pub record OnControllers (site : Site) (OfSignal : ℕ → HostState SignalState → Lists → Type 0) (OfPoint : ℕ → HostState PointState → Lists → Type 0) (OfDetector : ℕ → HostState (List Section) → Lists → Type 0)
     (signals : List (ClockedControllerState SignalState)) (points : List (ClockedControllerState PointState)) (detectors : List (ClockedControllerState (List Section))) (network : Links) : Type 0 where
   pub of_signals : OnEach OfSignal (λ place. place) signals network
   pub of_points : OnEach OfPoint (point_link site) points network
   pub of_detectors : OnEach OfDetector (detector_link site) detectors network
 
-module _ (laws : CallLaws) (site : Site) (table : Table) (OfSignal : ℕ → HostState SignalState → List (List ℕ) → Type 0) (OfPoint : ℕ → HostState PointState → List (List ℕ) → Type 0) (OfDetector : ℕ → HostState (List Section) → List (List ℕ) → Type 0) (keeps : ControllersKeep site OfSignal OfPoint OfDetector) where
+module _ (laws : CallLaws) (site : Site) (table : Table) (OfSignal : ℕ → HostState SignalState → Lists → Type 0) (OfPoint : ℕ → HostState PointState → Lists → Type 0) (OfDetector : ℕ → HostState (List Section) → Lists → Type 0) (keeps : ControllersKeep site OfSignal OfPoint OfDetector) where
   abbrev pub On : WorldState → Links → Type 0
   On world network = OnControllers site OfSignal OfPoint OfDetector world.signals world.points world.detectors network
 
@@ -201,7 +209,7 @@ module _ (laws : CallLaws) (site : Site) (table : Table) (OfSignal : ℕ → Hos
   abbrev Are : WorldState → Links → Type 0
   Are world network = Controllers world.signals world.points world.detectors network
 
-  all_same : (world : WorldState) (old new : Links) → ((link : ℕ) → given_at new link ≡ given_at old link) → Are world old → On world new
+  all_same : (world : WorldState) (old new : Links) → ((link : ℕ) → lists_at new link ≡ lists_at old link) → Are world old → On world new
   all_same world old new same n = record {
     of_signals = held_same OfSignal (λ place. place) world.signals old new (λ k c e. same k) n.of_signals;
     of_points = held_same OfPoint (point_link site) world.points old new (λ k c e. same (point_link site k)) n.of_points;
@@ -221,7 +229,7 @@ module _ (laws : CallLaws) (site : Site) (table : Table) (OfSignal : ℕ → Hos
       after : Links
       after = run_links (signal_events input connection place world) network
 
-      there : (other : ℕ) → (place < length site.signals → other ≢ place) → given_at after other ≡ given_at network other
+      there : (other : ℕ) → (place < length site.signals → other ≢ place) → lists_at after other ≡ lists_at network other
       there other differ = elsewhere laws signal_behaviour input connection place (slice_get world.signals place) network other
           (λ c f. differ (let a = slice_get_within world.signals place c f in let b = n.signals_many in omega (arith, a, b)))
 
@@ -238,7 +246,7 @@ module _ (laws : CallLaws) (site : Site) (table : Table) (OfSignal : ℕ → Hos
       after : Links
       after = run_links (point_events site input connection place world) network
 
-      there : (other : ℕ) → (place < length site.points → other ≢ point_link site place) → given_at after other ≡ given_at network other
+      there : (other : ℕ) → (place < length site.points → other ≢ point_link site place) → lists_at after other ≡ lists_at network other
       there other differ = elsewhere laws point_behaviour input connection (point_link site place) (slice_get world.points place) network other
           (λ c f. differ (let a = slice_get_within world.points place c f in let b = n.points_many in omega (arith, a, b)))
 
@@ -255,13 +263,13 @@ module _ (laws : CallLaws) (site : Site) (table : Table) (OfSignal : ℕ → Hos
       after : Links
       after = run_links (detector_events site input connection place world) network
 
-      there : (other : ℕ) → (other ≢ detector_link site place) → given_at after other ≡ given_at network other
+      there : (other : ℕ) → (other ≢ detector_link site place) → lists_at after other ≡ lists_at network other
       there other differ = elsewhere laws detection_behaviour input connection (detector_link site place) (slice_get world.detectors place) network other (λ c f. differ)
 
   interlocking_steps : (input : ixl.Input) (connection : ℕ) (world : WorldState) (network : Links) → Are world network → On (interlocking_stepped site table input world) (run_links (interlocking_events site table input connection world.station) network)
   unfolding interlocking_stepped
   interlocking_steps input connection world network n = all_same (interlocking_stepped site table input world) network (run_links (interlocking_events site table input connection world.station) network)
-      (λ link. ap (λ (e : EndState). e.given) (laws.partner (map (node_call site connection) (interlocking_step site table input world.station).calls) network link)) n
+      (λ link. ap lists_of (laws.partner (map (node_call site connection) (interlocking_step site table input world.station).calls) network link)) n
 
   ticks : (node : Option nodes.Node) (world : WorldState) (network : Links) → Are world network → On (ticked_at site table node world) (run_links (tick_events site table node world) network)
   ticks None world network n = all_same world network network (λ link. refl) n
@@ -286,7 +294,7 @@ module _ (laws : CallLaws) (site : Site) (table : Table) (OfSignal : ℕ → Hos
   signals_anew : (begins : Beginning) (place : ℕ) (found : Option SignalEntry) (world : WorldState) (network : Links) → slice_get site.signals place ≡ found → Are world network → On (signal_anew site begins place found world) (run_links (anew_events begins.clock begins.first place found) network)
   signals_anew begins place None world network e n = all_same world network network (λ link. refl) n
   signals_anew begins place (Some entry) world network e n =
-      let other = all_same world network (happened_to (RestartsOn place role.Server begins.clock begins.first) network) (anew_gave place role.Server begins.clock begins.first network) n
+      let other = all_same world network (happened_to (RestartsOn place role.Server begins.clock begins.first) network) (anew_keeps place role.Server begins.clock begins.first network) n
       in record {
         of_signals = anew_held OfSignal (λ k. k) (new_signal site begins entry) begins.clock (length world.sent) place world.signals (happened_to (RestartsOn place role.Server begins.clock begins.first) network) (λ x h. keeps.new_signals begins place entry x.host _ e (other.of_signals place x h)) other.of_signals;
         of_points = other.of_points;
@@ -296,7 +304,7 @@ module _ (laws : CallLaws) (site : Site) (table : Table) (OfSignal : ℕ → Hos
   points_anew : (begins : Beginning) (place : ℕ) (found : Option PointEntry) (world : WorldState) (network : Links) → slice_get site.points place ≡ found → Are world network → On (point_anew site begins place found world) (run_links (anew_events begins.clock begins.first (point_link site place) found) network)
   points_anew begins place None world network e n = all_same world network network (λ link. refl) n
   points_anew begins place (Some entry) world network e n =
-      let other = all_same world network (happened_to (RestartsOn (point_link site place) role.Server begins.clock begins.first) network) (anew_gave (point_link site place) role.Server begins.clock begins.first network) n
+      let other = all_same world network (happened_to (RestartsOn (point_link site place) role.Server begins.clock begins.first) network) (anew_keeps (point_link site place) role.Server begins.clock begins.first network) n
       in record {
         of_signals = other.of_signals;
         of_points = anew_held OfPoint (point_link site) _ begins.clock (length world.sent) place world.points (happened_to (RestartsOn (point_link site place) role.Server begins.clock begins.first) network) (λ x h. keeps.new_points begins _ place entry x.host _ e (other.of_points place x h)) other.of_points;
@@ -307,7 +315,7 @@ module _ (laws : CallLaws) (site : Site) (table : Table) (OfSignal : ℕ → Hos
       → On (detector_anew site begins place found world) (run_links (anew_events begins.clock begins.first (detector_link site place) found) network)
   detectors_anew begins place None world network e n = all_same world network network (λ link. refl) n
   detectors_anew begins place (Some entry) world network e n =
-      let other = all_same world network (happened_to (RestartsOn (detector_link site place) role.Server begins.clock begins.first) network) (anew_gave (detector_link site place) role.Server begins.clock begins.first network) n
+      let other = all_same world network (happened_to (RestartsOn (detector_link site place) role.Server begins.clock begins.first) network) (anew_keeps (detector_link site place) role.Server begins.clock begins.first network) n
       in record {
         of_signals = other.of_signals;
         of_points = other.of_points;
@@ -316,7 +324,7 @@ module _ (laws : CallLaws) (site : Site) (table : Table) (OfSignal : ℕ → Hos
 
   restarts : (begins : Beginning) (node : Option nodes.Node) (world : WorldState) (network : Links) → Are world network → On (made_anew site table begins node world) (run_links (restart_events site begins.clock begins.first node) network)
   restarts begins None world network n = all_same world network network (λ link. refl) n
-  restarts begins (Some nodes.Interlocking) world network n = all_same (made_anew site table begins (Some nodes.Interlocking) world) network _ (all_anew_gave role.Client begins.clock (λ link. begins.first) (numbers_below (links site)) network) n
+  restarts begins (Some nodes.Interlocking) world network n = all_same (made_anew site table begins (Some nodes.Interlocking) world) network _ (all_anew_keeps role.Client begins.clock (λ link. begins.first) (numbers_below (links site)) network) n
   restarts begins (Some (nodes.Signal place)) world network n = signals_anew begins place (slice_get site.signals place) world network refl n
   restarts begins (Some (nodes.Point place)) world network n = points_anew begins place (slice_get site.points place) world network refl n
   restarts begins (Some (nodes.Detector place)) world network n = detectors_anew begins place (slice_get site.detectors place) world network refl n

@@ -2,6 +2,7 @@
 use Rattle.std.proofs.Common.{◌≡◌, ℕ, zero, suc, ◌∙◌, ◌+◌, ◌≤◌, Bool, true, false, not, ◌&&◌, ◌==◌, List, [], ◌∷◌, ◌++◌, length, map, append_assoc, append-nil, Option, Some, None, Result, Ok, Err, if◌then◌else◌, refl, sym, ap, subst, arith}
 use Rattle.std.specs.Prelude.{is_ok}
 use Rattle.std.proofs.lemmas.Bool.{false≢true}
+use Rattle.std.proofs.lemmas.Bool.Decides.{nat_tests}
 use Rattle.simulator_run.specs.rasta_core.Calls.{answer_to_send, receiving}
 use Rattle.simulator_run.specs.rasta_core.Clock.{settled}
 use Rattle.simulator_run.specs.rasta_core.State.{LinkState, is_open}
@@ -12,6 +13,7 @@ use Rattle.simulator_run.specs.sci_telegram.declared.message.Agreement.TheVarian
 use Rattle.simulator_run.specs.sci_telegram.declared.message.Initialisation.TheVariants.{InitialisationCompleted, InitialisationRequest, StartInitialisation, VersionAnswer, VersionCheck}
 use Rattle.simulator_run.specs.sci_telegram.declared.message.Message.{Message}
 use Rattle.simulator_run.specs.sci_telegram.declared.message.Message.TheVariants as message
+use Rattle.simulator_run.specs.sci_telegram.declared.message.Protocol.{Protocol}
 use Rattle.simulator_run.specs.sci_telegram.declared.telegram.Telegram.{Telegram}
 use Rattle.simulator_run.specs.object_host.Behaviour.{Behaviour}
 use Rattle.simulator_run.specs.object_host.Host.{Closes, HostSoFar, Sends, HostState, LinkCall, at_stage, fallen, is_completed, is_outside, keeping, risen, said, silent, then_do}
@@ -61,21 +63,38 @@ pub record SaidAll {Object : Type 0} (does : Behaviour Object) (Fits : Object �
   pub owed : Each (OwedFit does Fits) reports
   pub are : items ≡ item (said does (VersionAnswer Match version)) ∷ (map item (initialisation does object) ++ map item reports)
 
-abbrev pub SaidBy : {Object : Type 0} → Behaviour Object → (Object → Type 0) → (Report → List ℕ) → ℕ → Stage → List (List ℕ) → Type 0
-SaidBy does Fits item version stage.Outside items = items ≡ []
-SaidBy does Fits item version stage.AwaitsCheck items = items ≡ []
-SaidBy does Fits item version stage.AwaitsRequest items = items ≡ item (said does (VersionAnswer Match version)) ∷ []
-SaidBy does Fits item version stage.Completed items = SaidAll does Fits item version items
-SaidBy does Fits item version stage.Refused items = items ≡ item (said does (VersionAnswer NoMatch version)) ∷ []
+-- what is said by a stage; a version is refused where it was a wrong one that was asked
+abbrev pub SaidBy : {Object : Type 0} → Behaviour Object → (Object → Type 0) → Type 0 → (Report → List ℕ) → ℕ → Stage → List (List ℕ) → Type 0
+SaidBy does Fits Wrong item version stage.Outside items = items ≡ []
+SaidBy does Fits Wrong item version stage.AwaitsCheck items = items ≡ []
+SaidBy does Fits Wrong item version stage.AwaitsRequest items = items ≡ item (said does (VersionAnswer Match version)) ∷ []
+SaidBy does Fits Wrong item version stage.Completed items = SaidAll does Fits item version items
+SaidBy does Fits Wrong item version stage.Refused items = Wrong × (items ≡ item (said does (VersionAnswer NoMatch version)) ∷ [])
 
 -- a beginning of what a host says by some stage: also once it has left its connection
-pub record SaidSome {Object : Type 0} (does : Behaviour Object) (Fits : Object → Type 0) (item : Report → List ℕ) (version : ℕ) (items : List (List ℕ)) : Type 0 where
+pub record SaidSome {Object : Type 0} (does : Behaviour Object) (Fits : Object → Type 0) (Wrong : Type 0) (item : Report → List ℕ) (version : ℕ) (items : List (List ℕ)) : Type 0 where
   pub by : Stage
   pub whole : List (List ℕ)
-  pub said : SaidBy does Fits item version by whole
+  pub said : SaidBy does Fits Wrong item version by whole
   pub begins : Begins items whole
 
-module _ {Object : Type 0} (does : Behaviour Object) (many : TellsAsMany does) (objects : ℕ) (now : ℕ) (item : Report → List ℕ) (version : ℕ) (Fits : Object → Type 0) (keep : ObjectKeeps does Fits version) where
+-- an item that asks a version other than this one tells so
+abbrev pub TellsWrong : Type 0 → ℕ → Message → Type 0
+TellsWrong Wrong version what = (protocol : Protocol) (asked : ℕ) → what ≡ message.Initialisation protocol (VersionCheck asked) → (asked ≡ version → ⊥) → Wrong
+
+abbrev pub ItemTells : Type 0 → ℕ → Result Telegram SciFault → Type 0
+ItemTells Wrong version (Ok telegram) = TellsWrong Wrong version telegram.message
+ItemTells Wrong version (Err fault) = Unit {0}
+
+abbrev pub AllTell : Type 0 → ℕ → List (List ℕ) → Type 0
+AllTell Wrong version items = Each (λ one. ItemTells Wrong version (reading one)) items
+
+abbrev pub InputTells : Type 0 → ℕ → ℕ → Input → LinkState → Type 0
+InputTells Wrong version now inputs.Tick link = Unit {0}
+InputTells Wrong version now (inputs.Datagram bytes) link = AllTell Wrong version (receiving now bytes.now link).items
+InputTells Wrong version now (inputs.Sense sense) link = Unit {0}
+
+module _ {Object : Type 0} (does : Behaviour Object) (many : TellsAsMany does) (objects : ℕ) (now : ℕ) (item : Report → List ℕ) (version : ℕ) (Fits : Object → Type 0) (Wrong : Type 0) (keep : ObjectKeeps does Fits version) where
   -- a host with these names and this version
   pub record Is (host : HostState Object) : Type 0 where
     pub items : item_of host ≡ item
@@ -86,15 +105,15 @@ module _ {Object : Type 0} (does : Behaviour Object) (many : TellsAsMany does) (
   pub record Says (items : List (List ℕ)) (host : HostState Object) (part : HostSoFar Object) : Type 0 where
     pub is : Is part.host
     pub made : part.host.link ≡ (calls_made now part.calls host.link).link
-    pub says : is_open part.host.link.phase ≡ true → SaidBy does Fits item version part.host.stage (items ++ items_given now part.calls host.link)
-    pub ever : SaidSome does Fits item version (items ++ items_given now part.calls host.link)
+    pub says : is_open part.host.link.phase ≡ true → SaidBy does Fits Wrong item version part.host.stage (items ++ items_given now part.calls host.link)
+    pub ever : SaidSome does Fits Wrong item version (items ++ items_given now part.calls host.link)
 
   says_then : (items : List (List ℕ)) (host : HostState Object) (first : HostSoFar Object) (next : HostState Object → HostSoFar Object) → Says items host first → Says (items ++ items_given now first.calls host.link) first.host (next first.host) → Says items host (then_do first next)
   says_then items host first next one other = record {
     is = other.is;
     made = other.made ∙ ap (λ (l : LinkState). (calls_made now (next first.host).calls l).link) one.made ∙ sym (made_both now first.calls (next first.host).calls host.link);
-    says = λ e. subst (SaidBy does Fits item version (next first.host).host.stage) (both one.made) (other.says e);
-    ever = subst (SaidSome does Fits item version) (both one.made) other.ever;
+    says = λ e. subst (SaidBy does Fits Wrong item version (next first.host).host.stage) (both one.made) (other.says e);
+    ever = subst (SaidSome does Fits Wrong item version) (both one.made) other.ever;
   }
     where
       both : first.host.link ≡ (calls_made now first.calls host.link).link → (items ++ items_given now first.calls host.link) ++ items_given now (next first.host).calls first.host.link ≡ items ++ items_given now (first.calls ++ (next first.host).calls) host.link
@@ -103,26 +122,26 @@ module _ {Object : Type 0} (does : Behaviour Object) (many : TellsAsMany does) (
           ∙ ap (λ (rest : List (List ℕ)). items ++ rest) (sym (items_both now first.calls (next first.host).calls host.link))
 
   pub record Has (items : List (List ℕ)) (host : HostState Object) : Type 0 where
-    pub said_now : is_open host.link.phase ≡ true → SaidBy does Fits item version host.stage items
-    pub ever : SaidSome does Fits item version items
+    pub said_now : is_open host.link.phase ≡ true → SaidBy does Fits Wrong item version host.stage items
+    pub ever : SaidSome does Fits Wrong item version items
 
   -- what a part leaves
   has_of : (items : List (List ℕ)) (host : HostState Object) (part : HostSoFar Object) → Says items host part → Has (items ++ items_given now part.calls host.link) part.host
   has_of items host part s = record { said_now = s.says; ever = s.ever }
 
   -- all that is said by a stage is a beginning of it
-  some_of : (by : Stage) (items : List (List ℕ)) → SaidBy does Fits item version by items → SaidSome does Fits item version items
+  some_of : (by : Stage) (items : List (List ℕ)) → SaidBy does Fits Wrong item version by items → SaidSome does Fits Wrong item version items
   some_of by items has = record { by = by; whole = items; said = has; begins = record { rest = []; are = sym (append-nil items) } }
 
-  none_more : (items : List (List ℕ)) → SaidSome does Fits item version items → SaidSome does Fits item version (items ++ [])
-  none_more items some = subst (SaidSome does Fits item version) (sym (append-nil items)) some
+  none_more : (items : List (List ℕ)) → SaidSome does Fits Wrong item version items → SaidSome does Fits Wrong item version (items ++ [])
+  none_more items some = subst (SaidSome does Fits Wrong item version) (sym (append-nil items)) some
 
   -- nothing is called
   says_none : (items : List (List ℕ)) (host after : HostState Object) → Is after → after.link ≡ host.link → Has items after → Says items host (silent after)
   unfolding items_given calls_made
-  says_none items host after is same has = record { is = is; made = same; says = λ e. subst (SaidBy does Fits item version after.stage) (sym (append-nil items)) (has.said_now e); ever = none_more items has.ever }
+  says_none items host after is same has = record { is = is; made = same; says = λ e. subst (SaidBy does Fits Wrong item version after.stage) (sym (append-nil items)) (has.said_now e); ever = none_more items has.ever }
 
-  says_closed : (items : List (List ℕ)) (host after : HostState Object) → Is after → after.link ≡ host.link → SaidSome does Fits item version items → Says items host (violating now after)
+  says_closed : (items : List (List ℕ)) (host after : HostState Object) → Is after → after.link ≡ host.link → SaidSome does Fits Wrong item version items → Says items host (violating now after)
   unfolding violating calls_made items_given
   says_closed items host after is same ever = record { is = record { items = is.items; version_is = is.version_is; fits = is.fits }; ever = none_more items ever; made = ap (λ (l : LinkState). (call_made now (Closes reason.State) l).link) same; says = λ e. absurd (false≢true (sym (close_closes now reason.State after.link) ∙ e)) }
 
@@ -180,11 +199,11 @@ module _ {Object : Type 0} (does : Behaviour Object) (many : TellsAsMany does) (
   -- ---- one item
 
   -- the version is answered
-  answer_says : (items : List (List ℕ)) (left asked : ℕ) (host : HostState Object) → Is host → host.stage ≡ stage.AwaitsCheck → Mid does many objects now (suc left) host → Has items host → Says items host (answering does now asked host)
+  answer_says : (items : List (List ℕ)) (left asked : ℕ) (host : HostState Object) → ((asked ≡ version → ⊥) → Wrong) → Is host → host.stage ≡ stage.AwaitsCheck → Mid does many objects now (suc left) host → Has items host → Says items host (answering does now asked host)
   unfolding answering
-  answer_says items left asked host is at mid has = choose (asked == host.version)
+  answer_says items left asked host tells is at mid has = choose (asked == host.version) refl
     where
-      one : (report : Report) (after : Stage) → ((list : List (List ℕ)) → list ≡ item report ∷ [] → SaidBy does Fits item version after list) → Says items host (at_stage after (posting now report host))
+      one : (report : Report) (after : Stage) → ((list : List (List ℕ)) → list ≡ item report ∷ [] → SaidBy does Fits Wrong item version after list) → Says items host (at_stage after (posting now report host))
       one report after enough = record {
         is = record { items = (posted_is report host is).items; version_is = (posted_is report host is).version_is; fits = (posted_is report host is).fits };
         ever = by_answer (is_ok (answer_to_send now host.link)) refl;
@@ -194,20 +213,24 @@ module _ {Object : Type 0} (does : Behaviour Object) (many : TellsAsMany does) (
             in let m = mid.midway opened
             in let unsaid = subst (λ (s : Stage). HostHasGiven objects s m.given) at m.gave
             in let ok = was_accepted does many objects now report host (m.taken + suc left) m.given e (omega (arith, unsaid)) (record { counts = m.counts; up = is_up_there does many objects now left host m })
-            in let none = subst (λ (s : Stage). SaidBy does Fits item version s items) at (has.said_now opened)
+            in let none = subst (λ (s : Stage). SaidBy does Fits Wrong item version s items) at (has.said_now opened)
             in enough (items ++ items_given now (posting now report host).calls host.link)
             (ap (λ (list : List (List ℕ)). list ++ items_given now (posting now report host).calls host.link) none ∙ one_item report host ok ∙ ap (λ (f : Report → List ℕ). f report ∷ []) is.items);
       }
         where
-          by_answer : (b : Bool) → is_ok (answer_to_send now host.link) ≡ b → SaidSome does Fits item version (items ++ items_given now (posting now report host).calls host.link)
+          by_answer : (b : Bool) → is_ok (answer_to_send now host.link) ≡ b → SaidSome does Fits Wrong item version (items ++ items_given now (posting now report host).calls host.link)
           by_answer true ok = some_of after (items ++ items_given now (posting now report host).calls host.link) (enough (items ++ items_given now (posting now report host).calls host.link)
-              (ap (λ (list : List (List ℕ)). list ++ items_given now (posting now report host).calls host.link) (subst (λ (s : Stage). SaidBy does Fits item version s items) at (has.said_now (ok_open now host.link ok)))
+              (ap (λ (list : List (List ℕ)). list ++ items_given now (posting now report host).calls host.link) (subst (λ (s : Stage). SaidBy does Fits Wrong item version s items) at (has.said_now (ok_open now host.link ok)))
               ∙ one_item report host ok ∙ ap (λ (f : Report → List ℕ). f report ∷ []) is.items))
-          by_answer false denied = subst (λ (list : List (List ℕ)). SaidSome does Fits item version (items ++ list)) (sym (no_item report host denied)) (none_more items has.ever)
+          by_answer false denied = subst (λ (list : List (List ℕ)). SaidSome does Fits Wrong item version (items ++ list)) (sym (no_item report host denied)) (none_more items has.ever)
 
-      choose : (b : Bool) → Says items host (if b then at_stage stage.AwaitsRequest (posting now (said does (VersionAnswer Match host.version)) host) else at_stage stage.Refused (posting now (said does (VersionAnswer NoMatch host.version)) host))
-      choose true = one (said does (VersionAnswer Match host.version)) stage.AwaitsRequest (λ list e. e ∙ ap (λ (n : ℕ). item (said does (VersionAnswer Match n)) ∷ []) is.version_is)
-      choose false = one (said does (VersionAnswer NoMatch host.version)) stage.Refused (λ list e. e ∙ ap (λ (n : ℕ). item (said does (VersionAnswer NoMatch n)) ∷ []) is.version_is)
+      yes : (a b : ℕ) → a ≡ b → (a == b) ≡ true
+      yes a b e = grind (arith, nat_tests)
+
+      choose : (b : Bool) → (asked == host.version) ≡ b → Says items host (if b then at_stage stage.AwaitsRequest (posting now (said does (VersionAnswer Match host.version)) host) else at_stage stage.Refused (posting now (said does (VersionAnswer NoMatch host.version)) host))
+      choose true e = one (said does (VersionAnswer Match host.version)) stage.AwaitsRequest (λ list f. f ∙ ap (λ (n : ℕ). item (said does (VersionAnswer Match n)) ∷ []) is.version_is)
+      choose false e = one (said does (VersionAnswer NoMatch host.version)) stage.Refused
+          (λ list f. (tells (λ same. false≢true (sym e ∙ yes asked host.version (same ∙ sym is.version_is))), f ∙ ap (λ (n : ℕ). item (said does (VersionAnswer NoMatch n)) ∷ []) is.version_is))
 
   -- the initialisation
   initialisation_says : (items : List (List ℕ)) (left : ℕ) (host : HostState Object) → Is host → host.stage ≡ stage.AwaitsRequest → Mid does many objects now (suc left) host → Has items host → Says items host (initialising does now host)
@@ -229,7 +252,7 @@ module _ {Object : Type 0} (does : Behaviour Object) (many : TellsAsMany does) (
         in let first = post_one does many objects now start host (m.taken + suc left) m.given open_one (omega (arith, gave)) begins_so
         in let states = post_all does many objects now status one (m.taken + suc left) (m.given + 1) open_two (omega (arith, gave, few)) first
         in let last_ok = was_accepted does many objects now completed two (m.taken + suc left) ((m.given + 1) + length status) e (omega (arith, gave, few)) states
-        in let answered = subst (λ (s : Stage). SaidBy does Fits item version s items) at (has.said_now opened)
+        in let answered = subst (λ (s : Stage). SaidBy does Fits Wrong item version s items) at (has.said_now opened)
         in record {
           object = one.object;
           fits = one_is.fits;
@@ -283,7 +306,7 @@ module _ {Object : Type 0} (does : Behaviour Object) (many : TellsAsMany does) (
       first_of_it : Begins (items_given now made_calls host.link) (map item (initialisation does one.object))
       first_of_it = subst (λ (cs : List LinkCall). Begins (items_given now cs host.link) (map item (initialisation does one.object))) (sym calls_are) (first_given now (map item (initialisation does one.object)) host.link)
 
-      by_open : (b : Bool) → is_open host.link.phase ≡ b → SaidSome does Fits item version (items ++ items_given now made_calls host.link)
+      by_open : (b : Bool) → is_open host.link.phase ≡ b → SaidSome does Fits Wrong item version (items ++ items_given now made_calls host.link)
       by_open true e = record {
         by = stage.Completed;
         whole = answer ∷ (map item (initialisation does one.object) ++ []);
@@ -291,10 +314,10 @@ module _ {Object : Type 0} (does : Behaviour Object) (many : TellsAsMany does) (
         begins = record {
           rest = first_of_it.rest;
           are = ap (λ (list : List (List ℕ)). answer ∷ list) (append-nil (map item (initialisation does one.object)) ∙ first_of_it.are)
-              ∙ ap (λ (list : List (List ℕ)). (list ++ items_given now made_calls host.link) ++ first_of_it.rest) (sym (subst (λ (s : Stage). SaidBy does Fits item version s items) at (has.said_now e)));
+              ∙ ap (λ (list : List (List ℕ)). (list ++ items_given now made_calls host.link) ++ first_of_it.rest) (sym (subst (λ (s : Stage). SaidBy does Fits Wrong item version s items) at (has.said_now e)));
         };
       }
-      by_open false e = subst (λ (list : List (List ℕ)). SaidSome does Fits item version (items ++ list))
+      by_open false e = subst (λ (list : List (List ℕ)). SaidSome does Fits Wrong item version (items ++ list))
           (sym (ap (λ (cs : List LinkCall). items_given now cs host.link) calls_are ∙ shut_gives now (map item (initialisation does one.object)) host.link e)) (none_more items has.ever)
 
       map_push : (list : List Report) (report : Report) → map item list ++ item report ∷ [] ≡ map item (list ++ report ∷ [])
@@ -343,41 +366,41 @@ module _ {Object : Type 0} (does : Behaviour Object) (many : TellsAsMany does) (
   by_stages items taken telegram stage.AwaitsRequest host at in_version is has = closes items host is has
   by_stages items taken telegram stage.Refused host at in_version is has = closes items host is has
 
-  follow_says : (items : List (List ℕ)) (left : ℕ) (taken : List ℕ) (telegram : Telegram) (what : Message) (how_far : Stage) (host : HostState Object) → host.stage ≡ how_far → is_in_version version telegram.message ≡ true → Is host → Mid does many objects now (suc left) host → Has items host
+  follow_says : (items : List (List ℕ)) (left : ℕ) (taken : List ℕ) (telegram : Telegram) (what : Message) (how_far : Stage) (host : HostState Object) → TellsWrong Wrong version what → host.stage ≡ how_far → is_in_version version telegram.message ≡ true → Is host → Mid does many objects now (suc left) host → Has items host
       → Says items host (following does now taken telegram (meaning what how_far) host)
   unfolding following
-  follow_says items left taken telegram (message.Initialisation protocol (VersionCheck asked)) stage.AwaitsCheck host at in_version is mid has = says_from items host _ _ (answering does now asked host) (answer_says items left asked host is at mid has)
-  follow_says items left taken telegram (message.Initialisation protocol (VersionCheck asked)) stage.Outside host at in_version is mid has = closes items host is has
-  follow_says items left taken telegram (message.Initialisation protocol (VersionCheck asked)) stage.AwaitsRequest host at in_version is mid has = closes items host is has
-  follow_says items left taken telegram (message.Initialisation protocol (VersionCheck asked)) stage.Completed host at in_version is mid has = closes items host is has
-  follow_says items left taken telegram (message.Initialisation protocol (VersionCheck asked)) stage.Refused host at in_version is mid has = closes items host is has
-  follow_says items left taken telegram (message.Initialisation protocol InitialisationRequest) stage.AwaitsRequest host at in_version is mid has = says_from items host _ _ (initialising does now host) (initialisation_says items left host is at mid has)
-  follow_says items left taken telegram (message.Initialisation protocol InitialisationRequest) stage.Outside host at in_version is mid has = closes items host is has
-  follow_says items left taken telegram (message.Initialisation protocol InitialisationRequest) stage.AwaitsCheck host at in_version is mid has = closes items host is has
-  follow_says items left taken telegram (message.Initialisation protocol InitialisationRequest) stage.Completed host at in_version is mid has = closes items host is has
-  follow_says items left taken telegram (message.Initialisation protocol InitialisationRequest) stage.Refused host at in_version is mid has = closes items host is has
-  follow_says items left taken telegram (message.Initialisation protocol StartInitialisation) how_far host at in_version is mid has = closes items host is has
-  follow_says items left taken telegram (message.Initialisation protocol InitialisationCompleted) how_far host at in_version is mid has = closes items host is has
-  follow_says items left taken telegram (message.Initialisation protocol (VersionAnswer agreement told)) how_far host at in_version is mid has = closes items host is has
-  follow_says items left taken telegram (message.Point what) how_far host at in_version is mid has = by_stages items taken telegram how_far host at in_version is has
-  follow_says items left taken telegram (message.Signal what) how_far host at in_version is mid has = by_stages items taken telegram how_far host at in_version is has
-  follow_says items left taken telegram (message.Detection what) how_far host at in_version is mid has = by_stages items taken telegram how_far host at in_version is has
+  follow_says items left taken telegram (message.Initialisation protocol (VersionCheck asked)) stage.AwaitsCheck host tells at in_version is mid has = says_from items host _ _ (answering does now asked host) (answer_says items left asked host (tells protocol asked refl) is at mid has)
+  follow_says items left taken telegram (message.Initialisation protocol (VersionCheck asked)) stage.Outside host tells at in_version is mid has = closes items host is has
+  follow_says items left taken telegram (message.Initialisation protocol (VersionCheck asked)) stage.AwaitsRequest host tells at in_version is mid has = closes items host is has
+  follow_says items left taken telegram (message.Initialisation protocol (VersionCheck asked)) stage.Completed host tells at in_version is mid has = closes items host is has
+  follow_says items left taken telegram (message.Initialisation protocol (VersionCheck asked)) stage.Refused host tells at in_version is mid has = closes items host is has
+  follow_says items left taken telegram (message.Initialisation protocol InitialisationRequest) stage.AwaitsRequest host tells at in_version is mid has = says_from items host _ _ (initialising does now host) (initialisation_says items left host is at mid has)
+  follow_says items left taken telegram (message.Initialisation protocol InitialisationRequest) stage.Outside host tells at in_version is mid has = closes items host is has
+  follow_says items left taken telegram (message.Initialisation protocol InitialisationRequest) stage.AwaitsCheck host tells at in_version is mid has = closes items host is has
+  follow_says items left taken telegram (message.Initialisation protocol InitialisationRequest) stage.Completed host tells at in_version is mid has = closes items host is has
+  follow_says items left taken telegram (message.Initialisation protocol InitialisationRequest) stage.Refused host tells at in_version is mid has = closes items host is has
+  follow_says items left taken telegram (message.Initialisation protocol StartInitialisation) how_far host tells at in_version is mid has = closes items host is has
+  follow_says items left taken telegram (message.Initialisation protocol InitialisationCompleted) how_far host tells at in_version is mid has = closes items host is has
+  follow_says items left taken telegram (message.Initialisation protocol (VersionAnswer agreement told)) how_far host tells at in_version is mid has = closes items host is has
+  follow_says items left taken telegram (message.Point what) how_far host tells at in_version is mid has = by_stages items taken telegram how_far host at in_version is has
+  follow_says items left taken telegram (message.Signal what) how_far host tells at in_version is mid has = by_stages items taken telegram how_far host at in_version is has
+  follow_says items left taken telegram (message.Detection what) how_far host tells at in_version is mid has = by_stages items taken telegram how_far host at in_version is has
 
-  act_says : (items : List (List ℕ)) (left : ℕ) (taken : List ℕ) (read : Result Telegram SciFault) (host : HostState Object) → Is host → Mid does many objects now (suc left) host → Has items host → Says items host (acting does now taken read host)
+  act_says : (items : List (List ℕ)) (left : ℕ) (taken : List ℕ) (read : Result Telegram SciFault) (host : HostState Object) → ItemTells Wrong version read → Is host → Mid does many objects now (suc left) host → Has items host → Says items host (acting does now taken read host)
   unfolding acting
-  act_says items left taken (Err fault) host is mid has = closes items host is has
-  act_says items left taken (Ok telegram) host is mid has = choose (is_admitted does telegram host) refl
+  act_says items left taken (Err fault) host tells is mid has = closes items host is has
+  act_says items left taken (Ok telegram) host tells is mid has = choose (is_admitted does telegram host) refl
     where
       choose : (b : Bool) → is_admitted does telegram host ≡ b → Says items host (if b then following does now taken telegram (meaning telegram.message host.stage) host else violating now host)
-      choose true e = follow_says items left taken telegram telegram.message host.stage host refl (ap (λ (v : ℕ). is_in_version v telegram.message) (sym is.version_is) ∙ both_of (is_from_peer does telegram host) (is_in_version host.version telegram.message) e) is mid has
+      choose true e = follow_says items left taken telegram telegram.message host.stage host tells refl (ap (λ (v : ℕ). is_in_version v telegram.message) (sym is.version_is) ∙ both_of (is_from_peer does telegram host) (is_in_version host.version telegram.message) e) is mid has
       choose false e = closes items host is has
 
-  all_say : (items : List (List ℕ)) (came : List (List ℕ)) (host : HostState Object) → Is host → Mid does many objects now (length came) host → Has items host → Says items host (acting_all does now came host)
+  all_say : (items : List (List ℕ)) (came : List (List ℕ)) (host : HostState Object) → AllTell Wrong version came → Is host → Mid does many objects now (length came) host → Has items host → Says items host (acting_all does now came host)
   unfolding acting_all
-  all_say items [] host is mid has = says_none items host host is refl has
-  all_say items (one ∷ others) host is mid has = choose (is_open host.link.phase)
-      (let first = act_says items (length others) one (reading one) host is mid has in says_then items host (acting does now one (reading one) host) (acting_all does now others) first
-      (all_say (items ++ items_given now (acting does now one (reading one) host).calls host.link) others (acting does now one (reading one) host).host first.is (acts does many objects now (length others) one (reading one) host mid) (has_of items host (acting does now one (reading one) host) first)))
+  all_say items [] host tells is mid has = says_none items host host is refl has
+  all_say items (one ∷ others) host tells is mid has = choose (is_open host.link.phase)
+      (let first = act_says items (length others) one (reading one) host tells.0 is mid has in says_then items host (acting does now one (reading one) host) (acting_all does now others) first
+      (all_say (items ++ items_given now (acting does now one (reading one) host).calls host.link) others (acting does now one (reading one) host).host tells.1 first.is (acts does many objects now (length others) one (reading one) host mid) (has_of items host (acting does now one (reading one) host) first)))
     where
       choose : (b : Bool) → Says items host (then_do (acting does now one (reading one) host) (acting_all does now others)) → Says items host (if b then then_do (acting does now one (reading one) host) (acting_all does now others) else silent host)
       choose true so = so
@@ -385,12 +408,12 @@ module _ {Object : Type 0} (does : Behaviour Object) (many : TellsAsMany does) (
 
   -- ---- what comes
 
-  risen_has : (items : List (List ℕ)) (host : HostState Object) → SaidBy does Fits item version host.stage items → SaidBy does Fits item version (risen host).stage items
+  risen_has : (items : List (List ℕ)) (host : HostState Object) → SaidBy does Fits Wrong item version host.stage items → SaidBy does Fits Wrong item version (risen host).stage items
   unfolding risen
   risen_has items host has = at_stages host.stage refl (is_open host.link.phase)
     where
-      at_stages : (s : Stage) → host.stage ≡ s → (b : Bool) → SaidBy does Fits item version (if is_outside s && b then record host { stage = stage.AwaitsCheck } else host).stage items
-      at_stages stage.Outside e true = subst (λ (s : Stage). SaidBy does Fits item version s items) e has
+      at_stages : (s : Stage) → host.stage ≡ s → (b : Bool) → SaidBy does Fits Wrong item version (if is_outside s && b then record host { stage = stage.AwaitsCheck } else host).stage items
+      at_stages stage.Outside e true = subst (λ (s : Stage). SaidBy does Fits Wrong item version s items) e has
       at_stages stage.Outside e false = has
       at_stages stage.AwaitsCheck e b = has
       at_stages stage.AwaitsRequest e b = has
@@ -412,7 +435,7 @@ module _ {Object : Type 0} (does : Behaviour Object) (many : TellsAsMany does) (
     is = risen_is came (record { items = is.items; version_is = is.version_is; fits = is.fits });
     made = same_link came;
     ever = none_more (given_before (is_open host.link.phase) items) (ever_before (is_open host.link.phase));
-    says = λ e. subst (SaidBy does Fits item version (risen came).stage) (sym (append-nil (given_before (is_open host.link.phase) items))) (risen_has (given_before (is_open host.link.phase) items) came (by_open (is_open host.link.phase) refl));
+    says = λ e. subst (SaidBy does Fits Wrong item version (risen came).stage) (sym (append-nil (given_before (is_open host.link.phase) items))) (risen_has (given_before (is_open host.link.phase) items) came (by_open (is_open host.link.phase) refl));
   }
     where
       came : HostState Object
@@ -421,38 +444,38 @@ module _ {Object : Type 0} (does : Behaviour Object) (many : TellsAsMany does) (
       same_link : (h : HostState Object) → (risen h).link ≡ h.link
       same_link h = (risen_same does many objects now h).link
 
-      by_open : (b : Bool) → is_open host.link.phase ≡ b → SaidBy does Fits item version host.stage (given_before b items)
+      by_open : (b : Bool) → is_open host.link.phase ≡ b → SaidBy does Fits Wrong item version host.stage (given_before b items)
       by_open true e = has.said_now e
-      by_open false e = subst (λ (s : Stage). SaidBy does Fits item version s []) (sym (begun.outside e)) refl
+      by_open false e = subst (λ (s : Stage). SaidBy does Fits Wrong item version s []) (sym (begun.outside e)) refl
 
-      ever_before : (b : Bool) → SaidSome does Fits item version (given_before b items)
+      ever_before : (b : Bool) → SaidSome does Fits Wrong item version (given_before b items)
       ever_before true = has.ever
       ever_before false = some_of stage.Outside [] refl
 
-  hear_says : (items : List (List ℕ)) (bytes : List ℕ) (host : HostState Object) → Begun does many objects now host → Is host → Has items host → Says (given_before (is_open host.link.phase) items) host (hearing does now bytes host)
+  hear_says : (items : List (List ℕ)) (bytes : List ℕ) (host : HostState Object) → AllTell Wrong version (receiving now bytes host.link).items → Begun does many objects now host → Is host → Has items host → Says (given_before (is_open host.link.phase) items) host (hearing does now bytes host)
   unfolding hearing
-  hear_says items bytes host begun is has =
+  hear_says items bytes host tells begun is has =
       let first = came_says items bytes host begun is has
       in let receipt = receiving now bytes host.link
       in let old = given_before (is_open host.link.phase) items
       in says_then old host (received now bytes receipt host) (acting_all does now receipt.items) first
-      (all_say (old ++ items_given now (received now bytes receipt host).calls host.link) receipt.items (received now bytes receipt host).host first.is (comes does many objects now bytes host begun) (has_of old host (received now bytes receipt host) first))
+      (all_say (old ++ items_given now (received now bytes receipt host).calls host.link) receipt.items (received now bytes receipt host).host tells first.is (comes does many objects now bytes host begun) (has_of old host (received now bytes receipt host) first))
 
   had : (items : List (List ℕ)) (host : HostState Object) → Has items host → Has (given_before (is_open host.link.phase) items) host
   had items host has = record {
-    said_now = λ e. subst (λ (b : Bool). SaidBy does Fits item version host.stage (given_before b items)) (sym e) (has.said_now e);
+    said_now = λ e. subst (λ (b : Bool). SaidBy does Fits Wrong item version host.stage (given_before b items)) (sym e) (has.said_now e);
     ever = by_open (is_open host.link.phase);
   }
     where
-      by_open : (b : Bool) → SaidSome does Fits item version (given_before b items)
+      by_open : (b : Bool) → SaidSome does Fits Wrong item version (given_before b items)
       by_open true = has.ever
       by_open false = some_of stage.Outside [] refl
 
-  given_says : (items : List (List ℕ)) (input : Input) (host : HostState Object) → Begun does many objects now host → Is host → Has items host → Says (given_before (is_open host.link.phase) items) host (given_in does now input host)
+  given_says : (items : List (List ℕ)) (input : Input) (host : HostState Object) → InputTells Wrong version now input host.link → Begun does many objects now host → Is host → Has items host → Says (given_before (is_open host.link.phase) items) host (given_in does now input host)
   unfolding given_in
-  given_says items inputs.Tick host begun is has = says_none (given_before (is_open host.link.phase) items) host host is refl (had items host has)
-  given_says items (inputs.Datagram bytes) host begun is has = hear_says items bytes.now host begun is has
-  given_says items (inputs.Sense sense) host begun is has = says_none (given_before (is_open host.link.phase) items) host (record host { object = does.after_sense now sense host.object }) (record { items = is.items; version_is = is.version_is; fits = keep.senses now sense host.object is.fits }) refl (let h = had items host has in record { said_now = h.said_now; ever = h.ever })
+  given_says items inputs.Tick host tells begun is has = says_none (given_before (is_open host.link.phase) items) host host is refl (had items host has)
+  given_says items (inputs.Datagram bytes) host tells begun is has = hear_says items bytes.now host tells begun is has
+  given_says items (inputs.Sense sense) host tells begun is has = says_none (given_before (is_open host.link.phase) items) host (record host { object = does.after_sense now sense host.object }) (record { items = is.items; version_is = is.version_is; fits = keep.senses now sense host.object is.fits }) refl (let h = had items host has in record { said_now = h.said_now; ever = h.ever })
 
   -- ---- what is owed
 
@@ -478,16 +501,16 @@ module _ {Object : Type 0} (does : Behaviour Object) (many : TellsAsMany does) (
             ∙ ap (λ (list : List (List ℕ)). map item (initialisation does said_so.object) ++ list) (sym (map_both item said_so.reports (report ∷ []))));
       }
 
-      by_stage : (s : Stage) → is_completed s ≡ true → SaidBy does Fits item version s items → SaidBy does Fits item version s (items ++ ((if is_ok (answer_to_send now host.link) then item_of host report ∷ [] else []) ++ []))
+      by_stage : (s : Stage) → is_completed s ≡ true → SaidBy does Fits Wrong item version s items → SaidBy does Fits Wrong item version s (items ++ ((if is_ok (answer_to_send now host.link) then item_of host report ∷ [] else []) ++ []))
       by_stage stage.Completed e said_so = more said_so (is_ok (answer_to_send now host.link))
       by_stage stage.Outside e said_so = absurd (false≢true e)
       by_stage stage.AwaitsCheck e said_so = absurd (false≢true e)
       by_stage stage.AwaitsRequest e said_so = absurd (false≢true e)
       by_stage stage.Refused e said_so = absurd (false≢true e)
 
-      by_answer : (b : Bool) → is_ok (answer_to_send now host.link) ≡ b → SaidSome does Fits item version (items ++ ((if is_ok (answer_to_send now host.link) then item_of host report ∷ [] else []) ++ []))
+      by_answer : (b : Bool) → is_ok (answer_to_send now host.link) ≡ b → SaidSome does Fits Wrong item version (items ++ ((if is_ok (answer_to_send now host.link) then item_of host report ∷ [] else []) ++ []))
       by_answer true ok = some_of host.stage (items ++ ((if is_ok (answer_to_send now host.link) then item_of host report ∷ [] else []) ++ [])) (by_stage host.stage done (has.said_now (ok_open now host.link ok)))
-      by_answer false denied = subst (λ (b : Bool). SaidSome does Fits item version (items ++ ((if b then item_of host report ∷ [] else []) ++ []))) (sym denied) (none_more items has.ever)
+      by_answer false denied = subst (λ (b : Bool). SaidSome does Fits Wrong item version (items ++ ((if b then item_of host report ∷ [] else []) ++ []))) (sym denied) (none_more items has.ever)
 
   first_says : (items : List (List ℕ)) (report : Option Report) (host : HostState Object) → does.owed host.object ≡ report → Is host → Has items host → Says items host (paying_first does now report host)
   first_says items None host owes is has = says_none items host host is refl has
@@ -521,7 +544,7 @@ module _ {Object : Type 0} (does : Behaviour Object) (many : TellsAsMany does) (
   beat_says items inputs.Tick host is has = record {
     is = record { items = is.items; version_is = is.version_is; fits = is.fits };
     made = refl;
-    says = λ e. subst (SaidBy does Fits item version host.stage) (sym (append-nil items)) (has.said_now (tick_was_open now host.link e).1);
+    says = λ e. subst (SaidBy does Fits Wrong item version host.stage) (sym (append-nil items)) (has.said_now (tick_was_open now host.link e).1);
     ever = none_more items has.ever;
   }
   beat_says items (inputs.Datagram bytes) host is has = says_none items host host is refl has
@@ -568,19 +591,19 @@ module _ {Object : Type 0} (does : Behaviour Object) (many : TellsAsMany does) (
 
   -- what a step says
   pub record StepSays (items : List (List ℕ)) (input : Input) (host : HostState Object) : Type 0 where
-    pub says : is_open (host_step does now input host).host.link.phase ≡ true → SaidBy does Fits item version (host_step does now input host).host.stage
+    pub says : is_open (host_step does now input host).host.link.phase ≡ true → SaidBy does Fits Wrong item version (host_step does now input host).host.stage
         (given_before (is_open (settled now host.link).phase) items ++ items_given now (host_step does now input host).calls (settled now host.link))
-    pub ever : SaidSome does Fits item version (given_before (is_open (settled now host.link).phase) items ++ items_given now (host_step does now input host).calls (settled now host.link))
+    pub ever : SaidSome does Fits Wrong item version (given_before (is_open (settled now host.link).phase) items ++ items_given now (host_step does now input host).calls (settled now host.link))
 
-  pub step_says_both : (items : List (List ℕ)) (input : Input) (host : HostState Object) → HostStandsByCounts does objects host → item_of host ≡ item → host.version ≡ version → Fits host.object
-      → (is_open (settled now host.link).phase ≡ true → SaidBy does Fits item version host.stage items) → SaidSome does Fits item version items → StepSays items input host
+  pub step_says_both : (items : List (List ℕ)) (input : Input) (host : HostState Object) → InputTells Wrong version now input (settled now host.link) → HostStandsByCounts does objects host → item_of host ≡ item → host.version ≡ version → Fits host.object
+      → (is_open (settled now host.link).phase ≡ true → SaidBy does Fits Wrong item version host.stage items) → SaidSome does Fits Wrong item version items → StepSays items input host
   unfolding host_step
-  step_says_both items input host stands named spoken fits has ever = record {
+  step_says_both items input host tells stands named spoken fits has ever = record {
     says = λ e.
         let open_done = ap (λ (l : LinkState). is_open l.phase) (sym (ended done.host).link) ∙ e
-        in subst (λ (s : Stage). SaidBy does Fits item version s (given_before (is_open (settled now host.link).phase) items ++ items_given now done.calls (settled now host.link))) (sym ((ended done.host).stage_is open_done))
-        (subst (λ (l : LinkState). SaidBy does Fits item version done.host.stage (given_before (is_open l.phase) items ++ items_given now done.calls l)) b.link (all.says open_done));
-    ever = subst (λ (l : LinkState). SaidSome does Fits item version (given_before (is_open l.phase) items ++ items_given now done.calls l)) b.link all.ever;
+        in subst (λ (s : Stage). SaidBy does Fits Wrong item version s (given_before (is_open (settled now host.link).phase) items ++ items_given now done.calls (settled now host.link))) (sym ((ended done.host).stage_is open_done))
+        (subst (λ (l : LinkState). SaidBy does Fits Wrong item version done.host.stage (given_before (is_open l.phase) items ++ items_given now done.calls l)) b.link (all.says open_done));
+    ever = subst (λ (l : LinkState). SaidSome does Fits Wrong item version (given_before (is_open l.phase) items ++ items_given now done.calls l)) b.link all.ever;
   }
     where
       first : HostState Object
@@ -597,7 +620,7 @@ module _ {Object : Type 0} (does : Behaviour Object) (many : TellsAsMany does) (
 
       first_has : Has items first
       first_has = record {
-        said_now = λ f. let g = ap (λ (l : LinkState). is_open l.phase) (sym b.link) ∙ f in subst (λ (s : Stage). SaidBy does Fits item version s items) (sym (b.stage_is g)) (has g);
+        said_now = λ f. let g = ap (λ (l : LinkState). is_open l.phase) (sym b.link) ∙ f in subst (λ (s : Stage). SaidBy does Fits Wrong item version s items) (sym (b.stage_is g)) (has g);
         ever = ever;
       }
 
@@ -608,7 +631,7 @@ module _ {Object : Type 0} (does : Behaviour Object) (many : TellsAsMany does) (
       heard = given_in does now input first
 
       heard_says : Says old first heard
-      heard_says = given_says items input first (begins does many objects now host stands) first_is first_has
+      heard_says = given_says items input first (subst (InputTells Wrong version now input) (sym b.link) tells) (begins does many objects now host stands) first_is first_has
 
       told_so : HostSoFar Object
       told_so = then_do heard (paying does now most_owed)
@@ -622,6 +645,18 @@ module _ {Object : Type 0} (does : Behaviour Object) (many : TellsAsMany does) (
       all : Says old first done
       all = says_then old first told_so (beating now input) told_says (beat_says (old ++ items_given now told_so.calls first.link) input told_so.host told_says.is (has_of old first told_so told_says))
 
+-- where a wrong version was asked once, it was asked
+module _ {Object : Type 0} (does : Behaviour Object) (Fits : Object → Type 0) (item : Report → List ℕ) (version : ℕ) (One Other : Type 0) (leads : One → Other) where
+  pub said_still : (by : Stage) (items : List (List ℕ)) → SaidBy does Fits One item version by items → SaidBy does Fits Other item version by items
+  said_still stage.Outside items e = e
+  said_still stage.AwaitsCheck items e = e
+  said_still stage.AwaitsRequest items e = e
+  said_still stage.Completed items all = all
+  said_still stage.Refused items (wrong, e) = (leads wrong, e)
+
+  pub some_still : (items : List (List ℕ)) → SaidSome does Fits One item version items → SaidSome does Fits Other item version items
+  some_still items some = record { by = some.by; whole = some.whole; said = said_still some.by some.whole some.said; begins = some.begins }
+
 -- ---- of any object
 
 module _ {Object : Type 0} (does : Behaviour Object) (item : Report → List ℕ) (version : ℕ) where
@@ -632,7 +667,7 @@ module _ {Object : Type 0} (does : Behaviour Object) (item : Report → List ℕ
   any_keeps = record { takes = λ now telegram object e is. tt; ticks = λ now object is. tt; senses = λ now contact object is. tt; keeps = λ moment object is. tt; pays = λ object is. tt; loses = λ object is. tt }
 
   -- the object is left open
-  pub as_said : (Fits : Object → Type 0) (s : Stage) (items : List (List ℕ)) → SaidBy does Fits item version s items → HostHasSaid does item version s items
+  pub as_said : (Fits : Object → Type 0) (s : Stage) (items : List (List ℕ)) → SaidBy does Fits (Unit {0}) item version s items → HostHasSaid does item version s items
   as_said Fits stage.Outside items e = e
   as_said Fits stage.AwaitsCheck items e = e
   as_said Fits stage.AwaitsRequest items e = e
@@ -641,9 +676,9 @@ module _ {Object : Type 0} (does : Behaviour Object) (item : Report → List ℕ
       each_owed : (reports : List Report) → Each (OwedFit does Fits) reports → Each (IsOwed does) reports
       each_owed [] each = tt
       each_owed (first ∷ others) each = (record { object = each.0.object; owes = each.0.owes }, each_owed others each.1)
-  as_said Fits stage.Refused items e = e
+  as_said Fits stage.Refused items (wrong, e) = e
 
-  said_as : (s : Stage) (items : List (List ℕ)) → HostHasSaid does item version s items → SaidBy does Any item version s items
+  said_as : (s : Stage) (items : List (List ℕ)) → HostHasSaid does item version s items → SaidBy does Any (Unit {0}) item version s items
   said_as stage.Outside items e = e
   said_as stage.AwaitsCheck items e = e
   said_as stage.AwaitsRequest items e = e
@@ -652,23 +687,36 @@ module _ {Object : Type 0} (does : Behaviour Object) (item : Report → List ℕ
       each_owed : (reports : List Report) → Each (IsOwed does) reports → Each (OwedFit does Any) reports
       each_owed [] each = tt
       each_owed (first ∷ others) each = (record { object = each.0.object; fits = tt; owes = each.0.owes }, each_owed others each.1)
-  said_as stage.Refused items e = e
+  said_as stage.Refused items e = (tt, e)
 
   pub step_says : (many : TellsAsMany does) (objects now : ℕ) (items : List (List ℕ)) (input : Input) (host : HostState Object) → HostStandsByCounts does objects host → item_of host ≡ item → host.version ≡ version
       → (is_open (settled now host.link).phase ≡ true → HostHasSaid does item version host.stage items) → is_open (host_step does now input host).host.link.phase ≡ true
       → HostHasSaid does item version (host_step does now input host).host.stage (given_before (is_open (settled now host.link).phase) items ++ items_given now (host_step does now input host).calls (settled now host.link))
   step_says many objects now items input host stands named spoken has e = as_said Any _ _ (by_open (is_open (settled now host.link).phase) refl)
     where
-      none_said : SaidBy does Any item version stage.Outside []
+      any_item : (read : Result Telegram SciFault) → ItemTells (Unit {0}) version read
+      any_item (Ok telegram) = λ protocol asked is other. tt
+      any_item (Err fault) = tt
+
+      any_items : (list : List (List ℕ)) → AllTell (Unit {0}) version list
+      any_items [] = tt
+      any_items (first ∷ others) = (any_item (reading first), any_items others)
+
+      any_tells : (link : LinkState) (i : Input) → InputTells (Unit {0}) version now i link
+      any_tells link inputs.Tick = tt
+      any_tells link (inputs.Datagram bytes) = any_items (receiving now bytes.now link).items
+      any_tells link (inputs.Sense sense) = tt
+
+      none_said : SaidBy does Any (Unit {0}) item version stage.Outside []
       none_said = refl
 
-      some : (b : Bool) → is_open (settled now host.link).phase ≡ b → SaidSome does Any item version (given_before b items)
+      some : (b : Bool) → is_open (settled now host.link).phase ≡ b → SaidSome does Any (Unit {0}) item version (given_before b items)
       some true f = record { by = host.stage; whole = items; said = said_as host.stage items (has f); begins = record { rest = []; are = sym (append-nil items) } }
       some false f = record { by = stage.Outside; whole = []; said = refl; begins = record { rest = []; are = refl } }
 
       by_open : (b : Bool) → is_open (settled now host.link).phase ≡ b
-          → SaidBy does Any item version (host_step does now input host).host.stage (given_before (is_open (settled now host.link).phase) items ++ items_given now (host_step does now input host).calls (settled now host.link))
-      by_open true f = (step_says_both does many objects now item version Any any_keeps items input host stands named spoken tt (λ g. said_as host.stage items (has g)) (some true f)).says e
-      by_open false f = subst (λ (b : Bool). SaidBy does Any item version (host_step does now input host).host.stage (given_before b items ++ items_given now (host_step does now input host).calls (settled now host.link))) (sym f)
-          (subst (λ (b : Bool). SaidBy does Any item version (host_step does now input host).host.stage (given_before b [] ++ items_given now (host_step does now input host).calls (settled now host.link))) f
-          ((step_says_both does many objects now item version Any any_keeps [] input host stands named spoken tt (λ g. absurd (false≢true (sym f ∙ g))) (record { by = stage.Outside; whole = []; said = none_said; begins = record { rest = []; are = refl } })).says e))
+          → SaidBy does Any (Unit {0}) item version (host_step does now input host).host.stage (given_before (is_open (settled now host.link).phase) items ++ items_given now (host_step does now input host).calls (settled now host.link))
+      by_open true f = (step_says_both does many objects now item version Any (Unit {0}) any_keeps items input host (any_tells (settled now host.link) input) stands named spoken tt (λ g. said_as host.stage items (has g)) (some true f)).says e
+      by_open false f = subst (λ (b : Bool). SaidBy does Any (Unit {0}) item version (host_step does now input host).host.stage (given_before b items ++ items_given now (host_step does now input host).calls (settled now host.link))) (sym f)
+          (subst (λ (b : Bool). SaidBy does Any (Unit {0}) item version (host_step does now input host).host.stage (given_before b [] ++ items_given now (host_step does now input host).calls (settled now host.link))) f
+          ((step_says_both does many objects now item version Any (Unit {0}) any_keeps [] input host (any_tells (settled now host.link) input) stands named spoken tt (λ g. absurd (false≢true (sym f ∙ g))) (record { by = stage.Outside; whole = []; said = none_said; begins = record { rest = []; are = refl } })).says e))

@@ -111,10 +111,10 @@ last_true false b e = absurd (false≢true e)
 
 -- What a step of a client keeps, with the calls made of its link so far: as it was before the step, with its link settled at the
 -- reading, and behind each part.
-pub record SoFarKeeps (now : ℕ) (Gives : ℕ → Aspect → Type 0) (Before : Node → ClientState → Type 0) (Clocked Holds : Node → ClientState → List LinkCall → Type 0) : Type 0 where
+pub record SoFarKeeps (now : ℕ) (Gives : ℕ → Aspect → Type 0) (Comes : List ℕ → Type 0) (Before : Node → ClientState → Type 0) (Clocked Holds : Node → ClientState → List LinkCall → Type 0) : Type 0 where
   pub clock : (node : Node) (client : ClientState) → Before node client → Clocked node (clocked now client) []
   pub weaker : (node : Node) (client : ClientState) (calls : List LinkCall) → Clocked node client calls → Holds node client calls
-  pub hears : (node : Node) (bytes : List ℕ) (client : ClientState) (outbox : OutboxState) (calls : List LinkCall) → Clocked node client calls
+  pub hears : (node : Node) (bytes : List ℕ) (client : ClientState) (outbox : OutboxState) (calls : List LinkCall) → Comes bytes → Clocked node client calls
       → Holds node (hearing now bytes (begun client outbox)).client (calls ++ (hearing now bytes (begun client outbox)).calls)
   pub aspects : (place : ℕ) (aspect : Aspect) (client : ClientState) (outbox : OutboxState) (calls : List LinkCall) → Gives place aspect → is_ready client.stage ≡ true → Holds (Signal place) client calls
       → Holds (Signal place) (commanding now (client_commands.Indicate aspect) (begun client outbox)).client (calls ++ (commanding now (client_commands.Indicate aspect) (begun client outbox)).calls)
@@ -123,7 +123,7 @@ pub record SoFarKeeps (now : ℕ) (Gives : ℕ → Aspect → Type 0) (Before : 
   pub ticks : (node : Node) (client : ClientState) (outbox : OutboxState) (calls : List LinkCall) → Holds node client calls
       → Holds node (ticking now (begun client outbox)).client (calls ++ (ticking now (begun client outbox)).calls)
 
-module _ (now : ℕ) (Gives : ℕ → Aspect → Type 0) (Before : Node → ClientState → Type 0) (Clocked Holds : Node → ClientState → List LinkCall → Type 0) (keep : SoFarKeeps now Gives Before Clocked Holds) where
+module _ (now : ℕ) (Gives : ℕ → Aspect → Type 0) (Comes : List ℕ → Type 0) (Before : Node → ClientState → Type 0) (Clocked Holds : Node → ClientState → List LinkCall → Type 0) (keep : SoFarKeeps now Gives Comes Before Clocked Holds) where
   -- every client, with the calls of its link
   pub record All (P : Node → ClientState → List LinkCall → Type 0) (part : StepSoFar) : Type 0 where
     pub signals : (place : ℕ) (known : KnownSignalState) → slice_get part.ixl.known_signals place ≡ Some known → P (Signal place) known.client (at_node (Signal place) part.calls)
@@ -361,23 +361,23 @@ module _ (now : ℕ) (Gives : ℕ → Aspect → Type 0) (Before : Node → Clie
       detectors = λ place known e. keep.weaker (Detector place) known.client (at_node (Detector place) part.calls) (all.detectors place known e);
     }
 
-    hearing_held : (bytes : List ℕ) (node : Node) (part : StepSoFar) → All Clocked part → Held (node_hearing now table bytes node part)
+    hearing_held : (bytes : List ℕ) (node : Node) (part : StepSoFar) → Comes bytes → All Clocked part → Held (node_hearing now table bytes node part)
     unfolding node_hearing known_signal_hearing known_point_hearing detector_hearing
-    hearing_held bytes (Signal place) part all = one_held (slice_get part.ixl.known_signals place) _ part (λ known e.
+    hearing_held bytes (Signal place) part comes all = one_held (slice_get part.ixl.known_signals place) _ part (λ known e.
         signal_set place _ (hearing now bytes (begun known.client part.outbox)) part
         (subst (λ (c : ClientState). Holds (Signal place) c (at_node (Signal place) part.calls ++ (hearing now bytes (begun known.client part.outbox)).calls)) (sym (signal_client _ _ _ _))
-        (keep.hears (Signal place) bytes known.client part.outbox (at_node (Signal place) part.calls) (all.signals place known e))) (weaker_all part all)) (weaker_all part all)
-    hearing_held bytes (Point place) part all = one_held (slice_get part.ixl.known_points place) _ part (λ known e.
+        (keep.hears (Signal place) bytes known.client part.outbox (at_node (Signal place) part.calls) comes (all.signals place known e))) (weaker_all part all)) (weaker_all part all)
+    hearing_held bytes (Point place) part comes all = one_held (slice_get part.ixl.known_points place) _ part (λ known e.
         point_set place _ (hearing now bytes (begun known.client part.outbox)) part
         (subst (λ (c : ClientState). Holds (Point place) c (at_node (Point place) part.calls ++ (hearing now bytes (begun known.client part.outbox)).calls)) (sym (point_client _ _ _))
-        (keep.hears (Point place) bytes known.client part.outbox (at_node (Point place) part.calls) (all.points place known e))) (weaker_all part all)) (weaker_all part all)
-    hearing_held bytes (Detector place) part all = one_held (slice_get table.detectors place) _ part (λ sections f. one_held (slice_get part.ixl.detectors place) _ part (λ known e.
+        (keep.hears (Point place) bytes known.client part.outbox (at_node (Point place) part.calls) comes (all.points place known e))) (weaker_all part all)) (weaker_all part all)
+    hearing_held bytes (Detector place) part comes all = one_held (slice_get table.detectors place) _ part (λ sections f. one_held (slice_get part.ixl.detectors place) _ part (λ known e.
         let done = hearing now bytes (begun known.client part.outbox)
         in let heard = with_detector place (detector_after (occupied_heard done.heard known.occupied) done.client) (noted (Detector place) done part)
         in along_held (looking table) looking_held (looks sections known done.heard done.client) heard
         (detector_set place (detector_after (occupied_heard done.heard known.occupied) done.client) done part
         (subst (λ (c : ClientState). Holds (Detector place) c (at_node (Detector place) part.calls ++ done.calls)) (sym (detector_client (occupied_heard done.heard known.occupied) done.client))
-        (keep.hears (Detector place) bytes known.client part.outbox (at_node (Detector place) part.calls) (all.detectors place known e))) (weaker_all part all)))
+        (keep.hears (Detector place) bytes known.client part.outbox (at_node (Detector place) part.calls) comes (all.detectors place known e))) (weaker_all part all)))
         (weaker_all part all)) (weaker_all part all)
 
     -- ---- the input
@@ -396,15 +396,15 @@ module _ (now : ℕ) (Gives : ℕ → Aspect → Type 0) (Before : Node → Clie
     commanded_held None command part all = obeyed_held command part all
     commanded_held (Some cause) command part all = record { signals = all.signals; points = all.points; detectors = all.detectors }
 
-    heard_at : (bytes : List ℕ) (found : Option Node) (part : StepSoFar) → All Clocked part → Held (with_one found (node_hearing now table bytes) part)
-    heard_at bytes None part all = weaker_all part all
-    heard_at bytes (Some node) part all = hearing_held bytes node part all
+    heard_at : (bytes : List ℕ) (found : Option Node) (part : StepSoFar) → Comes bytes → All Clocked part → Held (with_one found (node_hearing now table bytes) part)
+    heard_at bytes None part comes all = weaker_all part all
+    heard_at bytes (Some node) part comes all = hearing_held bytes node part comes all
 
-    given_held : (key : Key) (input : Input) (part : StepSoFar) → All Clocked part → Held (given now table key input part)
+    given_held : (key : Key) (input : Input) (part : StepSoFar) → ((bytes : List ℕ) → input ≡ Datagram bytes → Comes bytes) → All Clocked part → Held (given now table key input part)
     unfolding given
-    given_held key Tick part all = weaker_all part all
-    given_held key (Datagram bytes) part all = heard_at bytes (addressed (reading key bytes) part.ixl) part all
-    given_held key (Commands command) part all = commanded_held (refusal now table command part.ixl) command part (weaker_all part all)
+    given_held key Tick part comes all = weaker_all part all
+    given_held key (Datagram bytes) part comes all = heard_at bytes (addressed (reading key bytes) part.ixl) part (comes bytes refl) all
+    given_held key (Commands command) part comes all = commanded_held (refusal now table command part.ixl) command part (weaker_all part all)
 
     clocked_held : (part : StepSoFar) → part.calls ≡ [] → EachClient Before part.ixl → All Clocked (record part { ixl = all_clocked now part.ixl })
     unfolding all_clocked at_node
@@ -450,6 +450,6 @@ module _ (now : ℕ) (Gives : ℕ → Aspect → Type 0) (Before : Node → Clie
     ticked_held (Datagram bytes) part all = all
     ticked_held (Commands command) part all = all
 
-    pub step_held : (key : Key) (input : Input) (part : StepSoFar) → part.calls ≡ [] → EachClient Before part.ixl → Held (stepped now table key input part)
+    pub step_held : (key : Key) (input : Input) (part : StepSoFar) → ((bytes : List ℕ) → input ≡ Datagram bytes → Comes bytes) → part.calls ≡ [] → EachClient Before part.ixl → Held (stepped now table key input part)
     unfolding stepped
-    step_held key input part none all = ticked_held input _ (ruled_held _ (over_held (watching table) watching_held (count table) _ (given_held key input (record part { ixl = all_clocked now part.ixl }) (clocked_held part none all))))
+    step_held key input part comes none all = ticked_held input _ (ruled_held _ (over_held (watching table) watching_held (count table) _ (given_held key input (record part { ixl = all_clocked now part.ixl }) comes (clocked_held part none all))))

@@ -45,6 +45,7 @@ pub mod HostSaid
 pub mod HostWorld
 pub mod ControllerSaid
 pub mod ControllersOnLinks
+pub mod ControllerTells
 pub mod StationSaid
 pub mod AlwaysOnLinks
 pub mod AlwaysSaid
@@ -52,3 +53,4 @@ pub mod ClientTalk
 pub mod IxlSoFar
 pub mod StationTalk
 pub mod AlwaysTalked
+pub mod StationTells

@@ -26,7 +26,7 @@ use Rattle.simulator_run_links.specs.Events.{events_of}
 use Rattle.simulator_run_links.specs.Whole.{IsWhole}
 use Rattle.simulator_recovery.specs.Counts.{AllHaveSaid, AllStandByCounts, HostHasSaid, HostStandsByCounts, TellsAsMany, objects_told}
 use Rattle.simulator_recovery.proofs.ControllerSaid.{KindLaws, controller_said}
-use Rattle.simulator_recovery.proofs.ControllersOnLinks.{CallLaws, ControllersKeep, On, StepKeeps, held_after}
+use Rattle.simulator_recovery.proofs.ControllersOnLinks.{CallLaws, ControllersKeep, Lists, On, StepKeeps, held_after}
 use Rattle.simulator_recovery.proofs.HostLinks.{new_stands, step_stands}
 use Rattle.simulator_recovery.proofs.Lists.{at_place}
 use Rattle.simulator_recovery.proofs.Telling.{detectors_tell, points_tell, signals_tell}
@@ -43,10 +43,10 @@ unfolding new_host keeping created
 new_closed does identity own_name peer_name first now object version = refl
 
 -- a controller counts by its stage, and has given what this tells
-record Says {Object : Type 0} (does : Behaviour Object) (host : HostState Object) (items : List (List ℕ)) : Type 0 where
+record Says {Object : Type 0} (does : Behaviour Object) (host : HostState Object) (items : Lists) : Type 0 where
   objects : ℕ
   counts : HostStandsByCounts does objects host
-  said : is_open host.link.phase ≡ true → HostHasSaid does (item_of host) host.version host.stage items
+  said : is_open host.link.phase ≡ true → HostHasSaid does (item_of host) host.version host.stage items.given
 
 steps_say : {Object : Type 0} (does : Behaviour Object) → TellsAsMany does → KindLaws does → StepKeeps does (λ place. Says does)
 unfolding controller_after
@@ -56,7 +56,7 @@ steps_say does many kind input connection place c ends link_is clock_is s = reco
   said = controller_said does many s.objects kind input connection 0 c ends link_is clock_is s.counts s.said;
 }
 
-new_says : {Object : Type 0} (does : Behaviour Object) → TellsAsMany does → (identity : Identity) (own_name peer_name : List ℕ) (first now : ℕ) (object : Object) (version : ℕ) (items : List (List ℕ)) → Says does (new_host does identity own_name peer_name first now object version) items
+new_says : {Object : Type 0} (does : Behaviour Object) → TellsAsMany does → (identity : Identity) (own_name peer_name : List ℕ) (first now : ℕ) (object : Object) (version : ℕ) (items : Lists) → Says does (new_host does identity own_name peer_name first now object version) items
 new_says does many identity own_name peer_name first now object version items = record {
   objects = objects_told does object;
   counts = new_stands does many (objects_told does object) identity own_name peer_name first now object version refl;
@@ -64,13 +64,13 @@ new_says does many identity own_name peer_name first now object version items = 
 }
 
 module _ (laws : StationLaws) (site : Site) (table : Table) where
-  abbrev OfSignal : ℕ → HostState SignalState → List (List ℕ) → Type 0
+  abbrev OfSignal : ℕ → HostState SignalState → Lists → Type 0
   OfSignal place = Says signal_behaviour
 
-  abbrev OfPoint : ℕ → HostState PointState → List (List ℕ) → Type 0
+  abbrev OfPoint : ℕ → HostState PointState → Lists → Type 0
   OfPoint place = Says point_behaviour
 
-  abbrev OfDetector : ℕ → HostState (List Section) → List (List ℕ) → Type 0
+  abbrev OfDetector : ℕ → HostState (List Section) → Lists → Type 0
   OfDetector place = Says detection_behaviour
 
   keeps : ControllersKeep site OfSignal OfPoint OfDetector

@@ -430,11 +430,14 @@ module _ (laws : TalkLaws) (site : Site) (table : Table) (is_table : IsTableOf s
         (part (begins_here now connection site node h.peer h.of client.link _ _ client h.so.peer_is refl h.so.talks));
   }
 
-  keep : SoFarKeeps now Spoken Before Settled Holds
+  abbrev Any : List ℕ → Type 0
+  Any bytes = Unit {0}
+
+  keep : SoFarKeeps now Spoken Any Before Settled Holds
   keep = record {
     clock = clock;
     weaker = λ node client calls s. s.holds;
-    hears = λ node bytes client outbox calls s. goes_on node client (hearing now bytes (begun client outbox)).client calls (hearing now bytes (begun client outbox)).calls s.holds
+    hears = λ node bytes client outbox calls comes s. goes_on node client (hearing now bytes (begun client outbox)).client calls (hearing now bytes (begun client outbox)).calls s.holds
         (hearing_so_far site node s.holds.peer s.holds.of now connection client.link _ _ bytes (begun client outbox) (client_comes now bytes client s.counts s.asks));
     aspects = λ place aspect client outbox calls spoken ready h. goes_on (Signal place) client (commanding now (client_commands.Indicate aspect) (begun client outbox)).client calls (commanding now (client_commands.Indicate aspect) (begun client outbox)).calls h
         (commanding_so_far site (Signal place) h.peer h.of now connection client.link _ _ (client_commands.Indicate aspect) (begun client outbox) ready (aspect_leads site place h.peer aspect spoken client.stage ready));
@@ -512,8 +515,8 @@ module _ (laws : TalkLaws) (site : Site) (table : Table) (is_table : IsTableOf s
   abbrev after : Links
   after = run_links (interlocking_events site table input connection world.station) network
 
-  held : All now Spoken Before Settled Holds keep Holds done
-  held = step_held now Spoken Before Settled Holds keep table (λ signal. refl) (row_spoken site table is_table) (key_of site) input (begun_with known empty_outbox) refl before
+  held : All now Spoken Any Before Settled Holds keep Holds done
+  held = step_held now Spoken Any Before Settled Holds keep table (λ signal. refl) (row_spoken site table is_table) (key_of site) input (begun_with known empty_outbox) (λ bytes e. tt) refl before
 
   called_nodes : AreOfNodes site done.calls
   called_nodes = laws.nodes site table input connection world network named whole timely are comes
