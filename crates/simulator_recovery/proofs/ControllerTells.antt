@@ -10,15 +10,11 @@ use Rattle.simulator_run.specs.rasta_core.Ends.{kept, outcome, reading_of}
 use Rattle.simulator_run.specs.rasta_core.Run.{Ends}
 use Rattle.simulator_run.specs.rasta_core.State.{LinkState, is_open}
 use Rattle.simulator_run.specs.sci_telegram.TelegramRead.{reading}
-use Rattle.simulator_run.specs.sci_telegram.Telegrams.{writing}
 use Rattle.simulator_run.specs.sci_telegram.declared.fault.SciFault.{SciFault}
-use Rattle.simulator_run.specs.sci_telegram.declared.message.Initialisation.TheVariants.{VersionCheck}
-use Rattle.simulator_run.specs.sci_telegram.declared.message.Message.TheVariants as message
-use Rattle.simulator_run.specs.sci_telegram.declared.message.Protocol.{Protocol}
 use Rattle.simulator_run.specs.sci_telegram.declared.telegram.Telegram.{Telegram}
 use Rattle.std.specs.Prelude.{Result, Err}
 use Rattle.simulator_run.specs.object_host.Behaviour.{Behaviour}
-use Rattle.simulator_run.specs.object_host.Host.{HostSoFar, HostState, LinkCall, Receives, sender_of}
+use Rattle.simulator_run.specs.object_host.Host.{HostSoFar, HostState, LinkCall, Receives}
 use Rattle.simulator_run.specs.object_host.Made.{AreCallsFor, call_made, items_given, items_taken}
 use Rattle.simulator_run.specs.object_host.Step.{host_step}
 use Rattle.simulator_run.specs.object_host.Told.{item_of}
@@ -29,16 +25,13 @@ use Rattle.simulator_run.specs.object_host.declared.stage.Stage.TheVariants as s
 use Rattle.simulator_run.specs.Controllers.{step_of}
 use Rattle.simulator_run.specs.State.{ClockedControllerState}
 use Rattle.simulator_recovery.specs.Counts.{HostStandsByCounts, TellsAsMany, given_before}
+use Rattle.simulator_recovery.specs.Told.{SaidBy, SaidSome, SomeAsks, item_for}
 use Rattle.simulator_recovery.proofs.ControllerSaid.{KindLaws, same_step, settled_so, world}
 use Rattle.simulator_recovery.proofs.ControllersOnLinks.{Lists, lists_of}
 use Rattle.simulator_recovery.proofs.HostKeeps.{Kept, ObjectKeeps, step_keeps}
 use Rattle.simulator_recovery.proofs.HostLinks.{step_stands}
-use Rattle.simulator_recovery.proofs.HostSaid.{AllTell, InputTells, ItemTells, SaidBy, SaidSome, StepSays, said_still, some_still, step_says_both}
+use Rattle.simulator_recovery.proofs.HostSaid.{AllTell, InputTells, ItemTells, StepSays, said_still, some_still, step_says_both}
 use Rattle.simulator_recovery.proofs.LinkCounts.{settled_open}
-
--- a report of a controller of this name to this peer, as an item
-abbrev pub item_for : List ℕ → List ℕ → Report → List ℕ
-item_for own_name peer_name report = writing (record { sender = sender_of report.section own_name; receiver = peer_name; message = report.message })
 
 pub record TellLaws {Object : Type 0} (does : Behaviour Object) : Type 0 where
   pub kind : KindLaws does
@@ -49,24 +42,6 @@ pub record TellLaws {Object : Type 0} (does : Behaviour Object) : Type 0 where
   pub takes_none : (input : Input) (connection : ℕ) (world : World Object) → entering input connection world.ends ≡ None → is_open world.ends.server.link.phase ≡ false
       → (stepped does input connection world).ends.server.taken ≡ world.ends.server.taken
   pub first : (now : ℕ) (input : Input) (host : HostState Object) → AreCallsFor input (host_step does now input host).calls
-
--- ---- a check of another version
-
-pub record AsksOther (version : ℕ) (item : List ℕ) : Type 0 where
-  pub telegram : Telegram
-  pub read : reading item ≡ Ok telegram
-  pub protocol : Protocol
-  pub asked : ℕ
-  pub says : telegram.message ≡ message.Initialisation protocol (VersionCheck asked)
-  pub other : asked ≡ version → ⊥
-
--- one of these items asks another version
-pub record SomeAsks (version : ℕ) (items : List (List ℕ)) : Type 0 where
-  pub front : List (List ℕ)
-  pub item : List ℕ
-  pub rest : List (List ℕ)
-  pub are : items ≡ front ++ item ∷ rest
-  pub asks : AsksOther version item
 
 asks_longer : (version : ℕ) (items more : List (List ℕ)) → SomeAsks version items → SomeAsks version (items ++ more)
 asks_longer version items more s = record {

@@ -10,13 +10,9 @@ use Rattle.simulator_run.specs.rasta_core.phase.Phase.{Phase}
 use Rattle.simulator_run.specs.rasta_core.phase.Phase.TheVariants as phases
 use Rattle.simulator_run.specs.object_host.Host.{LinkCall, Sends}
 use Rattle.simulator_run.specs.object_host.Made.{items_given}
+use Rattle.simulator_recovery.specs.Told.{Begins}
 use Rattle.simulator_recovery.proofs.ClientLinks.{answer_down, up_open}
 use Rattle.simulator_recovery.proofs.LinkCounts.{entered_closed, entered_open, limited_open, settled_twice}
-
--- one list is a beginning of another
-pub record Begins {X : Type 0} (front whole : List X) : Type 0 where
-  pub rest : List X
-  pub are : whole ≡ front ++ rest
 
 module _ (now : ℕ) where
   not_up : (phase : Phase) → is_open phase ≡ false → is_up phase ≡ false

@@ -28,7 +28,8 @@ use Rattle.simulator_run.specs.object_host.declared.stage.Stage.{Stage}
 use Rattle.simulator_run.specs.object_host.declared.stage.Stage.TheVariants as stage
 use Rattle.simulator_run.specs.rasta_core.Each.{Each}
 use Rattle.simulator_recovery.specs.Counts.{HostHasGiven, HostHasSaid, HostStandsByCounts, IsOwed, TellsAsMany, given_before}
-use Rattle.simulator_recovery.proofs.GivenPrefix.{Begins, first_given, ok_open, sends, shut_gives}
+use Rattle.simulator_recovery.specs.Told.{Begins, OwedFit, SaidAll, SaidBy, SaidSome}
+use Rattle.simulator_recovery.proofs.GivenPrefix.{first_given, ok_open, sends, shut_gives}
 use Rattle.simulator_recovery.proofs.HostKeeps.{Kept, ObjectKeeps, begins as begins_kept, both_of}
 use Rattle.simulator_recovery.proofs.HostLinks.{Begun, Mid, Said, acts, all_posted_open, begins, is_up_there, post_all, post_one, posted_open, risen_same, status_few, was_accepted, comes}
 use Rattle.simulator_recovery.proofs.LinkCounts.{close_closes, tick_was_open}
@@ -48,35 +49,6 @@ made_both now [] other link = refl
 made_both now (first ∷ one) other link = made_both now one other (call_made now first link).link
 
 -- ---- a conversation
-
--- a report that an object that fits owes
-pub record OwedFit {Object : Type 0} (does : Behaviour Object) (Fits : Object → Type 0) (report : Report) : Type 0 where
-  pub object : Object
-  pub fits : Fits object
-  pub owes : does.owed object ≡ Some report
-
--- the answer of the version, the whole initialisation of an object that fits, and reports that such objects owe
-pub record SaidAll {Object : Type 0} (does : Behaviour Object) (Fits : Object → Type 0) (item : Report → List ℕ) (version : ℕ) (items : List (List ℕ)) : Type 0 where
-  pub object : Object
-  pub fits : Fits object
-  pub reports : List Report
-  pub owed : Each (OwedFit does Fits) reports
-  pub are : items ≡ item (said does (VersionAnswer Match version)) ∷ (map item (initialisation does object) ++ map item reports)
-
--- what is said by a stage; a version is refused where it was a wrong one that was asked
-abbrev pub SaidBy : {Object : Type 0} → Behaviour Object → (Object → Type 0) → Type 0 → (Report → List ℕ) → ℕ → Stage → List (List ℕ) → Type 0
-SaidBy does Fits Wrong item version stage.Outside items = items ≡ []
-SaidBy does Fits Wrong item version stage.AwaitsCheck items = items ≡ []
-SaidBy does Fits Wrong item version stage.AwaitsRequest items = items ≡ item (said does (VersionAnswer Match version)) ∷ []
-SaidBy does Fits Wrong item version stage.Completed items = SaidAll does Fits item version items
-SaidBy does Fits Wrong item version stage.Refused items = Wrong × (items ≡ item (said does (VersionAnswer NoMatch version)) ∷ [])
-
--- a beginning of what a host says by some stage: also once it has left its connection
-pub record SaidSome {Object : Type 0} (does : Behaviour Object) (Fits : Object → Type 0) (Wrong : Type 0) (item : Report → List ℕ) (version : ℕ) (items : List (List ℕ)) : Type 0 where
-  pub by : Stage
-  pub whole : List (List ℕ)
-  pub said : SaidBy does Fits Wrong item version by whole
-  pub begins : Begins items whole
 
 -- an item that asks a version other than this one tells so
 abbrev pub TellsWrong : Type 0 → ℕ → Message → Type 0

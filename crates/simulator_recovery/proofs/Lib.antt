@@ -54,3 +54,4 @@ pub mod IxlSoFar
 pub mod StationTalk
 pub mod AlwaysTalked
 pub mod StationTells
+pub mod AlwaysTold

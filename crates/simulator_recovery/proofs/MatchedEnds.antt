@@ -34,7 +34,8 @@ use Rattle.simulator_run.specs.State.{WorldState}
 use Rattle.simulator_run.specs.simulator_event.declared.event.Event.{Event}
 use Rattle.simulator_headline.specs.Reached.{IsReached}
 use Rattle.simulator_recovery.specs.Counts.{EachClient}
-use Rattle.simulator_recovery.specs.Matched.{AreMatchedAll, IsPeerAt, IsSpoken, SpeaksAt, name_of, section_names}
+use Rattle.simulator_recovery.specs.Matched.{AreMatchedAll, IsPeerAt, SpeaksAt, name_of, section_names}
+use Rattle.simulator_recovery.specs.Told.{Any, HasNames, IndicatesSpoken}
 use Rattle.simulator_recovery.proofs.ClientLinks.{clocked_peer, commanding_peer, hearing_peer, ticking_peer}
 use Rattle.simulator_recovery.proofs.HostKeeps.{Kept, ObjectKeeps, new_kept, step_keeps}
 use Rattle.simulator_recovery.proofs.IxlClients.{ClientsKeep, mapped_at}
@@ -72,10 +73,7 @@ module _ (site : Site) where
 
   -- ---- the controllers
 
-  abbrev pub IndicatesSpoken : SignalState → Type 0
-  IndicatesSpoken signal = IsSpoken site signal.lamp.indicated
-
-  take_spoken : (what : Message) (signal : SignalState) → is_in_version spoken what ≡ true → IndicatesSpoken signal → IndicatesSpoken (told (indicates what) signal)
+  take_spoken : (what : Message) (signal : SignalState) → is_in_version spoken what ≡ true → IndicatesSpoken site signal → IndicatesSpoken site (told (indicates what) signal)
   take_spoken (message.Signal (IndicateAspect aspects.Slow)) signal e is = e
   take_spoken (message.Signal (IndicateAspect aspects.Stop)) signal e is = refl
   take_spoken (message.Signal (IndicateAspect aspects.Proceed)) signal e is = refl
@@ -84,7 +82,7 @@ module _ (site : Site) where
   take_spoken (message.Point what) signal e is = is
   take_spoken (message.Detection what) signal e is = is
 
-  pub signals_keep : ObjectKeeps signal_behaviour IndicatesSpoken spoken
+  pub signals_keep : ObjectKeeps signal_behaviour (IndicatesSpoken site) spoken
   signals_keep = record {
     takes = λ now telegram signal e is. take_spoken telegram.message signal e is;
     ticks = λ now signal is. is;
@@ -93,9 +91,6 @@ module _ (site : Site) where
     pays = λ signal is. is;
     loses = λ signal is. refl;
   }
-
-  abbrev pub Any : PointState → Type 0
-  Any point = Unit {0}
 
   pub points_keep : ObjectKeeps point_behaviour Any spoken
   points_keep = record { takes = λ now telegram point e is. tt; ticks = λ now point is. tt; senses = λ now contact point is. tt; keeps = λ moment point is. tt; pays = λ point is. tt; loses = λ point is. tt }
@@ -129,10 +124,7 @@ module _ (site : Site) where
   names_lost (first ∷ others) = ap (λ (rest : List (List ℕ)). first.name ∷ rest) (names_lost others)
 
   module _ (names : List (List ℕ)) where
-    abbrev pub HasNames : List Section → Type 0
-    HasNames list = map name_of list ≡ names
-
-    pub detectors_keep : ObjectKeeps detection_behaviour HasNames spoken
+    pub detectors_keep : ObjectKeeps detection_behaviour (HasNames names) spoken
     detectors_keep = record {
       takes = λ now telegram list e is. is;
       ticks = λ now list is. is;
@@ -143,7 +135,7 @@ module _ (site : Site) where
     }
 
   abbrev pub KeptSignal : SignalEntry → HostState SignalState → Type 0
-  KeptSignal entry = Kept signal_behaviour IndicatesSpoken spoken entry.name site.station.name signals_keep
+  KeptSignal entry = Kept signal_behaviour (IndicatesSpoken site) spoken entry.name site.station.name signals_keep
 
   abbrev pub KeptPoint : PointEntry → HostState PointState → Type 0
   KeptPoint entry = Kept point_behaviour Any spoken entry.name site.station.name points_keep
@@ -165,7 +157,7 @@ module _ (site : Site) where
   made_names occupied (first ∷ others) = ap (λ (rest : List (List ℕ)). slice_index_or site.sections first.0 [] ∷ rest) (made_names occupied others)
 
   pub new_signal_kept : (begins : Beginning) (entry : SignalEntry) → KeptSignal entry (new_signal site begins entry)
-  new_signal_kept begins entry = new_kept signal_behaviour IndicatesSpoken spoken entry.name site.station.name signals_keep _ begins.first begins.clock _ refl
+  new_signal_kept begins entry = new_kept signal_behaviour (IndicatesSpoken site) spoken entry.name site.station.name signals_keep _ begins.first begins.clock _ refl
 
   pub new_point_kept : (begins : Beginning) (position : Position) (entry : PointEntry) → KeptPoint entry (new_point site begins position entry)
   new_point_kept begins position entry = new_kept point_behaviour Any spoken entry.name site.station.name points_keep _ begins.first begins.clock _ tt
@@ -178,7 +170,7 @@ module _ (site : Site) where
   keeps = record {
     clients_keep = speaking;
     new_clients = new_peers;
-    signal_steps = λ now input place host is entry e. step_keeps signal_behaviour IndicatesSpoken spoken entry.name site.station.name signals_keep now input host (is entry e);
+    signal_steps = λ now input place host is entry e. step_keeps signal_behaviour (IndicatesSpoken site) spoken entry.name site.station.name signals_keep now input host (is entry e);
     new_signal_is = λ begins entry place e other f. subst (λ (x : SignalEntry). KeptSignal x (new_signal site begins entry)) (same_Some entry other (sym e ∙ f)) (new_signal_kept begins entry);
     point_steps = λ now input place host is entry e. step_keeps point_behaviour Any spoken entry.name site.station.name points_keep now input host (is entry e);
     new_point_is = λ begins position entry place e other f. subst (λ (x : PointEntry). KeptPoint x (new_point site begins position entry)) (same_Some entry other (sym e ∙ f)) (new_point_kept begins position entry);

@@ -29,12 +29,12 @@ use Rattle.simulator_run_links.specs.Events.{events_of}
 use Rattle.simulator_run_links.specs.Whole.{IsWhole}
 use Rattle.simulator_recovery.specs.Counts.{objects_told}
 use Rattle.simulator_recovery.specs.Matched.{section_names}
-use Rattle.simulator_recovery.proofs.ControllerTells.{SomeAsks, TellLaws, Tells, controller_tells, item_for}
+use Rattle.simulator_recovery.specs.Told.{Any, HasNames, IndicatesSpoken, SaidSome, SomeAsks, item_for}
+use Rattle.simulator_recovery.proofs.ControllerTells.{TellLaws, Tells, controller_tells}
 use Rattle.simulator_recovery.proofs.ControllersOnLinks.{CallLaws, ControllersKeep, Lists, On, held_after}
 use Rattle.simulator_recovery.proofs.HostLinks.{new_stands}
-use Rattle.simulator_recovery.proofs.HostSaid.{SaidSome}
 use Rattle.simulator_recovery.proofs.IxlClients.{mapped_at}
-use Rattle.simulator_recovery.proofs.MatchedEnds.{Any, HasNames, IndicatesSpoken, KeptDetector, KeptPoint, KeptSignal, detectors_keep, points_keep, signals_keep, spoken}
+use Rattle.simulator_recovery.proofs.MatchedEnds.{KeptDetector, KeptPoint, KeptSignal, detectors_keep, points_keep, signals_keep, spoken}
 use Rattle.simulator_recovery.proofs.MatchedEnds as ends
 use Rattle.simulator_recovery.proofs.StationKeeps.{first_of}
 use Rattle.simulator_recovery.proofs.StationSaid.{new_closed}
@@ -58,10 +58,10 @@ module _ (site : Site) where
   TellsSignal entry = Tells signal_behaviour (IndicatesSpoken site) (spoken site) entry.name site.station.name (signals_keep site)
 
   abbrev pub TellsPoint : PointEntry → HostState PointState → Lists → Type 0
-  TellsPoint entry = Tells point_behaviour (Any site) (spoken site) entry.name site.station.name (points_keep site)
+  TellsPoint entry = Tells point_behaviour Any (spoken site) entry.name site.station.name (points_keep site)
 
   abbrev pub TellsDetector : DetectorEntry → HostState (List Section) → Lists → Type 0
-  TellsDetector entry = Tells detection_behaviour (HasNames site (section_names site entry)) (spoken site) entry.name site.station.name (detectors_keep site (section_names site entry))
+  TellsDetector entry = Tells detection_behaviour (HasNames (section_names site entry)) (spoken site) entry.name site.station.name (detectors_keep site (section_names site entry))
 
   abbrev pub OfSignal : ℕ → HostState SignalState → Lists → Type 0
   OfSignal place host items = (entry : SignalEntry) → slice_get site.signals place ≡ Some entry → TellsSignal entry host items
@@ -83,7 +83,7 @@ module _ (site : Site) where
     ever = ever;
   }
 
-  point_made : (begins : Beginning) (position : Position) (entry : PointEntry) (items : Lists) → KeptPoint site entry (new_point site begins position entry) → SaidSome point_behaviour (Any site) (SomeAsks (spoken site) items.taken) (item_for entry.name site.station.name) (spoken site) items.given
+  point_made : (begins : Beginning) (position : Position) (entry : PointEntry) (items : Lists) → KeptPoint site entry (new_point site begins position entry) → SaidSome point_behaviour Any (SomeAsks (spoken site) items.taken) (item_for entry.name site.station.name) (spoken site) items.given
       → TellsPoint entry (new_point site begins position entry) items
   point_made begins position entry items kept_so ever = record {
     objects = objects_told point_behaviour _;
@@ -94,7 +94,7 @@ module _ (site : Site) where
   }
 
   detector_made : (begins : Beginning) (occupied : List Occupancy) (entry : DetectorEntry) (items : Lists) → KeptDetector site entry (new_detector site begins occupied entry)
-      → SaidSome detection_behaviour (HasNames site (section_names site entry)) (SomeAsks (spoken site) items.taken) (item_for entry.name site.station.name) (spoken site) items.given → TellsDetector entry (new_detector site begins occupied entry) items
+      → SaidSome detection_behaviour (HasNames (section_names site entry)) (SomeAsks (spoken site) items.taken) (item_for entry.name site.station.name) (spoken site) items.given → TellsDetector entry (new_detector site begins occupied entry) items
   detector_made begins occupied entry items kept_so ever = record {
     objects = objects_told detection_behaviour _;
     counts = new_stands detection_behaviour detectors_tell _ _ _ _ _ _ _ _ refl;
@@ -107,8 +107,8 @@ module _ (site : Site) where
     pub keeps : ControllersKeep site OfSignal OfPoint OfDetector
     keeps = record {
       signals = λ input connection place c two link_is clock_is tells entry e. controller_tells signal_behaviour (IndicatesSpoken site) (spoken site) entry.name site.station.name (signals_keep site) signals_tell laws.signals input connection c two link_is clock_is (tells entry e);
-      points = λ input connection place c two link_is clock_is tells entry e. controller_tells point_behaviour (Any site) (spoken site) entry.name site.station.name (points_keep site) points_tell laws.points input connection c two link_is clock_is (tells entry e);
-      detectors = λ input connection place c two link_is clock_is tells entry e. controller_tells detection_behaviour (HasNames site (section_names site entry)) (spoken site) entry.name site.station.name (detectors_keep site (section_names site entry)) detectors_tell laws.detectors
+      points = λ input connection place c two link_is clock_is tells entry e. controller_tells point_behaviour Any (spoken site) entry.name site.station.name (points_keep site) points_tell laws.points input connection c two link_is clock_is (tells entry e);
+      detectors = λ input connection place c two link_is clock_is tells entry e. controller_tells detection_behaviour (HasNames (section_names site entry)) (spoken site) entry.name site.station.name (detectors_keep site (section_names site entry)) detectors_tell laws.detectors
           input connection c two link_is clock_is (tells entry e);
       new_signals = λ begins place entry old items e tells other f. subst (λ (x : SignalEntry). TellsSignal x (new_signal site begins entry) items) (same_Some entry other (sym e ∙ f)) (signal_made begins entry items (ends.new_signal_kept site begins entry) (tells entry e).ever);
       new_points = λ begins position place entry old items e tells other f. subst (λ (x : PointEntry). TellsPoint x (new_point site begins position entry) items) (same_Some entry other (sym e ∙ f)) (point_made begins position entry items (ends.new_point_kept site begins position entry) (tells entry e).ever);

@@ -6,3 +6,4 @@ pub mod Counts
 pub mod Ready
 pub mod Matched
 pub mod ClientSaid
+pub mod Told

@@ -4,6 +4,7 @@
 #![tactic(auto)]
 
 mod clients;
+mod controllers;
 mod conversation;
 mod counts;
 mod laws;
@@ -11,6 +12,7 @@ mod matched;
 mod silence;
 
 pub use clients::clients_have_said_what_their_stages_tell;
+pub use controllers::controllers_keep_to_their_conversations;
 pub use conversation::{
     clients_act_on_what_they_expect, clients_count_what_they_act_on, clients_expect_what_hosts_say,
     commands_are_expected, hosts_act_on_what_they_expect, hosts_count_what_they_act_on,
