@@ -55,3 +55,4 @@ pub mod StationTalk
 pub mod AlwaysTalked
 pub mod StationTells
 pub mod AlwaysTold
+pub mod NextItems

@@ -7,3 +7,4 @@ pub mod Ready
 pub mod Matched
 pub mod ClientSaid
 pub mod Told
+pub mod NextItems

@@ -8,6 +8,7 @@ mod controllers;
 mod conversation;
 mod counts;
 mod laws;
+mod links;
 mod matched;
 mod silence;
 
@@ -29,5 +30,6 @@ pub use laws::{
     good_rounds_are_events, good_rounds_leave_fresh_datagrams, good_rounds_take_their_time,
     links_are_ready, links_come_up, links_that_are_up_are_in_one_connection, the_hold_ends,
 };
+pub use links::items_go_on;
 pub use matched::stations_are_matched;
 pub use silence::{connections_end_in_silence, lamps_fall_in_silence, points_rest_in_silence};
