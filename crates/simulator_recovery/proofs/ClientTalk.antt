@@ -104,7 +104,7 @@ said_ever site node peer s count taken items few has = by_stage s has
     by_stage stage.Outside e = nothing e
     by_stage stage.AwaitsAnswer e = checked e
     by_stage stage.AwaitsStart e = none_given e
-    by_stage (stage.AwaitsStatus left) e = none_given e
+    by_stage (stage.AwaitsStatus left) (some, e) = none_given e
     by_stage stage.Completed (c, all) = with_more c
     by_stage stage.AwaitsReport (c, one) = with_more c
 
@@ -132,7 +132,7 @@ both_true : (a b : Bool) → (a && b) ≡ true → a ≡ true
 both_true true b e = refl
 both_true false b e = absurd (false≢true e)
 
-is_none : (n : ℕ) → (n == 0) ≡ true → n ≡ 0
+pub is_none : (n : ℕ) → (n == 0) ≡ true → n ≡ 0
 is_none n e = grind (arith, nat_tests)
 
 module _ (now : ℕ) (item : List ℕ) (part : ClientSoFar) where
@@ -332,12 +332,16 @@ module _ (site : Site) (node : Node) (peer : PeerState) (of : OfNode node peer) 
   -- ---- one item
 
   next_said : (old new : Stage) (count : ℕ) (g : List (List ℕ)) → Goes peer old new → ClientHasActedOn peer old count → ClientHasSaid site node peer old count g → ClientHasSaid site node peer new (count + 1) g
-  next_said old new count g (starts e f) acted said = subst (λ (s : Stage). ClientHasSaid site node peer s (count + 1) g) (sym f) (subst (λ (s : Stage). ClientHasSaid site node peer s count g) e said)
-  next_said old new count g (tells left e f) acted said = subst (λ (s : Stage). ClientHasSaid site node peer s (count + 1) g) (sym f) (subst (λ (s : Stage). ClientHasSaid site node peer s count g) e said)
+  next_said old new count g (starts e f) acted said =
+      let one = subst (λ (s : Stage). ClientHasActedOn peer s count) e acted
+      in subst (λ (s : Stage). ClientHasSaid site node peer s (count + 1) g) (sym f) (omega (arith, one), subst (λ (s : Stage). ClientHasSaid site node peer s count g) e said)
+  next_said old new count g (tells left e f) acted said =
+      let so = subst (λ (s : Stage). ClientHasSaid site node peer s count g) e said
+      in let some = so.0 in subst (λ (s : Stage). ClientHasSaid site node peer s (count + 1) g) (sym f) (omega (arith, some), so.1)
   next_said old new count g (completes e f) acted said =
       let all = subst (λ (s : Stage). ClientHasActedOn peer s count) e acted
       in subst (λ (s : Stage). ClientHasSaid site node peer s (count + 1) g) (sym f)
-      (record { commands = []; each = tt; are = subst (λ (s : Stage). ClientHasSaid site node peer s count g) e said; waits = no_move node }, answered node all)
+      (record { commands = []; each = tt; are = (subst (λ (s : Stage). ClientHasSaid site node peer s count g) e said).1; waits = no_move node }, answered node all)
     where
       no_move : (n : Node) → AtMostOneWaits n (length peer.objects) 0 (count + 1)
       no_move (Signal place) = tt

@@ -56,3 +56,6 @@ pub mod AlwaysTalked
 pub mod StationTells
 pub mod AlwaysTold
 pub mod NextItems
+pub mod ExpectedItems
+pub mod OwnReports
+pub mod AlwaysExpected

@@ -52,12 +52,13 @@ pub record HasCommanded (site : Site) (node : Node) (peer : PeerState) (taken : 
   pub are : items ≡ item_of peer (VersionCheck peer.version) ∷ item_of peer InitialisationRequest ∷ map (commanded peer) commands
   pub waits : AtMostOneWaits node (length peer.objects) (length commands) taken
 
--- The items that a client has given in its connection, by its stage and by how many it has taken there.
+-- The items that a client has given in its connection, by its stage and by how many it has taken there. One that awaits states has taken
+-- the answer of the version and *start*.
 abbrev pub ClientHasSaid : Site → Node → PeerState → Stage → ℕ → List (List ℕ) → Type 0
 ClientHasSaid site node peer stage.Outside taken items = items ≡ []
 ClientHasSaid site node peer stage.AwaitsAnswer taken items = items ≡ item_of peer (VersionCheck peer.version) ∷ []
 ClientHasSaid site node peer stage.AwaitsStart taken items = items ≡ item_of peer (VersionCheck peer.version) ∷ item_of peer InitialisationRequest ∷ []
-ClientHasSaid site node peer (stage.AwaitsStatus left) taken items = items ≡ item_of peer (VersionCheck peer.version) ∷ item_of peer InitialisationRequest ∷ []
+ClientHasSaid site node peer (stage.AwaitsStatus left) taken items = (2 ≤ taken) × (items ≡ item_of peer (VersionCheck peer.version) ∷ item_of peer InitialisationRequest ∷ [])
 ClientHasSaid site node peer stage.Completed taken items = (c : HasCommanded site node peer taken items) × AllAnswered node (length peer.objects) (length c.commands) taken
 ClientHasSaid site node peer stage.AwaitsReport taken items = (c : HasCommanded site node peer taken items) × OneWaits node (length peer.objects) (length c.commands) taken
 

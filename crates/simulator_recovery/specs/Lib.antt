@@ -8,3 +8,4 @@ pub mod Matched
 pub mod ClientSaid
 pub mod Told
 pub mod NextItems
+pub mod Expected
