@@ -103,13 +103,13 @@ module _ (laws : ExpectedLaws) (site : Site) (node : Node) (client : ClientState
 -- ---- a station
 
 module _ (laws : ExpectedLaws) (site : Site) (table : Table) (station : IsStation site) (once : Once site) (is_table : IsTableOf site table) where
-  record Stands (world : WorldState) (network : Links) : Type 0 where
-    whole : IsWhole site world
-    talking : AreTalking laws.talked site table station once is_table world network
-    telling : Telling site laws.tell table world network
-    ordered : AreOrdered (links site) (names_at site) network
+  pub record Stands (world : WorldState) (network : Links) : Type 0 where
+    pub whole : IsWhole site world
+    pub talking : AreTalking laws.talked site table station once is_table world network
+    pub telling : Telling site laws.tell table world network
+    pub ordered : AreOrdered (links site) (names_at site) network
 
-  stands_first : (outset : Outset) → IsOutsetOf site outset → Stands (world_at site table outset) (begun (names_at site) starts_at_zero)
+  pub stands_first : (outset : Outset) → IsOutsetOf site outset → Stands (world_at site table outset) (begun (names_at site) starts_at_zero)
   stands_first outset lies = record {
     whole = (laws.talked.links.standing site table outset station lies).whole;
     talking = record { stands = stand_first site table station outset; matching = matching_first site table outset; talk = first_talks laws.talked.talk laws.talked.may_come site table is_table outset };
@@ -117,7 +117,7 @@ module _ (laws : ExpectedLaws) (site : Site) (table : Table) (station : IsStatio
     ordered = laws.order_starts (links site) (names_at site) starts_at_zero;
   }
 
-  stands_on : (happening : Event) (world : WorldState) (network : Links) → CanBe site table happening world network → Stands world network → Stands (happens site table happening world) (run_links (events_of site table happening world) network)
+  pub stands_on : (happening : Event) (world : WorldState) (network : Links) → CanBe site table happening world network → Stands world network → Stands (happens site table happening world) (run_links (events_of site table happening world) network)
   stands_on happening world network can before = record {
     whole = laws.talked.links.whole site table happening world network can.named station can.whole can.timely can.are can.may;
     talking = talking_on laws.talked site table station once is_table happening world network can before.talking;
@@ -125,7 +125,7 @@ module _ (laws : ExpectedLaws) (site : Site) (table : Table) (station : IsStatio
     ordered = laws.order_runs (links site) (names_at site) (events_of site table happening world) network can.named can.timely before.ordered can.follows.may;
   }
 
-  same_length : {X Y : Type 0} (one : List X) (other : List Y) → length one ≡ length other → (place : ℕ) (x : X) → slice_get one place ≡ Some x → (y : Y) × (slice_get other place ≡ Some y)
+  pub same_length : {X Y : Type 0} (one : List X) (other : List Y) → length one ≡ length other → (place : ℕ) (x : X) → slice_get one place ≡ Some x → (y : Y) × (slice_get other place ≡ Some y)
   same_length one other same place x e = at_place other place (subst (λ (n : ℕ). place < n) same (slice_get_within one place x e))
 
   module _ (world : WorldState) (network : Links) (s : Stands world network) where

@@ -59,3 +59,4 @@ pub mod NextItems
 pub mod ExpectedItems
 pub mod OwnReports
 pub mod AlwaysExpected
+pub mod AlwaysFits
