@@ -3,7 +3,7 @@ use Rattle.std.proofs.Common.{◌≡◌, ℕ, ◌<◌, ◌∙◌, List, [], ◌�
 use Rattle.std.specs.Prelude.{IsTrue}
 use Rattle.std.proofs.lemmas.Option.{slice_get_within}
 use Rattle.ixl_table.specs.Table.{IsTableOf}
-use Rattle.simulator_run.specs.layout.Entries.{Site}
+use Rattle.simulator_run.specs.layout.Entries.{DetectorEntry, Site}
 use Rattle.simulator_run.specs.layout.declared.entries.Point.{Point as PointEntry}
 use Rattle.simulator_run.specs.layout.declared.entries.Signal.{Signal as SignalEntry}
 use Rattle.simulator_run.specs.layout.Once.{Once}
@@ -19,6 +19,11 @@ use Rattle.simulator_run.specs.object_host.Behaviour.{Behaviour}
 use Rattle.simulator_run.specs.object_host.Host.{HostState}
 use Rattle.simulator_run.specs.object_host.Told.{item_of}
 use Rattle.simulator_run.specs.object_host.declared.report.Report.{Report}
+use Rattle.simulator_run.specs.sci_telegram.Names.{IsName}
+use Rattle.simulator_run.specs.tds_ctl.Controlled.{detection_behaviour}
+use Rattle.simulator_run.specs.tds_ctl.declared.section.Section.{Section}
+use Rattle.simulator_recovery.proofs.IxlClients.{mapped_at}
+use Rattle.simulator_recovery.proofs.SectionReports.{detector_kind}
 use Rattle.simulator_run.specs.signal_ctl.Signal.{SignalState, signal_behaviour}
 use Rattle.simulator_run.specs.point_ctl.Controlled.{point_behaviour}
 use Rattle.simulator_run.specs.point_ctl.Drive.{PointState}
@@ -27,14 +32,14 @@ use Rattle.simulator_run.specs.ixl_client.Client.{ClientState, PeerState, is_out
 use Rattle.simulator_run.specs.ixl_client.Meaning.{reports_changes}
 use Rattle.simulator_run.specs.ixl_client.declared.stage.Stage.{Stage}
 use Rattle.simulator_run.specs.ixl_client.declared.stage.Stage.TheVariants as stage
-use Rattle.simulator_run.specs.ixl_rules.State.{KnownPointState, KnownSignalState}
-use Rattle.simulator_run.specs.ixl_rules.StepSoFar.{Node, Point, Signal}
+use Rattle.simulator_run.specs.ixl_rules.State.{KnownDetectorState, KnownPointState, KnownSignalState}
+use Rattle.simulator_run.specs.ixl_rules.StepSoFar.{Detector, Node, Point, Signal}
 use Rattle.simulator_run.specs.ixl_rules.Table.{Table}
 use Rattle.simulator_run.specs.simulator_event.declared.event.Event.{Event}
 use Rattle.simulator_run.specs.First.{IsOutsetOf, Outset, world_at}
 use Rattle.simulator_run.specs.Happens.{happens}
 use Rattle.simulator_run.specs.Links.{names_at, starts_at_zero}
-use Rattle.simulator_run.specs.Nodes.{links, point_link}
+use Rattle.simulator_run.specs.Nodes.{detector_link, links, point_link}
 use Rattle.simulator_run.specs.State.{ClockedControllerState, WorldState}
 use Rattle.simulator_run_links.specs.Events.{events_of}
 use Rattle.simulator_run_links.specs.Whole.{IsPeer, IsWhole}
@@ -42,11 +47,11 @@ use Rattle.simulator_headline.specs.Reached.{IsReached}
 use Rattle.simulator_recovery.specs.ClientSaid.{ClientHasSaid, ClientTalks}
 use Rattle.simulator_recovery.specs.Conversation.{AreMatched}
 use Rattle.simulator_recovery.specs.Expected.{HaveNext, NextIsExpected}
-use Rattle.simulator_recovery.specs.Matched.{peer_for}
-use Rattle.simulator_recovery.specs.Told.{Any, IndicatesSpoken, SaidSome, SomeAsks}
+use Rattle.simulator_recovery.specs.Matched.{name_of, peer_for, section_names}
+use Rattle.simulator_recovery.specs.Told.{Any, HasNames, IndicatesSpoken, SaidSome, SomeAsks}
 use Rattle.simulator_recovery.proofs.AlwaysOnLinks.{CanBe, always_held}
 use Rattle.simulator_recovery.proofs.AlwaysTalked.{AreTalking, TalkedLaws, talking_on}
-use Rattle.simulator_recovery.proofs.AtLink.{mapped, of_second}
+use Rattle.simulator_recovery.proofs.AtLink.{mapped, of_second, of_third}
 use Rattle.simulator_recovery.proofs.Addressed.{at_front}
 use Rattle.simulator_recovery.proofs.ClientLinks.{not_true, up_open}
 use Rattle.simulator_recovery.proofs.ConversationFits.{WrittenIsRead}
@@ -55,7 +60,7 @@ use Rattle.simulator_recovery.proofs.ControllersOnLinks.{lists_of}
 use Rattle.simulator_recovery.proofs.ExpectedItems.{Begun, Hears, KindReports, given_at}
 use Rattle.simulator_recovery.proofs.HostKeeps.{ObjectKeeps}
 use Rattle.simulator_recovery.proofs.Lists.{at_place, map_length}
-use Rattle.simulator_recovery.proofs.MatchedEnds.{matching_first, points_keep, signals_keep, spoken}
+use Rattle.simulator_recovery.proofs.MatchedEnds.{detectors_keep, matching_first, points_keep, signals_keep, spoken}
 use Rattle.simulator_recovery.proofs.OwnReports.{asks_none_other, point_kind, signal_kind}
 use Rattle.simulator_recovery.proofs.Standing.{stand_first}
 use Rattle.simulator_recovery.proofs.StationTalk.{first_talks}
@@ -207,7 +212,55 @@ module _ (laws : ExpectedLaws) (site : Site) (table : Table) (station : IsStatio
             hears stage.Completed is = absurd (awaits is)
             hears stage.AwaitsReport is = tt
 
+  next_detector : (world : WorldState) (network : Links) → Stands world network → (place : ℕ) (known : KnownDetectorState) → slice_get world.station.ixl.detectors place ≡ Some known → NextIsExpected known.client (seen (detector_link site place) network)
+  next_detector world network s place known e =
+      let entry = same_length world.station.ixl.detectors site.detectors s.whole.clients.detectors place known e
+      in let server = same_length site.detectors world.detectors (sym s.whole.detectors) place entry.0 entry.1
+      in with_entry entry.0 entry.1 server.0 server.1
+    where
+      is_peer : IsPeer known.client.peer
+      is_peer = s.whole.clients.peers (detector_link site place) known.client (of_third _ _ _ (length site.signals) (length site.points) place known.client
+          (map_length (λ (k : KnownSignalState). k.client) world.station.ixl.known_signals ∙ s.whole.clients.known_signals)
+          (map_length (λ (k : KnownPointState). k.client) world.station.ixl.known_points ∙ s.whole.clients.known_points) (mapped (λ (k : KnownDetectorState). k.client) world.station.ixl.detectors place known e))
+
+      below : detector_link site place < links site
+      below = let a = slice_get_within world.station.ixl.detectors place known e in let b = s.whole.clients.detectors in omega (arith, a, b)
+
+      with_entry : (entry : DetectorEntry) → slice_get site.detectors place ≡ Some entry → (c : ClockedControllerState (List Section)) → slice_get world.detectors place ≡ Some c → NextIsExpected known.client (seen (detector_link site place) network)
+      with_entry entry f c g = one_next laws site (Detector place) known.client (seen (detector_link site place) network) (names_at site (detector_link site place)) is_peer (s.talking.talk.detectors place known e)
+          (s.ordered (detector_link site place) below) detection_behaviour (HasNames (section_names site entry)) entry.name site.station.name (detectors_keep site (section_names site entry)) c.host matched tells
+          (detector_kind site station once place entry f laws.written known.client.peer is_peer objects named c.host matched) (hears known.client.stage)
+        where
+          peer_is : known.client.peer ≡ peer_for protocols.TrainDetection site entry.name (section_names site entry)
+          peer_is = s.talking.matching.clients.detectors place known e entry f
+
+          objects : known.client.peer.objects ≡ section_names site entry
+          objects = ap (λ (p : PeerState). p.objects) peer_is
+
+          tells : Tells detection_behaviour (HasNames (section_names site entry)) (spoken site) entry.name site.station.name (detectors_keep site (section_names site entry)) c.host (lists_of (network.ends (detector_link site place)).server)
+          tells = s.telling.of_detectors place c g entry f
+
+          matched : AreMatched detection_behaviour known.client.peer c.host
+          matched = subst (λ (p : PeerState). AreMatched detection_behaviour p c.host) (sym peer_is) (record { own_name = tells.kept_so.peer_is; name = tells.kept_so.own_is; version = tells.kept_so.version_is; protocol = refl })
+
+          named : (k : ℕ) (name : List ℕ) → slice_get (section_names site entry) k ≡ Some name → IsName name
+          named k name there =
+              let found = mapped_at name_of c.host.object k name (ap (λ (names : List (List ℕ)). slice_get names k) tells.kept_so.object ∙ there)
+              in subst IsName (sym found.2) (s.whole.sections_named place c g k found.0 found.1)
+
+          changes : IsTrue (reports_changes known.client.peer.protocol)
+          changes = ap (λ (p : PeerState). reports_changes p.protocol) peer_is
+
+          hears : (how_far : Stage) → Hears laws.written detection_behaviour (HasNames (section_names site entry)) known.client.peer is_peer c.host matched
+              (detector_kind site station once place entry f laws.written known.client.peer is_peer objects named c.host matched) how_far
+          hears stage.Outside = tt
+          hears stage.AwaitsAnswer = tt
+          hears stage.AwaitsStart = tt
+          hears (stage.AwaitsStatus left) = tt
+          hears stage.Completed = changes
+          hears stage.AwaitsReport = tt
+
   pub have_next : (world : WorldState) → IsReached site table world → HaveNext site world
   have_next world reached =
       let held = always_held laws.talked.links site table station once Stands stands_first stands_on world reached
-      in record { has = held.has; next = record { signals = next_signal world _ held.holds; points = next_point world _ held.holds } }
+      in record { has = held.has; next = record { signals = next_signal world _ held.holds; points = next_point world _ held.holds; detectors = next_detector world _ held.holds } }

@@ -60,3 +60,4 @@ pub mod ExpectedItems
 pub mod OwnReports
 pub mod AlwaysExpected
 pub mod AlwaysFits
+pub mod SectionReports

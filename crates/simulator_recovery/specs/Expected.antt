@@ -15,7 +15,7 @@ use Rattle.simulator_run.specs.tds_ctl.declared.section.Section.{Section}
 use Rattle.simulator_run.specs.ixl_client.Client.{ClientState}
 use Rattle.simulator_run.specs.ixl_client.ExpectedTelegrams.{IsExpected}
 use Rattle.simulator_run.specs.ixl_client.declared.stage.Stage.TheVariants as stage
-use Rattle.simulator_run.specs.ixl_rules.State.{KnownPointState, KnownSignalState}
+use Rattle.simulator_run.specs.ixl_rules.State.{KnownDetectorState, KnownPointState, KnownSignalState}
 use Rattle.simulator_run.specs.Nodes.{detector_link, point_link}
 use Rattle.simulator_run.specs.State.{ClockedControllerState, WorldState}
 use Rattle.simulator_run_links.specs.HasLinks.{HasLinks, links_in}
@@ -27,11 +27,12 @@ abbrev pub NextIsExpected : ClientState → Ends → Type 0
 NextIsExpected client ends = (connection : ℕ) → ends.client.connection ≡ Some connection → ends.server.connection ≡ Some connection → is_up client.link.phase ≡ true
     → (item : List ℕ) → slice_get ends.server.given (length ends.client.taken) ≡ Some item → IsExpected client.peer client.stage (reading item)
 
--- So it is with each signal, and with each point but where its client awaits no report.
+-- So it is with each signal and each detector, and with each point but where its client awaits no report.
 pub record AllExpectNext (site : Site) (world : WorldState) (network : Links) : Type 0 where
   pub signals : (place : ℕ) (known : KnownSignalState) → slice_get world.station.ixl.known_signals place ≡ Some known → NextIsExpected known.client (seen place network)
   pub points : (place : ℕ) (known : KnownPointState) → slice_get world.station.ixl.known_points place ≡ Some known → (known.client.stage ≡ stage.Completed → ⊥)
       → NextIsExpected known.client (seen (point_link site place) network)
+  pub detectors : (place : ℕ) (known : KnownDetectorState) → slice_get world.station.ixl.detectors place ≡ Some known → NextIsExpected known.client (seen (detector_link site place) network)
 
 -- the links of a station, and what comes next to its clients there
 pub record HaveNext (site : Site) (world : WorldState) : Type 0 where

@@ -26,10 +26,10 @@ use simulator_run_links::{
     layouts_name_their_links, stations_have_links,
 };
 
-/// After every list of events of a station, on any network, the item that a signal's or a point's controller has given in the connection
-/// behind all that its client has taken, if there is one, is what the client expects by its stage: the answer of the version, *start*,
-/// the state of the object, *completed*, and then a change of the signal or the point's answer to a move. Of a point whose client awaits
-/// no report nothing is said here.
+/// After every list of events of a station, on any network, the item that a controller has given in the connection behind all that its
+/// client has taken, if there is one, is what the client expects by its stage: the answer of the version, *start*, the state of each
+/// object in its turn, *completed*, and then a change of the signal or of a section, or the point's answer to a move. Of a point whose
+/// client awaits no report nothing is said here.
 pub fn clients_expect_what_comes_next()
     ensures { (site : Site) (table : Table) (world : WorldState) → IsStation site → Once site → IsTableOf site table → IsReached site table world → HaveNext site world }
 {
