@@ -28,7 +28,7 @@ use Rattle.simulator_recovery.proofs.Addressed.{at_behind, at_front, partners_le
 use Rattle.simulator_recovery.proofs.LinkCounts.{settled_open}
 use Rattle.simulator_recovery.proofs.Lists.{at_place, map_length}
 use Rattle.simulator_recovery.proofs.Moments.{Moment}
-use Rattle.simulator_recovery.proofs.Standing.{all_at}
+use Rattle.simulator_recovery.proofs.StationKeeps.{all_at}
 
 -- ---- three lists one behind the other
 

@@ -37,7 +37,7 @@ use Rattle.simulator_recovery.specs.Counts.{ClientHasGiven, ClientStandsByCounts
 use Rattle.simulator_recovery.proofs.ClientCounts.{Counts, acts, all_act, count_one, posted_acted, posted_at, rises}
 use Rattle.simulator_recovery.proofs.LinkCounts.{AfterReceipt, close_closes, comes_in, open_counts, receipt_counts, send_counts, send_phase, send_was_open, settled_again, settled_open, stays_in, tick_counts, tick_was_open}
 
-up_open : (phase : Phase) → is_up phase ≡ true → is_open phase ≡ true
+pub up_open : (phase : Phase) → is_up phase ≡ true → is_open phase ≡ true
 up_open phases.Closed up = absurd (false≢true up)
 up_open phases.Start up = absurd (false≢true up)
 up_open phases.Up up = refl
@@ -50,15 +50,15 @@ none_more n = omega arith
 one_fewer : (taken left : ℕ) → taken + suc left ≡ (taken + 1) + left
 one_fewer taken left = omega arith
 
-not_true : (a b : Bool) → a ≡ not b → b ≡ true → a ≡ false
+pub not_true : (a b : Bool) → a ≡ not b → b ≡ true → a ≡ false
 not_true a true e f = e
 not_true a false e f = absurd (false≢true f)
 
-not_false : (a b : Bool) → a ≡ not b → b ≡ false → a ≡ true
+pub not_false : (a b : Bool) → a ≡ not b → b ≡ false → a ≡ true
 not_false a false e f = e
 not_false a true e f = absurd (false≢true (sym f))
 
-outside_is : (s : Stage) → is_outside s ≡ true → s ≡ stage.Outside
+pub outside_is : (s : Stage) → is_outside s ≡ true → s ≡ stage.Outside
 outside_is stage.Outside e = refl
 outside_is stage.AwaitsAnswer e = absurd (false≢true e)
 outside_is stage.AwaitsStart e = absurd (false≢true e)
@@ -152,7 +152,7 @@ abbrev window_answer : Bool → Result Unit SendFault
 window_answer b = if b then Ok tt else Err WindowFull
 
 module _ (now : ℕ) where
-  answer_up : (l : LinkState) → is_up l.phase ≡ true → is_ok (acceptance l) ≡ not (is_refused_by_window (acceptance l))
+  pub answer_up : (l : LinkState) → is_up l.phase ≡ true → is_ok (acceptance l) ≡ not (is_refused_by_window (acceptance l))
   unfolding acceptance
   answer_up l up = rw up (choose (nat_lt (length l.waiting) window_size))
     where
@@ -160,7 +160,7 @@ module _ (now : ℕ) where
       choose true = refl
       choose false = refl
 
-  answer_down : (l : LinkState) → is_up l.phase ≡ false → is_ok (acceptance l) ≡ false
+  pub answer_down : (l : LinkState) → is_up l.phase ≡ false → is_ok (acceptance l) ≡ false
   unfolding acceptance
   answer_down l down = rw down refl
 

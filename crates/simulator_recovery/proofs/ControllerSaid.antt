@@ -1,13 +1,11 @@
 -- What a controller of a station has given by its stage, behind each of its steps.
-use Rattle.std.proofs.Common.{◌≡◌, ℕ, ◌&&◌, ◌++◌, ◌∙◌, Bool, true, false, List, [], refl, sym, ap, subst, if◌then◌else◌}
-use Rattle.std.specs.Prelude.{nat_le}
+use Rattle.std.proofs.Common.{◌≡◌, ℕ, ◌++◌, ◌∙◌, true, List, [], refl, sym, ap, subst}
 use Rattle.object_host_theorem.specs.World.{World, called_all, entering, host_of, stepped}
 use Rattle.object_host_theorem.specs.World.{step_of as world_step}
-use Rattle.simulator_run.specs.rasta_core.Clock.{deadline, settled}
+use Rattle.simulator_run.specs.rasta_core.Clock.{settled}
 use Rattle.simulator_run.specs.rasta_core.Ends.{kept, reading_of}
 use Rattle.simulator_run.specs.rasta_core.Run.{Ends}
 use Rattle.simulator_run.specs.rasta_core.State.{LinkState, is_open}
-use Rattle.simulator_run.specs.rasta_core.phase.Phase.TheVariants as phases
 use Rattle.simulator_run.specs.object_host.Behaviour.{Behaviour}
 use Rattle.simulator_run.specs.object_host.Host.{HostSoFar, HostState, fallen, then_do}
 use Rattle.simulator_run.specs.object_host.Hosted.{IsNamedAs}
@@ -21,7 +19,7 @@ use Rattle.simulator_recovery.specs.Conversation.{IsSettled}
 use Rattle.simulator_recovery.specs.Counts.{HasCounted, HasSaidAt, HostHasSaid, HostStandsByCounts, StandsByWhatItSaid, TellsAsMany}
 use Rattle.simulator_recovery.proofs.HostStands.{WorldLaws}
 use Rattle.simulator_recovery.proofs.HostWorld.{step_said, with_link}
-use Rattle.simulator_recovery.proofs.LinkCounts.{settled_open}
+use Rattle.simulator_recovery.proofs.LinkCounts.{settled_open, settled_twice}
 
 -- the laws of the hosts of a kind
 pub record KindLaws {Object : Type 0} (does : Behaviour Object) : Type 0 where
@@ -29,16 +27,6 @@ pub record KindLaws {Object : Type 0} (does : Behaviour Object) : Type 0 where
   pub given : (input : Input) (connection : ℕ) (world : World Object) → (stepped does input connection world).ends.server.given
       ≡ kept (entering input connection world.ends) world.ends.server.given ++ items_given (reading_of world.ends.server.clock) (world_step does input world).calls world.ends.server.link
   pub names : (now : ℕ) (input : Input) (host : HostState Object) → IsNamedAs host (host_step does now input host).host
-
--- the clock rules of one reading are applied once
-settled_twice : (now : ℕ) (l : LinkState) → settled now (settled now l) ≡ settled now l
-unfolding settled deadline
-settled_twice now l = choose (is_open l.phase && nat_le (deadline l) now) refl
-  where
-    choose : (b : Bool) → (is_open l.phase && nat_le (deadline l) now) ≡ b
-        → settled now (if b then record l { phase = phases.Closed; closed_at = deadline l; clock = now } else record l { clock = now }) ≡ (if b then record l { phase = phases.Closed; closed_at = deadline l; clock = now } else record l { clock = now })
-    choose true e = refl
-    choose false e = rw e refl
 
 module _ {Object : Type 0} (does : Behaviour Object) where
   begins_settled : (now : ℕ) (host : HostState Object) → beginning does now (record host { link = settled now host.link }) ≡ beginning does now host
@@ -57,18 +45,18 @@ module _ {Object : Type 0} (does : Behaviour Object) where
 
   module _ (many : TellsAsMany does) (objects : ℕ) (kind : KindLaws does) (input : Input) (connection moment : ℕ) (c : ClockedControllerState Object) (ends : Ends)
       (link_is : ends.server.link ≡ settled (reading_of c.clock) c.host.link) (clock_is : ends.server.clock ≡ c.clock) where
-    abbrev now : ℕ
+    abbrev pub now : ℕ
     now = reading_of c.clock
 
-    abbrev world : World Object
+    abbrev pub world : World Object
     world = record { ends = ends; stage = c.host.stage; object = c.host.object; own_name = c.host.own_name; peer_name = c.host.peer_name; version = c.host.version; acted = []; told = [] }
 
-    same_step : world_step does input world ≡ step_of does input c
+    pub same_step : world_step does input world ≡ step_of does input c
     same_step = ap (λ (n : ℕ). host_step does n input (host_of world)) (ap reading_of clock_is)
         ∙ ap (λ (l : LinkState). host_step does now input (record c.host { link = l })) link_is
         ∙ step_settled now input c.host
 
-    settled_so : IsSettled world
+    pub settled_so : IsSettled world
     settled_so = ap (λ (n : ℕ). settled n ends.server.link) (ap reading_of clock_is) ∙ ap (settled now) link_is ∙ settled_twice now c.host.link ∙ sym link_is
 
     was_open : is_open ends.server.link.phase ≡ true → is_open (settled now c.host.link).phase ≡ true

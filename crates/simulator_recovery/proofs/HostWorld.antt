@@ -64,7 +64,7 @@ module _ {Object : Type 0} (does : Behaviour Object) (many : TellsAsMany does) (
     said = λ e. subst (HostHasSaid does item world.version (step_of does input world).host.stage) (sym (given_is input connection world))
         (subst (λ (old : List (List ℕ)). HostHasSaid does item world.version (step_of does input world).host.stage (old ++ items_given now (step_of does input world).calls world.ends.server.link)) (sym (before e (is_open world.ends.server.link.phase) refl (entering input connection world.ends) refl))
         (subst (λ (l : LinkState). HostHasSaid does item world.version (step_of does input world).host.stage (given_before (is_open l.phase) world.ends.server.given ++ items_given now (step_of does input world).calls l)) is
-        (step_says does many objects now item world.version world.ends.server.given input (host_of world) stands.counts refl refl
+        (step_says does item world.version many objects now world.ends.server.given input (host_of world) stands.counts refl refl
         (λ f. stands.said (ap (λ (l : LinkState). is_open l.phase) (sym is) ∙ f)) (ap (λ (l : LinkState). is_open l.phase) (sym link_is) ∙ e))));
   }
     where

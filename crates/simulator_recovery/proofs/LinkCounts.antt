@@ -65,7 +65,21 @@ settled_open now l = choose (is_open l.phase) (nat_le (deadline l) now) refl ref
     choose true false f g e = (refl, f, leb-false _ _ g)
     choose false b f g e = absurd (false≢true (sym f ∙ e))
 
-limited_open : (l : LinkState) → is_open (limited l).link.phase ≡ true → limited l ≡ silent l
+-- the clock rules of one reading are applied once
+pub settled_twice : (now : ℕ) (l : LinkState) → settled now (settled now l) ≡ settled now l
+unfolding settled deadline
+settled_twice now l = choose (is_open l.phase && nat_le (deadline l) now) refl
+  where
+    choose : (b : Bool) → (is_open l.phase && nat_le (deadline l) now) ≡ b
+        → settled now (if b then record l { phase = phase.Closed; closed_at = deadline l; clock = now } else record l { clock = now }) ≡ (if b then record l { phase = phase.Closed; closed_at = deadline l; clock = now } else record l { clock = now })
+    choose true e = refl
+    choose false e = rw e refl
+
+pub settled_closed : (now : ℕ) (l : LinkState) → is_open l.phase ≡ false → settled now l ≡ record l { clock = now }
+unfolding settled
+settled_closed now l e = rw e refl
+
+pub limited_open : (l : LinkState) → is_open (limited l).link.phase ≡ true → limited l ≡ silent l
 unfolding limited telling sending
 limited_open l = choose (is_open l.phase) (nat_le connection_limit l.sent)
   where
@@ -73,6 +87,10 @@ limited_open l = choose (is_open l.phase) (nat_le connection_limit l.sent)
     choose true true e = absurd (false≢true e)
     choose true false e = refl
     choose false b e = refl
+
+pub entered_closed : (now : ℕ) (l : LinkState) → is_open l.phase ≡ false → entered now l ≡ silent (record l { clock = now })
+unfolding entered limited
+entered_closed now l e = ap limited (settled_closed now l e) ∙ rw e refl
 
 pub entered_open : (now : ℕ) (l : LinkState) → is_open (entered now l).link.phase ≡ true → (entered now l ≡ silent (record l { clock = now })) × (is_open l.phase ≡ true) × (now < deadline l)
 unfolding entered

@@ -14,7 +14,7 @@ use Rattle.simulator_recovery.specs.Counts.{ClientHasGiven, HostHasGiven}
 least : (n k : ℕ) → k ≤ n → k < 2 ^ 31 → k ≤ stops_at_greatest n
 least n k few small = grind (arith, few, small)
 
-exact : (n : ℕ) → stops_at_greatest n < 2 ^ 31 → stops_at_greatest n ≡ n
+pub exact : (n : ℕ) → stops_at_greatest n < 2 ^ 31 → stops_at_greatest n ≡ n
 exact n small = grind (arith, small)
 
 -- a number that is reached by a count that stops

@@ -1,173 +1,36 @@
 -- What the controllers of a station have given by their stages, event by event.
-use Rattle.std.proofs.Common.{◌≡◌, ◌≢◌, ℕ, zero, suc, ◌∙◌, ◌<◌, ◌==◌, Bool, true, false, List, [], ◌∷◌, length, map, Option, Some, None, slice_get, slice_set, ◌⊎◌, inl, inr, refl, sym, ap, subst, arith}
-use Rattle.std.specs.Prelude.{drop}
+use Rattle.std.proofs.Common.{◌≡◌, ℕ, ◌∙◌, true, false, arith, length, List, refl, sym}
 use Rattle.std.proofs.lemmas.Bool.{false≢true}
-use Rattle.std.proofs.lemmas.Bool.Decides.{nat_tests}
-use Rattle.std.proofs.lemmas.Option.{none-some, same_Some, slice_get_within}
-use Rattle.object_host_theorem.specs.World.{as_call, called_all}
-use Rattle.simulator_run.specs.layout.Entries.{DetectorEntry, Site}
-use Rattle.simulator_run.specs.layout.declared.entries.Point.{Point as PointEntry}
-use Rattle.simulator_run.specs.layout.declared.entries.Signal.{Signal as SignalEntry}
-use Rattle.simulator_run.specs.sci_telegram.declared.message.Occupancy.{Occupancy}
+use Rattle.simulator_run.specs.layout.Entries.{Site}
 use Rattle.simulator_run.specs.object_host.Behaviour.{Behaviour}
-use Rattle.simulator_run.specs.object_host.Host.{HostState, LinkCall, keeping}
+use Rattle.simulator_run.specs.object_host.Host.{HostState, keeping}
 use Rattle.simulator_run.specs.object_host.Hosted.{new_host}
 use Rattle.simulator_run.specs.object_host.Told.{item_of}
-use Rattle.simulator_run.specs.object_host.declared.input.Input.{Input as HostInput}
-use Rattle.simulator_run.specs.object_host.declared.input.Input.TheVariants as inputs
-use Rattle.simulator_run.specs.object_host.declared.sense.Sense.TheVariants as sense
 use Rattle.simulator_run.specs.signal_ctl.Signal.{SignalState, signal_behaviour}
 use Rattle.simulator_run.specs.point_ctl.Controlled.{point_behaviour}
 use Rattle.simulator_run.specs.point_ctl.Drive.{PointState}
 use Rattle.simulator_run.specs.tds_ctl.Controlled.{detection_behaviour}
 use Rattle.simulator_run.specs.tds_ctl.declared.section.Section.{Section}
 use Rattle.simulator_run.specs.rasta_core.Calls.{created}
-use Rattle.simulator_run.specs.rasta_core.Clock.{settled}
 use Rattle.simulator_run.specs.rasta_core.identity.Identity.{Identity}
-use Rattle.simulator_run.specs.rasta_core.Ends.{Call, EndState, end_later, end_restarted, reading_of}
-use Rattle.simulator_run.specs.rasta_core.Events.{run}
-use Rattle.simulator_run.specs.rasta_core.Links.{CallsOn, Links, RestartsOn, happened_to, run_links, seen}
-use Rattle.simulator_run.specs.rasta_core.Nodes.{NodeCall, calls_of, restarts_of}
-use Rattle.simulator_run.specs.rasta_core.Run.{Ends, called, end_of, restarted}
+use Rattle.simulator_run.specs.rasta_core.Ends.{reading_of}
+use Rattle.simulator_run.specs.rasta_core.Links.{Links, run_links}
 use Rattle.simulator_run.specs.rasta_core.State.{is_open}
-use Rattle.simulator_run.specs.rasta_core.Steps.{calls_at}
-use Rattle.simulator_run.specs.rasta_core.identity.Role.{Role}
-use Rattle.simulator_run.specs.rasta_core.identity.Role.TheVariants as role
-use Rattle.simulator_run.specs.ixl_rules.State.{changed}
-use Rattle.simulator_run.specs.ixl_rules.Step as ixl
 use Rattle.simulator_run.specs.ixl_rules.Table.{Table}
 use Rattle.simulator_run.specs.simulator_event.declared.event.Event.{Event}
-use Rattle.simulator_run.specs.simulator_event.declared.event.Event.TheVariants as event
-use Rattle.simulator_run.specs.Controllers.{controller_after, controller_anew, step_of}
-use Rattle.simulator_run.specs.First.{Beginning, new_signal}
-use Rattle.simulator_run.specs.Happens.{Stepped, all_later, coming, delivered_to, detector_anew, detector_stepped, happens, interlocking_stepped, made_anew, passed, point_anew, point_stepped, sensed_by, signal_anew, signal_stepped, stepped_at, ticked_at}
-use Rattle.simulator_run.specs.Interlocking.{interlocking_step}
-use Rattle.simulator_run.specs.Links.{AreLinksOf, ServerEnd, end_of_server, server_ends}
-use Rattle.simulator_run.specs.Network.{connection_of, copy_of}
-use Rattle.simulator_run.specs.Nodes as nodes
-use Rattle.simulator_run.specs.Nodes.{detector_link, links, node_at, partners, point_link}
-use Rattle.simulator_run.specs.State.{ClockedControllerState, WorldState}
-use Rattle.simulator_run_links.specs.Calls.{node_call}
-use Rattle.simulator_run_links.specs.Events.{anew_events, contact_events, delivery_events, detector_events, events_of, host_events, interlocking_events, numbers_below, point_events, restart_events, signal_events, tick_events, time_events}
+use Rattle.simulator_run.specs.Controllers.{controller_after}
+use Rattle.simulator_run.specs.Happens.{happens}
+use Rattle.simulator_run.specs.Links.{AreLinksOf}
+use Rattle.simulator_run.specs.State.{WorldState}
+use Rattle.simulator_run_links.specs.Events.{events_of}
 use Rattle.simulator_run_links.specs.Whole.{IsWhole}
-use Rattle.simulator_recovery.specs.Counts.{AllHaveSaid, AllStandByCounts, HasSaidAt, HostHasSaid, HostStandsByCounts, TellsAsMany}
-use Rattle.simulator_recovery.proofs.Addressed.{at_front, partners_length}
-use Rattle.simulator_recovery.proofs.AtLink.{mapped, of_second, of_third}
+use Rattle.simulator_recovery.specs.Counts.{AllHaveSaid, AllStandByCounts, HostHasSaid, HostStandsByCounts, TellsAsMany, objects_told}
 use Rattle.simulator_recovery.proofs.ControllerSaid.{KindLaws, controller_said}
-use Rattle.simulator_recovery.proofs.IxlClients.{changed_at}
-use Rattle.simulator_recovery.proofs.Lists.{at_place, map_length}
-use Rattle.simulator_recovery.proofs.Standing.{later_at}
+use Rattle.simulator_recovery.proofs.ControllersOnLinks.{CallLaws, ControllersKeep, Lists, On, StepKeeps, held_after}
+use Rattle.simulator_recovery.proofs.HostLinks.{new_stands, step_stands}
+use Rattle.simulator_recovery.proofs.Lists.{at_place}
 use Rattle.simulator_recovery.proofs.Telling.{detectors_tell, points_tell, signals_tell}
-
--- ---- lists and links
-
-set_there : {X : Type 0} (list : List X) (place : ℕ) (new : X) (k : ℕ) (y : X) → slice_get (slice_set list place new) k ≡ Some y → ((k ≡ place) × (y ≡ new)) ⊎ ((k ≢ place) × (slice_get list k ≡ Some y))
-set_there [] place new k y e = absurd (none-some y e)
-set_there (x ∷ xs) zero new zero y e = inl (refl, sym (same_Some new y e))
-set_there (x ∷ xs) zero new (suc k) y e = inr (λ same. absurd (cc same), e)
-set_there (x ∷ xs) (suc place) new zero y e = inr (λ same. absurd (cc same), e)
-set_there (x ∷ xs) (suc place) new (suc k) y e = choose (set_there xs place new k y e)
-  where
-    choose : ((k ≡ place) × (y ≡ new)) ⊎ ((k ≢ place) × (slice_get xs k ≡ Some y)) → ((suc k ≡ suc place) × (y ≡ new)) ⊎ ((suc k ≢ suc place) × (slice_get xs k ≡ Some y))
-    choose (inl (f, g)) = inl (ap suc f, g)
-    choose (inr (f, g)) = inr (λ same. f (omega (arith, same)), g)
-
-same_number : (a b : ℕ) → (a == b) ≡ true → a ≡ b
-same_number a b e = grind (arith, nat_tests)
-
-abbrev given_at : Links → ℕ → List (List ℕ)
-given_at network link = (network.ends link).server.given
-
--- an end that is made anew keeps what it gave
-anew_gave : (link : ℕ) (who : Role) (clock first : ℕ) (network : Links) (other : ℕ) → given_at (happened_to (RestartsOn link who clock first) network) other ≡ given_at network other
-unfolding restarted end_restarted
-anew_gave link who clock first network other = choose who (other == link) refl
-  where
-    choose : (w : Role) (b : Bool) → (other == link) ≡ b → given_at (happened_to (RestartsOn link w clock first) network) other ≡ given_at network other
-    choose role.Client true e = rw (e, given_at) (ap (given_at network) (sym (same_number other link e)))
-    choose role.Client false e = rw (e, given_at) refl
-    choose role.Server true e = rw (e, given_at) (ap (given_at network) (sym (same_number other link e)))
-    choose role.Server false e = rw (e, given_at) refl
-
-all_anew_gave : (who : Role) (clock : ℕ) (firsts : ℕ → ℕ) (numbers : List ℕ) (network : Links) (other : ℕ) → given_at (run_links (restarts_of who clock firsts numbers) network) other ≡ given_at network other
-all_anew_gave who clock firsts [] network other = refl
-all_anew_gave who clock firsts (first ∷ others) network other = all_anew_gave who clock firsts others (happened_to (RestartsOn first who clock (firsts first)) network) other ∙ anew_gave first who clock (firsts first) network other
-
-all_called : (connection : ℕ) (calls : List LinkCall) (ends : Ends) → called_all connection calls ends ≡ run (calls_at role.Server (map (as_call connection) calls)) ends
-unfolding called_all
-all_called connection [] ends = refl
-all_called connection (first ∷ others) ends = all_called connection others (called role.Server (as_call connection first) ends)
-
--- what calls at one end leave of every end
-pub record CallLaws : Type 0 where
-  pub own : (who : Role) (link : ℕ) (calls : List Call) (network : Links)
-      → seen link (run_links (map (λ call. CallsOn link who call) calls) network) ≡ run (calls_at who calls) (seen link network)
-  pub others : (who : Role) (link other : ℕ) (calls : List Call) (network : Links) → other ≢ link
-      → (whose : Role) → end_of whose (seen other (run_links (map (λ call. CallsOn link who call) calls) network)) ≡ end_of whose (seen other network)
-  pub partner : (calls : List NodeCall) (network : Links) (link : ℕ) → end_of role.Server (seen link (run_links (calls_of role.Client calls) network)) ≡ end_of role.Server (seen link network)
-
--- ---- the controllers of one kind
-
-abbrev SaidIn : {Object : Type 0} → Behaviour Object → (ℕ → ℕ) → List (ClockedControllerState Object) → Links → Type 0
-SaidIn {Object} does at servers network = (place : ℕ) (c : ClockedControllerState Object) → slice_get servers place ≡ Some c → HasSaidAt does c (given_at network (at place))
-
-said_same : {Object : Type 0} (does : Behaviour Object) (at : ℕ → ℕ) (servers : List (ClockedControllerState Object)) (old new : Links)
-    → ((place : ℕ) (c : ClockedControllerState Object) → slice_get servers place ≡ Some c → given_at new (at place) ≡ given_at old (at place)) → SaidIn does at servers old → SaidIn does at servers new
-said_same does at servers old new same said place c e = subst (HasSaidAt does c) (sym (same place c e)) (said place c e)
-
-module _ (laws : CallLaws) where
-  elsewhere : {Object : Type 0} (does : Behaviour Object) (input : HostInput) (connection link : ℕ) (found : Option (ClockedControllerState Object)) (before : Links) (other : ℕ)
-      → ((c : ClockedControllerState Object) → found ≡ Some c → other ≢ link) → given_at (run_links (host_events does input connection link found) before) other ≡ given_at before other
-  elsewhere does input connection link None before other differ = refl
-  elsewhere does input connection link (Some c) before other differ = ap (λ (e : EndState). e.given) (laws.others role.Server link other (map (as_call connection) (step_of does input c).calls) before (differ c refl) role.Server)
-
-  -- the end of a controller
-  record IsEndOf {Object : Type 0} (c : ClockedControllerState Object) (end : EndState) : Type 0 where
-    link_is : end.link ≡ settled (reading_of c.clock) c.host.link
-    clock_is : end.clock ≡ c.clock
-
-  module _ {Object : Type 0} (does : Behaviour Object) (many : TellsAsMany does) (kind : KindLaws does) (at : ℕ → ℕ) (apart : (k place : ℕ) → k ≢ place → at k ≢ at place) where
-    stepped_said : (input : HostInput) (connection time place : ℕ) (found : Option (ClockedControllerState Object)) (all : Stepped Object) (before : Links) → slice_get all.servers place ≡ found
-        → ((c : ClockedControllerState Object) → slice_get all.servers place ≡ Some c → (objects : ℕ) × HostStandsByCounts does objects c.host)
-        → ((c : ClockedControllerState Object) → slice_get all.servers place ≡ Some c → IsEndOf c (before.ends (at place)).server)
-        → SaidIn does at all.servers before → SaidIn does at (stepped_at does input connection time (at place) place found all).servers (run_links (host_events does input connection (at place) found) before)
-    unfolding stepped_at
-    stepped_said input connection time place None all before e counts ends said = said
-    stepped_said input connection time place (Some c) all before e counts ends said = λ k one f. choose k one (set_there all.servers place new k one f)
-      where
-        new : ClockedControllerState Object
-        new = controller_after (step_of does input c) connection (length all.sent) c
-
-        after : Links
-        after = run_links (host_events does input connection (at place) (Some c)) before
-
-        own : seen (at place) after ≡ called_all connection (step_of does input c).calls (seen (at place) before)
-        own = laws.own role.Server (at place) (map (as_call connection) (step_of does input c).calls) before ∙ sym (all_called connection (step_of does input c).calls (seen (at place) before))
-
-        new_said : HasSaidAt does new (given_at after (at place))
-        new_said = let n = counts c e in let end = ends c e in subst (λ (s : Ends). HasSaidAt does new s.server.given) (sym own)
-            (controller_said does many n.0 kind input connection (length all.sent) c (seen (at place) before) end.link_is end.clock_is n.1 (said place c e))
-
-        choose : (k : ℕ) (one : ClockedControllerState Object) → ((k ≡ place) × (one ≡ new)) ⊎ ((k ≢ place) × (slice_get all.servers k ≡ Some one)) → HasSaidAt does one (given_at after (at k))
-        choose k one (inl (f, g)) = subst (λ (n : ℕ). HasSaidAt does one (given_at after (at n))) (sym f) (subst (λ (x : ClockedControllerState Object). HasSaidAt does x (given_at after (at place))) (sym g) new_said)
-        choose k one (inr (f, g)) = subst (HasSaidAt does one) (sym (elsewhere does input connection (at place) (Some c) before (at k) (λ x h. apart k place f))) (said k one g)
-
--- time goes on
-later_said : {Object : Type 0} (does : Behaviour Object) (at : ℕ → ℕ) (moment : ℕ) (steps : List ℕ) (servers : List (ClockedControllerState Object)) (network : Links) → SaidIn does at servers network → SaidIn does at (all_later moment steps servers) network
-later_said {Object} does at moment steps servers network said place one e = let found = later_at moment steps servers place one e in
-    subst (λ (h : HostState Object). is_open h.link.phase ≡ true → HostHasSaid does (item_of h) h.version h.stage (given_at network (at place))) (sym found.2) (said place found.0 found.1)
-
--- a controller is made anew
-anew_said : {Object : Type 0} (does : Behaviour Object) (at : ℕ → ℕ) (host : HostState Object) (clock moment place : ℕ) (servers : List (ClockedControllerState Object)) (network : Links) → is_open host.link.phase ≡ false
-    → SaidIn does at servers network → SaidIn does at (changed (controller_anew host clock moment) place servers) network
-unfolding controller_anew
-anew_said does at host clock moment place servers network out said k one e = choose (changed_at (controller_anew host clock moment) place servers k one e)
-  where
-    choose : ((k ≡ place) × (x : ClockedControllerState _) × (slice_get servers place ≡ Some x) × (one ≡ controller_anew host clock moment x)) ⊎ (slice_get servers k ≡ Some one) → HasSaidAt does one (given_at network (at k))
-    choose (inl (f, x, g, h)) = λ opened. absurd (false≢true (sym out ∙ ap (λ (c : ClockedControllerState _). is_open c.host.link.phase) (sym h) ∙ opened))
-    choose (inr f) = said k one f
-
--- ---- an event
+use Rattle.std.proofs.lemmas.Option.{slice_get_within}
 
 pub record StationLaws : Type 0 where
   pub calls : CallLaws
@@ -179,197 +42,58 @@ pub new_closed : {Object : Type 0} (does : Behaviour Object) (identity : Identit
 unfolding new_host keeping created
 new_closed does identity own_name peer_name first now object version = refl
 
+-- a controller counts by its stage, and has given what this tells
+record Says {Object : Type 0} (does : Behaviour Object) (host : HostState Object) (items : Lists) : Type 0 where
+  objects : ℕ
+  counts : HostStandsByCounts does objects host
+  said : is_open host.link.phase ≡ true → HostHasSaid does (item_of host) host.version host.stage items.given
+
+steps_say : {Object : Type 0} (does : Behaviour Object) → TellsAsMany does → KindLaws does → StepKeeps does (λ place. Says does)
+unfolding controller_after
+steps_say does many kind input connection place c ends link_is clock_is s = record {
+  objects = s.objects;
+  counts = step_stands does many s.objects (reading_of c.clock) input c.host s.counts;
+  said = controller_said does many s.objects kind input connection 0 c ends link_is clock_is s.counts s.said;
+}
+
+new_says : {Object : Type 0} (does : Behaviour Object) → TellsAsMany does → (identity : Identity) (own_name peer_name : List ℕ) (first now : ℕ) (object : Object) (version : ℕ) (items : Lists) → Says does (new_host does identity own_name peer_name first now object version) items
+new_says does many identity own_name peer_name first now object version items = record {
+  objects = objects_told does object;
+  counts = new_stands does many (objects_told does object) identity own_name peer_name first now object version refl;
+  said = λ e. absurd (false≢true (sym (new_closed does identity own_name peer_name first now object version) ∙ e));
+}
+
 module _ (laws : StationLaws) (site : Site) (table : Table) where
-  -- controllers, their ends, and what they count and have said
-  record Controllers (signals : List (ClockedControllerState SignalState)) (points : List (ClockedControllerState PointState)) (detectors : List (ClockedControllerState (List Section))) (network : Links) : Type 0 where
-    signals_many : length signals ≡ length site.signals
-    points_many : length points ≡ length site.points
-    signal_ends : (place : ℕ) (c : ClockedControllerState SignalState) → slice_get signals place ≡ Some c → IsEndOf laws.calls c (network.ends place).server
-    point_ends : (place : ℕ) (c : ClockedControllerState PointState) → slice_get points place ≡ Some c → IsEndOf laws.calls c (network.ends (point_link site place)).server
-    detector_ends : (place : ℕ) (c : ClockedControllerState (List Section)) → slice_get detectors place ≡ Some c → IsEndOf laws.calls c (network.ends (detector_link site place)).server
-    signal_counts : (place : ℕ) (c : ClockedControllerState SignalState) → slice_get signals place ≡ Some c → (objects : ℕ) × HostStandsByCounts signal_behaviour objects c.host
-    point_counts : (place : ℕ) (c : ClockedControllerState PointState) → slice_get points place ≡ Some c → (objects : ℕ) × HostStandsByCounts point_behaviour objects c.host
-    detector_counts : (place : ℕ) (c : ClockedControllerState (List Section)) → slice_get detectors place ≡ Some c → (objects : ℕ) × HostStandsByCounts detection_behaviour objects c.host
-    of_signals : SaidIn signal_behaviour (λ place. place) signals network
-    of_points : SaidIn point_behaviour (point_link site) points network
-    of_detectors : SaidIn detection_behaviour (detector_link site) detectors network
+  abbrev OfSignal : ℕ → HostState SignalState → Lists → Type 0
+  OfSignal place = Says signal_behaviour
 
-  abbrev Are : WorldState → Links → Type 0
-  Are world network = Controllers world.signals world.points world.detectors network
+  abbrev OfPoint : ℕ → HostState PointState → Lists → Type 0
+  OfPoint place = Says point_behaviour
 
-  all_same : (world : WorldState) (old new : Links) → ((link : ℕ) → given_at new link ≡ given_at old link) → Are world old → AllHaveSaid site world new
-  all_same world old new same n = record {
-    signals = said_same signal_behaviour (λ place. place) world.signals old new (λ k c e. same k) n.of_signals;
-    points = said_same point_behaviour (point_link site) world.points old new (λ k c e. same (point_link site k)) n.of_points;
-    detectors = said_same detection_behaviour (detector_link site) world.detectors old new (λ k c e. same (detector_link site k)) n.of_detectors;
+  abbrev OfDetector : ℕ → HostState (List Section) → Lists → Type 0
+  OfDetector place = Says detection_behaviour
+
+  keeps : ControllersKeep site OfSignal OfPoint OfDetector
+  keeps = record {
+    signals = steps_say signal_behaviour signals_tell laws.signals;
+    points = steps_say point_behaviour points_tell laws.points;
+    detectors = steps_say detection_behaviour detectors_tell laws.detectors;
+    new_signals = λ begins place entry old items e s. new_says signal_behaviour signals_tell _ _ _ _ _ _ _ items;
+    new_points = λ begins position place entry old items e s. new_says point_behaviour points_tell _ _ _ _ _ _ _ items;
+    new_detectors = λ begins occupied place entry old items e s. new_says detection_behaviour detectors_tell _ _ _ _ _ _ _ items;
   }
-
-  signals_step : (input : HostInput) (connection place : ℕ) (world : WorldState) (network : Links) → Are world network → AllHaveSaid site (signal_stepped site input connection place world) (run_links (signal_events input connection place world) network)
-  unfolding signal_stepped
-  signals_step input connection place world network n = record {
-    signals = stepped_said laws.calls signal_behaviour signals_tell laws.signals (λ k. k) (λ k p differ. differ) input connection world.time place (slice_get world.signals place) (record { servers = world.signals; sent = world.sent }) network refl (n.signal_counts place) (n.signal_ends place) n.of_signals;
-    points = said_same point_behaviour (point_link site) world.points network after
-        (λ k c e. there (point_link site k) (λ below same. omega (arith, below, same))) n.of_points;
-    detectors = said_same detection_behaviour (detector_link site) world.detectors network after
-        (λ k c e. there (detector_link site k) (λ below same. omega (arith, below, same))) n.of_detectors;
-  }
-    where
-      after : Links
-      after = run_links (signal_events input connection place world) network
-
-      there : (other : ℕ) → (place < length site.signals → other ≢ place) → given_at after other ≡ given_at network other
-      there other differ = elsewhere laws.calls signal_behaviour input connection place (slice_get world.signals place) network other
-          (λ c f. differ (let a = slice_get_within world.signals place c f in let b = n.signals_many in omega (arith, a, b)))
-
-  points_step : (input : HostInput) (connection place : ℕ) (world : WorldState) (network : Links) → Are world network → AllHaveSaid site (point_stepped site input connection place world) (run_links (point_events site input connection place world) network)
-  unfolding point_stepped
-  points_step input connection place world network n = record {
-    signals = said_same signal_behaviour (λ k. k) world.signals network after
-        (λ k c e. let a = slice_get_within world.signals k c e in let b = n.signals_many in there k (λ below same. omega (arith, a, b, same))) n.of_signals;
-    points = stepped_said laws.calls point_behaviour points_tell laws.points (point_link site) (λ k p differ same. differ (omega (arith, same))) input connection world.time place (slice_get world.points place) (record { servers = world.points; sent = world.sent }) network refl (n.point_counts place) (n.point_ends place) n.of_points;
-    detectors = said_same detection_behaviour (detector_link site) world.detectors network after
-        (λ k c e. there (detector_link site k) (λ below same. omega (arith, below, same))) n.of_detectors;
-  }
-    where
-      after : Links
-      after = run_links (point_events site input connection place world) network
-
-      there : (other : ℕ) → (place < length site.points → other ≢ point_link site place) → given_at after other ≡ given_at network other
-      there other differ = elsewhere laws.calls point_behaviour input connection (point_link site place) (slice_get world.points place) network other
-          (λ c f. differ (let a = slice_get_within world.points place c f in let b = n.points_many in omega (arith, a, b)))
-
-  detectors_step : (input : HostInput) (connection place : ℕ) (world : WorldState) (network : Links) → Are world network → AllHaveSaid site (detector_stepped site input connection place world) (run_links (detector_events site input connection place world) network)
-  unfolding detector_stepped
-  detectors_step input connection place world network n = record {
-    signals = said_same signal_behaviour (λ k. k) world.signals network after
-        (λ k c e. let a = slice_get_within world.signals k c e in let b = n.signals_many in there k (λ same. omega (arith, a, b, same))) n.of_signals;
-    points = said_same point_behaviour (point_link site) world.points network after
-        (λ k c e. let a = slice_get_within world.points k c e in let b = n.points_many in there (point_link site k) (λ same. omega (arith, a, b, same))) n.of_points;
-    detectors = stepped_said laws.calls detection_behaviour detectors_tell laws.detectors (detector_link site) (λ k p differ same. differ (omega (arith, same))) input connection world.time place (slice_get world.detectors place) (record { servers = world.detectors; sent = world.sent }) network refl (n.detector_counts place) (n.detector_ends place) n.of_detectors;
-  }
-    where
-      after : Links
-      after = run_links (detector_events site input connection place world) network
-
-      there : (other : ℕ) → (other ≢ detector_link site place) → given_at after other ≡ given_at network other
-      there other differ = elsewhere laws.calls detection_behaviour input connection (detector_link site place) (slice_get world.detectors place) network other (λ c f. differ)
-
-  interlocking_steps : (input : ixl.Input) (connection : ℕ) (world : WorldState) (network : Links) → Are world network → AllHaveSaid site (interlocking_stepped site table input world) (run_links (interlocking_events site table input connection world.station) network)
-  unfolding interlocking_stepped
-  interlocking_steps input connection world network n = all_same (interlocking_stepped site table input world) network (run_links (interlocking_events site table input connection world.station) network)
-      (λ link. ap (λ (e : EndState). e.given) (laws.calls.partner (map (node_call site connection) (interlocking_step site table input world.station).calls) network link)) n
-
-  ticks : (node : Option nodes.Node) (world : WorldState) (network : Links) → Are world network → AllHaveSaid site (ticked_at site table node world) (run_links (tick_events site table node world) network)
-  ticks None world network n = all_same world network network (λ link. refl) n
-  ticks (Some nodes.Interlocking) world network n = interlocking_steps ixl.Tick 0 world network n
-  ticks (Some (nodes.Signal place)) world network n = signals_step inputs.Tick 0 place world network n
-  ticks (Some (nodes.Point place)) world network n = points_step inputs.Tick 0 place world network n
-  ticks (Some (nodes.Detector place)) world network n = detectors_step inputs.Tick 0 place world network n
-
-  comes : (bytes : List ℕ) (connection : ℕ) (node : Option nodes.Node) (world : WorldState) (network : Links) → Are world network → AllHaveSaid site (delivered_to site table bytes connection node world) (run_links (delivery_events site table bytes connection node world) network)
-  comes bytes connection None world network n = all_same world network network (λ link. refl) n
-  comes bytes connection (Some nodes.Interlocking) world network n = interlocking_steps (ixl.Datagram bytes) connection world network n
-  comes bytes connection (Some (nodes.Signal place)) world network n = signals_step (coming bytes) connection place world network n
-  comes bytes connection (Some (nodes.Point place)) world network n = points_step (coming bytes) connection place world network n
-  comes bytes connection (Some (nodes.Detector place)) world network n = detectors_step (coming bytes) connection place world network n
-
-  senses : (occupancy : Occupancy) (reporter : Option (ℕ × ℕ)) (world : WorldState) (network : Links) → Are world network
-      → AllHaveSaid site (sensed_by site occupancy reporter world) (run_links (contact_events site reporter (λ place. inputs.Sense (sense.Section place occupancy)) world.detectors) network)
-  senses occupancy None world network n = all_same world network network (λ link. refl) n
-  senses occupancy (Some reporter) world network n = detectors_step (inputs.Sense (sense.Section reporter.1 occupancy)) 0 reporter.0 world network n
-
-  -- controllers that are made anew
-  signals_anew : (begins : Beginning) (place : ℕ) (found : Option SignalEntry) (world : WorldState) (network : Links) → Are world network → AllHaveSaid site (signal_anew site begins place found world) (run_links (anew_events begins.clock begins.first place found) network)
-  signals_anew begins place None world network n = all_same world network network (λ link. refl) n
-  signals_anew begins place (Some entry) world network n =
-      let other = all_same world network (happened_to (RestartsOn place role.Server begins.clock begins.first) network) (anew_gave place role.Server begins.clock begins.first network) n
-      in record {
-        signals = anew_said signal_behaviour (λ k. k) (new_signal site begins entry) begins.clock (length world.sent) place world.signals (happened_to (RestartsOn place role.Server begins.clock begins.first) network) (new_closed signal_behaviour _ _ _ _ _ _ _) other.signals;
-        points = other.points;
-        detectors = other.detectors;
-      }
-
-  points_anew : (begins : Beginning) (place : ℕ) (found : Option PointEntry) (world : WorldState) (network : Links) → Are world network → AllHaveSaid site (point_anew site begins place found world) (run_links (anew_events begins.clock begins.first (point_link site place) found) network)
-  points_anew begins place None world network n = all_same world network network (λ link. refl) n
-  points_anew begins place (Some entry) world network n =
-      let other = all_same world network (happened_to (RestartsOn (point_link site place) role.Server begins.clock begins.first) network) (anew_gave (point_link site place) role.Server begins.clock begins.first network) n
-      in record {
-        signals = other.signals;
-        points = anew_said point_behaviour (point_link site) _ begins.clock (length world.sent) place world.points (happened_to (RestartsOn (point_link site place) role.Server begins.clock begins.first) network) (new_closed point_behaviour _ _ _ _ _ _ _) other.points;
-        detectors = other.detectors;
-      }
-
-  detectors_anew : (begins : Beginning) (place : ℕ) (found : Option DetectorEntry) (world : WorldState) (network : Links) → Are world network
-      → AllHaveSaid site (detector_anew site begins place found world) (run_links (anew_events begins.clock begins.first (detector_link site place) found) network)
-  detectors_anew begins place None world network n = all_same world network network (λ link. refl) n
-  detectors_anew begins place (Some entry) world network n =
-      let other = all_same world network (happened_to (RestartsOn (detector_link site place) role.Server begins.clock begins.first) network) (anew_gave (detector_link site place) role.Server begins.clock begins.first network) n
-      in record {
-        signals = other.signals;
-        points = other.points;
-        detectors = anew_said detection_behaviour (detector_link site) _ begins.clock (length world.sent) place world.detectors (happened_to (RestartsOn (detector_link site place) role.Server begins.clock begins.first) network) (new_closed detection_behaviour _ _ _ _ _ _ _) other.detectors;
-      }
-
-  restarts : (begins : Beginning) (node : Option nodes.Node) (world : WorldState) (network : Links) → Are world network → AllHaveSaid site (made_anew site table begins node world) (run_links (restart_events site begins.clock begins.first node) network)
-  restarts begins None world network n = all_same world network network (λ link. refl) n
-  restarts begins (Some nodes.Interlocking) world network n = all_same (made_anew site table begins (Some nodes.Interlocking) world) network _ (all_anew_gave role.Client begins.clock (λ link. begins.first) (numbers_below (links site)) network) n
-  restarts begins (Some (nodes.Signal place)) world network n = signals_anew begins place (slice_get site.signals place) world network n
-  restarts begins (Some (nodes.Point place)) world network n = points_anew begins place (slice_get site.points place) world network n
-  restarts begins (Some (nodes.Detector place)) world network n = detectors_anew begins place (slice_get site.detectors place) world network n
-
-  time_said : (elapsed : ℕ) (clocks : List ℕ) (world : WorldState) (network : Links) → Are world network → AllHaveSaid site (passed elapsed clocks world) (run_links (time_events elapsed clocks) network)
-  unfolding passed end_later
-  time_said elapsed clocks world network n = record {
-    signals = later_said signal_behaviour (λ k. k) (length world.sent) (drop 1 clocks) world.signals after n.of_signals;
-    points = later_said point_behaviour (point_link site) (length world.sent) _ world.points after n.of_points;
-    detectors = later_said detection_behaviour (detector_link site) (length world.sent) _ world.detectors after n.of_detectors;
-  }
-    where
-      after : Links
-      after = run_links (time_events elapsed clocks) network
-
-  event_said : (happening : Event) (world : WorldState) (network : Links) → Are world network → AllHaveSaid site (happens site table happening world) (run_links (events_of site table happening world) network)
-  unfolding happens events_of
-  event_said (event.Request command) world network n = interlocking_steps (ixl.Commands command) 0 world network n
-  event_said (event.Occupy section occupancy) world network n = senses occupancy (slice_get table.reporters section.0) (record world { occupancies = slice_set world.occupancies section.0 occupancy }) network n
-  event_said (event.Tick node) world network n = ticks (node_at site node.0) world network n
-  event_said (event.Time elapsed clocks) world network n = time_said elapsed clocks world network n
-  event_said (event.Deliver node bytes) world network n = comes bytes (connection_of (copy_of bytes world)) (node_at site node.0) world network n
-  event_said (event.Lose bytes) world network n = all_same (happens site table (event.Lose bytes) world) network (run_links (events_of site table (event.Lose bytes) world) network) (λ link. refl) n
-  event_said (event.Reach point position) world network n = points_step (inputs.Sense (sense.Position position)) 0 point.0 (record world { positions = slice_set world.positions point.0 position }) network n
-  event_said (event.Restart node clock first) world network n = restarts (record { clock = clock; first = first }) (node_at site node.0) world network n
-
-  -- ---- every list of events
-
-  are_of : (world : WorldState) (network : Links) → IsWhole site world → AreLinksOf site world network → AllStandByCounts site world → AllHaveSaid site world network → Are world network
-  are_of world network whole are counts said = record {
-    signals_many = whole.signals;
-    points_many = whole.points;
-    signal_ends = λ place c e. let a = slice_get_within world.signals place c e in let b = whole.signals in
-        end_of_it place c (omega (arith, a, b)) (at_front (map end_of_server world.signals) _ place (end_of_server c) (mapped end_of_server world.signals place c e));
-    point_ends = λ place c e. let a = slice_get_within world.points place c e in let b = whole.points in
-        end_of_it (point_link site place) c (omega (arith, a, b))
-        (of_second (map end_of_server world.signals) _ _ (length site.signals) place (end_of_server c) (map_length _ world.signals ∙ whole.signals) (mapped end_of_server world.points place c e));
-    detector_ends = λ place c e. let a = slice_get_within world.detectors place c e in let b = whole.detectors in
-        end_of_it (detector_link site place) c (omega (arith, a, b))
-        (of_third (map end_of_server world.signals) (map end_of_server world.points) _ (length site.signals) (length site.points) place (end_of_server c)
-        (map_length _ world.signals ∙ whole.signals) (map_length _ world.points ∙ whole.points) (mapped end_of_server world.detectors place c e));
-    signal_counts = λ place c e. (1, counts.signals place c e);
-    point_counts = λ place c e. (1, counts.points place c e);
-    detector_counts = λ place c e. let a = slice_get_within world.detectors place c e in let b = whole.detectors in let entry = at_place site.detectors place (omega (arith, a, b)) in
-        (length entry.0.sections, counts.detectors place c entry.0 e entry.1);
-    of_signals = said.signals;
-    of_points = said.points;
-    of_detectors = said.detectors;
-  }
-    where
-      end_of_it : {Object : Type 0} (link : ℕ) (c : ClockedControllerState Object) → link < links site → slice_get (server_ends world) link ≡ Some (end_of_server c) → IsEndOf laws.calls c (network.ends link).server
-      end_of_it link c below there =
-          let id = at_place (partners site) link (subst (λ (n : ℕ). link < n) (sym (partners_length site)) below)
-          in let s = are.servers link id.0 id.1
-          in let kept : s.kept ≡ end_of_server c = same_Some s.kept (end_of_server c) (sym s.there ∙ there)
-          in record { link_is = s.link_is ∙ ap (λ (k : ServerEnd). settled (reading_of k.clock) k.link) kept; clock_is = s.clock_is ∙ ap (λ (k : ServerEnd). k.clock) kept }
 
   pub said_after : (happening : Event) (world : WorldState) (network : Links) → IsWhole site world → AreLinksOf site world network → AllStandByCounts site world → AllHaveSaid site world network
       → AllHaveSaid site (happens site table happening world) (run_links (events_of site table happening world) network)
-  said_after happening world network whole are counts said = event_said happening world network (are_of world network whole are counts said)
+  said_after happening world network whole are counts said = record { signals = λ place c e. (after.of_signals place c e).said; points = λ place c e. (after.of_points place c e).said; detectors = λ place c e. (after.of_detectors place c e).said }
+    where
+      before : On laws.calls site table OfSignal OfPoint OfDetector keeps world network
+      before = record {
+        of_signals = λ place c e. record { objects = 1; counts = counts.signals place c e; said = said.signals place c e };
+        of_points = λ place c e. record { objects = 1; counts = counts.points place c e; said = said.points place c e };
+        of_detectors = λ place c e. let a = slice_get_within world.detectors place c e in let b = whole.detectors in let entry = at_place site.detectors place (omega (arith, a, b)) in
+            record { objects = length entry.0.sections; counts = counts.detectors place c entry.0 e entry.1; said = said.detectors place c e };
+      }
+
+      after : On laws.calls site table OfSignal OfPoint OfDetector keeps (happens site table happening world) (run_links (events_of site table happening world) network)
+      after = held_after laws.calls site table OfSignal OfPoint OfDetector keeps happening world network whole are before

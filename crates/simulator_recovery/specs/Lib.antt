@@ -4,3 +4,8 @@ pub mod Conversation
 pub mod Silence
 pub mod Counts
 pub mod Ready
+pub mod Matched
+pub mod ClientSaid
+pub mod Told
+pub mod NextItems
+pub mod Expected

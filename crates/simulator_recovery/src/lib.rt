@@ -3,11 +3,18 @@
 //! is no code here but laws.
 #![tactic(auto)]
 
+mod clients;
+mod controllers;
 mod conversation;
 mod counts;
+mod expected;
 mod laws;
+mod links;
+mod matched;
 mod silence;
 
+pub use clients::clients_have_said_what_their_stages_tell;
+pub use controllers::controllers_keep_to_their_conversations;
 pub use conversation::{
     clients_act_on_what_they_expect, clients_count_what_they_act_on, clients_expect_what_hosts_say,
     commands_are_expected, hosts_act_on_what_they_expect, hosts_count_what_they_act_on,
@@ -19,9 +26,12 @@ pub use counts::{
     hosts_have_said_what_their_stage_tells, hosts_say_in_their_order, hosts_stand_by_their_counts,
     stations_stand_by_their_counts,
 };
+pub use expected::{clients_expect_what_comes_next, hosts_expect_what_comes_next};
 pub use laws::{
     each_round_delivers_what_the_last_one_left, good_rounds_are_at_work_on_links,
     good_rounds_are_events, good_rounds_leave_fresh_datagrams, good_rounds_take_their_time,
     links_are_ready, links_come_up, links_that_are_up_are_in_one_connection, the_hold_ends,
 };
+pub use links::items_go_on;
+pub use matched::stations_are_matched;
 pub use silence::{connections_end_in_silence, lamps_fall_in_silence, points_rest_in_silence};

@@ -46,11 +46,13 @@ returns-clause-always c = λ site table world station once reached. always_said 
       names = c.steps_keep_a_host-3.ensures.names;
     };
   };
-  named = c.layouts_name_their_links.ensures;
-  exactly = c.events_are_those_of_the_links.ensures.exactly;
-  whole = c.events_are_those_of_the_links.ensures.whole;
-  begins = c.links_keep_time.ensures.starts;
-  time = c.links_keep_time.ensures.run;
-  first = c.a_station_begins_its_links.ensures;
-  standing = c.stations_have_links.ensures.first;
+  links = record {
+    named = c.layouts_name_their_links.ensures;
+    exactly = c.events_are_those_of_the_links.ensures.exactly;
+    whole = c.events_are_those_of_the_links.ensures.whole;
+    begins = c.links_keep_time.ensures.starts;
+    time = c.links_keep_time.ensures.run;
+    first = c.a_station_begins_its_links.ensures;
+    standing = c.stations_have_links.ensures.first;
+  };
 }) site table station once world reached

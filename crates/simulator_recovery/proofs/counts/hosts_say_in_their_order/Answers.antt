@@ -4,4 +4,4 @@ use Rattle.simulator_recovery.proofs.counts.hosts_say_in_their_order.Goals as go
 use Rattle.std.specs.Prelude.{refl}
 
 pub returns : goal.returns
-returns g c = λ now input host items objects many stands has opened. step_says _ many objects now (item_of host) host.version items input host stands refl refl has opened
+returns g c = λ now input host items objects many stands has opened. step_says _ (item_of host) host.version many objects now items input host stands refl refl has opened
