@@ -18,10 +18,10 @@ abbrev pub advice_line : Advice → List ℕ
 advice_line (Broken at) = broken_words at ++ codes "\n"
 advice_line (Absent table) = codes "the key `" ++ (table_text table ++ codes "` is missing\n")
 advice_line (Missing place key) = missing_words place key ++ codes "\n"
-advice_line (Wrong place key kind) = wrong_words place key kind ++ codes "\n"
+advice_line (Wrong place wrong) = wrong_words place wrong ++ codes "\n"
 advice_line (WrongEntry place kind) = wrong_entry_words place kind ++ codes "\n"
 advice_line (Shared place common first) = shared_words place common first ++ codes "\n"
-advice_line (Unknown place missed) = unknown_words place missed ++ codes "\n"
+advice_line (Unknown place missed at) = unknown_words place missed at ++ codes "\n"
 advice_line (Route route detail) = detail_words route detail ++ codes "\n"
 advice_line (Layout fault) = layout_words fault ++ codes "\n"
 advice_line (Table fault) = table_words fault ++ codes "\n"

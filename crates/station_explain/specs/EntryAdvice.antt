@@ -1,18 +1,19 @@
 -- Which key of an entry is missing, or has another value than is wanted: the first one in the order in which keys are read.
-use Rattle.std.specs.Prelude.{◌==◌, ◌-◌, ◌||◌, Bool, true, false, not, List, [], ◌∷◌, Option, Some, None, is_some, option_and_then, if◌then◌else◌}
+use Rattle.std.specs.Prelude.{ℕ, ◌==◌, ◌-◌, ◌||◌, Bool, true, false, not, List, [], ◌∷◌, Option, Some, None, is_some, option_and_then, if◌then◌else◌}
 use Rattle.std.specs.Option.{option_or}
-use Rattle.toml.specs.Data.{Data, Members, as_table, at, get_member}
+use Rattle.toml.specs.Data.{Data, Members, as_array, as_table, at, get_member}
 use Rattle.layout_text.specs.Messages.{table_text}
 use Rattle.layout_text.specs.declared.fault.LayoutFault.TheVariants as fault
 use Rattle.layout_text.specs.declared.fault.Place.{Place}
 use Rattle.layout_text.specs.declared.fault.TableName.{TableName}
 use Rattle.layout_text.specs.declared.fault.TableName.TheVariants as named
-use Rattle.station_explain.specs.FieldKeys.{all_keys, key_text, kind_of, required_keys}
-use Rattle.station_explain.specs.ValueForms.{fits}
+use Rattle.station_explain.specs.FieldKeys.{all_keys, item_key, key_text, kind_of, required_keys}
+use Rattle.station_explain.specs.ValueForms.{fits, unfit_item}
 use Rattle.station_explain.specs.declared.advice.Advice.{Advice}
 use Rattle.station_explain.specs.declared.advice.Advice.TheVariants.{Absent, Layout, Missing, Wrong, WrongEntry}
 use Rattle.station_explain.specs.declared.field_key.FieldKey.{FieldKey}
 use Rattle.station_explain.specs.declared.field_key.Kind.{Kind}
+use Rattle.station_explain.specs.declared.field_key.WrongValue.{WrongValue}
 
 abbrev pub is_station : TableName → Bool
 is_station named.Station = true
@@ -50,23 +51,31 @@ missing_advice document place = if place.entry == 0 then Absent place.table else
 
 -- ---- a value of another kind or form
 
-abbrev pub wrong_value : FieldKey → Option Data → Option (FieldKey × Kind)
-wrong_value key None = None
-wrong_value key (Some d) = if fits key d then None else Some (key, kind_of d)
+-- of an array the first item that isn't as its key wants it
+abbrev pub wrong_item : FieldKey → Data → Option (ℕ × Kind)
+wrong_item key d = option_and_then (λ one. option_and_then (unfit_item one 0) (as_array d)) (item_key key)
 
-abbrev pub wrong_at : Members → FieldKey → Option (FieldKey × Kind)
+abbrev pub told_wrong : FieldKey → Kind → Option (ℕ × Kind) → WrongValue
+told_wrong key kind None = record { at = record { key = key; place = 0 }; kind = kind }
+told_wrong key kind (Some found) = record { at = record { key = key; place = found.0 }; kind = found.1 }
+
+abbrev pub wrong_value : FieldKey → Option Data → Option WrongValue
+wrong_value key None = None
+wrong_value key (Some d) = if fits key d then None else Some (told_wrong key (kind_of d) (wrong_item key d))
+
+abbrev pub wrong_at : Members → FieldKey → Option WrongValue
 wrong_at fields key = wrong_value key (get_member (key_text key) fields)
 
-abbrev pub first_wrong : Members → List FieldKey → Option (FieldKey × Kind)
+abbrev pub first_wrong : Members → List FieldKey → Option WrongValue
 first_wrong fields [] = None
 first_wrong fields (key ∷ keys) = option_or (wrong_at fields key) (first_wrong fields keys)
 
-abbrev pub wrong_key : TableName → Members → Option (FieldKey × Kind)
+abbrev pub wrong_key : TableName → Members → Option WrongValue
 wrong_key table fields = first_wrong fields (all_keys table)
 
-abbrev pub wrong_by : Place → Data → Option (FieldKey × Kind) → Advice
+abbrev pub wrong_by : Place → Data → Option WrongValue → Advice
 wrong_by place d None = WrongEntry place (kind_of d)
-wrong_by place d (Some wrong) = Wrong place wrong.0 wrong.1
+wrong_by place d (Some wrong) = Wrong place wrong
 
 abbrev pub wrong_entry : Place → Data → Advice
 wrong_entry place d = wrong_by place d (option_and_then (wrong_key place.table) (as_table d))

@@ -1,12 +1,12 @@
 -- What is told of an entry: where it stands, what it has to be, and what is wrong with it.
-use Rattle.std.specs.Prelude.{ℕ, ◌==◌, List, ◌++◌, codes, if◌then◌else◌}
+use Rattle.std.specs.Prelude.{ℕ, ◌==◌, List, ◌++◌, codes, Option, Some, None, if◌then◌else◌}
 use Rattle.std.specs.Fmt.{decimal}
 use Rattle.layout_text.specs.declared.fault.Place.{Place}
 use Rattle.layout_text.specs.declared.fault.TableName.{TableName}
 use Rattle.layout_text.specs.declared.fault.TableName.TheVariants as named
 use Rattle.layout_text.specs.Messages.{table_text}
 use Rattle.station_explain.specs.EntryAdvice.{is_station}
-use Rattle.station_explain.specs.FieldKeys.{form_words, key_text, kind_words}
+use Rattle.station_explain.specs.FieldKeys.{form_words, item_key, key_text, kind_words}
 use Rattle.station_explain.specs.PortWords.{port_words}
 use Rattle.station_explain.specs.declared.advice.Common.{Common}
 use Rattle.station_explain.specs.declared.advice.Common.TheVariants as common
@@ -15,6 +15,8 @@ use Rattle.station_explain.specs.declared.advice.Missed.TheVariants as missed
 use Rattle.station_explain.specs.declared.field_key.FieldKey.{FieldKey}
 use Rattle.station_explain.specs.declared.field_key.FieldKey.TheVariants as key
 use Rattle.station_explain.specs.declared.field_key.Kind.{Kind}
+use Rattle.station_explain.specs.declared.field_key.WrongValue.{WrongValue}
+use Rattle.station_explain.specs.declared.field_key.ArrayItem.{ArrayItem}
 
 -- an entry of a layout, or the key of its entries
 abbrev pub place_words : Place → List ℕ
@@ -61,10 +63,25 @@ missed_words (missed.Unreported name) = codes "is " ++ (name ++ codes ", which n
 abbrev pub missing_words : Place → FieldKey → List ℕ
 missing_words place key = place_words place ++ (codes " has no `" ++ (key_text key ++ (codes "`: it has to be " ++ entry_words place)))
 
--- another value stands under a key
-abbrev pub wrong_words : Place → FieldKey → Kind → List ℕ
-wrong_words place key kind =
-    codes "`" ++ (key_text key ++ (codes "` of " ++ (place_words place ++ (codes " is " ++ (kind_words kind ++ (codes ", and has to be " ++ form_words key))))))
+-- what has to stand where a wrong value stands: under its key, or as an item of the array there
+abbrev pub item_form : FieldKey → Option FieldKey → List ℕ
+item_form key None = form_words key
+item_form key (Some one) = form_words one
+
+abbrev pub wanted_form : ArrayItem → List ℕ
+wanted_form at = if at.place == 0 then form_words at.key else item_form at.key (item_key at.key)
+
+-- an item of an array under a key of an entry
+abbrev pub item_words : Place → ArrayItem → List ℕ
+item_words place at = codes "item " ++ (decimal at.place ++ (codes " of `" ++ (key_text at.key ++ (codes "` of " ++ place_words place))))
+
+-- where a wrong value stands: under a key of an entry, or as an item of the array there
+abbrev pub value_words : Place → ArrayItem → List ℕ
+value_words place at = if at.place == 0 then codes "`" ++ (key_text at.key ++ (codes "` of " ++ place_words place)) else item_words place at
+
+abbrev pub wrong_words : Place → WrongValue → List ℕ
+wrong_words place wrong =
+    value_words place wrong.at ++ (codes " is " ++ (kind_words wrong.kind ++ (codes ", and has to be " ++ wanted_form wrong.at)))
 
 -- it is another value itself
 abbrev pub wrong_entry_words : Place → Kind → List ℕ
@@ -74,6 +91,10 @@ wrong_entry_words place kind = place_words place ++ (codes " is " ++ (kind_words
 abbrev pub shared_words : Place → Common → Place → List ℕ
 shared_words place common first = place_words place ++ (codes " " ++ (common_words common ++ (codes " " ++ place_words first)))
 
+-- what names something: an entry, or an item of an array in it
+abbrev pub naming_words : Place → ArrayItem → List ℕ
+naming_words place at = if at.place == 0 then place_words place else item_words place at
+
 -- it names what isn't there
-abbrev pub unknown_words : Place → Missed → List ℕ
-unknown_words place missed = place_words place ++ (codes " " ++ missed_words missed)
+abbrev pub unknown_words : Place → Missed → ArrayItem → List ℕ
+unknown_words place missed at = naming_words place at ++ (codes " " ++ missed_words missed)

@@ -1,5 +1,5 @@
 -- The keys of entries, and what may stand under them.
-use Rattle.std.specs.Prelude.{ℕ, List, [], ◌∷◌, codes}
+use Rattle.std.specs.Prelude.{ℕ, List, [], ◌∷◌, codes, Option, Some, None}
 use Rattle.std.specs.Fmt.{signed_decimal}
 use Rattle.toml.specs.Data.{Data, string, integer, float, boolean, datetime, array, table}
 use Rattle.layout_text.specs.declared.fault.TableName.{TableName}
@@ -41,6 +41,14 @@ form_words key.Flank = codes "a table of points, each with `left` or `right`"
 form_words key.Approach = codes "an array of names: each 1 to 20 of A to Z, a to z, 0 to 9 and `-`"
 form_words key.Extra = codes "an array of names: each 1 to 20 of A to Z, a to z, 0 to 9 and `-`"
 form_words key.Aspect = codes "`proceed` or `slow`"
+
+-- the key that wants of its value what this one wants of each item of its array
+abbrev pub item_key : FieldKey → Option FieldKey
+item_key key.Sections = Some key.Name
+item_key key.Path = Some key.At
+item_key key.Approach = Some key.Name
+item_key key.Extra = Some key.Name
+item_key _ = None
 
 -- the keys that an entry has to have, in the order in which they are read
 abbrev pub required_keys : TableName → List FieldKey

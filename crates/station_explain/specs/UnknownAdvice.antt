@@ -1,8 +1,9 @@
 -- Which name of an entry isn't that of an entry of the kind that is wanted: the first one in the order in which names are resolved.
 use Rattle.std.specs.Prelude.{ℕ, ◌-◌, ◌||◌, Bool, false, List, [], ◌∷◌, Option, Some, None, is_some, slice_get, option_and_then, if◌then◌else◌}
+use Rattle.std.specs.List.{position}
 use Rattle.std.specs.Option.{option_map, option_or}
 use Rattle.control_table.specs.sci_telegram.declared.message.Side.{Side}
-use Rattle.layout_text.specs.Written.{LayoutText, RouteText}
+use Rattle.layout_text.specs.Written.{DetectorText, LayoutText, RouteText}
 use Rattle.layout_text.specs.declared.entries.End.{End}
 use Rattle.layout_text.specs.declared.entries.End.TheVariants as end
 use Rattle.layout_text.specs.declared.entries.PortName.{PortName}
@@ -11,11 +12,15 @@ use Rattle.layout_text.specs.declared.fault.LayoutFault.TheVariants as fault
 use Rattle.layout_text.specs.declared.fault.Place.{Place}
 use Rattle.layout_text.specs.declared.fault.TableName.{TableName}
 use Rattle.layout_text.specs.declared.fault.TableName.TheVariants as named
-use Rattle.station_explain.specs.SharedAdvice.{place_named}
+use Rattle.station_explain.specs.Places.{counted}
+use Rattle.station_explain.specs.SharedAdvice.{name_place, place_named, same_port_name}
 use Rattle.station_explain.specs.declared.advice.Advice.{Advice}
 use Rattle.station_explain.specs.declared.advice.Advice.TheVariants.{Layout, Unknown}
 use Rattle.station_explain.specs.declared.advice.Missed.{Missed}
 use Rattle.station_explain.specs.declared.advice.Missed.TheVariants as missed
+use Rattle.station_explain.specs.declared.field_key.ArrayItem.{ArrayItem}
+use Rattle.station_explain.specs.declared.field_key.FieldKey.{FieldKey}
+use Rattle.station_explain.specs.declared.field_key.FieldKey.TheVariants as key
 
 -- a track has the ports a and b, a point tip, left and right, a border end
 abbrev pub table_of : End → TableName
@@ -87,10 +92,40 @@ module _ (w : LayoutText) where
   abbrev pub missed_at : Place → Option Missed
   missed_at place = missed_in place.table (place.entry - 1)
 
-abbrev pub unknown_by : Place → Option Missed → Advice
-unknown_by place None = Layout (fault.UnknownName place)
-unknown_by place (Some what) = Unknown place what
+-- ---- which item names it
+
+abbrev pub item_at : FieldKey → Option ℕ → ArrayItem
+item_at key None = record { key = key; place = 0 }
+item_at key (Some n) = record { key = key; place = counted n }
+
+abbrev pub port_place : List PortName → PortName → Option ℕ
+port_place ports port = position (λ one. same_port_name one port) ports
+
+-- the item of an array of a detection controller
+abbrev pub detector_item : DetectorText → Missed → ArrayItem
+detector_item d (missed.Section name) = item_at key.Sections (name_place d.sections name)
+detector_item d what = item_at key.Sections None
+
+-- the item of an array of a route; its points and its flank are tables
+abbrev pub route_item : RouteText → Missed → ArrayItem
+route_item r (missed.Port port) = item_at key.Path (port_place r.path port)
+route_item r (missed.Section name) = item_at key.Approach (name_place r.approach name)
+route_item r (missed.Route name) = item_at key.Extra (name_place r.extra name)
+route_item r what = item_at key.Path None
+
+abbrev pub item_by : {A : Type 0} → (A → Missed → ArrayItem) → Missed → Option A → ArrayItem
+item_by of what None = item_at key.Name None
+item_by of what (Some entry) = of entry what
+
+abbrev pub item_in : LayoutText → TableName → ℕ → Missed → ArrayItem
+item_in w named.Detector n what = item_by detector_item what (slice_get w.detectors n)
+item_in w named.Route n what = item_by route_item what (slice_get w.routes n)
+item_in w _ n what = item_at key.Name None
+
+abbrev pub unknown_by : LayoutText → Place → Option Missed → Advice
+unknown_by w place None = Layout (fault.UnknownName place)
+unknown_by w place (Some what) = Unknown place what (item_in w place.table (place.entry - 1) what)
 
 -- The advice where an entry names something that isn't there, or is of another kind.
 abbrev pub unknown_advice : LayoutText → Place → Advice
-unknown_advice w place = unknown_by place (missed_at w place)
+unknown_advice w place = unknown_by w place (missed_at w place)

@@ -1,13 +1,16 @@
 -- Whether values have the form that their key wants.
-use Rattle.std.specs.Prelude.{ℕ, ℤ, pos, ◌==◌, ◌&&◌, ◌||◌, nat_le, Bool, true, false, List, length, codes, Option, Some, if◌then◌else◌}
+use Rattle.std.specs.Prelude.{ℕ, ℤ, pos, ◌==◌, ◌&&◌, ◌||◌, nat_le, Bool, true, false, List, length, codes, Option, Some, None, if◌then◌else◌}
 use Rattle.std.specs.Char.{is_ascii_hexdigit}
 use Rattle.std.specs.List.{list_all, list_any, before_first, after_first}
 use Rattle.std.specs.Str.{bytes_eq}
 use Rattle.toml.specs.Data.{Data, Items, no_items, item, Members, no_members, member, as_str, as_array, as_table, as_integer}
 use Rattle.layout_text.specs.Values.{is_dot, is_name}
+use Rattle.station_explain.specs.FieldKeys.{kind_of}
 use Rattle.station_explain.specs.Joints.{some_and}
+use Rattle.station_explain.specs.Places.{counted}
 use Rattle.station_explain.specs.declared.field_key.FieldKey.{FieldKey}
 use Rattle.station_explain.specs.declared.field_key.FieldKey.TheVariants as key
+use Rattle.station_explain.specs.declared.field_key.Kind.{Kind}
 
 abbrev pub is_name_value : Data → Bool
 is_name_value d = some_and is_name (as_str d)
@@ -53,6 +56,16 @@ is_code d = some_and is_code_text (as_str d)
 abbrev pub all_items : (Data → Bool) → Items → Bool
 all_items test no_items = true
 all_items test (item d ds) = test d && all_items test ds
+
+-- an item of an array is as this key wants its value
+abbrev pub item_fits : FieldKey → Data → Bool
+item_fits key.At d = is_port d
+item_fits _ d = is_name_value d
+
+-- The first item that isn't as this key wants its value: its place, counted from 1 behind so many others, and its kind.
+abbrev pub unfit_item : FieldKey → ℕ → Items → Option (ℕ × Kind)
+unfit_item one n no_items = None
+unfit_item one n (item d ds) = if item_fits one d then unfit_item one (counted n) ds else Some (counted n, kind_of d)
 
 abbrev pub are_names : Data → Bool
 are_names d = some_and (all_items is_name_value) (as_array d)

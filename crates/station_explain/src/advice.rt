@@ -7,7 +7,7 @@ use crate::detail::RouteDetail;
 use crate::detail_words::DetailWords;
 use crate::entry_words::{MissingWords, SharedWords, UnknownWords, WrongEntryWords, WrongWords};
 use crate::fault_words::{LayoutWords, TableWords};
-use crate::field_key::{FieldKey, Kind};
+use crate::field_key::{ArrayItem, FieldKey, Kind, WrongValue};
 use crate::text_place::TextPlace;
 use arrayvec::ArrayString;
 use control_table::layout::{LayoutFault, Place, TableName};
@@ -28,14 +28,14 @@ pub(crate) enum Advice {
     Absent(TableName),
     /// An entry lacks a key.
     Missing(Place, FieldKey),
-    /// Another kind of value than is wanted stands under a key of an entry, or one of another form.
-    Wrong(Place, FieldKey, Kind),
+    /// Another kind of value than is wanted stands under a key of an entry or in the array there, or one of another form.
+    Wrong(Place, WrongValue),
     /// An entry, or what stands under its key, is of another kind or form than is wanted.
     WrongEntry(Place, Kind),
     /// An entry has something that the one at the second place has.
     Shared(Place, Common, Place),
-    /// An entry names this, which isn't there or is of another kind than is wanted.
-    Unknown(Place, Missed),
+    /// An entry, or this item of an array in it, names this, which isn't there or is of another kind than is wanted.
+    Unknown(Place, Missed, ArrayItem),
     /// Another fault of the layout.
     Layout(LayoutFault),
     /// A route has this fault.
@@ -105,12 +105,14 @@ impl fmt::Display for Advice {
             Advice::Broken(at) => write!(f, "{}\n", BrokenWords(at)),
             Advice::Absent(table) => write!(f, "the key `{table}` is missing\n"),
             Advice::Missing(place, key) => write!(f, "{}\n", MissingWords(place, key)),
-            Advice::Wrong(place, key, kind) => write!(f, "{}\n", WrongWords(place, key, kind)),
+            Advice::Wrong(place, wrong) => write!(f, "{}\n", WrongWords(place, wrong)),
             Advice::WrongEntry(place, kind) => write!(f, "{}\n", WrongEntryWords(place, kind)),
             Advice::Shared(place, common, first) => {
                 write!(f, "{}\n", SharedWords(place, common, first))
             }
-            Advice::Unknown(place, missed) => write!(f, "{}\n", UnknownWords(place, missed)),
+            Advice::Unknown(place, missed, at) => {
+                write!(f, "{}\n", UnknownWords(place, missed, at))
+            }
             Advice::Route(route, detail) => write!(f, "{}\n", DetailWords(route, detail)),
             Advice::Layout(fault) => write!(f, "{}\n", LayoutWords(fault)),
             Advice::Table(fault) => write!(f, "{}\n", TableWords(fault)),

@@ -1,7 +1,7 @@
 //! What is wrong with a route, in words.
 
 ghost use Rattle.std.specs.Prelude.{Some};
-ghost use Rattle.station_explain.specs.DetailWords.{astray_words, at_entry_words, comes_back_words, dead_end_words, detail_words, elsewhere_words, in_way_words, open_leg_words, twice_words, unanswered_words, unwritten_words};
+ghost use Rattle.station_explain.specs.DetailWords.{astray_words, at_entry_words, comes_back_words, detail_words, elsewhere_words, in_way_words, open_leg_words, unwritten_words};
 
 use crate::detail::RouteDetail;
 use crate::port_words::PortWords;
@@ -10,23 +10,6 @@ use control_table::FaultyRoute;
 use control_table::sci_telegram::Name;
 use layout_text::PortName;
 use std::fmt;
-
-/// A path leads to a port to which nothing is joined.
-#[derive(Clone, Copy)]
-struct DeadEndWords(FaultyRoute, PortName);
-
-impl fmt::Display for DeadEndWords {
-    ghost output = { λ words. Some (dead_end_words words.0 words.1) };
-
-    fn fmt<W: fmt::Write>(&self, f: &mut fmt::Formatter<W>) -> fmt::Result {
-        let route = self.0;
-        let port = PortWords(self.1);
-        write!(
-            f,
-            "the path of {route} breaks at {port}: nothing is joined to it"
-        )
-    }
-}
 
 /// A path leads to a port that is joined to another, from where no train leaves by the third.
 #[derive(Clone, Copy)]
@@ -61,20 +44,6 @@ impl fmt::Display for ComesBackWords {
             f,
             "the path of {route} comes back to section {section}, which it left"
         )
-    }
-}
-
-/// A path leads over an element twice.
-#[derive(Clone, Copy)]
-struct TwiceWords(FaultyRoute, Name);
-
-impl fmt::Display for TwiceWords {
-    ghost output = { λ words. Some (twice_words words.0 words.1) };
-
-    fn fmt<W: fmt::Write>(&self, f: &mut fmt::Formatter<W>) -> fmt::Result {
-        let route = self.0;
-        let name = self.1.as_str();
-        write!(f, "the path of {route} leads over {name} twice")
     }
 }
 
@@ -166,23 +135,6 @@ impl fmt::Display for InWayWords {
     }
 }
 
-/// A route lists another, which doesn't list it.
-#[derive(Clone, Copy)]
-struct UnansweredWords(FaultyRoute, Name);
-
-impl fmt::Display for UnansweredWords {
-    ghost output = { λ words. Some (unanswered_words words.0 words.1) };
-
-    fn fmt<W: fmt::Write>(&self, f: &mut fmt::Formatter<W>) -> fmt::Result {
-        let route = self.0;
-        let other = self.1.as_str();
-        write!(
-            f,
-            "under `extra` {route} lists route {other}, which doesn't list it"
-        )
-    }
-}
-
 /// The words for what is wrong with a route.
 #[derive(Clone, Copy)]
 pub(crate) struct DetailWords(pub(crate) FaultyRoute, pub(crate) RouteDetail);
@@ -194,11 +146,20 @@ impl fmt::Display for DetailWords {
         let route = self.0;
         match self.1 {
             RouteDetail::Empty => write!(f, "the path of {route} is empty"),
-            RouteDetail::DeadEnd(port) => write!(f, "{}", DeadEndWords(route, port)),
+            RouteDetail::DeadEnd(port) => {
+                let port = PortWords(port);
+                write!(
+                    f,
+                    "the path of {route} breaks at {port}: nothing is joined to it"
+                )
+            }
             RouteDetail::Astray(before, entered, left) => {
                 write!(f, "{}", AstrayWords(route, before, entered, left))
             }
-            RouteDetail::Twice(name) => write!(f, "{}", TwiceWords(route, name)),
+            RouteDetail::Twice(name) => {
+                let name = name.as_str();
+                write!(f, "the path of {route} leads over {name} twice")
+            }
             RouteDetail::ComesBack(name) => write!(f, "{}", ComesBackWords(route, name)),
             RouteDetail::Unwritten(point) => write!(f, "{}", UnwrittenWords(route, point)),
             RouteDetail::OpenLeg(leg, from) => write!(f, "{}", OpenLegWords(route, leg, from)),
@@ -209,7 +170,13 @@ impl fmt::Display for DetailWords {
             RouteDetail::EndsAtEntry(entry) => write!(f, "{}", AtEntryWords(route, entry)),
             RouteDetail::InTheWay(name, port) => write!(f, "{}", InWayWords(route, name, port)),
             RouteDetail::WithItself => write!(f, "under `extra` {route} lists itself"),
-            RouteDetail::Unanswered(other) => write!(f, "{}", UnansweredWords(route, other)),
+            RouteDetail::Unanswered(other) => {
+                let other = other.as_str();
+                write!(
+                    f,
+                    "under `extra` {route} lists route {other}, which doesn't list it"
+                )
+            }
         }
     }
 }

@@ -4,12 +4,12 @@ ghost use Rattle.std.specs.Prelude.{◌≡◌, option_map, is_some};
 ghost use Rattle.toml.specs.Data.{get_member};
 ghost use Rattle.toml.specs.View.{view, table_view};
 ghost use Rattle.layout_text.specs.Messages.{table_text};
-ghost use Rattle.station_explain.specs.FieldKeys.{key_text};
-ghost use Rattle.station_explain.specs.EntryAdvice.{entry_data, first_lacking, first_wrong, has_key, is_station, lacking_at, lacking_key, missing_advice, wrong_advice, wrong_at, wrong_entry, wrong_key};
+ghost use Rattle.station_explain.specs.FieldKeys.{key_text, kind_of};
+ghost use Rattle.station_explain.specs.EntryAdvice.{entry_data, first_lacking, first_wrong, has_key, is_station, lacking_at, lacking_key, missing_advice, told_wrong, wrong_advice, wrong_at, wrong_entry, wrong_item, wrong_key};
 
 use crate::advice::Advice;
-use crate::field_key::{FieldKey, Kind, kind_of};
-use crate::value_forms::fits;
+use crate::field_key::{ArrayItem, FieldKey, Kind, WrongValue, kind_of};
+use crate::value_forms::{fits, unfit_item};
 use layout_text::{LayoutFault, Place, TableName};
 use toml::{Table, Value};
 
@@ -119,19 +119,44 @@ fn lacking_at(document: &Table, place: Place) -> Option<FieldKey>
     lacking_key(place.table, fields)
 }
 
-/// The kind of what stands under a key, if it hasn't the form that is wanted.
-fn wrong_at(fields: &Table, key: FieldKey) -> Option<(FieldKey, Kind)>
+/// The first item of an array that isn't as its key wants it: its place, counted from 1, and its kind.
+fn wrong_item(key: FieldKey, value: &Value) -> Option<(usize, Kind)>
+    ensures { result ≡ wrong_item key (view value.now) }
+{
+    let one = key.of_items()?;
+    let items = value.as_array()?;
+    unfit_item(one, items.as_slice())
+}
+
+/// What is wrong with a value that hasn't the form that its key wants.
+fn told_wrong(key: FieldKey, value: &Value) -> WrongValue
+    ensures { result ≡ told_wrong key (kind_of (view value.now)) (wrong_item key (view value.now)) }
+{
+    match wrong_item(key, value) {
+        Some((place, kind)) => WrongValue {
+            at: ArrayItem { key, place },
+            kind,
+        },
+        None => WrongValue {
+            at: ArrayItem { key, place: 0 },
+            kind: kind_of(value),
+        },
+    }
+}
+
+/// What stands under a key, if it hasn't the form that is wanted.
+fn wrong_at(fields: &Table, key: FieldKey) -> Option<WrongValue>
     ensures { result ≡ wrong_at (table_view fields.now) key }
 {
     match member(fields, key.word()) {
         Some(value) if fits(key, value) => None,
-        Some(value) => Some((key, kind_of(value))),
+        Some(value) => Some(told_wrong(key, value)),
         None => None,
     }
 }
 
-/// The first of these keys under which another value stands than is wanted, and the kind of this value.
-fn first_wrong(fields: &Table, keys: &[FieldKey]) -> Option<(FieldKey, Kind)>
+/// The first of these keys under which another value stands than is wanted.
+fn first_wrong(fields: &Table, keys: &[FieldKey]) -> Option<WrongValue>
     ensures { result ≡ first_wrong (table_view fields.now) keys.now }
 {
     for key in keys {
@@ -143,7 +168,7 @@ fn first_wrong(fields: &Table, keys: &[FieldKey]) -> Option<(FieldKey, Kind)>
 }
 
 /// The first key of an entry of a table under which another value stands than is wanted.
-fn wrong_key(table: TableName, fields: &Table) -> Option<(FieldKey, Kind)>
+fn wrong_key(table: TableName, fields: &Table) -> Option<WrongValue>
     ensures { result ≡ wrong_key table (table_view fields.now) }
 {
     use FieldKey::{
@@ -175,7 +200,7 @@ fn wrong_entry(place: Place, value: &Value) -> Advice
         None => None,
     };
     match wrong {
-        Some((key, kind)) => Advice::Wrong(place, key, kind),
+        Some(wrong) => Advice::Wrong(place, wrong),
         None => Advice::WrongEntry(place, kind_of(value)),
     }
 }

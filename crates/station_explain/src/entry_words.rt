@@ -1,11 +1,11 @@
 //! What is told of an entry, in words.
 
-ghost use Rattle.std.specs.Prelude.{Some};
-ghost use Rattle.station_explain.specs.EntryWords.{common_words, entry_words, missed_words, missing_words, place_words, shared_words, unknown_words, wanted_words, wrong_entry_words, wrong_words};
+ghost use Rattle.std.specs.Prelude.{◌≡◌, Some};
+ghost use Rattle.station_explain.specs.EntryWords.{common_words, entry_words, item_words, missed_words, missing_words, naming_words, place_words, shared_words, unknown_words, value_words, wanted_form, wanted_words, wrong_entry_words, wrong_words};
 
 use crate::advice::{Common, Missed};
 use crate::entry_advice::is_station;
-use crate::field_key::{FieldKey, Kind};
+use crate::field_key::{ArrayItem, FieldKey, Kind, WrongValue};
 use crate::port_words::PortWords;
 use layout_text::{Place, TableName};
 use std::fmt;
@@ -164,19 +164,63 @@ impl fmt::Display for MissingWords {
     }
 }
 
-/// Another value than is wanted stands under a key of an entry.
-#[derive(Clone, Copy)]
-pub(crate) struct WrongWords(pub(crate) Place, pub(crate) FieldKey, pub(crate) Kind);
+/// What has to stand under a key, or as an item of the array there.
+fn wanted_form(at: ArrayItem) -> &'static str
+    ensures { result.now ≡ wanted_form at }
+{
+    if at.place == 0 {
+        return at.key.form();
+    }
+    match at.key.of_items() {
+        Some(one) => one.form(),
+        None => at.key.form(),
+    }
+}
 
-impl fmt::Display for WrongWords {
-    ghost output = { λ words. Some (wrong_words words.0 words.1 words.2) };
+/// An item of an array under a key of an entry.
+#[derive(Clone, Copy)]
+struct ItemWords(Place, ArrayItem);
+
+impl fmt::Display for ItemWords {
+    ghost output = { λ words. Some (item_words words.0 words.1) };
 
     fn fmt<W: fmt::Write>(&self, f: &mut fmt::Formatter<W>) -> fmt::Result {
         let at = PlaceWords(self.0);
-        let key = self.1.word();
-        let form = self.1.form();
-        let kind = self.2;
-        write!(f, "`{key}` of {at} is {kind}, and has to be {form}")
+        let key = self.1.key.word();
+        let item = self.1.place;
+        write!(f, "item {item} of `{key}` of {at}")
+    }
+}
+
+/// Where a wrong value stands: under a key of an entry, or as an item of the array there.
+#[derive(Clone, Copy)]
+struct ValueWords(Place, ArrayItem);
+
+impl fmt::Display for ValueWords {
+    ghost output = { λ words. Some (value_words words.0 words.1) };
+
+    fn fmt<W: fmt::Write>(&self, f: &mut fmt::Formatter<W>) -> fmt::Result {
+        if self.1.place == 0 {
+            let at = PlaceWords(self.0);
+            let key = self.1.key.word();
+            return write!(f, "`{key}` of {at}");
+        }
+        write!(f, "{}", ItemWords(self.0, self.1))
+    }
+}
+
+/// Another value than is wanted stands under a key of an entry, or as an item of the array there.
+#[derive(Clone, Copy)]
+pub(crate) struct WrongWords(pub(crate) Place, pub(crate) WrongValue);
+
+impl fmt::Display for WrongWords {
+    ghost output = { λ words. Some (wrong_words words.0 words.1) };
+
+    fn fmt<W: fmt::Write>(&self, f: &mut fmt::Formatter<W>) -> fmt::Result {
+        let at = ValueWords(self.0, self.1.at);
+        let form = wanted_form(self.1.at);
+        let kind = self.1.kind;
+        write!(f, "{at} is {kind}, and has to be {form}")
     }
 }
 
@@ -210,15 +254,30 @@ impl fmt::Display for SharedWords {
     }
 }
 
-/// An entry names what isn't there.
+/// What names something: an entry, or an item of an array in it.
 #[derive(Clone, Copy)]
-pub(crate) struct UnknownWords(pub(crate) Place, pub(crate) Missed);
+struct NamingWords(Place, ArrayItem);
 
-impl fmt::Display for UnknownWords {
-    ghost output = { λ words. Some (unknown_words words.0 words.1) };
+impl fmt::Display for NamingWords {
+    ghost output = { λ words. Some (naming_words words.0 words.1) };
 
     fn fmt<W: fmt::Write>(&self, f: &mut fmt::Formatter<W>) -> fmt::Result {
-        let at = PlaceWords(self.0);
+        if self.1.place == 0 {
+            return write!(f, "{}", PlaceWords(self.0));
+        }
+        write!(f, "{}", ItemWords(self.0, self.1))
+    }
+}
+
+/// An entry, or an item of an array in it, names what isn't there.
+#[derive(Clone, Copy)]
+pub(crate) struct UnknownWords(pub(crate) Place, pub(crate) Missed, pub(crate) ArrayItem);
+
+impl fmt::Display for UnknownWords {
+    ghost output = { λ words. Some (unknown_words words.0 words.1 words.2) };
+
+    fn fmt<W: fmt::Write>(&self, f: &mut fmt::Formatter<W>) -> fmt::Result {
+        let at = NamingWords(self.0, self.2);
         let missed = MissedWords(self.1);
         write!(f, "{at} {missed}")
     }

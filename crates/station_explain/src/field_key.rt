@@ -2,7 +2,7 @@
 
 ghost use Rattle.std.specs.Prelude.{◌≡◌, Some};
 ghost use Rattle.toml.specs.View.{view};
-ghost use Rattle.station_explain.specs.FieldKeys.{form_words, key_text, kind_of, kind_words};
+ghost use Rattle.station_explain.specs.FieldKeys.{form_words, item_key, key_text, kind_of, kind_words};
 
 use std::fmt;
 use toml::Value;
@@ -73,6 +73,19 @@ impl FieldKey {
     }
 }
 
+impl FieldKey {
+    /// The key that wants of its value what this one wants of each item of its array.
+    pub(crate) fn of_items(self) -> Option<FieldKey>
+        ensures { result ≡ item_key self }
+    {
+        match self {
+            FieldKey::Sections | FieldKey::Approach | FieldKey::Extra => Some(FieldKey::Name),
+            FieldKey::Path => Some(FieldKey::At),
+            _ => None,
+        }
+    }
+}
+
 /// What kind of value stands in a text.
 #[derive(Clone, Copy)]
 pub(crate) enum Kind {
@@ -100,6 +113,24 @@ impl fmt::Display for Kind {
             Kind::Table => write!(f, "a table"),
         }
     }
+}
+
+/// An item of an array under a key of an entry.
+#[derive(Clone, Copy)]
+pub(crate) struct ArrayItem {
+    /// The key.
+    pub(crate) key: FieldKey,
+    /// Which item it is, counted from 1; 0 where it is none.
+    pub(crate) place: usize,
+}
+
+/// What is wrong with what stands under a key of an entry.
+#[derive(Clone, Copy)]
+pub(crate) struct WrongValue {
+    /// The key, and which item of the array there is wrong; none where the value itself is.
+    pub(crate) at: ArrayItem,
+    /// What kind of value it is.
+    pub(crate) kind: Kind,
 }
 
 /// The kind of a value.

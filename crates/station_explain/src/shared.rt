@@ -39,7 +39,7 @@ fn found_in(table: TableName, found: Option<usize>) -> Option<Place>
 }
 
 /// The place of a name in a list.
-fn name_place(names: &[Name], name: Name) -> Option<usize>
+pub(crate) fn name_place(names: &[Name], name: Name) -> Option<usize>
     ensures { result ≡ name_place names.now name }
 {
     names.iter().position(|one| same_name(*one, name))
@@ -156,7 +156,7 @@ fn same_end(one: End, other: End) -> bool
 }
 
 /// Whether two ports are the same.
-fn same_port_name(one: &PortName, other: &PortName) -> bool
+pub(crate) fn same_port_name(one: &PortName, other: &PortName) -> bool
     ensures { result ≡ same_port_name one.now other.now }
 {
     same_name(one.element, other.element) && same_end(one.end, other.end)

@@ -1,13 +1,15 @@
 //! Which name of an entry isn't that of an entry of the kind that is wanted.
 
-ghost use Rattle.std.specs.Prelude.{◌≡◌};
-ghost use Rattle.station_explain.specs.UnknownAdvice.{is_entry, is_there, joint_missed, missed_at, points_missed, ports_missed, route_named, routes_missed, sections_missed, table_of, unknown_advice, unless_there, way_missed};
+ghost use Rattle.std.specs.Prelude.{◌≡◌, ◌-◌};
+ghost use Rattle.station_explain.specs.UnknownAdvice.{detector_item, is_entry, is_there, item_at, item_in, joint_missed, missed_at, points_missed, port_place, ports_missed, route_item, route_named, routes_missed, sections_missed, table_of, unknown_advice, unless_there, way_missed};
 
 use crate::advice::{Advice, Missed};
-use crate::shared::place_named;
+use crate::field_key::{ArrayItem, FieldKey};
+use crate::shared::{name_place, place_named, same_port_name};
 use control_table::sci_telegram::{Name, Side};
 use layout_text::{
-    End, LayoutFault, Place, PortName, TableName, WrittenJoint, WrittenLayout, WrittenRoute,
+    End, LayoutFault, Place, PortName, TableName, WrittenDetector, WrittenJoint, WrittenLayout,
+    WrittenRoute,
 };
 
 /// The table in which an element stands that has a port of this word.
@@ -173,12 +175,74 @@ fn missed_at(written: &WrittenLayout, place: Place) -> Option<Missed>
     }
 }
 
+/// An item of an array, by its place counted from 0, if there is one.
+fn item_at(key: FieldKey, before: Option<usize>) -> ArrayItem
+    ensures { result ≡ item_at key before }
+{
+    match before {
+        Some(before) => ArrayItem {
+            key,
+            place: before.saturating_add(1),
+        },
+        None => ArrayItem { key, place: 0 },
+    }
+}
+
+/// The place of a port in a list.
+fn port_place(ports: &[PortName], port: &PortName) -> Option<usize>
+    ensures { result ≡ port_place ports.now port.now }
+{
+    ports.iter().position(|one| same_port_name(one, port))
+}
+
+/// The item of an array of a detection controller that names this.
+fn detector_item(detector: &WrittenDetector, what: &Missed) -> ArrayItem
+    ensures { result ≡ detector_item detector.now what.now }
+{
+    match what {
+        Missed::Section(name) => {
+            item_at(FieldKey::Sections, name_place(detector.sections(), *name))
+        }
+        _ => item_at(FieldKey::Sections, None),
+    }
+}
+
+/// The item of an array of a route that names this. Its points and its flank are tables.
+fn route_item(route: &WrittenRoute, what: &Missed) -> ArrayItem
+    ensures { result ≡ route_item route.now what.now }
+{
+    match what {
+        Missed::Port(port) => item_at(FieldKey::Path, port_place(&route.path, port)),
+        Missed::Section(name) => item_at(FieldKey::Approach, name_place(&route.approach, *name)),
+        Missed::Route(name) => item_at(FieldKey::Extra, name_place(&route.extra, *name)),
+        _ => item_at(FieldKey::Path, None),
+    }
+}
+
+/// The item of an array in the entry at a place that names this.
+fn item_in(written: &WrittenLayout, place: Place, what: &Missed) -> ArrayItem
+    ensures { result ≡ item_in written.now place.table (place.entry - 1) what.now }
+{
+    let before = place.entry.saturating_sub(1);
+    match place.table {
+        TableName::Detector => match written.detectors.get(before) {
+            Some(detector) => detector_item(detector, what),
+            None => item_at(FieldKey::Name, None),
+        },
+        TableName::Route => match written.routes.get(before) {
+            Some(route) => route_item(route, what),
+            None => item_at(FieldKey::Name, None),
+        },
+        _ => item_at(FieldKey::Name, None),
+    }
+}
+
 /// The advice where an entry names something that isn't there, or is of another kind.
 pub(crate) fn unknown_advice(written: &WrittenLayout, place: Place) -> Advice
     ensures { result ≡ unknown_advice written.now place }
 {
     match missed_at(written, place) {
-        Some(unknown) => Advice::Unknown(place, unknown),
+        Some(unknown) => Advice::Unknown(place, unknown, item_in(written, place, &unknown)),
         None => Advice::Layout(LayoutFault::UnknownName(place)),
     }
 }

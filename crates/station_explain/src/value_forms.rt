@@ -5,9 +5,9 @@ ghost use Rattle.std.specs.Char.{is_ascii_hexdigit};
 ghost use Rattle.std.specs.List.{list_all};
 ghost use Rattle.toml.specs.View.{items_view, view, table_view};
 ghost use Rattle.layout_text.specs.Values.{is_name};
-ghost use Rattle.station_explain.specs.ValueForms.{all_items, are_names, are_ports, are_sides, fits, is_aspect, is_aspect_word, is_code, is_code_text, is_end_word, is_id, is_name_value, is_port, is_port_text, is_side, is_side_word, side_fits, sides_fit};
+ghost use Rattle.station_explain.specs.ValueForms.{all_items, are_names, are_ports, are_sides, fits, is_aspect, is_aspect_word, is_code, is_code_text, is_end_word, is_id, is_name_value, is_port, is_port_text, is_side, is_side_word, item_fits, side_fits, sides_fit, unfit_item};
 
-use crate::field_key::FieldKey;
+use crate::field_key::{FieldKey, Kind, kind_of};
 use control_table::sci_telegram::Name;
 use toml::{Table, Value};
 
@@ -124,34 +124,44 @@ fn is_code(value: &Value) -> bool
     }
 }
 
-/// Whether each value is a name.
-fn each_is_name(values: &[Value]) -> bool
-    ensures { result ≡ list_all (λ v. is_name_value (view v)) values.now }
+/// Whether an item of an array is as this key wants its value.
+fn item_fits(one: FieldKey, value: &Value) -> bool
+    ensures { result ≡ item_fits one (view value.now) }
 {
-    values.iter().all(|value| is_name_value(value))
+    match one {
+        FieldKey::At => is_port(value),
+        _ => is_name_value(value),
+    }
+}
+
+/// The first item of an array that isn't as this key wants its value: its place, counted from 1, and its kind.
+pub(crate) fn unfit_item(one: FieldKey, items: &[Value]) -> Option<(usize, Kind)>
+    ensures { result ≡ unfit_item one 0 (items_view items.now) }
+{
+    let mut place: usize = 0;
+    for item in items {
+        place = place.saturating_add(1);
+        if !item_fits(one, item) {
+            return Some((place, kind_of(item)));
+        }
+    }
+    None
 }
 
 /// Whether all items of an array are names.
-#[tactic(auto, using(crate::proofs::Forms::names_viewed))]
+#[tactic(auto, using(crate::proofs::Forms::names_fit))]
 fn all_names(items: &[Value]) -> bool
     ensures { result ≡ all_items is_name_value (items_view items.now) }
 {
-    each_is_name(items)
-}
-
-/// Whether each value is a port.
-fn each_is_port(values: &[Value]) -> bool
-    ensures { result ≡ list_all (λ v. is_port (view v)) values.now }
-{
-    values.iter().all(|value| is_port(value))
+    unfit_item(FieldKey::Name, items).is_none()
 }
 
 /// Whether all items of an array are ports.
-#[tactic(auto, using(crate::proofs::Forms::ports_viewed))]
+#[tactic(auto, using(crate::proofs::Forms::ports_fit))]
 fn all_ports(items: &[Value]) -> bool
     ensures { result ≡ all_items is_port (items_view items.now) }
 {
-    each_is_port(items)
+    unfit_item(FieldKey::At, items).is_none()
 }
 
 /// Whether a value is an array of names.

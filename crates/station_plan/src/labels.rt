@@ -91,8 +91,8 @@ impl Labels {
 fn name(layout: &Layout, yard: &Yard, element: usize) -> Option<Name> {
     let entry = yard.entry(element);
     match yard.kind(element) {
-        Kind::Track => layout.tracks().get(entry).map(|track| track.name),
-        Kind::Point => layout.points().get(entry).map(|point| point.name),
+        Kind::Track => Some(layout.tracks().get(entry)?.name),
+        Kind::Point => Some(layout.points().get(entry)?.name),
         Kind::Border => layout.borders().get(entry).copied(),
     }
 }
@@ -101,8 +101,8 @@ fn name(layout: &Layout, yard: &Yard, element: usize) -> Option<Name> {
 pub(crate) fn section_of(layout: &Layout, yard: &Yard, element: usize) -> Option<SectionId> {
     let entry = yard.entry(element);
     match yard.kind(element) {
-        Kind::Track => layout.tracks().get(entry).map(|track| track.section),
-        Kind::Point => layout.points().get(entry).map(|point| point.section),
+        Kind::Track => Some(layout.tracks().get(entry)?.section),
+        Kind::Point => Some(layout.points().get(entry)?.section),
         Kind::Border => None,
     }
 }

@@ -51,16 +51,11 @@ pub(crate) struct Lines<'a> {
     pub(crate) ranks: &'a Ranks,
 }
 
-/// The main leg of each element; of one that is no point it means nothing.
+/// The main leg of each element, and what is known of the ways over legs.
 #[derive(Drop)]
 pub(crate) struct MainLegs {
-    /// The legs, by number.
+    /// The legs, by number; that of an element that is no point means nothing.
     legs: Vec<Option<Side>>,
-}
-
-/// What is known of the ways over legs.
-#[derive(Drop)]
-struct Ways {
     /// For each port: whether a route that isn't slow runs over this leg.
     fast: Vec<bool>,
     /// How many points a way from each element to a border passes at best, to the left.
@@ -99,6 +94,9 @@ impl MainLegs {
     pub(crate) fn empty(alloc: Global) -> MainLegs {
         MainLegs {
             legs: Vec::new(alloc),
+            fast: Vec::new(alloc),
+            left: Vec::new(alloc),
+            right: Vec::new(alloc),
         }
     }
 
@@ -112,25 +110,40 @@ impl MainLegs {
         ground: Lines<'_>,
     ) -> Result<(), AllocError> {
         self.legs = filled(alloc, ground.yard.size(), None)?;
-        let mut ways = Ways {
-            fast: Vec::new(alloc),
-            left: Vec::new(alloc),
-            right: Vec::new(alloc),
-        };
-        ways.find(alloc, layout, ground)?;
-        self.choose(ground, &ways);
+        self.fast = filled(alloc, ground.yard.mates.len(), false)?;
+        self.left = filled(alloc, ground.yard.size(), FAR)?;
+        self.right = filled(alloc, ground.yard.size(), FAR)?;
+        for route in layout.routes() {
+            if !matches!(route.aspect(), Aspect::Slow) {
+                mark_fast(&mut self.fast, ground.yard, route);
+            }
+        }
+        self.count_points(ground);
+        self.choose(ground);
         Ok(())
     }
 
+    /// Counts the points that the ways to borders pass.
+    fn count_points(&mut self, ground: Lines<'_>) {
+        for element in ground.courses.order.iter().rev().copied() {
+            let count = fewest(ground, &self.left, element, false);
+            put(&mut self.left, element, count);
+        }
+        for element in ground.courses.order.iter().copied() {
+            let count = fewest(ground, &self.right, element, true);
+            put(&mut self.right, element, count);
+        }
+    }
+
     /// Chooses the legs by what is known of the ways.
-    fn choose(&mut self, ground: Lines<'_>, ways: &Ways) {
+    fn choose(&mut self, ground: Lines<'_>) {
         for element in ground.yard.point(0)..ground.yard.border(0) {
-            let side = plain(ground, ways, element);
+            let side = plain(ground, self, element);
             put(&mut self.legs, element, side);
         }
         for element in ground.yard.point(0)..ground.yard.border(0) {
             if at(&self.legs, element, None).is_none() {
-                self.settle(ground, ways, element);
+                self.settle(ground, element);
             }
         }
     }
@@ -154,10 +167,10 @@ impl MainLegs {
     }
 
     /// Settles a point of which both legs lead to legs: the row of one peer goes on over it.
-    fn settle(&mut self, ground: Lines<'_>, ways: &Ways, element: usize) {
+    fn settle(&mut self, ground: Lines<'_>, element: usize) {
         let side = better(
-            self.loss(ground, ways, element, Side::Left),
-            self.loss(ground, ways, element, Side::Right),
+            self.loss(ground, element, Side::Left),
+            self.loss(ground, element, Side::Right),
         );
         put(&mut self.legs, element, Some(side));
         let place = Place {
@@ -170,13 +183,13 @@ impl MainLegs {
     }
 
     /// What is lost where the row goes on by a leg: whether its peer has to give up its row, and how good that is.
-    fn loss(&self, ground: Lines<'_>, ways: &Ways, element: usize, side: Side) -> usize {
+    fn loss(&self, ground: Lines<'_>, element: usize, side: Side) -> usize {
         let place = Place {
             element,
             end: leg(side),
         };
         let Some(mate) = ground.courses.mate(&ground.yard, place) else {
-            return way_behind(ground, ways, place).saturating_add(LOST);
+            return way_behind(ground, self, place).saturating_add(LOST);
         };
         match at(&self.legs, mate.element, None) {
             Some(given) if side_of(mate.end) != Some(given) => {
@@ -185,43 +198,10 @@ impl MainLegs {
                     end: leg(given),
                 };
                 WORST
-                    .saturating_sub(way_behind(ground, ways, lost))
+                    .saturating_sub(way_behind(ground, self, lost))
                     .saturating_add(LOST)
             }
-            _ => way_behind(ground, ways, place),
-        }
-    }
-}
-
-impl Ways {
-    /// Finds the ways over the legs of a layout.
-    fn find(
-        &mut self,
-        alloc: Global,
-        layout: &Layout,
-        ground: Lines<'_>,
-    ) -> Result<(), AllocError> {
-        self.fast = filled(alloc, ground.yard.mates.len(), false)?;
-        self.left = filled(alloc, ground.yard.size(), FAR)?;
-        self.right = filled(alloc, ground.yard.size(), FAR)?;
-        for route in layout.routes() {
-            if !matches!(route.aspect(), Aspect::Slow) {
-                mark_fast(&mut self.fast, ground.yard, route);
-            }
-        }
-        self.count_points(ground);
-        Ok(())
-    }
-
-    /// Counts the points that the ways to borders pass.
-    fn count_points(&mut self, ground: Lines<'_>) {
-        for element in ground.courses.order.iter().rev().copied() {
-            let count = fewest(ground, &self.left, element, false);
-            put(&mut self.left, element, count);
-        }
-        for element in ground.courses.order.iter().copied() {
-            let count = fewest(ground, &self.right, element, true);
-            put(&mut self.right, element, count);
+            _ => way_behind(ground, self, place),
         }
     }
 }
@@ -264,20 +244,15 @@ fn behind(ground: Lines<'_>, known: &Vec<usize>, place: Place) -> usize {
 }
 
 /// The way behind a leg.
-fn way_behind(ground: Lines<'_>, ways: &Ways, place: Place) -> usize {
+fn way_behind(ground: Lines<'_>, ways: &MainLegs, place: Place) -> usize {
     let Some(mate) = ground.courses.mate(&ground.yard, place) else {
         return WORST;
     };
     let right = ground.directions.is_right(place);
     let passed = if right { &ways.right } else { &ways.left };
-    let lengths = if right {
-        &ground.ranks.onward
-    } else {
-        &ground.ranks.inward
-    };
     way(
         at(passed, mate.element, FAR),
-        FAR.saturating_sub(at(lengths, mate.element, 0)),
+        FAR.saturating_sub(ground.ranks.way(mate.element, right)),
         mate.element,
     )
 }
@@ -294,7 +269,7 @@ fn joined_to(ground: Lines<'_>, place: Place) -> Joined {
 }
 
 /// The main leg of a point, unless both lead to legs.
-fn plain(ground: Lines<'_>, ways: &Ways, element: usize) -> Option<Side> {
+fn plain(ground: Lines<'_>, ways: &MainLegs, element: usize) -> Option<Side> {
     let left = Place {
         element,
         end: End::Left,

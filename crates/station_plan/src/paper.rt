@@ -72,6 +72,24 @@ fn window(things: &[Thing], left: Units) -> Extent {
     }
 }
 
+/// Adds the strips that show all of a plan and what stands below it, and tells how far down they come.
+fn add_strips(
+    strips: &mut Vec<Strip>,
+    things: &[Thing],
+    all: Extent,
+    below: Extent,
+) -> Result<Units, AllocError> {
+    let step = WIDEST - OVERLAP;
+    let mut down = Units(0);
+    for number in 0..1000 {
+        let begin = all.left + step.times(count(number));
+        if begin + OVERLAP < all.right {
+            down = add_strip(strips, down, window(things, begin))?;
+        }
+    }
+    add_strip(strips, down, below)
+}
+
 /// The paper of a plan.
 pub(crate) fn paper_for(
     alloc: Global,
@@ -91,16 +109,8 @@ pub(crate) fn paper_for(
             strips,
         });
     }
-    let step = WIDEST - OVERLAP;
-    let mut down = Units(0);
-    for number in 0..1000 {
-        let begin = all.left + step.times(count(number));
-        if begin + OVERLAP < all.right {
-            down = add_strip(&mut strips, down, window(things, begin))?;
-        }
-    }
     let below = reach(things, true, left, far).with(written).grown(MARGIN);
-    down = add_strip(&mut strips, down, below)?;
+    let down = add_strips(&mut strips, things, all, below)?;
     Ok(Paper {
         frame: Frame {
             left: 0,

@@ -188,15 +188,19 @@ pub(crate) fn draw_list(
         let taken = before.saturating_add(words.len());
         if taken.saturating_add(word.len()) >= letters {
             draw_words(more, begin, down, before, words.as_str())?;
-            words = String::new(alloc);
+            words.clear();
             before = 0;
             down = down + LINE;
         }
-        words.push_str(" ")?;
-        words.push_str(word)?;
+        add_word(&mut words, word)?;
     }
     draw_words(more, begin, down, before, words.as_str())?;
     Ok(down + LINE + Units(5))
+}
+
+fn add_word(words: &mut String, word: &str) -> Result<(), AllocError> {
+    words.push_str(" ")?;
+    words.push_str(word)
 }
 
 /// Writes words behind so many letters.

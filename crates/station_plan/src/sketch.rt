@@ -59,21 +59,19 @@ fn reaches(
 }
 
 impl Sketch {
-    /// Lays out a layout.
-    pub(crate) fn of(alloc: Global, layout: &Layout) -> Result<Sketch, AllocError> {
-        let mut sketch = Sketch {
+    /// An empty sketch.
+    pub(crate) fn empty(alloc: Global) -> Sketch {
+        Sketch {
             grid: Grid::empty(alloc),
             labels: Labels::empty(alloc),
             widths: Widths::empty(alloc),
             heights: Heights::empty(alloc),
             columns: Columns::empty(alloc),
-        };
-        sketch.lay(alloc, layout)?;
-        Ok(sketch)
+        }
     }
 
     /// Lays out a layout, one thing after the other.
-    fn lay(&mut self, alloc: Global, layout: &Layout) -> Result<(), AllocError> {
+    pub(crate) fn lay(&mut self, alloc: Global, layout: &Layout) -> Result<(), AllocError> {
         self.grid.lay(alloc, layout)?;
         self.labels.lay(layout, &self.grid.ground)?;
         self.widths.lay(&self.grid, &self.labels)?;

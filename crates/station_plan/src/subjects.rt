@@ -92,8 +92,8 @@ pub(crate) fn element_name(layout: &Layout, element: Element) -> Option<Name>
     ensures { result ≡ element_name layout.now element }
 {
     match element {
-        Element::Track(track) => layout.tracks().get(track.0).map(|entry| entry.name),
-        Element::Point(point) => layout.points().get(point.0).map(|entry| entry.name),
+        Element::Track(track) => Some(layout.tracks().get(track.0)?.name),
+        Element::Point(point) => Some(layout.points().get(point.0)?.name),
         Element::Border(border) => layout.borders().get(border.0).copied(),
     }
 }
@@ -103,8 +103,8 @@ pub(crate) fn section_of(layout: &Layout, element: Element) -> Option<SectionId>
     ensures { result ≡ section_of layout.now element }
 {
     match element {
-        Element::Track(track) => layout.tracks().get(track.0).map(|entry| entry.section),
-        Element::Point(point) => layout.points().get(point.0).map(|entry| entry.section),
+        Element::Track(track) => Some(layout.tracks().get(track.0)?.section),
+        Element::Point(point) => Some(layout.points().get(point.0)?.section),
         Element::Border(_) => None,
     }
 }

@@ -145,6 +145,22 @@ fn thing_of(
     })
 }
 
+/// Adds the thing of a subject, which is that of this number in its table and stands at this place.
+fn add_subject(
+    things: &mut Vec<Thing>,
+    alloc: Global,
+    scene: Scene<'_>,
+    subject: Subject,
+    number: usize,
+    at: Place,
+) -> Result<(), AllocError>
+    requires { AreDrawn scene.layout.now scene.shown.now.seen things.old.items }
+    ensures listed { OnOk result (subjects_of things.new.items ≡ subjects_of things.old.items ++ subject ∷ []) }
+    ensures drawn { OnOk result (AreDrawn scene.entry.layout.now scene.entry.shown.now.seen things.new.items) }
+{
+    add(things, scene, thing_of(alloc, scene, subject, number, at)?)
+}
+
 fn add_sections(
     things: &mut Vec<Thing>,
     alloc: Global,
@@ -157,11 +173,7 @@ fn add_sections(
 {
     for (number, name) in sections.iter().enumerate() {
         let subject = Subject::Section(*name);
-        add(
-            things,
-            scene,
-            thing_of(alloc, scene, subject, number, NO_PORT)?,
-        )?;
+        add_subject(things, alloc, scene, subject, number, NO_PORT)?;
     }
     Ok(())
 }
@@ -182,7 +194,7 @@ fn add_tracks(
             end: End::A,
         };
         let subject = Subject::Track(track.name);
-        add(things, scene, thing_of(alloc, scene, subject, number, at)?)?;
+        add_subject(things, alloc, scene, subject, number, at)?;
     }
     Ok(())
 }
@@ -202,7 +214,7 @@ fn add_part(
 {
     let element = scene.sketch.grid.ground.yard.point(number);
     let at = Place { element, end };
-    add(things, scene, thing_of(alloc, scene, part, number, at)?)
+    add_subject(things, alloc, scene, part, number, at)
 }
 
 /// Adds a point: its name, its tip and its two legs.
@@ -264,7 +276,7 @@ fn add_borders(
             end: End::End,
         };
         let subject = Subject::Border(*name);
-        add(things, scene, thing_of(alloc, scene, subject, number, at)?)?;
+        add_subject(things, alloc, scene, subject, number, at)?;
     }
     Ok(())
 }
@@ -290,7 +302,7 @@ fn add_joint(
         Some(name) => {
             let at = scene.sketch.grid.ground.yard.place(joint.first);
             let subject = Subject::Joint(name, joint.first.end);
-            add(things, scene, thing_of(alloc, scene, subject, 0, at)?)
+            add_subject(things, alloc, scene, subject, 0, at)
         }
         None => Ok(()),
     }
@@ -326,7 +338,7 @@ fn add_signals(
     for (number, signal) in signals.iter().enumerate() {
         let at = scene.sketch.grid.ground.yard.place(signal.at);
         let subject = Subject::Signal(signal.name);
-        add(things, scene, thing_of(alloc, scene, subject, number, at)?)?;
+        add_subject(things, alloc, scene, subject, number, at)?;
     }
     Ok(())
 }
@@ -432,14 +444,26 @@ fn add_all(
     add_detectors(things, alloc, scene, layout.detectors())
 }
 
-/// The list of all that is drawn of a scene.
-fn things_of(alloc: Global, scene: Scene<'_>, layout: &Layout) -> Result<Vec<Thing>, AllocError>
-    ensures listed { IfOk result (λ things. subjects_of things.items ≡ subjects layout.now) }
-    ensures drawn { IfOk result (λ things. AreDrawn scene.entry.layout.now scene.entry.shown.now.seen things.items) }
+/// Adds all that a plan of a layout draws, which is laid out before.
+fn lay_and_add(
+    things: &mut Vec<Thing>,
+    alloc: Global,
+    sketch: &mut Sketch,
+    layout: &Layout,
+    shown: &Shown,
+) -> Result<(), AllocError>
+    requires { things.old.items ≡ [] }
+    ensures listed { OnOk result (subjects_of things.new.items ≡ subjects layout.now) }
+    ensures drawn { OnOk result (AreDrawn layout.now shown.now.seen things.new.items) }
 {
-    let mut things = Vec::new(alloc);
-    add_all(&mut things, alloc, scene, layout)?;
-    Ok(things)
+    sketch.lay(alloc, layout)?;
+    let scene = Scene {
+        layout,
+        sketch,
+        shown,
+        below: spot(Units(0), Units(0)),
+    };
+    add_all(things, alloc, scene, layout)
 }
 
 /// The list of all that a plan of a layout draws. The error comes only where memory was refused.
@@ -447,13 +471,8 @@ pub fn things(alloc: Global, table: &Checked, shown: &Shown) -> Result<Vec<Thing
     ensures listed { IfOk result (λ things. subjects_of things.items ≡ subjects table.now) }
     ensures drawn { IfOk result (λ things. AreDrawn table.now shown.now.seen things.items) }
 {
-    let layout = table.layout();
-    let sketch = Sketch::of(alloc, layout)?;
-    let scene = Scene {
-        layout,
-        sketch: &sketch,
-        shown,
-        below: spot(Units(0), Units(0)),
-    };
-    things_of(alloc, scene, layout)
+    let mut sketch = Sketch::empty(alloc);
+    let mut things = Vec::new(alloc);
+    lay_and_add(&mut things, alloc, &mut sketch, table.layout(), shown)?;
+    Ok(things)
 }
