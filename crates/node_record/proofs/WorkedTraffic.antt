@@ -29,4 +29,8 @@ worked site = record {
   stamped = refl;
   unremarked = refl;
   remarked = refl;
+  lamp = refl;
+  motor = refl;
+  ordered_nothing = refl;
+  commands = refl;
 }

@@ -1,15 +1,25 @@
--- Lines of records, and what goes over the network by them, worked by hand.
+-- Lines of records, and what goes over the network and what is drawn by them, worked by hand.
 use Rattle.std.specs.Prelude.{◌≡◌, ℕ, List, [], ◌∷◌, codes, Option, Some, None, Ok, Err}
 use Rattle.control_table.specs.layout.Entries.{Site}
+use Rattle.control_table.specs.sci_telegram.declared.message.Aspect.TheVariants as aspect
+use Rattle.control_table.specs.sci_telegram.declared.message.Side.TheVariants as side
+use Rattle.lane_chart.specs.declared.change.Change.{Change}
+use Rattle.lane_chart.specs.declared.lane.Kind.{Kind}
+use Rattle.lane_chart.specs.declared.lane.Kind.TheVariants as kind
+use Rattle.lane_chart.specs.declared.lane.Seen.{Seen}
+use Rattle.lane_chart.specs.declared.lane.Seen.TheVariants as seen
 use Rattle.replay_words.specs.Cut.{words}
 use Rattle.replay_words.specs.declared.fault.Fault.TheVariants.{Number, Words}
 use Rattle.node_record.specs.CapturedRecord.{captured}
+use Rattle.node_record.specs.Courses.{first_course}
+use Rattle.node_record.specs.NodeChanges.{Mark, changes_from, marks_from}
 use Rattle.node_record.specs.NodeTraffic.{Passed, traffic}
 use Rattle.node_record.specs.RecordLines.{Reads, Comes, ThrowsAway, Sends, Other, line_said}
 use Rattle.node_record.specs.Records.{time_said, whole_lines}
 use Rattle.node_record.specs.declared.passage.Reception.{Reception}
 use Rattle.node_record.specs.declared.passage.Reception.TheVariants.{Delivered, FromNoPartner, ThrownAway, Unread}
 use Rattle.node_record.specs.declared.passage.Way.TheVariants.{Sent, Came}
+use Rattle.node_record.specs.declared.role.Role.TheVariants as role
 
 -- a datagram of one byte that came at a reading, and one that was sent
 abbrev pub came : ℕ → Option ℕ → Reception → ℕ → Passed
@@ -17,6 +27,14 @@ came reading from became byte = record { reading = reading; way = Came from beca
 
 abbrev pub sent : ℕ → ℕ → ℕ → Passed
 sent reading to byte = record { reading = reading; way = Sent to; bytes = byte ∷ [] }
+
+-- that the lane of this kind at place 3 shows this, by a line
+abbrev pub shows : ℕ → ℕ → Kind → Seen → Change
+shows number time what this = record { line = number; time = time; lane = record { kind = what; place = 3 }; seen = this }
+
+-- a command or an answer, by a line
+abbrev pub said : ℕ → ℕ → List ℕ → Mark
+said number time words = record { line = number; time = time; node = None; words = words }
 
 pub record Worked (site : Site) : Type 0 where
   -- lines
@@ -50,3 +68,15 @@ pub record Worked (site : Site) : Type 0 where
   pub stamped : (captured [] 1 (came 12 (Some 0) Delivered 7)).journey.time ≡ 12000
   pub unremarked : (captured [] 1 (came 12 (Some 0) Delivered 7)).comment ≡ []
   pub remarked : (captured [] 1 (came 12 None FromNoPartner 7)).comment ≡ codes "from no partner"
+  -- an order that is renewed tells nothing new, and the lamp falls at the end of the last one, though no line is written then
+  pub lamp : changes_from site (role.Signal 3) first_course ((2, codes "at 10") ∷ (3, codes "writes 1 at 10 show proceed until 50") ∷ (4, codes "at 40")
+      ∷ (5, codes "writes 2 at 40 show proceed until 70") ∷ (6, codes "at 69") ∷ (7, codes "at 80") ∷ [])
+      ≡ shows 3 10000 kind.Aspect (seen.Aspect (Some aspect.Proceed)) ∷ shows 7 70000 kind.Aspect (seen.Aspect (Some aspect.Stop)) ∷ []
+  -- a motor that is told to stop
+  pub motor : changes_from site (role.Point 3) first_course ((2, codes "at 10") ∷ (3, codes "writes 1 at 10 drive left until 50") ∷ (4, codes "at 40") ∷ (5, codes "writes 2 at 40 drive none") ∷ (6, codes "at 80") ∷ [])
+      ≡ shows 3 10000 kind.Drive (seen.Drive (Some side.Left)) ∷ shows 5 40000 kind.Drive (seen.Drive None) ∷ []
+  -- a detector gives no orders
+  pub ordered_nothing : changes_from site (role.Detector 3) first_course ((2, codes "at 10") ∷ (3, codes "writes 1 at 10 show proceed until 50") ∷ []) ≡ []
+  -- a command and its answer; what is known is no mark
+  pub commands : marks_from site role.Interlocking 0 (record first_course { first = Some 10; reading = 10 }) ((3, codes "hears set R1") ∷ (4, codes "at 20") ∷ (5, codes "writes refused 5 R2") ∷ (6, codes "writes holding") ∷ (7, codes "writes route R1 free") ∷ [])
+      ≡ said 3 10000 (codes "set R1") ∷ said 5 20000 (codes "refused 5 R2") ∷ said 6 20000 (codes "holding") ∷ []
