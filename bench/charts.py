@@ -1,5 +1,5 @@
 #!/usr/bin/env python3
-"""Judges charts of sessions, written as SVG.
+"""Judges charts of sessions and of nodes' records, written as SVG.
 
     charts.py              those that the program stored_runs prints, as they stand in its file `stdout`
     charts.py --to FOLDER  the same, and writes them into a folder, each with a PNG beside it
@@ -24,20 +24,21 @@ def marks(group, tag):
     return list(group.iter(NAMESPACE + tag))
 
 
-def ends_of_bands(spans):
-    """Where each band of a row ends, or where a span begins elsewhere than behind the one before it."""
+def ends_of_bands(spans, anywhere):
+    """Where each band of a row ends, or where a span begins elsewhere than behind the one before it. That of a node's record
+    begins where something is told first."""
     ends = []
     for begin, end in spans:
-        if begin == LEFT:
-            ends.append(end)
-        elif ends and ends[-1] == begin:
+        if ends and ends[-1] == begin:
             ends[-1] = end
+        elif begin == LEFT or anywhere:
+            ends.append(end)
         else:
             yield f'a span begins at {begin}'
     yield from (f'a band ends at {end}' for end in ends if end not in RIGHT)
 
 
-def row_faults(group):
+def row_faults(group, anywhere):
     """What is wrong in a row."""
     kind, _, name = group.get('id').partition('.')
     if kind not in ROWS:
@@ -45,10 +46,10 @@ def row_faults(group):
     if [text.text for text in marks(group, 'text') if text.get('class') == 'name'] != [name]:
         yield 'lacks its name'
     lines = [line for line in marks(group, 'line') if line.get('class').startswith('band ')]
-    yield from ends_of_bands([(int(line.get('x1')), int(line.get('x2'))) for line in lines])
+    yield from ends_of_bands([(int(line.get('x1')), int(line.get('x2'))) for line in lines], anywhere)
 
 
-def judge(root):
+def judge(root, anywhere):
     groups = marks(root, 'g')
     ids = [group.get('id') for group in groups]
     texts = [box(text) for text in marks(root, 'text')]
@@ -57,15 +58,16 @@ def judge(root):
     for place, one in enumerate(texts):
         faults += [f'{one[4]} lies over {other[4]}' for other in texts[place + 1:] if overlap(one, other)]
     faults += outside(texts, lines, [], root)
-    return faults + [f'{group.get("id")}: {fault}' for group in groups for fault in row_faults(group)]
+    return faults + [f'{group.get("id")}: {fault}' for group in groups for fault in row_faults(group, anywhere)]
 
 
 def stored():
     """The names and the texts of the charts that are printed: each stands behind the line that asks for it."""
     asked, lines = None, []
     for line in STORED.read_text().splitlines(keepends=True):
-        if line.startswith('chart '):
+        if line.startswith(('chart ', 'chart-node ')):
             asked = '-'.join(word.split('/')[-1].split('.')[0] for word in line.split()[1:] if word != '-')
+            asked += '-node' * line.startswith('chart-node ')
         elif asked and (line.startswith('<svg') or lines):
             lines.append(line)
             if line == '</svg>\n':
@@ -79,7 +81,8 @@ def main(words):
     charts = [(file, file.read_text()) for file in files] or list(stored())
     found = 0 if charts else 1
     for name, text in charts:
-        found += tell(name, judge(tree.fromstring(text)))
+        anywhere = str(name).removesuffix('.svg').endswith('-node')
+        found += tell(name, judge(tree.fromstring(text), anywhere))
         if folder:
             (folder / f'{name}.svg').write_text(text)
             render(folder / f'{name}.svg')

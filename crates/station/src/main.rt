@@ -8,7 +8,10 @@
 #![tactic(auto)]
 
 use node_panel::{Asked as NodePanel, panel_of_node};
-use node_traffic::{Asked as NodeCapture, capture_node_to_file, decode_node_text, ends_text};
+use node_record::{
+    Asked as NodeCapture, Cut as NodeCut, capture_node_to_file, chart_node_text, decode_node_text,
+    ends_text,
+};
 use panel_page::PAGE;
 use station_command::{
     Asked, Error, Failure, is_memory, lines_of, read_words, text_of, texts_of, words,
@@ -83,10 +86,11 @@ fn main(rt: HostRuntime) -> ExitCode {
                 Asked::Chart {
                     layout,
                     recording,
+                    node,
                     from,
                     to,
                 },
-            ) => chart_files(&rt, layout, recording, Cut { from, to }),
+            ) => chart_files(&rt, layout, recording, node, Cut { from, to }),
             Ok(Asked::Decode { word, layout }) => decode_word(&rt, layout, word),
             Ok(
                 Asked::DecodeSession {
@@ -329,10 +333,19 @@ fn decode_word(rt: &HostRuntime, layout: Option<&str>, word: &str) -> u8 {
     }
 }
 
-/// `chart FILE RECORD [--from MS] [--to MS]`.
-fn chart_files(rt: &HostRuntime, layout: &str, recording: &str, cut: Cut) -> u8 {
+/// `chart FILE RECORD [--node NAME] [--from MS] [--to MS]`.
+fn chart_files(
+    rt: &HostRuntime,
+    layout: &str,
+    recording: &str,
+    node: Option<&str>,
+    cut: Cut,
+) -> u8 {
     match texts_of(rt, layout, recording) {
-        Ok((layout, recording)) => chart(rt, layout.as_str(), recording.as_str(), cut),
+        Ok((layout, recording)) => match node {
+            Some(name) => chart_node(rt, layout.as_str(), name, recording.as_str(), cut),
+            None => chart(rt, layout.as_str(), recording.as_str(), cut),
+        },
         Err(failure) => fail(rt, &failure),
     }
 }
@@ -492,6 +505,24 @@ fn chart(rt: &HostRuntime, layout: &str, recording: &str, cut: Cut) -> u8 {
         Ok(mut out) => chart_text(
             rt.alloc(),
             layout,
+            recording,
+            cut,
+            &mut out,
+            &mut rt.stderr(),
+        ),
+        Err(_) => fail(rt, &Failure::OutOfMemory),
+    }
+}
+
+/// Writes the chart of a node's record to standard output.
+fn chart_node(rt: &HostRuntime, layout: &str, name: &str, recording: &str, cut: Cut) -> u8 {
+    let Cut { from, to } = cut;
+    let cut = NodeCut { from, to };
+    match BufWriter::new(rt.alloc(), rt.stdout()) {
+        Ok(mut out) => chart_node_text(
+            rt.alloc(),
+            layout,
+            name,
             recording,
             cut,
             &mut out,

@@ -312,19 +312,25 @@ chart_layout = record { found = refl; same = refl; fault = λ text rs. refl; emp
 chart_record : TakesOne chart_rules (rule_at 1 chart_rules)
 chart_record = record { found = refl; same = refl; fault = λ text rs. refl; empty = λ rs. tt; leaves = λ text rs. refl; most = refl; alone = refl; once = refl; further = refl }
 
-chart_from : IsOption chart_rules (rule_at 2 chart_rules)
+chart_node : IsOption chart_rules (rule_at 2 chart_rules)
+chart_node = record {
+  one = record { found = refl; same = refl; fault = λ text rs. refl; empty = λ rs. tt; leaves = λ text rs. refl; most = refl; alone = refl; once = refl; further = refl };
+  long = refl;
+}
+
+chart_from : IsOption chart_rules (rule_at 3 chart_rules)
 chart_from = record {
   one = record { found = refl; same = refl; fault = λ text rs. refl; empty = λ rs. tt; leaves = λ text rs. refl; most = refl; alone = refl; once = refl; further = refl };
   long = refl;
 }
 
-chart_to : IsOption chart_rules (rule_at 3 chart_rules)
+chart_to : IsOption chart_rules (rule_at 4 chart_rules)
 chart_to = record {
   one = record { found = refl; same = refl; fault = λ text rs. refl; empty = λ rs. tt; leaves = λ text rs. refl; most = refl; alone = refl; once = refl; further = refl };
   long = refl;
 }
 
-chart_help : IsHelp (rule_at 4 chart_rules)
+chart_help : IsHelp (rule_at 5 chart_rules)
 chart_help = record { valueless = refl; fails = λ rs. tt }
 
 chart_file : (n : Files) → IsFile chart_usage.files chart_rules n
@@ -333,23 +339,24 @@ chart_file second_due = inl (rule_at 1 chart_rules, record { one = chart_record;
 chart_file third_due = inr (refl, refl)
 chart_file none_due = inr (refl, refl)
 
-chart_named : (name : Text) (is_from is_to is_help : Bool) → bytes_eq (codes "from") name ≡ is_from → bytes_eq (codes "to") name ≡ is_to → bytes_eq (codes "help") name ≡ is_help
-    → IsNamed chart_usage chart_rules name
-chart_named name true is_to is_help a b d = inl (rule_at 2 chart_rules, chart_from, (bytes_eq-Decides (codes "from") name).0 a, refl)
-chart_named name false true is_help a b d = inl (rule_at 3 chart_rules, chart_to, (bytes_eq-Decides (codes "to") name).0 b, refl)
-chart_named name false false true a b d = inr (inr (rw (a, b) refl, refl, names_help chart_rules name (rule_at 4 chart_rules) (rw (a, b, d) refl) chart_help))
-chart_named name false false false a b d = inr (inr (rw (a, b) refl, refl, names_nothing chart_rules name (rw (a, b, d) refl)))
+chart_named : (name : Text) (is_node is_from is_to is_help : Bool) → bytes_eq (codes "node") name ≡ is_node → bytes_eq (codes "from") name ≡ is_from
+    → bytes_eq (codes "to") name ≡ is_to → bytes_eq (codes "help") name ≡ is_help → IsNamed chart_usage chart_rules name
+chart_named name true is_from is_to is_help a b c d = inl (rule_at 2 chart_rules, chart_node, (bytes_eq-Decides (codes "node") name).0 a, refl)
+chart_named name false true is_to is_help a b c d = inl (rule_at 3 chart_rules, chart_from, (bytes_eq-Decides (codes "from") name).0 b, refl)
+chart_named name false false true is_help a b c d = inl (rule_at 4 chart_rules, chart_to, (bytes_eq-Decides (codes "to") name).0 c, refl)
+chart_named name false false false true a b c d = inr (inr (rw (a, b, c) refl, refl, names_help chart_rules name (rule_at 5 chart_rules) (rw (a, b, c, d) refl) chart_help))
+chart_named name false false false false a b c d = inr (inr (rw (a, b, c) refl, refl, names_nothing chart_rules name (rw (a, b, c, d) refl)))
 
 chart_short : (x : ℕ) (is_help : Bool) → nat_eq 104 x ≡ is_help → (rest : Text) (h : Held) (after : Held → Kinds) → Fails (short_fault chart_rules false (arg_by_short chart_rules x) rest h after)
-chart_short x true e = short_help chart_rules x (rule_at 4 chart_rules) (rw e refl) chart_help
+chart_short x true e = short_help chart_rules x (rule_at 5 chart_rules) (rw e refl) chart_help
 chart_short x false e = short_nothing chart_rules x (rw e refl)
 
 chart_is : IsLine chart_usage chart_rules
 chart_is = record {
   file = chart_file;
-  named = λ name. chart_named name (bytes_eq (codes "from") name) (bytes_eq (codes "to") name) (bytes_eq (codes "help") name) refl refl refl;
+  named = λ name. chart_named name (bytes_eq (codes "node") name) (bytes_eq (codes "from") name) (bytes_eq (codes "to") name) (bytes_eq (codes "help") name) refl refl refl refl;
   short = λ x. chart_short x (nat_eq 104 x) refl;
-  defaults = (refl, (refl, (refl, (refl, (refl, tt)))));
+  defaults = (refl, (refl, (refl, (refl, (refl, (refl, tt))))));
 }
 
 -- ---- `decode`
@@ -743,12 +750,12 @@ number_read : (low high : ℕ) (d : Option Text) → InRange low high d → opti
 number_read low high None ranged = refl
 number_read low high (Some d) ranged = number_in low high d (ranged d refl)
 
-chart_ends : (a b from to : Option Text) → InRange 0 18446744073709551 from → InRange 0 18446744073709551 to
-    → Ends (chart_of a b (option_map time_of from) (option_map time_of to)) (chart_of a b (option_and_then number_of from) (option_and_then number_of to)) (two_missing a b)
-chart_ends (Some a) (Some b) from to begins ends =
-    inl (Chart a b (option_map time_of from) (option_map time_of to), (refl, (refl, λ i. Some (Chart a b (number_read 0 18446744073709551 from begins i) (number_read 0 18446744073709551 to ends i)))))
-chart_ends (Some a) None from to begins ends = inr (inr (refl, tt))
-chart_ends None b from to begins ends = inr (inr (refl, tt))
+chart_ends : (a b named from to : Option Text) → InRange 0 18446744073709551 from → InRange 0 18446744073709551 to
+    → Ends (chart_of a b named (option_map time_of from) (option_map time_of to)) (chart_of a b named (option_and_then number_of from) (option_and_then number_of to)) (two_missing a b)
+chart_ends (Some a) (Some b) named from to begins ends =
+    inl (Chart a b named (option_map time_of from) (option_map time_of to), (refl, (refl, λ i. Some (Chart a b named (number_read 0 18446744073709551 from begins i) (number_read 0 18446744073709551 to ends i)))))
+chart_ends (Some a) None named from to begins ends = inr (inr (refl, tt))
+chart_ends None b named from to begins ends = inr (inr (refl, tt))
 
 pub chart_reads : (words : List Text) → CommandReads (codes "chart") chart_usage chart_rules chart_by chart_of_rows words
 chart_reads = command_reads (codes "chart") chart_usage chart_rules chart_is chart_by chart_of_rows settles
@@ -757,10 +764,11 @@ chart_reads = command_reads (codes "chart") chart_usage chart_rules chart_is cha
     settles given found are =
         let first_is = no_default given found (codes "FILE") (are.values (codes "FILE")) in
         let second_is = no_default given found (codes "SECOND") (are.values (codes "SECOND")) in
+        let node_is = no_default given found (codes "node") (are.values (codes "node")) in
         let from_is = no_default given found (codes "from") (are.values (codes "from")) in
         let to_is = no_default given found (codes "to") (are.values (codes "to")) in
-        subst (λ r. Settles chart_rules (chart_by given) r given) (λ i. chart_of (sym first_is i) (sym second_is i) (option_and_then number_of (sym from_is i)) (option_and_then number_of (sym to_is i)))
-        (chart_ends (value_of (codes "FILE") given) (value_of (codes "SECOND") given) (value_of (codes "from") given) (value_of (codes "to") given) (are.taken (codes "from")) (are.taken (codes "to")))
+        subst (λ r. Settles chart_rules (chart_by given) r given) (λ i. chart_of (sym first_is i) (sym second_is i) (sym node_is i) (option_and_then number_of (sym from_is i)) (option_and_then number_of (sym to_is i)))
+        (chart_ends (value_of (codes "FILE") given) (value_of (codes "SECOND") given) (value_of (codes "node") given) (value_of (codes "from") given) (value_of (codes "to") given) (are.taken (codes "from")) (are.taken (codes "to")))
 
 decode_ends : (hex layout file recording name : Option Text) → Ends (decode_of hex layout file recording name) (decode_of hex layout file recording name) []
 decode_ends (Some hex) layout None None None = inl (Decode hex layout, (refl, (refl, refl)))

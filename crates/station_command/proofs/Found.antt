@@ -16,8 +16,8 @@ abbrev replayed : Option (Text × Text) → Option Text → Option Request
 replayed files node = option_map (λ both. Replay both.0 both.1 node) files
 
 -- the chart of two files
-abbrev charted : Option (Text × Text) → Option ℕ → Option ℕ → Option Request
-charted files from to = option_map (λ both. Chart both.0 both.1 from to) files
+abbrev charted : Option (Text × Text) → Option Text → Option ℕ → Option ℕ → Option Request
+charted files node from to = option_map (λ both. Chart both.0 both.1 node from to) files
 
 -- a subcommand by its two parts
 abbrev both_parts : {A : Type 0} → (A → Text) → (A → List Row) → A → Text × List Row
@@ -161,12 +161,14 @@ module _ (m : ArgMatches) where
   pub number_missing : (id : Text) → None ≡ first_value (found_of m) id → None ≡ option_and_then number_of (first_of id (rows_of (found_of m)))
   number_missing id e = ap (option_and_then number_of) (value_found id None e)
 
-  pub chart_found : (a b : Text) (from to : Option ℕ) → Some (a, b) ≡ files_of (rows_of (found_of m)) → from ≡ option_and_then number_of (FirstOf (codes "from"))
-      → to ≡ option_and_then number_of (FirstOf (codes "to")) → Some (Chart a b from to) ≡ chart_of_rows (rows_of (found_of m))
-  chart_found a b from to e f g = λ i. charted (e i) (f i) (g i)
+  pub chart_found : (a b : Text) (node : Option Text) (from to : Option ℕ) → Some (a, b) ≡ files_of (rows_of (found_of m)) → node ≡ first_value (found_of m) (codes "node") → from ≡ option_and_then number_of (FirstOf (codes "from"))
+      → to ≡ option_and_then number_of (FirstOf (codes "to")) → Some (Chart a b node from to) ≡ chart_of_rows (rows_of (found_of m))
+  chart_found a b node from to e h f g =
+      let node_is = value_found (codes "node") node h in
+      λ i. charted (e i) (node_is i) (f i) (g i)
 
   pub no_chart : None ≡ files_of (rows_of (found_of m)) → None ≡ chart_of_rows (rows_of (found_of m))
-  no_chart e = ap (λ o. charted o (option_and_then number_of (FirstOf (codes "from"))) (option_and_then number_of (FirstOf (codes "to")))) e
+  no_chart e = ap (λ o. charted o (FirstOf (codes "node")) (option_and_then number_of (FirstOf (codes "from"))) (option_and_then number_of (FirstOf (codes "to")))) e
 
   -- ---- `decode`
 

@@ -112,7 +112,7 @@ pub data Request : Type 0 where
   Run : List ℕ → List ℕ → List ℕ → ℕ → Request
   Panel : List ℕ → Option ℕ → Option (List ℕ) → Option ℕ → Option (List ℕ) → Request
   Replay : List ℕ → List ℕ → Option (List ℕ) → Request
-  Chart : List ℕ → List ℕ → Option ℕ → Option ℕ → Request
+  Chart : List ℕ → List ℕ → Option (List ℕ) → Option ℕ → Option ℕ → Request
   Decode : List ℕ → Option (List ℕ) → Request
   DecodeSession : List ℕ → List ℕ → Option (List ℕ) → Request
   Capture : List ℕ → List ℕ → List ℕ → Option (List ℕ) → Option (List ℕ) → Bool → Request
@@ -181,12 +181,12 @@ panel_of layout port recording time node = option_map (λ file. Panel file port 
 abbrev pub time_of : List ℕ → ℕ
 time_of time = digits_value 10 (without_leading_plus time)
 
--- `chart FILE RECORD [--from MS] [--to MS]`
+-- `chart FILE RECORD [--node NAME] [--from MS] [--to MS]`
 abbrev pub chart_usage : Usage
-chart_usage = record { files = codes "FILE" ∷ codes "SECOND" ∷ []; options = codes "from" ∷ codes "to" ∷ []; switches = [] }
+chart_usage = record { files = codes "FILE" ∷ codes "SECOND" ∷ []; options = codes "node" ∷ codes "from" ∷ codes "to" ∷ []; switches = [] }
 
-abbrev pub chart_of : Option (List ℕ) → Option (List ℕ) → Option ℕ → Option ℕ → Option Request
-chart_of layout recording from to = option_map (λ files. Chart files.0 files.1 from to) (both_of layout recording)
+abbrev pub chart_of : Option (List ℕ) → Option (List ℕ) → Option (List ℕ) → Option ℕ → Option ℕ → Option Request
+chart_of layout recording node from to = option_map (λ files. Chart files.0 files.1 node from to) (both_of layout recording)
 
 -- `decode --hex HEX [--layout FILE]`, or `decode FILE RECORD [--node NAME]`
 abbrev pub decode_usage : Usage
@@ -253,7 +253,7 @@ abbrev pub replay_by : List Given → Option Request
 replay_by given = replay_of (value_of (codes "FILE") given) (value_of (codes "SECOND") given) (value_of (codes "node") given)
 
 abbrev pub chart_by : List Given → Option Request
-chart_by given = chart_of (value_of (codes "FILE") given) (value_of (codes "SECOND") given) (option_map time_of (value_of (codes "from") given)) (option_map time_of (value_of (codes "to") given))
+chart_by given = chart_of (value_of (codes "FILE") given) (value_of (codes "SECOND") given) (value_of (codes "node") given) (option_map time_of (value_of (codes "from") given)) (option_map time_of (value_of (codes "to") given))
 
 abbrev pub decode_by : List Given → Option Request
 decode_by given =
@@ -294,7 +294,7 @@ request_of (asked.Sim layout events) = Sim layout.now events.now
 request_of (asked.Run layout script recording for_ms) = Run layout.now script.now recording.now for_ms
 request_of (asked.Panel layout port recording time node) = Panel layout.now port (option_copied recording) time (option_copied node)
 request_of (asked.Replay layout recording node) = Replay layout.now recording.now (option_copied node)
-request_of (asked.Chart layout recording from to) = Chart layout.now recording.now from to
+request_of (asked.Chart layout recording node from to) = Chart layout.now recording.now (option_copied node) from to
 request_of (asked.Decode word layout) = Decode word.now (option_copied layout)
 request_of (asked.DecodeSession layout recording node) = DecodeSession layout.now recording.now (option_copied node)
 request_of (asked.Capture layout recording out addresses node force) = Capture layout.now recording.now out.now (option_copied addresses) (option_copied node) force

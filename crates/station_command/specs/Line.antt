@@ -102,9 +102,9 @@ going_line = with_rule (with_rule (session_line (codes "capture")) out_rule) (op
 abbrev pub capture_line : App
 capture_line = with_rule (with_rule going_line (option_rule (codes "node"))) (switch_rule (codes "force"))
 
--- `chart FILE RECORD [--from MS] [--to MS]`
+-- `chart FILE RECORD [--node NAME] [--from MS] [--to MS]`
 abbrev pub chart_line : App
-chart_line = with_rule (with_rule (session_line (codes "chart")) (moment_rule (codes "from"))) (moment_rule (codes "to"))
+chart_line = with_rule (with_rule (with_rule (session_line (codes "chart")) (option_rule (codes "node"))) (moment_rule (codes "from"))) (moment_rule (codes "to"))
 
 -- the name of a node
 abbrev pub name_rule : Rule

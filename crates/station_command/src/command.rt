@@ -64,10 +64,11 @@ pub enum Asked<'a> {
         recording: &'a str,
         node: Option<&'a str>,
     },
-    /// `chart FILE RECORD [--from MS] [--to MS]`: a recorded session on the layout in a file as a chart over true time, from one moment to another.
+    /// `chart FILE RECORD [--node NAME] [--from MS] [--to MS]`: a recorded session on the layout in a file as a chart over true time, from one moment to another, or the record of the node of this name over its own clock.
     Chart {
         layout: &'a str,
         recording: &'a str,
+        node: Option<&'a str>,
         from: Option<u64>,
         to: Option<u64>,
     },
@@ -259,16 +260,18 @@ fn asked_panel<'a>(matches: &ArgMatches<'a>) -> Option<Asked<'a>>
 }
 
 /// The chart that is asked for.
-#[tactic(auto, using(crate::proofs::Found::chart_found, crate::proofs::Found::no_chart))]
+#[tactic(auto, using(crate::proofs::Found::no_chart))]
 fn asked_chart<'a>(matches: &ArgMatches<'a>) -> Option<Asked<'a>>
     ensures { option_map request_of result ≡ chart_of_rows (rows_of (found_of matches.now)) }
 {
     let (layout, recording) = files(matches)?;
+    let node = matches.get_str(NODE);
     let from = number_given(matches, FROM);
     let to = number_given(matches, TO);
     Some(Asked::Chart {
         layout,
         recording,
+        node,
         from,
         to,
     })

@@ -96,7 +96,7 @@ const SHORTEST: u64 = 1000;
 
 const LONGEST: u64 = 600_000;
 
-/// The last moment of a chart, in milliseconds of true time.
+/// The last moment of a chart, in milliseconds.
 const LATEST: u64 = 18_446_744_073_709_551;
 
 /// The latest first reading of a node's clock, in milliseconds.
@@ -383,11 +383,12 @@ fn decode<'a>(alloc: Global) -> Result<Command<'a>, AllocError>
     taking(line, option(alloc, NODE, "NAME", texts::RECORDED_NODE))
 }
 
-/// `chart FILE RECORD [--from MS] [--to MS]`.
+/// `chart FILE RECORD [--node NAME] [--from MS] [--to MS]`.
 fn chart<'a>(alloc: Global) -> Result<Command<'a>, AllocError>
     ensures { IfOk result (λ line. (app_of line ≡ chart_line) × ((out-Command line).has_globals ≡ false)) }
 {
     let line = on_session(alloc, CHART, texts::CHART, texts::CHART_DETAILS);
+    let line = taking(line, option(alloc, NODE, "NAME", texts::RECORDED_NODE));
     let line = taking(line, ranged(alloc, FROM, texts::FROM, 0, LATEST));
     taking(line, ranged(alloc, TO, texts::TO, 0, LATEST))
 }

@@ -154,11 +154,11 @@ this name that is made anew.
 
 Example: station replay examples/small.toml examples/commands.session";
 
-pub(crate) const FROM: &str = "The moment at which the chart begins, in milliseconds of true time";
+pub(crate) const FROM: &str = "The moment at which the chart begins, in milliseconds";
 
-pub(crate) const TO: &str = "The moment at which the chart ends, in milliseconds of true time";
+pub(crate) const TO: &str = "The moment at which the chart ends, in milliseconds";
 
-pub(crate) const CHART: &str = "Draws a session as a chart over true time";
+pub(crate) const CHART: &str = "Draws a session, or what a node recorded, as a chart";
 
 pub(crate) const CHART_DETAILS: &str =
     "Draws a session as a chart over true time, as an SVG picture on standard output.
@@ -166,6 +166,10 @@ pub(crate) const CHART_DETAILS: &str =
 The session is applied again, as by replay. The chart has a lane for each signal (its aspect, its
 authority), point (its position, its drive), section, route, link and node, and a mark for each
 command with its answer. --from and --to cut it.
+
+With --node the record is that of one node, as node writes it with --record. It is drawn over the
+clock of this node: what its lines tell of its signal, its point or its sections, or of all that an
+interlocking knows, with its commands and answers.
 
 Example: station chart examples/small.toml examples/commands.session > commands.svg";
 

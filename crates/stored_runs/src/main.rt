@@ -7,7 +7,8 @@
 //! - `script LAYOUT SCRIPT`: a script is judged;
 //! - `decode-session LAYOUT SESSION` and `capture LAYOUT SESSION`: what goes over the network in a session is told in words,
 //!   or captured;
-//! - `decode-node LAYOUT NAME RECORD` and `capture-node LAYOUT NAME RECORD`: so with the record of the node of this name;
+//! - `decode-node LAYOUT NAME RECORD` and `capture-node LAYOUT NAME RECORD`: so with the record of the node of this name, and
+//!   `chart-node LAYOUT NAME RECORD` draws it;
 //! - `chart LAYOUT SESSION FROM TO`: a session is drawn, from one time in milliseconds to another, or a hyphen where none is
 //!   asked for;
 //! - `restarts NAME LAYOUT EVENTS ROUNDS NUMBER: NODES`: each of these nodes is made anew behind every NUMBERth event that the

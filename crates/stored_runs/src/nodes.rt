@@ -4,7 +4,7 @@ use crate::failure::Failure;
 use crate::files::{parts, read};
 use crate::stations::write_digits;
 use crate::status::write_told;
-use node_traffic::{decode_node_text, node_capture};
+use node_record::{Cut, chart_node_text, decode_node_text, node_capture};
 use std::alloc::Global;
 use std::io;
 use std::io::Write;
@@ -23,6 +23,7 @@ pub(crate) fn carry_out<W: Write>(
     let (layout, record) = (layout.as_str(), record.as_str());
     match kind {
         "decode-node" => decode(rt.alloc(), layout, name, record, out)?,
+        "chart-node" => chart(rt.alloc(), layout, name, record, out)?,
         _ => capture(rt.alloc(), layout, name, record, out)?,
     }
     Ok(())
@@ -53,4 +54,21 @@ fn capture<W: Write>(
         Ok(file) => write_digits(file.as_slice(), out),
         Err(_) => out.writeln("no capture"),
     }
+}
+
+/// Draws a record, and tells the fault if there is one, and the status.
+fn chart<W: Write>(
+    alloc: Global,
+    layout: &str,
+    name: &str,
+    record: &str,
+    out: &mut W,
+) -> io::Result<()> {
+    let cut = Cut {
+        from: None,
+        to: None,
+    };
+    let mut fault = Vec::new(alloc);
+    let status = chart_node_text(alloc, layout, name, record, cut, out, &mut fault);
+    write_told(fault.as_slice(), status, out)
 }

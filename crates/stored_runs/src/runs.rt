@@ -33,7 +33,7 @@ fn carry_out<W: Write>(rt: &HostRuntime, run: &str, out: &mut W) -> Result<(), F
         "plan" => plans::draw(rt, files, out),
         "restarts" => lists::carry_out(rt, files, out),
         "decode" => datagrams::decode_named(rt, files, out),
-        "decode-node" | "capture-node" => nodes::carry_out(rt, kind, files, out),
+        "decode-node" | "capture-node" | "chart-node" => nodes::carry_out(rt, kind, files, out),
         "plain-decode" => datagrams::decode_plain(rt, files, out),
         "pair" => pairs::run_file(rt, files, out),
         "each-pair" => pairs::run_each(rt, files, out),

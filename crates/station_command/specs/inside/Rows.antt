@@ -42,7 +42,7 @@ abbrev pub replay_of_rows : List Row → Option Request
 replay_of_rows rows = replay_of (first_of (codes "FILE") rows) (first_of (codes "SECOND") rows) (first_of (codes "node") rows)
 
 abbrev pub chart_of_rows : List Row → Option Request
-chart_of_rows rows = chart_of (first_of (codes "FILE") rows) (first_of (codes "SECOND") rows) (option_and_then number_of (first_of (codes "from") rows)) (option_and_then number_of (first_of (codes "to") rows))
+chart_of_rows rows = chart_of (first_of (codes "FILE") rows) (first_of (codes "SECOND") rows) (first_of (codes "node") rows) (option_and_then number_of (first_of (codes "from") rows)) (option_and_then number_of (first_of (codes "to") rows))
 
 abbrev pub decode_of_rows : List Row → Option Request
 decode_of_rows rows =

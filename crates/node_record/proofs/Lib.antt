@@ -1,0 +1,9 @@
+pub mod WholeLines
+pub mod Traffic
+pub mod Captures
+pub mod Explained
+pub mod WorkedTraffic
+pub mod RecordsRead
+pub mod FoundEnds
+pub mod FirstWord
+pub mod Charts

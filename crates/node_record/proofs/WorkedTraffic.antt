@@ -1,0 +1,36 @@
+-- What was worked by hand.
+use Rattle.std.proofs.Common.{refl}
+use Rattle.control_table.specs.layout.Entries.{Site}
+use Rattle.node_record.specs.Worked.{Worked}
+
+pub worked : (site : Site) → Worked site
+worked site = record {
+  read = refl;
+  away = refl;
+  heard = refl;
+  heard_nothing = refl;
+  written = refl;
+  broken_off = refl;
+  complained = refl;
+  no_number = refl;
+  no_text = refl;
+  no_line = refl;
+  broken = refl;
+  for_ever = refl;
+  for_a_minute = refl;
+  answered = refl;
+  stranger = refl;
+  another = refl;
+  controller = refl;
+  late = refl;
+  unread = refl;
+  outward = refl;
+  inward = refl;
+  stamped = refl;
+  unremarked = refl;
+  remarked = refl;
+  lamp = refl;
+  motor = refl;
+  ordered_nothing = refl;
+  commands = refl;
+}

@@ -1,0 +1,6 @@
+use Rattle.std.proofs.Common.{drop}
+use Rattle.node_record.proofs.Captures.{Captures}
+use Rattle.node_record.proofs.capture.capture_of.Given as goal
+
+abbrev pub invariant-loop-one : goal.invariant-loop-one
+invariant-loop-one l = Captures l.given l.node l.all (drop l.one-index l.all) l.file.items

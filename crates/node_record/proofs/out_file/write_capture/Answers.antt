@@ -1,0 +1,11 @@
+use Rattle.node_record.specs.CapturedRecord.{Explains}
+use Rattle.node_record.specs.declared.capture_failure.CaptureFailure.TheVariants.{Capture}
+use Rattle.node_record.proofs.Explained.{file_at_fault, told_on}
+use Rattle.node_record.proofs.out_file.write_capture.Goals as goal
+
+pub returns-in_err-write_file-clause-explains : goal.returns-in_err-write_file-clause-explains
+returns-in_err-write_file-clause-explains g c =
+    let asked = c.args.asked.now
+    in let fault = c.in_err-write_file.field-0.0
+    in told_on (Explains asked.layout.now asked.name.now asked.recording.now asked.endpoints.now) c.from_residual-in_err-write_file.result (Capture fault) c.from_residual-in_err-write_file.ensures.1
+    (file_at_fault asked.layout.now asked.name.now asked.recording.now asked.endpoints.now fault (record { file = c.in_ok-capture.capture.items; is = c.in_ok-capture.ensures.done }) c.in_err-write_file.ensures)

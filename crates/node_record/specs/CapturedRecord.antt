@@ -1,0 +1,123 @@
+-- What a node's record comes to as a capture.
+use Rattle.std.specs.Prelude.{◌≡◌, ◌<◌, ◌*◌, ◌-◌, ◌^◌, ℕ, min, List, [], ◌∷◌, ◌++◌, length, map, take, slice_get, Option, Some, None, Ok}
+use Rattle.std.specs.Io.KnownBytes.{Appends}
+use Rattle.std.specs.List.{flat_map}
+use Rattle.capture_file.specs.Blocks.{head, packet_block}
+use Rattle.capture_file.specs.Captures.{IsCapture}
+use Rattle.capture_file.specs.Journeys.{Sent as Captured}
+use Rattle.capture_file.specs.Faults.{fault_line}
+use Rattle.capture_file.specs.NodeEnds.{end_of}
+use Rattle.capture_file.specs.declared.fault.CaptureFault.TheVariants.{TooLong, Exists, CannotWrite}
+use Rattle.capture_file.specs.declared.journey.Endpoint.{Endpoint}
+use Rattle.capture_file.specs.declared.journey.Journey.{Journey}
+use Rattle.control_table.specs.layout.Entries.{Site}
+use Rattle.station_check.specs.Failures.{told_line as station_line}
+use Rattle.station_check.specs.Report.{IsSound}
+use Rattle.node_record.specs.DecodedRecord.{ExplainsRecord}
+use Rattle.node_record.specs.NodeLines.{why_text}
+use Rattle.node_record.specs.NodeTraffic.{Passed, traffic}
+use Rattle.node_record.specs.RecordLines.{Line}
+use Rattle.node_record.specs.Records.{record_said}
+use Rattle.node_record.specs.declared.capture_failure.CaptureFailure.{CaptureFailure}
+use Rattle.node_record.specs.declared.capture_failure.CaptureFailure.TheVariants.{Station, Capture}
+use Rattle.node_record.specs.declared.passage.Way.{Way}
+use Rattle.node_record.specs.declared.passage.Way.TheVariants.{Sent, Came}
+use Rattle.node_record.specs.declared.record_head.Head.{Head as RecordHead}
+
+-- ---- datagrams
+
+-- a reading in microseconds, as far as 64 bits go
+abbrev pub stamp : ℕ → ℕ
+stamp reading = min (reading * 1000) (2 ^ 64 - 1)
+
+-- an address that is no node's: the record doesn't tell it
+abbrev pub no_end : Endpoint
+no_end = record { address = 0 ∷ 0 ∷ 0 ∷ 0 ∷ []; port = 0 }
+
+abbrev pub sender_end : List Endpoint → Option ℕ → Endpoint
+sender_end given None = no_end
+sender_end given (Some from) = end_of given from
+
+-- what the node sent goes from its end to the other's, and what came goes from the other's to its own
+abbrev pub sender_of : List Endpoint → ℕ → Way → Endpoint
+sender_of given node (Sent to) = end_of given node
+sender_of given node (Came from reception) = sender_end given from
+
+abbrev pub receiver_of : List Endpoint → ℕ → Way → Endpoint
+receiver_of given node (Sent to) = end_of given to
+receiver_of given node (Came from reception) = end_of given node
+
+abbrev pub journey : List Endpoint → ℕ → Passed → Journey
+journey given node one = record {
+  time = stamp one.reading;
+  sender = sender_of given node one.way;
+  receiver = receiver_of given node one.way;
+}
+
+-- why it wasn't delivered, where it came and wasn't
+abbrev pub comment : Way → List ℕ
+comment (Sent to) = []
+comment (Came from reception) = why_text reception
+
+abbrev pub captured : List Endpoint → ℕ → Passed → Captured
+captured given node one = record { journey = journey given node one; payload = one.bytes; comment = comment one.way }
+
+-- Bytes are a capture of these datagrams, in their order, and they are exactly these.
+pub record IsCaptureOf (given : List Endpoint) (node : ℕ) (all : List Passed) (bytes : List ℕ) : Type 0 where
+  pub is : IsCapture (map (captured given node) all) bytes
+  pub exact : bytes ≡ head ++ flat_map (λ one. packet_block (captured given node one)) all
+
+-- one of these has more bytes than a capture takes
+pub record HasTooLong (all : List Passed) : Type 0 where
+  pub place : ℕ
+  pub one : Passed
+  pub there : slice_get all place ≡ Some one
+  pub long : 512 < length one.bytes
+
+-- ---- records
+
+-- The layout is sound, no line of the record is faulty, and bytes are a capture of what came to the node and what it sent.
+pub record IsRecordCapture (layout name text : List ℕ) (given : List Endpoint) (file : List ℕ) : Type 0 where
+  pub site : Site
+  pub sound : IsSound layout site
+  pub head : RecordHead
+  pub lines : List Line
+  pub says : record_said site name text ≡ Ok (head, lines)
+  pub is : IsCaptureOf given head.node (traffic head.node 0 lines) file
+
+-- so long is a datagram of a record
+pub record IsTooLong (layout name text : List ℕ) : Type 0 where
+  pub site : Site
+  pub sound : IsSound layout site
+  pub head : RecordHead
+  pub lines : List Line
+  pub says : record_said site name text ≡ Ok (head, lines)
+  pub has : HasTooLong (traffic head.node 0 lines)
+
+-- a record has a capture
+pub record HasCapture (layout name text : List ℕ) (given : List Endpoint) : Type 0 where
+  pub file : List ℕ
+  pub is : IsRecordCapture layout name text given file
+
+-- ---- what fails
+
+-- Why there is no capture file: as a record isn't told, or a datagram is too long; or there is a capture, but a file of that name
+-- too, or the system doesn't write it.
+abbrev pub Explains : List ℕ → List ℕ → List ℕ → List Endpoint → CaptureFailure → Type 0
+Explains layout name text given (Station why) = ExplainsRecord layout name text why
+Explains layout name text given (Capture TooLong) = IsTooLong layout name text
+Explains layout name text given (Capture Exists) = HasCapture layout name text given
+Explains layout name text given (Capture CannotWrite) = HasCapture layout name text given
+
+-- the line that tells why
+abbrev pub told_line : CaptureFailure → List ℕ
+told_line (Station why) = station_line why
+told_line (Capture fault) = fault_line fault
+
+-- This line was told, as far as the writer took it, and nothing else.
+abbrev pub Tells : CaptureFailure → Option (List ℕ) → Option (List ℕ) → Type 0
+Tells why old new = (told : ℕ) × Appends old new (take told (told_line why))
+
+-- Why there is no capture file was told.
+abbrev pub Explained : List ℕ → List ℕ → List ℕ → List Endpoint → Option (List ℕ) → Option (List ℕ) → Type 0
+Explained layout name text given old new = (why : CaptureFailure) × Explains layout name text given why × Tells why old new

@@ -1,0 +1,17 @@
+pub mod RecordLines
+pub mod Records
+pub mod NodeTraffic
+pub mod NodeLines
+pub mod DecodedRecord
+pub mod CapturedRecord
+pub mod GivenEnds
+pub mod Roles
+pub mod OrdersTold
+pub mod ReportsTold
+pub mod KnownTold
+pub mod Courses
+pub mod NodeChanges
+pub mod NodeRows
+pub mod ChartedRecord
+pub mod Worked
+pub mod inside

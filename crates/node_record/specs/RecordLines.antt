@@ -1,0 +1,118 @@
+-- What the lines of a node's record tell of datagrams:
+--
+--     at 12000                      the clock was read
+--     from IXL1 3200..              a datagram came from a node's address, or from another: `-`
+--     throws away                   all that waited was thrown away
+--     sends IXL1 3200..             a datagram was sent to a node
+--
+-- The other lines tell of none: `listens`, `closed`, `hears ..`, `writes ..`, `breaks off ..` and `complains N N`.
+use Rattle.std.specs.Prelude.{ℕ, if◌then◌else◌, List, [], ◌∷◌, codes, Option, Some, None, Result, Ok, Err}
+use Rattle.std.specs.Str.{bytes_eq}
+use Rattle.control_table.specs.layout.Entries.{Site}
+use Rattle.replay_lines.specs.Names.{node_named}
+use Rattle.replay_words.specs.Fault.{◌>>=◌}
+use Rattle.replay_words.specs.Read.{decimal, hexadecimal_or_none}
+use Rattle.replay_words.specs.declared.fault.Fault.{Fault}
+use Rattle.replay_words.specs.declared.fault.Fault.TheVariants.{Words}
+use Rattle.node_record.specs.declared.record_line.RecordLine.{RecordLine}
+use Rattle.node_record.specs.declared.record_line.RecordLine.TheVariants as line
+
+-- what a line tells of; a node by its place
+pub data Line : Type 0 where
+  Reads : (reading : ℕ) → Line
+  Comes : (from : Option ℕ) (bytes : List ℕ) → Line
+  ThrowsAway : Line
+  Sends : (to : ℕ) (bytes : List ℕ) → Line
+  Other : Line
+
+abbrev pub told : RecordLine → Line
+told (line.Reads reading) = Reads reading
+told (line.Comes from bytes) = Comes from bytes.items
+told line.ThrowsAway = ThrowsAway
+told (line.Sends to bytes) = Sends to bytes.items
+told line.Other = Other
+
+-- ---- words
+
+-- the place of the node of a name
+abbrev pub node_of : Site → List ℕ → Result ℕ Fault
+node_of site word = do
+  node ← node_named site word
+  Ok node.0
+
+-- a hyphen that is no node's name stands for an address that is no node's
+abbrev pub unless_named : List ℕ → Result ℕ Fault → Result (Option ℕ) Fault
+unless_named word (Ok place) = Ok (Some place)
+unless_named word (Err fault) = if bytes_eq word (codes "-") then Ok None else Err fault
+
+abbrev pub sender_said : Site → List ℕ → Result (Option ℕ) Fault
+sender_said site word = unless_named word (node_of site word)
+
+abbrev pub reads : List (List ℕ) → Result Line Fault
+reads (word ∷ []) = do
+  reading ← decimal word
+  Ok (Reads reading)
+reads more = Err Words
+
+abbrev pub comes : Site → List (List ℕ) → Result Line Fault
+comes site (word ∷ digits ∷ []) = do
+  from ← sender_said site word
+  bytes ← hexadecimal_or_none digits
+  Ok (Comes from bytes)
+comes site more = Err Words
+
+abbrev pub sends : Site → List (List ℕ) → Result Line Fault
+sends site (word ∷ digits ∷ []) = do
+  to ← node_of site word
+  bytes ← hexadecimal_or_none digits
+  Ok (Sends to bytes)
+sends site more = Err Words
+
+abbrev pub throws_away : List (List ℕ) → Result Line Fault
+throws_away (word ∷ []) = if bytes_eq word (codes "away") then Ok ThrowsAway else Err Words
+throws_away more = Err Words
+
+-- nothing stands behind
+abbrev pub alone : List (List ℕ) → Result Line Fault
+alone [] = Ok Other
+alone more = Err Words
+
+-- a text stands behind
+abbrev pub followed : List (List ℕ) → Result Line Fault
+followed [] = Err Words
+followed text = Ok Other
+
+abbrev pub breaks_off : List (List ℕ) → Result Line Fault
+breaks_off (word ∷ text) = if bytes_eq word (codes "off") then followed text else Err Words
+breaks_off [] = Err Words
+
+-- two numbers stand behind
+abbrev pub complains : List (List ℕ) → Result Line Fault
+complains (number ∷ fault ∷ []) = do
+  line ← decimal number
+  kind ← decimal fault
+  Ok Other
+complains more = Err Words
+
+-- ---- a line
+
+-- of no datagram, behind its first word
+abbrev pub other : List ℕ → List (List ℕ) → Result Line Fault
+other first rest =
+    if bytes_eq first (codes "listens") then alone rest
+    else if bytes_eq first (codes "closed") then alone rest
+    else if bytes_eq first (codes "hears") then followed rest
+    else if bytes_eq first (codes "writes") then followed rest
+    else if bytes_eq first (codes "breaks") then breaks_off rest
+    else if bytes_eq first (codes "complains") then complains rest
+    else Err Words
+
+-- what words tell, or their first fault
+abbrev pub line_said : Site → List (List ℕ) → Result Line Fault
+line_said site (first ∷ rest) =
+    if bytes_eq first (codes "at") then reads rest
+    else if bytes_eq first (codes "from") then comes site rest
+    else if bytes_eq first (codes "sends") then sends site rest
+    else if bytes_eq first (codes "throws") then throws_away rest
+    else other first rest
+line_said site [] = Err Words

@@ -1,0 +1,137 @@
+//! A node's record as a capture.
+
+ghost use Rattle.std.specs.Prelude.{◌≡◌, IfErr, IfOk, IsErr, OnOk, map};
+ghost use Rattle.node_record.specs.CapturedRecord.{Explains, IsCaptureOf, IsRecordCapture, captured, comment, journey, no_end, sender_end, stamp};
+ghost use Rattle.node_record.specs.DecodedRecord.{CanRead};
+ghost use Rattle.node_record.specs.NodeTraffic.{traffic};
+ghost use Rattle.node_record.specs.RecordLines.{told};
+ghost use Rattle.node_record.specs.inside.CapturesSoFar.{Adds, HasTooLongOf, IsNoCapture};
+ghost use Rattle.node_record.specs.inside.Passing.{seen};
+
+use crate::capture_failure::CaptureFailure;
+use crate::passage::{Passed, Reception, Way, traffic_of};
+use crate::passed_line::why_text;
+use crate::record::Record;
+use crate::texts::read_texts;
+use capture_file::{CaptureFault, Endpoint, Journey, MOST_BYTES, begin, end_of, push_datagram};
+use std::alloc::Global;
+
+/// How many microseconds a millisecond has.
+const MICROS: u64 = 1000;
+
+/// The end of an address that is no node's: the record doesn't tell it.
+const NO_END: Endpoint = Endpoint {
+    address: [0, 0, 0, 0],
+    port: 0,
+};
+
+/// Judges the texts, and then makes a capture of what came to the node of this name and what it sent, by its record: each datagram
+/// at the reading of the node's clock, with a comment where it came and wasn't delivered. The first nodes are found at the ends
+/// that are given, and the end of each other is made of its place.
+pub fn node_capture(
+    alloc: Global,
+    layout: &str,
+    name: &str,
+    recording: &str,
+    given: &[Endpoint],
+) -> Result<Vec<u8>, CaptureFailure>
+    ensures done { IfOk result (λ file. IsRecordCapture layout.now name.now recording.now given.now file.items) }
+    ensures reads { OnOk result (CanRead layout.now name.now recording.now) }
+    ensures faulty { (CanRead layout.now name.now recording.now → ⊥) → IsErr result }
+    ensures explains { IfErr result (Explains layout.now name.now recording.now given.now) }
+{
+    let texts = read_texts(alloc, layout, name, recording)?;
+    capture_of_record(alloc, &texts.read, given)
+}
+
+/// The capture of the datagrams of a record.
+fn capture_of_record(
+    alloc: Global,
+    read: &Record,
+    given: &[Endpoint],
+) -> Result<Vec<u8>, CaptureFailure>
+    ensures is { IfOk result (λ file. IsCaptureOf given.now read.now.head.node (traffic read.now.head.node 0 (map told read.now.lines.items)) file.items) }
+    ensures failed { IfErr result (IsNoCapture (traffic read.now.head.node 0 (map told read.now.lines.items))) }
+{
+    let all = traffic_of(alloc, read.head.node, &read.lines)?;
+    capture_of(alloc, read.head.node, &all, given)
+}
+
+/// The capture of some datagrams of a node.
+fn capture_of(
+    alloc: Global,
+    node: usize,
+    all: &[Passed<'_>],
+    given: &[Endpoint],
+) -> Result<Vec<u8>, CaptureFailure>
+    ensures is { IfOk result (λ file. IsCaptureOf given.now node (map seen all.now) file.items) }
+    ensures failed { IfErr result (IsNoCapture (map seen all.now)) }
+{
+    let mut file = begin(alloc)?;
+    for one in all {
+        push_passed(alloc, node, one, given, &mut file)?;
+    }
+    Ok(file)
+}
+
+/// Adds a datagram to a capture of those before it.
+fn push_passed(
+    alloc: Global,
+    node: usize,
+    one: &Passed<'_>,
+    given: &[Endpoint],
+    file: &mut Vec<u8>,
+) -> Result<(), CaptureFailure>
+    ensures added { OnOk result (Adds given.now node (seen one.now) file.old.items file.new.items) }
+    ensures failed { IfErr result (HasTooLongOf (seen one.now)) }
+{
+    if one.bytes.len() > MOST_BYTES {
+        return Err(CaptureFailure::Capture(CaptureFault::TooLong));
+    }
+    let comment = comment(one.way);
+    push_datagram(alloc, file, &journey(given, node, one), one.bytes, comment)?;
+    Ok(())
+}
+
+/// A reading in microseconds; the greatest number of 64 bits where it is too large.
+pub(crate) fn stamp(reading: u64) -> u64
+    ensures { result ≡ stamp reading }
+{
+    reading.saturating_mul(MICROS)
+}
+
+/// Whence a datagram came.
+fn sender_end(given: &[Endpoint], from: Option<usize>) -> Endpoint
+    ensures { result ≡ sender_end given.now from }
+{
+    match from {
+        Some(from) => end_of(given, from),
+        None => NO_END,
+    }
+}
+
+/// When a datagram came to a node or was sent by it, from where and to where.
+fn journey(given: &[Endpoint], node: usize, one: &Passed<'_>) -> Journey
+    ensures { result ≡ journey given.now node (seen one.now) }
+{
+    let own = end_of(given, node);
+    let (sender, receiver) = match one.way {
+        Way::Sent { to } => (own, end_of(given, to)),
+        Way::Came { from, .. } => (sender_end(given, from), own),
+    };
+    Journey {
+        time: stamp(one.reading),
+        sender,
+        receiver,
+    }
+}
+
+/// What is remarked of a datagram.
+fn comment(way: Way) -> &'static str
+    ensures { result.now ≡ comment way }
+{
+    match way {
+        Way::Sent { .. } => "",
+        Way::Came { reception, .. } => why_text(reception),
+    }
+}

@@ -1,0 +1,97 @@
+//! A node's record, put into words.
+
+ghost use Rattle.std.specs.Prelude.{◌≡◌, ◌≤◌, IsErr, IfErr, OnOk, map};
+ghost use Rattle.std.specs.Io.KnownBytes.{Appends};
+ghost use Rattle.station_check.specs.Failures.{Leaves};
+ghost use Rattle.node_record.specs.DecodedRecord.{CanRead, Explained, ExplainsRecord, IsDecoded};
+ghost use Rattle.node_record.specs.NodeLines.{lines_text};
+ghost use Rattle.node_record.specs.NodeTraffic.{traffic};
+ghost use Rattle.node_record.specs.RecordLines.{told};
+ghost use Rattle.node_record.specs.inside.Passing.{seen};
+ghost use Rattle.node_record.specs.inside.SoundTexts.{IsLate};
+
+use crate::passage::{Passed, traffic_of};
+use crate::passed_line::line;
+use crate::record::Record;
+use crate::texts::{Texts, read_texts};
+use control_table::layout::Layout;
+use station_check::{Failure, tell};
+use std::alloc::Global;
+use std::io::Write;
+
+/// Writes to `out` what goes over the network by the record of the node of this name, as `station node` writes one: a line for
+/// each datagram that came, with what became of it, and for each that was sent, in their order. The last line of a record that
+/// was broken off counts as none. Both texts are judged before the first line is written, the layout first: where one is faulty,
+/// `out` stays as it is. The status is 0, or 1 where anything failed; `err` is then told why, unless a line couldn't be written.
+pub fn decode_node_text<W: Write, E: Write>(
+    alloc: Global,
+    layout: &str,
+    name: &str,
+    recording: &str,
+    out: &mut W,
+    err: &mut E,
+) -> u8
+    ensures status { result ≤ 1 }
+    ensures done { result ≡ 0 → IsDecoded layout.now name.now recording.now (W.contents out.old) (W.contents out.new) }
+    ensures faulty { (CanRead layout.now name.now recording.now → ⊥) → (result ≡ 1) × (out.new ≡ out.old) }
+    ensures silent { result ≡ 0 → err.new ≡ err.old }
+    // Only a beginning of the line was told where a write to `err` failed.
+    ensures explains { result ≡ 1 → Explained layout.now name.now recording.now out.old out.new (E.contents err.old) (E.contents err.new) }
+{
+    match decode(alloc, layout, name, recording, out) {
+        Ok(()) => 0,
+        Err(failure) => {
+            tell(&failure, err);
+            1
+        }
+    }
+}
+
+/// Judges the texts, and then writes the traffic of the record.
+fn decode<W: Write>(
+    alloc: Global,
+    layout: &str,
+    name: &str,
+    recording: &str,
+    out: &mut W,
+) -> Result<(), Failure>
+    ensures done { OnOk result (IsDecoded layout.now name.now recording.now (W.contents out.old) (W.contents out.new)) }
+    ensures faulty { (CanRead layout.now name.now recording.now → ⊥) → IsErr result × (out.new ≡ out.old) }
+    ensures explains { IfErr result (λ failure. ExplainsRecord layout.now name.now recording.now failure × Leaves failure out.old out.new) }
+{
+    let texts = read_texts(alloc, layout, name, recording)?;
+    write_traffic(alloc, texts.table.layout(), &texts.read, out)
+}
+
+/// Writes the traffic of a record.
+fn write_traffic<W: Write>(
+    alloc: Global,
+    layout: &Layout,
+    read: &Record,
+    out: &mut W,
+) -> Result<(), Failure>
+    ensures done { OnOk result (Appends (W.contents out.old) (W.contents out.new) (lines_text layout.now read.now.head.node (traffic read.now.head.node 0 (map told read.now.lines.items)))) }
+    ensures failed { IfErr result IsLate }
+{
+    let all = traffic_of(alloc, read.head.node, &read.lines)?;
+    write_lines(alloc, layout, read.head.node, &all, out)
+}
+
+/// Writes the lines of datagrams.
+fn write_lines<W: Write>(
+    alloc: Global,
+    layout: &Layout,
+    node: usize,
+    all: &[Passed<'_>],
+    out: &mut W,
+) -> Result<(), Failure>
+    ensures done { OnOk result (Appends (W.contents out.old) (W.contents out.new) (lines_text layout.now node (map seen all.now))) }
+    ensures failed { IfErr result IsLate }
+{
+    for one in all {
+        let text = line(alloc, layout, node, one)?;
+        out.write_all(text.as_str().as_bytes())?;
+    }
+    out.flush()?;
+    Ok(())
+}

@@ -1,0 +1,109 @@
+//! Where the nodes of a station are found in captures, by the text of an addresses file.
+
+ghost use Rattle.std.specs.Prelude.{◌≡◌, ◌<◌, ◌∷◌, ◌++◌, [], ℕ, IfErr, IfNone, IfOk, IfSome, List, OnOk, OnSome, Some, length, map, slice_get};
+ghost use Rattle.replay_lines.specs.Names.{node_names};
+ghost use Rattle.node_record.specs.GivenEnds.{AreEnds, Explained, Explains, end_at};
+ghost use Rattle.node_record.specs.declared.ends_failure.EndsFailure.TheVariants.{NoIpv4};
+ghost use Rattle.node_record.specs.inside.EndsSoFar.{IsNoEnd, IsNoEndOf};
+
+use crate::ends_failure::{EndsFailure, tell_ends_failure};
+use capture_file::Endpoint;
+use control_table::layout::Layout;
+use node_addresses::read_addresses;
+use replay_lines::node_name;
+use simulator_event::NodeId;
+use station_check::{Failure, table_of};
+use std::alloc::Global;
+use std::io::Write;
+use std::net::SocketAddr;
+
+/// The ends of the nodes of a station in captures, by the text of an addresses file, in the order of the nodes. Both texts are
+/// judged, the layout first; each address has to be one of IPv4, since a capture has no others. Where there are none, `err` is
+/// told why.
+pub fn ends_text<E: Write>(
+    alloc: Global,
+    layout: &str,
+    addresses: &str,
+    err: &mut E,
+) -> Option<Vec<Endpoint>>
+    ensures found { IfSome result (λ ends. AreEnds layout.now addresses.now ends.items) }
+    ensures silent { OnSome result (err.new ≡ err.old) }
+    // Only a beginning of the line was told where a write to `err` failed.
+    ensures explains { IfNone result (Explained layout.now addresses.now (E.contents err.old) (E.contents err.new)) }
+{
+    match ends(alloc, layout, addresses) {
+        Ok(ends) => Some(ends),
+        Err(failure) => {
+            tell_ends_failure(&failure, err);
+            None
+        }
+    }
+}
+
+/// Judges the texts, and then makes the ends.
+fn ends(alloc: Global, layout: &str, addresses: &str) -> Result<Vec<Endpoint>, EndsFailure>
+    ensures found { IfOk result (λ ends. AreEnds layout.now addresses.now ends.items) }
+    ensures explains { IfErr result (Explains layout.now addresses.now) }
+{
+    let table = table_of(alloc, layout)?;
+    let addresses = read_addresses(alloc, table.layout(), addresses)?;
+    ends_of(alloc, table.layout(), &addresses)
+}
+
+/// The ends of these addresses.
+fn ends_of(
+    alloc: Global,
+    layout: &Layout,
+    addresses: &[SocketAddr],
+) -> Result<Vec<Endpoint>, EndsFailure>
+    requires { length addresses.now ≡ length (node_names layout.now) }
+    ensures found { IfOk result (λ ends. map end_at addresses.now ≡ map (λ end. Some end) ends.items) }
+    ensures failed { IfErr result (IsNoEnd layout.now addresses.now) }
+{
+    let mut ends = Vec::new(alloc);
+    for place in 0..addresses.len() {
+        push_end(layout, &addresses[place], place, &mut ends)?;
+    }
+    Ok(ends)
+}
+
+/// Adds the end of the address of the node at a place.
+fn push_end(
+    layout: &Layout,
+    address: &SocketAddr,
+    place: usize,
+    ends: &mut Vec<Endpoint>,
+) -> Result<(), EndsFailure>
+    requires { place < length (node_names layout.now) }
+    ensures added { OnOk result (map (λ end. Some end) ends.new.items ≡ map (λ end. Some end) ends.old.items ++ end_at address.now ∷ []) }
+    ensures failed { IfErr result (IsNoEndOf layout.now address.now place) }
+{
+    match end_at(address) {
+        Some(end) => Ok(ends.push(end)?),
+        None => Err(no_ipv4(layout, place)),
+    }
+}
+
+/// What is told of the node of a place whose address is none of IPv4.
+fn no_ipv4(layout: &Layout, place: usize) -> EndsFailure
+    requires { place < length (node_names layout.now) }
+    ensures { (name : List ℕ) × (slice_get (node_names layout.now) place ≡ Some name) × (result ≡ NoIpv4 name) }
+{
+    match node_name(layout, NodeId(place)) {
+        Some(name) => EndsFailure::NoIpv4(name),
+        None => EndsFailure::Station(Failure::OutOfMemory),
+    }
+}
+
+/// The end of an address, where it is one of IPv4.
+fn end_at(address: &SocketAddr) -> Option<Endpoint>
+    ensures { result ≡ end_at address.now }
+{
+    match address {
+        SocketAddr::V4(address) => Some(Endpoint {
+            address: address.ip().octets(),
+            port: address.port(),
+        }),
+        SocketAddr::V6(_) => None,
+    }
+}

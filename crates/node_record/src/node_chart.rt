@@ -1,0 +1,151 @@
+//! A node's record, drawn over the readings of its clock.
+
+ghost use Rattle.std.specs.Prelude.{◌≡◌, ◌≤◌, IsErr, IfErr, IfOk, OnOk};
+ghost use Rattle.node_record.specs.ChartedRecord.{Explained, IsChartBy, IsCharted, IsRecordChart, IsTextOf, Leaves, micros_or, window_of};
+ghost use Rattle.node_record.specs.DecodedRecord.{CanRead, ExplainsRecord};
+
+use crate::node_rows::node_rows;
+use crate::node_story::{NodeStory, story_of};
+use crate::role::{Role, role_of};
+use crate::texts::read_texts;
+use control_table::layout::Layout;
+use drawing::svg;
+use lane_chart::{Window, chart};
+use station_check::{Failure, tell};
+use std::alloc::{AllocError, Global};
+use std::io::Write;
+
+/// How many microseconds a millisecond has.
+const MICROS: u64 = 1000;
+
+/// Which part of a record is drawn, in milliseconds of the node's clock. Without them it begins with its first reading, and it
+/// ends with its last one at the latest.
+#[derive(Clone, Copy, Debug)]
+pub struct Cut {
+    /// Where it begins.
+    pub from: Option<u64>,
+    /// Where it ends.
+    pub to: Option<u64>,
+}
+
+/// Writes the chart of a node's record to `out`, as SVG: what each line tells of a signal, a point, a section, a route or a link
+/// from its reading on. Both texts are judged before, the layout first. The status is 0, or 1 where anything failed. Where no
+/// chart was begun `out` stays as it is; `err` is then told why.
+pub fn chart_node_text<W: Write, E: Write>(
+    alloc: Global,
+    layout: &str,
+    name: &str,
+    recording: &str,
+    cut: Cut,
+    out: &mut W,
+    err: &mut E,
+) -> u8
+    ensures status { result ≤ 1 }
+    ensures done { result ≡ 0 → IsCharted layout.now name.now recording.now cut (W.contents out.old) (W.contents out.new) }
+    ensures faulty { (CanRead layout.now name.now recording.now → ⊥) → (result ≡ 1) × (out.new ≡ out.old) }
+    ensures silent { result ≡ 0 → err.new ≡ err.old }
+    // Only a beginning of the line was told where a write to `err` failed.
+    ensures explains { result ≡ 1 → Explained layout.now name.now recording.now out.old out.new (E.contents err.old) (E.contents err.new) }
+{
+    match write_chart(alloc, layout, name, recording, cut, out) {
+        Ok(()) => 0,
+        Err(failure) => {
+            tell(&failure, err);
+            1
+        }
+    }
+}
+
+/// Writes the chart of a record at once.
+fn write_chart<W: Write>(
+    alloc: Global,
+    layout: &str,
+    name: &str,
+    recording: &str,
+    cut: Cut,
+    out: &mut W,
+) -> Result<(), Failure>
+    ensures done { OnOk result (IsCharted layout.now name.now recording.now cut (W.contents out.old) (W.contents out.new)) }
+    ensures faulty { (CanRead layout.now name.now recording.now → ⊥) → IsErr result × (out.new ≡ out.old) }
+    ensures explains { IfErr result (λ failure. ExplainsRecord layout.now name.now recording.now failure × Leaves failure out.old out.new) }
+{
+    let text = record_chart(alloc, layout, name, recording, cut)?;
+    out.write_all(&text)?;
+    out.flush()?;
+    Ok(())
+}
+
+/// Judges the texts, and draws what happens by the record.
+fn record_chart(
+    alloc: Global,
+    layout: &str,
+    name: &str,
+    recording: &str,
+    cut: Cut,
+) -> Result<Vec<u8>, Failure>
+    ensures drawn { IfOk result (λ text. IsRecordChart layout.now name.now recording.now cut text.items) }
+    ensures reads { OnOk result (CanRead layout.now name.now recording.now) }
+    ensures faulty { (CanRead layout.now name.now recording.now → ⊥) → IsErr result }
+    ensures explains { IfErr result (ExplainsRecord layout.now name.now recording.now) }
+{
+    let texts = read_texts(alloc, layout, name, recording)?;
+    let text = chart_of(
+        alloc,
+        texts.table.layout(),
+        texts.read.head.node,
+        recording,
+        cut,
+    )?;
+    Ok(text)
+}
+
+/// The chart of the record of the node of this number.
+fn chart_of(
+    alloc: Global,
+    layout: &Layout,
+    node: usize,
+    recording: &str,
+    cut: Cut,
+) -> Result<Vec<u8>, AllocError>
+    ensures { IfOk result (λ text. IsChartBy layout.now node recording.now cut text.items) }
+{
+    let story = story_of(alloc, layout, node, recording)?;
+    text_of(alloc, layout, role_of(layout, node), cut, &story)
+}
+
+/// A time in microseconds, or another one where none is given.
+fn micros_or(otherwise: u64, millis: Option<u64>) -> u64
+    ensures { result ≡ micros_or otherwise millis }
+{
+    match millis {
+        Some(millis) => millis.saturating_mul(MICROS),
+        None => otherwise,
+    }
+}
+
+/// The part of a record that is drawn: no time behind its end.
+fn window_of(cut: Cut, begin: u64, end: u64) -> Window
+    ensures { result ≡ window_of cut begin end }
+{
+    Window {
+        from: micros_or(begin, cut.from),
+        to: micros_or(end, cut.to).min(end),
+    }
+}
+
+/// The chart of a story, as SVG.
+fn text_of(
+    alloc: Global,
+    layout: &Layout,
+    role: Role,
+    cut: Cut,
+    story: &NodeStory,
+) -> Result<Vec<u8>, AllocError>
+    ensures { IfOk result (λ text. IsTextOf layout.now role cut story.now text.items) }
+{
+    let window = window_of(cut, story.begin, story.end);
+    let rows = node_rows(alloc, layout, role, window, &story.changes)?;
+    let picture = chart(alloc, layout, window, &rows, &story.happenings)?;
+    let text = svg(alloc, &picture)?;
+    Ok(text)
+}

@@ -1,0 +1,204 @@
+//! What changes by a node's record, and what is marked in its chart.
+
+ghost use Rattle.std.specs.Prelude.{◌≡◌, ◌++◌, ◌∷◌, [], IfOk, OnOk, map};
+ghost use Rattle.replay_words.specs.Read.{decimal};
+ghost use Rattle.node_record.specs.Courses.{parted};
+ghost use Rattle.node_record.specs.NodeChanges.{IsStoryOf, TellsLines, begin_of, begins_at, change_by, is_answer, is_marked, mark_by, said_at, seen_mark};
+
+use crate::capture::stamp;
+use crate::course::{Course, first_course, parted, step_of};
+use crate::role::{Role, role_of};
+use crate::told::Told;
+use crate::whole_lines::WholeLines;
+use control_table::layout::Layout;
+use lane_chart::{Change, Happening};
+use replay_words::decimal;
+use std::alloc::{AllocError, Global};
+
+/// What happens by a node's record.
+#[derive(Debug, Drop)]
+pub(crate) struct NodeStory {
+    /// What its lanes show, from each line on that tells something of one.
+    pub(crate) changes: Vec<Change>,
+    /// Its begin, and the commands and answers of an interlocking.
+    pub(crate) happenings: Vec<Happening>,
+    /// Its first reading, in microseconds.
+    pub(crate) begin: u64,
+    /// Its last one.
+    pub(crate) end: u64,
+}
+
+/// Adds what was told of a lane at a reading, if something was.
+fn add_change(
+    changes: &mut Vec<Change>,
+    line: usize,
+    time: u64,
+    told: Option<Told>,
+) -> Result<(), AllocError>
+    ensures { OnOk result (changes.new.items ≡ changes.old.items ++ change_by line time told) }
+{
+    let Some(told) = told else {
+        return Ok(());
+    };
+    let Told { lane, seen } = told;
+    let time = stamp(time);
+    changes.push(Change {
+        line,
+        time,
+        lane,
+        seen,
+    })?;
+    Ok(())
+}
+
+/// Adds a mark.
+fn add_mark(
+    alloc: Global,
+    happenings: &mut Vec<Happening>,
+    line: usize,
+    time: u64,
+    node: Option<usize>,
+    words: &str,
+) -> Result<(), AllocError>
+    ensures { OnOk result (map seen_mark happenings.new.items ≡ map seen_mark happenings.old.items ++ record { line = line; time = time; node = node; words = words.now } ∷ []) }
+{
+    let words = String::from_str(alloc, words)?;
+    happenings.push(Happening {
+        line,
+        time,
+        node,
+        words,
+    })?;
+    Ok(())
+}
+
+/// The first word of an answer to the operator, or of a line that tells that no request is taken yet.
+fn is_answer(word: &str) -> bool
+    ensures { result ≡ is_answer word.now }
+{
+    word == "accepted" || word == "refused" || word == "holding" || word == "waiting"
+}
+
+/// Whether a line of an interlocking is marked: a command, an answer, or that it takes no request yet.
+fn is_marked(kind: &str, text: &str) -> bool
+    ensures { result ≡ is_marked kind.now text.now }
+{
+    if kind == "writes" {
+        let (word, _) = parted(text);
+        is_answer(word)
+    } else {
+        kind == "hears"
+    }
+}
+
+/// At its first reading a node begins.
+fn add_begin(
+    alloc: Global,
+    happenings: &mut Vec<Happening>,
+    node: usize,
+    line: usize,
+    text: &str,
+) -> Result<(), AllocError>
+    ensures { OnOk result (map seen_mark happenings.new.items ≡ map seen_mark happenings.old.items ++ begins_at node line (decimal text.now)) }
+{
+    match decimal(text) {
+        Ok(reading) => {
+            let time = stamp(reading);
+            add_mark(alloc, happenings, line, time, Some(node), "begins")
+        }
+        Err(_) => Ok(()),
+    }
+}
+
+/// Adds the mark of a line of an interlocking, if it has one.
+fn add_said(
+    alloc: Global,
+    happenings: &mut Vec<Happening>,
+    role: Role,
+    course: Course,
+    line: usize,
+    kind: &str,
+    text: &str,
+) -> Result<(), AllocError>
+    ensures { OnOk result (map seen_mark happenings.new.items ≡ map seen_mark happenings.old.items ++ said_at role course line kind.now text.now) }
+{
+    match role {
+        Role::Interlocking if is_marked(kind, text) => {
+            let time = stamp(course.reading);
+            add_mark(alloc, happenings, line, time, None, text)
+        }
+        _ => Ok(()),
+    }
+}
+
+/// Adds the mark of a line, if it has one.
+fn add_happening(
+    alloc: Global,
+    happenings: &mut Vec<Happening>,
+    role: Role,
+    node: usize,
+    course: Course,
+    number: usize,
+    line: &str,
+) -> Result<(), AllocError>
+    ensures { OnOk result (map seen_mark happenings.new.items ≡ map seen_mark happenings.old.items ++ mark_by role node course number (parted line.now).0 (parted line.now).1) }
+{
+    let (kind, text) = parted(line);
+    if kind != "at" {
+        return add_said(alloc, happenings, role, course, number, kind, text);
+    }
+    match course.first {
+        Some(_) => Ok(()),
+        None => add_begin(alloc, happenings, node, number, text),
+    }
+}
+
+fn begin_of(first: Option<u64>) -> u64
+    ensures { result ≡ begin_of first }
+{
+    match first {
+        Some(first) => stamp(first),
+        None => 0,
+    }
+}
+
+/// What happens by the record of the node of this number.
+pub(crate) fn story_of(
+    alloc: Global,
+    layout: &Layout,
+    node: usize,
+    text: &str,
+) -> Result<NodeStory, AllocError>
+    ensures { IfOk result (IsStoryOf layout.now node text.now) }
+{
+    let role = role_of(layout, node);
+    story_from(alloc, layout, role, node, WholeLines::of(text))
+}
+
+/// What happens by these lines.
+fn story_from(
+    alloc: Global,
+    layout: &Layout,
+    role: Role,
+    node: usize,
+    lines: WholeLines<'_>,
+) -> Result<NodeStory, AllocError>
+    ensures { IfOk result (TellsLines layout.now role node lines.entry) }
+{
+    let mut changes = Vec::new(alloc);
+    let mut happenings = Vec::new(alloc);
+    let mut course = first_course();
+    for (number, line) in lines {
+        let place = number as usize;
+        add_happening(alloc, &mut happenings, role, node, course, place, line)?;
+        let this = step_of(layout, role, course, line);
+        add_change(&mut changes, place, this.time, this.told)?;
+        course = this.course;
+    }
+    Ok(NodeStory {
+        changes,
+        happenings,
+        begin: begin_of(course.first),
+        end: stamp(course.reading),
+    })
+}

@@ -1,9 +1,0 @@
-use Rattle.std.proofs.Common.{◌≡◌, map}
-use Rattle.node_traffic.specs.RecordLines.{told}
-use Rattle.node_traffic.specs.Records.{lines_said}
-use Rattle.node_traffic.proofs.WholeLines.{behind}
-use Rattle.node_traffic.proofs.record.read_lines.Given as goal
-
--- what was kept so far, and behind it what the lines say that are left
-abbrev pub invariant-loop-number : goal.invariant-loop-number
-invariant-loop-number l = behind (map told l.read.items) (lines_said l.layout l.number-iterator) ≡ lines_said l.layout l.fn.lines

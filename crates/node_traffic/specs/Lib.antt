@@ -1,9 +1,0 @@
-pub mod RecordLines
-pub mod Records
-pub mod NodeTraffic
-pub mod NodeLines
-pub mod DecodedRecord
-pub mod CapturedRecord
-pub mod GivenEnds
-pub mod Worked
-pub mod inside
