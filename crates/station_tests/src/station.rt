@@ -19,7 +19,7 @@ Commands:
   run      Runs a station of a layout over loopback sockets
   panel    Opens a signaller's panel of a station in a browser
   replay   Applies a recorded session to a station of a layout again
-  chart    Draws a session as a chart over true time
+  chart    Draws a session, or what a node recorded, as a chart
   decode   Puts a datagram, or those of a session, into words
   capture  Writes the datagrams of a session as a capture
   node     Runs one node of a station as a process of its own
@@ -269,6 +269,10 @@ The session is applied again, as by replay. The chart has a lane for each signal
 authority), point (its position, its drive), section, route, link and node, and a mark for each
 command with its answer. --from and --to cut it.
 
+With --node the record is that of one node, as node writes it with --record. It is drawn over the
+clock of this node: what its lines tell of its signal, its point or its sections, or of all that an
+interlocking knows, with its commands and answers.
+
 Example: station chart examples/small.toml examples/commands.session > commands.svg
 
 Usage: station chart [OPTIONS] <FILE> <RECORD>
@@ -281,11 +285,14 @@ Arguments:
           The recorded session
 
 Options:
+      --node <NAME>
+          The name of the node whose record it is, as node writes one with --record
+
       --from <MS>
-          The moment at which the chart begins, in milliseconds of true time
+          The moment at which the chart begins, in milliseconds
 
       --to <MS>
-          The moment at which the chart ends, in milliseconds of true time
+          The moment at which the chart ends, in milliseconds
 
   -h, --help
           Print help (see a summary with '-h')
