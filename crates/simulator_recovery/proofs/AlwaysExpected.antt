@@ -1,5 +1,5 @@
 -- What comes next to a client is what it expects, after every list of events.
-use Rattle.std.proofs.Common.{◌≡◌, ℕ, ◌<◌, ◌∙◌, List, [], ◌∷◌, length, Some, slice_get, refl, sym, ap, subst, arith}
+use Rattle.std.proofs.Common.{◌≡◌, ℕ, ◌<◌, ◌∙◌, true, List, [], ◌∷◌, length, Some, slice_get, refl, sym, ap, subst, arith}
 use Rattle.std.specs.Prelude.{IsTrue}
 use Rattle.std.proofs.lemmas.Option.{slice_get_within}
 use Rattle.ixl_table.specs.Table.{IsTableOf}
@@ -57,7 +57,7 @@ use Rattle.simulator_recovery.proofs.ClientLinks.{not_true, up_open}
 use Rattle.simulator_recovery.proofs.ConversationFits.{WrittenIsRead}
 use Rattle.simulator_recovery.proofs.ControllerTells.{Tells, item_is}
 use Rattle.simulator_recovery.proofs.ControllersOnLinks.{lists_of}
-use Rattle.simulator_recovery.proofs.ExpectedItems.{Begun, Hears, KindReports, given_at}
+use Rattle.simulator_recovery.proofs.ExpectedItems.{EachExpected, HasBegun, Hears, KindReports, given_at}
 use Rattle.simulator_recovery.proofs.HostKeeps.{ObjectKeeps}
 use Rattle.simulator_recovery.proofs.Lists.{at_place, map_length}
 use Rattle.simulator_recovery.proofs.MatchedEnds.{detectors_keep, matching_first, points_keep, signals_keep, spoken}
@@ -77,17 +77,30 @@ pub record ExpectedLaws : Type 0 where
 
 -- ---- one link
 
+pub begun_of : (site : Site) (node : Node) (peer : PeerState) (s : Stage) (count : ℕ) (given : List (List ℕ)) → ClientHasSaid site node peer s count given → HasBegun s count
+begun_of site node peer stage.Outside count given said = tt
+begun_of site node peer stage.AwaitsAnswer count given said = tt
+begun_of site node peer stage.AwaitsStart count given said = tt
+begun_of site node peer (stage.AwaitsStatus left) count given said = said.0
+begun_of site node peer stage.Completed count given said = tt
+begun_of site node peer stage.AwaitsReport count given said = tt
+
+-- each item that a controller has given in a connection that is the last of both ends
+abbrev pub EachIsExpected : PeerState → Ends → Type 0
+EachIsExpected peer ends = (connection : ℕ) → ends.client.connection ≡ Some connection → ends.server.connection ≡ Some connection → EachExpected peer ends.server.given
+
+-- so the next one
+pub next_of : (site : Site) (node : Node) (client : ClientState) (ends : Ends) → ClientTalks site node client ends.client.given ends.client.taken → EachIsExpected client.peer ends
+    → ((connection : ℕ) → ends.client.connection ≡ Some connection → ends.server.connection ≡ Some connection → is_up client.link.phase ≡ true → (item : List ℕ) → slice_get ends.server.given (length ends.client.taken) ≡ Some item
+    → client.stage ≡ stage.Completed → IsTrue (reports_changes client.peer.protocol)) → NextIsExpected client ends
+next_of site node client ends talks each hears connection of_client of_server up item at =
+    let opened = up_open _ up
+    in each connection of_client of_server client.stage (length ends.client.taken) item at (talks.acted opened)
+    (not_true (is_outside client.stage) (is_up client.link.phase) talks.outside up) (begun_of site node client.peer client.stage (length ends.client.taken) ends.client.given (talks.said opened)) (hears connection of_client of_server up item at)
+
 module _ (laws : ExpectedLaws) (site : Site) (node : Node) (client : ClientState) (ends : Ends) (names : Names) (is_peer : IsPeer client.peer) (talks : ClientTalks site node client ends.client.given ends.client.taken) (ordered : Ordered names ends) where
   module _ {Object : Type 0} (does : Behaviour Object) (Fits : Object → Type 0) (own_name peer_name : List ℕ) (keep : ObjectKeeps does Fits (spoken site)) (host : HostState Object) (matched : AreMatched does client.peer host)
       (tells : Tells does Fits (spoken site) own_name peer_name keep host (lists_of ends.server)) (kind : KindReports laws.written does Fits client.peer is_peer host matched) where
-    begun_of : (s : Stage) (count : ℕ) (given : List (List ℕ)) → ClientHasSaid site node client.peer s count given → Begun laws.written does Fits client.peer is_peer host matched kind s count
-    begun_of stage.Outside count given said = tt
-    begun_of stage.AwaitsAnswer count given said = tt
-    begun_of stage.AwaitsStart count given said = tt
-    begun_of (stage.AwaitsStatus left) count given said = said.0
-    begun_of stage.Completed count given said = tt
-    begun_of stage.AwaitsReport count given said = tt
-
     version_is : spoken site ≡ client.peer.version
     version_is = sym tells.kept_so.version_is ∙ matched.version
 
@@ -95,15 +108,21 @@ module _ (laws : ExpectedLaws) (site : Site) (node : Node) (client : ClientState
     some_said = subst (λ (n : ℕ). SaidSome does Fits (SomeAsks (spoken site) ends.server.taken) (item_of host) n ends.server.given) (sym tells.kept_so.version_is)
         (subst (λ (item : Report → List ℕ). SaidSome does Fits (SomeAsks (spoken site) ends.server.taken) item (spoken site) ends.server.given) (sym (item_is does Fits (spoken site) own_name peer_name keep host tells.kept_so)) tells.ever)
 
-    one_next : Hears laws.written does Fits client.peer is_peer host matched kind client.stage → NextIsExpected client ends
-    one_next hears connection of_client of_server up item at =
-        let opened = up_open _ up
-        in given_at laws.written does Fits client.peer is_peer host matched kind (SomeAsks (spoken site) ends.server.taken) (λ some. asks_none_other laws.written site node client.peer is_peer (length ends.client.taken) ends.client.given safe.rest ends.server.taken talks.ever safe.beginning
-        (subst (λ (n : ℕ). SomeAsks n ends.server.taken) version_is some)) ends.server.given (length ends.client.taken) item client.stage some_said at (talks.acted opened)
-        (not_true (is_outside client.stage) (is_up client.link.phase) talks.outside up) (begun_of client.stage (length ends.client.taken) ends.client.given (talks.said opened)) hears
+    one_each : EachIsExpected client.peer ends
+    one_each connection of_client of_server s count item at acted inside begun hears =
+        given_at laws.written does Fits client.peer is_peer host matched kind (SomeAsks (spoken site) ends.server.taken) (λ some. asks_none_other laws.written site node client.peer is_peer (length ends.client.taken) ends.client.given safe.rest ends.server.taken talks.ever safe.beginning
+        (subst (λ (n : ℕ). SomeAsks n ends.server.taken) version_is some)) ends.server.given count item s some_said at acted inside begun (hears_so s hears)
       where
         safe : IsSafe ends.client ends.server
         safe = (laws.safe names ends ordered connection of_client of_server).0
+
+        hears_so : (how_far : Stage) → (how_far ≡ stage.Completed → IsTrue (reports_changes client.peer.protocol)) → Hears laws.written does Fits client.peer is_peer host matched kind how_far
+        hears_so stage.Outside h = tt
+        hears_so stage.AwaitsAnswer h = tt
+        hears_so stage.AwaitsStart h = tt
+        hears_so (stage.AwaitsStatus left) h = tt
+        hears_so stage.Completed h = h refl
+        hears_so stage.AwaitsReport h = tt
 
 -- ---- a station
 
@@ -134,8 +153,8 @@ module _ (laws : ExpectedLaws) (site : Site) (table : Table) (station : IsStatio
   same_length one other same place x e = at_place other place (subst (λ (n : ℕ). place < n) same (slice_get_within one place x e))
 
   module _ (world : WorldState) (network : Links) (s : Stands world network) where
-    next_signal : (place : ℕ) (known : KnownSignalState) → slice_get world.station.ixl.known_signals place ≡ Some known → NextIsExpected known.client (seen place network)
-    next_signal place known e =
+    pub each_signal : (place : ℕ) (known : KnownSignalState) → slice_get world.station.ixl.known_signals place ≡ Some known → EachIsExpected known.client.peer (seen place network)
+    each_signal place known e =
         let entry = same_length world.station.ixl.known_signals site.signals s.whole.clients.known_signals place known e
         in let server = same_length site.signals world.signals (sym s.whole.signals) place entry.0 entry.1
         in with_entry entry.0 entry.1 server.0 server.1
@@ -146,10 +165,10 @@ module _ (laws : ExpectedLaws) (site : Site) (table : Table) (station : IsStatio
         below : place < links site
         below = let a = slice_get_within world.station.ixl.known_signals place known e in let b = s.whole.clients.known_signals in omega (arith, a, b)
 
-        with_entry : (entry : SignalEntry) → slice_get site.signals place ≡ Some entry → (c : ClockedControllerState SignalState) → slice_get world.signals place ≡ Some c → NextIsExpected known.client (seen place network)
-        with_entry entry f c g = one_next laws site (Signal place) known.client (seen place network) (names_at site place) is_peer (s.talking.talk.signals place known e) (s.ordered place below)
+        with_entry : (entry : SignalEntry) → slice_get site.signals place ≡ Some entry → (c : ClockedControllerState SignalState) → slice_get world.signals place ≡ Some c → EachIsExpected known.client.peer (seen place network)
+        with_entry entry f c g = one_each laws site (Signal place) known.client (seen place network) (names_at site place) is_peer (s.talking.talk.signals place known e) (s.ordered place below)
             signal_behaviour (IndicatesSpoken site) entry.name site.station.name (signals_keep site) c.host matched tells
-            (signal_kind laws.written site known.client.peer is_peer (ap (λ (p : PeerState). p.version) peer_is) alone c.host matched) (hears known.client.stage)
+            (signal_kind laws.written site known.client.peer is_peer (ap (λ (p : PeerState). p.version) peer_is) alone c.host matched)
           where
             peer_is : known.client.peer ≡ peer_for protocols.LightSignal site entry.name (entry.name ∷ [])
             peer_is = s.talking.matching.clients.signals place known e entry f
@@ -163,19 +182,16 @@ module _ (laws : ExpectedLaws) (site : Site) (table : Table) (station : IsStatio
             alone : known.client.peer.objects ≡ known.client.peer.name ∷ []
             alone = subst (λ (p : PeerState). p.objects ≡ p.name ∷ []) (sym peer_is) refl
 
-            changes : IsTrue (reports_changes known.client.peer.protocol)
-            changes = ap (λ (p : PeerState). reports_changes p.protocol) peer_is
+    pub signal_changes : (place : ℕ) (known : KnownSignalState) → slice_get world.station.ixl.known_signals place ≡ Some known → IsTrue (reports_changes known.client.peer.protocol)
+    signal_changes place known e =
+        let entry = same_length world.station.ixl.known_signals site.signals s.whole.clients.known_signals place known e
+        in ap (λ (p : PeerState). reports_changes p.protocol) (s.talking.matching.clients.signals place known e entry.0 entry.1)
 
-            hears : (how_far : Stage) → Hears laws.written signal_behaviour (IndicatesSpoken site) known.client.peer is_peer c.host matched (signal_kind laws.written site known.client.peer is_peer (ap (λ (p : PeerState). p.version) peer_is) alone c.host matched) how_far
-            hears stage.Outside = tt
-            hears stage.AwaitsAnswer = tt
-            hears stage.AwaitsStart = tt
-            hears (stage.AwaitsStatus left) = tt
-            hears stage.Completed = changes
-            hears stage.AwaitsReport = tt
+    next_signal : (place : ℕ) (known : KnownSignalState) → slice_get world.station.ixl.known_signals place ≡ Some known → NextIsExpected known.client (seen place network)
+    next_signal place known e = next_of site (Signal place) known.client (seen place network) (s.talking.talk.signals place known e) (each_signal place known e) (λ connection of_client of_server up item at completed. signal_changes place known e)
 
-    next_point : (place : ℕ) (known : KnownPointState) → slice_get world.station.ixl.known_points place ≡ Some known → (known.client.stage ≡ stage.Completed → ⊥) → NextIsExpected known.client (seen (point_link site place) network)
-    next_point place known e awaits =
+    pub each_point : (place : ℕ) (known : KnownPointState) → slice_get world.station.ixl.known_points place ≡ Some known → EachIsExpected known.client.peer (seen (point_link site place) network)
+    each_point place known e =
         let entry = same_length world.station.ixl.known_points site.points s.whole.clients.known_points place known e
         in let server = same_length site.points world.points (sym s.whole.points) place entry.0 entry.1
         in with_entry entry.0 entry.1 server.0 server.1
@@ -187,10 +203,10 @@ module _ (laws : ExpectedLaws) (site : Site) (table : Table) (station : IsStatio
         below : point_link site place < links site
         below = let a = slice_get_within world.station.ixl.known_points place known e in let b = s.whole.clients.known_points in omega (arith, a, b)
 
-        with_entry : (entry : PointEntry) → slice_get site.points place ≡ Some entry → (c : ClockedControllerState PointState) → slice_get world.points place ≡ Some c → NextIsExpected known.client (seen (point_link site place) network)
-        with_entry entry f c g = one_next laws site (Point place) known.client (seen (point_link site place) network) (names_at site (point_link site place)) is_peer (s.talking.talk.points place known e) (s.ordered (point_link site place) below)
+        with_entry : (entry : PointEntry) → slice_get site.points place ≡ Some entry → (c : ClockedControllerState PointState) → slice_get world.points place ≡ Some c → EachIsExpected known.client.peer (seen (point_link site place) network)
+        with_entry entry f c g = one_each laws site (Point place) known.client (seen (point_link site place) network) (names_at site (point_link site place)) is_peer (s.talking.talk.points place known e) (s.ordered (point_link site place) below)
             point_behaviour Any entry.name site.station.name (points_keep site) c.host matched tells
-            (point_kind laws.written site known.client.peer is_peer (ap (λ (p : PeerState). p.version) peer_is) alone c.host matched) (hears known.client.stage refl)
+            (point_kind laws.written site known.client.peer is_peer (ap (λ (p : PeerState). p.version) peer_is) alone c.host matched)
           where
             peer_is : known.client.peer ≡ peer_for protocols.Point site entry.name (entry.name ∷ [])
             peer_is = s.talking.matching.clients.points place known e entry f
@@ -204,16 +220,11 @@ module _ (laws : ExpectedLaws) (site : Site) (table : Table) (station : IsStatio
             alone : known.client.peer.objects ≡ known.client.peer.name ∷ []
             alone = subst (λ (p : PeerState). p.objects ≡ p.name ∷ []) (sym peer_is) refl
 
-            hears : (how_far : Stage) → known.client.stage ≡ how_far → Hears laws.written point_behaviour Any known.client.peer is_peer c.host matched (point_kind laws.written site known.client.peer is_peer (ap (λ (p : PeerState). p.version) peer_is) alone c.host matched) how_far
-            hears stage.Outside is = tt
-            hears stage.AwaitsAnswer is = tt
-            hears stage.AwaitsStart is = tt
-            hears (stage.AwaitsStatus left) is = tt
-            hears stage.Completed is = absurd (awaits is)
-            hears stage.AwaitsReport is = tt
+    next_point : (place : ℕ) (known : KnownPointState) → slice_get world.station.ixl.known_points place ≡ Some known → (known.client.stage ≡ stage.Completed → ⊥) → NextIsExpected known.client (seen (point_link site place) network)
+    next_point place known e awaits = next_of site (Point place) known.client (seen (point_link site place) network) (s.talking.talk.points place known e) (each_point place known e) (λ connection of_client of_server up item at completed. absurd (awaits completed))
 
-  next_detector : (world : WorldState) (network : Links) → Stands world network → (place : ℕ) (known : KnownDetectorState) → slice_get world.station.ixl.detectors place ≡ Some known → NextIsExpected known.client (seen (detector_link site place) network)
-  next_detector world network s place known e =
+  pub each_detector : (world : WorldState) (network : Links) → Stands world network → (place : ℕ) (known : KnownDetectorState) → slice_get world.station.ixl.detectors place ≡ Some known → EachIsExpected known.client.peer (seen (detector_link site place) network)
+  each_detector world network s place known e =
       let entry = same_length world.station.ixl.detectors site.detectors s.whole.clients.detectors place known e
       in let server = same_length site.detectors world.detectors (sym s.whole.detectors) place entry.0 entry.1
       in with_entry entry.0 entry.1 server.0 server.1
@@ -226,10 +237,10 @@ module _ (laws : ExpectedLaws) (site : Site) (table : Table) (station : IsStatio
       below : detector_link site place < links site
       below = let a = slice_get_within world.station.ixl.detectors place known e in let b = s.whole.clients.detectors in omega (arith, a, b)
 
-      with_entry : (entry : DetectorEntry) → slice_get site.detectors place ≡ Some entry → (c : ClockedControllerState (List Section)) → slice_get world.detectors place ≡ Some c → NextIsExpected known.client (seen (detector_link site place) network)
-      with_entry entry f c g = one_next laws site (Detector place) known.client (seen (detector_link site place) network) (names_at site (detector_link site place)) is_peer (s.talking.talk.detectors place known e)
+      with_entry : (entry : DetectorEntry) → slice_get site.detectors place ≡ Some entry → (c : ClockedControllerState (List Section)) → slice_get world.detectors place ≡ Some c → EachIsExpected known.client.peer (seen (detector_link site place) network)
+      with_entry entry f c g = one_each laws site (Detector place) known.client (seen (detector_link site place) network) (names_at site (detector_link site place)) is_peer (s.talking.talk.detectors place known e)
           (s.ordered (detector_link site place) below) detection_behaviour (HasNames (section_names site entry)) entry.name site.station.name (detectors_keep site (section_names site entry)) c.host matched tells
-          (detector_kind site station once place entry f laws.written known.client.peer is_peer objects named c.host matched) (hears known.client.stage)
+          (detector_kind site station once place entry f laws.written known.client.peer is_peer objects named c.host matched)
         where
           peer_is : known.client.peer ≡ peer_for protocols.TrainDetection site entry.name (section_names site entry)
           peer_is = s.talking.matching.clients.detectors place known e entry f
@@ -248,17 +259,13 @@ module _ (laws : ExpectedLaws) (site : Site) (table : Table) (station : IsStatio
               let found = mapped_at name_of c.host.object k name (ap (λ (names : List (List ℕ)). slice_get names k) tells.kept_so.object ∙ there)
               in subst IsName (sym found.2) (s.whole.sections_named place c g k found.0 found.1)
 
-          changes : IsTrue (reports_changes known.client.peer.protocol)
-          changes = ap (λ (p : PeerState). reports_changes p.protocol) peer_is
+  pub detector_changes : (world : WorldState) (network : Links) → Stands world network → (place : ℕ) (known : KnownDetectorState) → slice_get world.station.ixl.detectors place ≡ Some known → IsTrue (reports_changes known.client.peer.protocol)
+  detector_changes world network s place known e =
+      let entry = same_length world.station.ixl.detectors site.detectors s.whole.clients.detectors place known e
+      in ap (λ (p : PeerState). reports_changes p.protocol) (s.talking.matching.clients.detectors place known e entry.0 entry.1)
 
-          hears : (how_far : Stage) → Hears laws.written detection_behaviour (HasNames (section_names site entry)) known.client.peer is_peer c.host matched
-              (detector_kind site station once place entry f laws.written known.client.peer is_peer objects named c.host matched) how_far
-          hears stage.Outside = tt
-          hears stage.AwaitsAnswer = tt
-          hears stage.AwaitsStart = tt
-          hears (stage.AwaitsStatus left) = tt
-          hears stage.Completed = changes
-          hears stage.AwaitsReport = tt
+  next_detector : (world : WorldState) (network : Links) → Stands world network → (place : ℕ) (known : KnownDetectorState) → slice_get world.station.ixl.detectors place ≡ Some known → NextIsExpected known.client (seen (detector_link site place) network)
+  next_detector world network s place known e = next_of site (Detector place) known.client (seen (detector_link site place) network) (s.talking.talk.detectors place known e) (each_detector world network s place known e) (λ connection of_client of_server up item at completed. detector_changes world network s place known e)
 
   pub have_next : (world : WorldState) → IsReached site table world → HaveNext site world
   have_next world reached =

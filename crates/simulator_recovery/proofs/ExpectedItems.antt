@@ -46,6 +46,17 @@ pub only_at : {X : Type 0} (one : X) (k : ℕ) (x : X) → slice_get (one ∷ []
 only_at one zero x e = (refl, same_Some one x e)
 only_at one (suc k) x e = absurd (none-some x e)
 
+-- one that awaits states has taken the answer and *start*
+abbrev pub HasBegun : Stage → ℕ → Type 0
+HasBegun (stage.AwaitsStatus left) count = 2 ≤ count
+HasBegun _ count = Unit {0}
+
+-- Each item that its controller has given is what a client expects, at every stage at which it has acted on those before it. Behind the
+-- initialisation this is said of a client that hears of changes.
+abbrev pub EachExpected : PeerState → List (List ℕ) → Type 0
+EachExpected peer given = (s : Stage) (count : ℕ) (item : List ℕ) → slice_get given count ≡ Some item → ClientHasActedOn peer s count → is_outside s ≡ false → HasBegun s count
+    → (s ≡ stage.Completed → IsTrue (reports_changes peer.protocol)) → IsExpected peer s (reading item)
+
 module _ (written : WrittenIsRead) {Object : Type 0} (does : Behaviour Object) (Fits : Object → Type 0) (peer : PeerState) (is_peer : IsPeer peer) (host : HostState Object) (matched : AreMatched does peer host) where
   -- what objects of this kind tell of themselves, and what they owe
   pub record KindReports : Type 0 where
@@ -74,11 +85,6 @@ module _ (written : WrittenIsRead) {Object : Type 0} (does : Behaviour Object) (
     Hears stage.Completed = IsTrue (reports_changes peer.protocol)
     Hears _ = Unit {0}
 
-    -- one that awaits states has taken the answer and *start*
-    abbrev pub Begun : Stage → ℕ → Type 0
-    Begun (stage.AwaitsStatus left) count = 2 ≤ count
-    Begun _ count = Unit {0}
-
     -- a report that an object owed
     owed_at : (s : Stage) → (s ≡ stage.Completed) ⊎ (s ≡ stage.AwaitsReport) → Hears s → (report : Report) → OwedFit does Fits report → IsExpected peer s (reading (item report))
     owed_at s (inl e) hears report owed = let is = kind.owed owed.object owed.fits report owed.owes in
@@ -87,7 +93,7 @@ module _ (written : WrittenIsRead) {Object : Type 0} (does : Behaviour Object) (
         subst (λ (x : Stage). IsExpected peer x (reading (item report))) (sym e) (answer_to_move_expected written does peer is_peer host matched report is.0 is.1)
 
     -- the answer comes first
-    answer_at : (count : ℕ) (x : List ℕ) (s : Stage) → count ≡ 0 → item (said does (VersionAnswer Match host.version)) ≡ x → ClientHasActedOn peer s count → is_outside s ≡ false → Begun s count → IsExpected peer s (reading x)
+    answer_at : (count : ℕ) (x : List ℕ) (s : Stage) → count ≡ 0 → item (said does (VersionAnswer Match host.version)) ≡ x → ClientHasActedOn peer s count → is_outside s ≡ false → HasBegun s count → IsExpected peer s (reading x)
     answer_at count x stage.Outside is same acted inside begun = absurd (false≢true (sym inside))
     answer_at count x stage.AwaitsAnswer is same acted inside begun = subst (λ (i : List ℕ). IsExpected peer stage.AwaitsAnswer (reading i)) same (answer_expected written does peer is_peer host matched)
     answer_at count x stage.AwaitsStart is same acted inside begun = absurd (omega (arith, is, acted))
@@ -166,7 +172,7 @@ module _ (written : WrittenIsRead) {Object : Type 0} (does : Behaviour Object) (
       at_start j count x stage.AwaitsReport is acted inside hears (completes at same) = let all = many in absurd (omega (arith, is, acted, at, all))
       at_start j count x stage.AwaitsReport is acted inside hears (owes report far owed_so same) = subst (λ (i : List ℕ). IsExpected peer stage.AwaitsReport (reading i)) (sym same) (owed_at stage.AwaitsReport (inr refl) hears report owed_so)
 
-      start_at : (x : List ℕ) (s : Stage) → item (said does StartInitialisation) ≡ x → ClientHasActedOn peer s 1 → is_outside s ≡ false → Begun s 1 → IsExpected peer s (reading x)
+      start_at : (x : List ℕ) (s : Stage) → item (said does StartInitialisation) ≡ x → ClientHasActedOn peer s 1 → is_outside s ≡ false → HasBegun s 1 → IsExpected peer s (reading x)
       start_at x stage.Outside same acted inside begun = absurd (false≢true (sym inside))
       start_at x stage.AwaitsAnswer same acted inside begun = absurd (omega (arith, acted))
       start_at x stage.AwaitsStart same acted inside begun = subst (λ (i : List ℕ). IsExpected peer stage.AwaitsStart (reading i)) same (start_expected written does peer is_peer host matched)
@@ -176,16 +182,16 @@ module _ (written : WrittenIsRead) {Object : Type 0} (does : Behaviour Object) (
 
       -- all that a host whose initialisation is completed has said
       all_at : (count : ℕ) (x : List ℕ) (s : Stage) → slice_get (item (said does (VersionAnswer Match host.version)) ∷ (map item (initialisation does object) ++ map item reports)) count ≡ Some x
-          → ClientHasActedOn peer s count → is_outside s ≡ false → Begun s count → Hears s → IsExpected peer s (reading x)
+          → ClientHasActedOn peer s count → is_outside s ≡ false → HasBegun s count → Hears s → IsExpected peer s (reading x)
       all_at zero x s e acted inside begun hears = answer_at 0 x s refl (same_Some _ x e) acted inside begun
       all_at (suc zero) x s e acted inside begun hears = start_at x s (same_Some _ x e) acted inside begun
       all_at (suc (suc j)) x s e acted inside begun hears = at_start j (suc (suc j)) x s (omega arith) acted inside hears (later j x e)
 
-    only_answer : (count : ℕ) (x : List ℕ) (s : Stage) → slice_get (item (said does (VersionAnswer Match host.version)) ∷ []) count ≡ Some x → ClientHasActedOn peer s count → is_outside s ≡ false → Begun s count → IsExpected peer s (reading x)
+    only_answer : (count : ℕ) (x : List ℕ) (s : Stage) → slice_get (item (said does (VersionAnswer Match host.version)) ∷ []) count ≡ Some x → ClientHasActedOn peer s count → is_outside s ≡ false → HasBegun s count → IsExpected peer s (reading x)
     only_answer count x s e acted inside begun = let only = only_at _ count x e in answer_at count x s only.0 only.1 acted inside begun
 
     whole_at : (Wrong : Type 0) → (Wrong → ⊥) → (by : HostStage) (whole : List (List ℕ)) (count : ℕ) (x : List ℕ) (s : Stage) → SaidBy does Fits Wrong item host.version by whole → slice_get whole count ≡ Some x
-        → ClientHasActedOn peer s count → is_outside s ≡ false → Begun s count → Hears s → IsExpected peer s (reading x)
+        → ClientHasActedOn peer s count → is_outside s ≡ false → HasBegun s count → Hears s → IsExpected peer s (reading x)
     whole_at Wrong right host_stage.Outside whole count x s said_so e acted inside begun hears = absurd (none-some x (sym (ap (λ (list : List (List ℕ)). slice_get list count) said_so) ∙ e))
     whole_at Wrong right host_stage.AwaitsCheck whole count x s said_so e acted inside begun hears = absurd (none-some x (sym (ap (λ (list : List (List ℕ)). slice_get list count) said_so) ∙ e))
     whole_at Wrong right host_stage.AwaitsRequest whole count x s said_so e acted inside begun hears = only_answer count x s (sym (ap (λ (list : List (List ℕ)). slice_get list count) said_so) ∙ e) acted inside begun
@@ -194,6 +200,6 @@ module _ (written : WrittenIsRead) {Object : Type 0} (does : Behaviour Object) (
 
     -- each item that a host has given is what its client expects, once it has come to its place
     pub given_at : (Wrong : Type 0) → (Wrong → ⊥) → (given : List (List ℕ)) (count : ℕ) (x : List ℕ) (s : Stage) → SaidSome does Fits Wrong item host.version given → slice_get given count ≡ Some x
-        → ClientHasActedOn peer s count → is_outside s ≡ false → Begun s count → Hears s → IsExpected peer s (reading x)
+        → ClientHasActedOn peer s count → is_outside s ≡ false → HasBegun s count → Hears s → IsExpected peer s (reading x)
     given_at Wrong right given count x s some e acted inside begun hears = whole_at Wrong right some.by some.whole count x s some.said
         (ap (λ (list : List (List ℕ)). slice_get list count) some.begins.are ∙ at_front given some.begins.rest count x e) acted inside begun hears

@@ -41,7 +41,7 @@ unfoldable pub at_node : Node → List (Node × LinkCall) → List LinkCall
 at_node node [] = []
 at_node node (first ∷ others) = if is_node node first.0 then first.1 ∷ at_node node others else at_node node others
 
-same_place : (place : ℕ) → (place == place) ≡ true
+pub same_place : (place : ℕ) → (place == place) ≡ true
 same_place place = grind (arith, nat_tests)
 
 other_place : (place other : ℕ) → other ≢ place → (other == place) ≡ false
@@ -51,7 +51,7 @@ other_place place other differ = choose (other == place) refl
     choose false e = e
     choose true e = absurd (differ (grind (arith, nat_tests, e)))
 
-is_itself : (node : Node) → is_node node node ≡ true
+pub is_itself : (node : Node) → is_node node node ≡ true
 is_itself (Signal place) = same_place place
 is_itself (Point place) = same_place place
 is_itself (Detector place) = same_place place

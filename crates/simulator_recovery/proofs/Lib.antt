@@ -61,3 +61,5 @@ pub mod OwnReports
 pub mod AlwaysExpected
 pub mod AlwaysFits
 pub mod SectionReports
+pub mod ClientCloses
+pub mod StationCloses

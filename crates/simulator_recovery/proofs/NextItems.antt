@@ -31,7 +31,14 @@ module _ (laws : NextLaws) (names : Names) (are_names : AreNames names) (ends : 
   abbrev pub items_at : Role → List (List ℕ)
   items_at who = (receiving (reading_of (end_of who ends).clock) bytes (end_of who ends).link).items
 
-  of_client : May names (Calls role.Client (Receives bytes connection)) ends → is_open ends.client.link.phase ≡ true → (items_at role.Client ≡ []) ⊎ GoOn role.Client ends (items_at role.Client)
+  -- so it does in a connection that is the last of both ends
+  pub record GoesOnInOne (items : List (List ℕ)) : Type 0 where
+    pub last : ℕ
+    pub of_client : ends.client.connection ≡ Some last
+    pub of_server : ends.server.connection ≡ Some last
+    pub on : GoOn role.Client ends items
+
+  pub of_client : May names (Calls role.Client (Receives bytes connection)) ends → is_open ends.client.link.phase ≡ true → (items_at role.Client ≡ []) ⊎ GoesOnInOne (items_at role.Client)
   unfolding called outcome end_after
   of_client may opened = by_order (laws.order names (Calls role.Client (Receives bytes connection)) ends are_names timely ordered may)
     where
@@ -44,11 +51,16 @@ module _ (laws : NextLaws) (names : Names) (are_names : AreNames names) (ends : 
       taken_is : after.client.taken ≡ ends.client.taken ++ items_at role.Client
       taken_is = rw opened refl
 
-      by_order : Ordered names after → (items_at role.Client ≡ []) ⊎ GoOn role.Client ends (items_at role.Client)
+      by_order : Ordered names after → (items_at role.Client ≡ []) ⊎ GoesOnInOne (items_at role.Client)
       by_order (unbegun none) = let has = laws.some names ends role.Client timely opened in absurd (none-some has.0 (sym none ∙ same ∙ has.1))
       by_order (alone a) = inl (no_more ends.client.taken (items_at role.Client) (sym taken_is ∙ a.taken))
       by_order (together t) = let safe = (laws.safe names after (together t) t.connection t.of_client t.of_server).1
-          in inr (record { rest = safe.rest; are = safe.beginning ∙ ap (λ (list : List (List ℕ)). list ++ safe.rest) taken_is ∙ append_assoc ends.client.taken (items_at role.Client) safe.rest })
+          in inr (record {
+            last = t.connection;
+            of_client = sym same ∙ t.of_client;
+            of_server = t.of_server;
+            on = record { rest = safe.rest; are = safe.beginning ∙ ap (λ (list : List (List ℕ)). list ++ safe.rest) taken_is ∙ append_assoc ends.client.taken (items_at role.Client) safe.rest };
+          })
 
   of_server : May names (Calls role.Server (Receives bytes connection)) ends → is_open ends.server.link.phase ≡ true → (items_at role.Server ≡ []) ⊎ GoOn role.Server ends (items_at role.Server)
   unfolding called outcome end_after
@@ -73,5 +85,9 @@ module _ (laws : NextLaws) (names : Names) (are_names : AreNames names) (ends : 
           in inr (record { rest = safe.rest; are = safe.beginning ∙ ap (λ (list : List (List ℕ)). list ++ safe.rest) taken_is ∙ append_assoc ends.server.taken (items_at role.Server) safe.rest })
 
   pub goes_on : (who : Role) → May names (Calls who (Receives bytes connection)) ends → is_open (end_of who ends).link.phase ≡ true → (items_at who ≡ []) ⊎ GoOn who ends (items_at who)
-  goes_on role.Client = of_client
-  goes_on role.Server = of_server
+  goes_on role.Client may opened = choose (of_client may opened)
+    where
+      choose : (items_at role.Client ≡ []) ⊎ GoesOnInOne (items_at role.Client) → (items_at role.Client ≡ []) ⊎ GoOn role.Client ends (items_at role.Client)
+      choose (inl none) = inl none
+      choose (inr some) = inr some.on
+  goes_on role.Server may opened = of_server may opened

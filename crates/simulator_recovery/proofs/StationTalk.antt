@@ -297,7 +297,7 @@ fallen_link c = choose (is_up c.link.phase)
     choose true = refl
     choose false = refl
 
-clocked_link : (now : ℕ) (client : ClientState) → (clocked now client).link ≡ settled now client.link
+pub clocked_link : (now : ℕ) (client : ClientState) → (clocked now client).link ≡ settled now client.link
 unfolding clocked
 clocked_link now client = fallen_link (record client { link = settled now client.link })
 
@@ -305,7 +305,7 @@ none_long : (list : List (List ℕ)) → length list ≡ 0 → list ≡ []
 none_long [] e = refl
 none_long (first ∷ others) e = absurd (omega (arith, e))
 
-clocked_talks : (site : Site) (node : Node) (now : ℕ) (client : ClientState) (given taken : List (List ℕ)) → ClientTalks site node client given taken → ClientTalks site node (clocked now client) given taken
+pub clocked_talks : (site : Site) (node : Node) (now : ℕ) (client : ClientState) (given taken : List (List ℕ)) → ClientTalks site node client given taken → ClientTalks site node (clocked now client) given taken
 unfolding clocked fallen
 clocked_talks site node now client given taken talks = choose (is_up (settled now client.link).phase) refl
   where
@@ -334,7 +334,7 @@ clocked_talks site node now client given taken talks = choose (is_up (settled no
         out opened = outside_is client.stage (not_false (is_outside client.stage) (is_up client.link.phase) talks.outside (sym (was opened).1 ∙ e))
 
 -- what is known of a datagram that comes to a client
-client_comes : (now : ℕ) (bytes : List ℕ) (client : ClientState) → ClockedStands now client → is_client client.link.identity.role ≡ true → is_open (receiving now bytes client.link).link.phase ≡ true
+pub client_comes : (now : ℕ) (bytes : List ℕ) (client : ClientState) → ClockedStands now client → is_client client.link.identity.role ≡ true → is_open (receiving now bytes client.link).link.phase ≡ true
     → (is_open client.link.phase ≡ true) × (((receiving now bytes client.link).items ≡ []) ⊎ (is_up (receiving now bytes client.link).link.phase ≡ true)) × (is_up client.link.phase ≡ true → is_up (receiving now bytes client.link).link.phase ≡ true)
 client_comes now bytes client is asks opened = by_open (is_open client.link.phase) refl
   where
@@ -380,13 +380,13 @@ module _ (laws : TalkLaws) (site : Site) (table : Table) (is_table : IsTableOf s
   abbrev link_of : Node → LinkState
   link_of node = (network.ends (link_at site node)).client.link
 
-  record Before (node : Node) (client : ClientState) : Type 0 where
-    there : IsNodeOf site node
-    counts : ClientStandsByCounts client
-    of : OfNode node client.peer
-    link_is : settled now client.link ≡ link_of node
-    asks : is_client (link_of node).identity.role ≡ true
-    talks : ClientTalks site node client (gave network (link_at site node)) (took network (link_at site node))
+  pub record Before (node : Node) (client : ClientState) : Type 0 where
+    pub there : IsNodeOf site node
+    pub counts : ClientStandsByCounts client
+    pub of : OfNode node client.peer
+    pub link_is : settled now client.link ≡ link_of node
+    pub asks : is_client (link_of node).identity.role ≡ true
+    pub talks : ClientTalks site node client (gave network (link_at site node)) (took network (link_at site node))
 
   record Holds (node : Node) (client : ClientState) (calls : List LinkCall) : Type 0 where
     there : IsNodeOf site node
@@ -472,7 +472,7 @@ module _ (laws : TalkLaws) (site : Site) (table : Table) (is_table : IsTableOf s
   detectors_many : length known.detectors ≡ length site.detectors
   detectors_many = whole.clients.detectors
 
-  before : EachClient Before known
+  pub before : EachClient Before known
   before = record {
     signals = λ place one e.
         let there : place < length site.signals = let w = slice_get_within known.known_signals place one e in omega (arith, w, signals_many)

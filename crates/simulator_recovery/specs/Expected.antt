@@ -1,5 +1,5 @@
 -- That what comes next to an end of a link of a station is what the end expects.
-use Rattle.std.specs.Prelude.{◌≡◌, ℕ, true, false, List, length, Some, slice_get}
+use Rattle.std.specs.Prelude.{◌≡◌, ℕ, ◌+◌, ◌≤◌, true, false, List, length, Some, slice_get}
 use Rattle.simulator_run.specs.layout.Entries.{Site}
 use Rattle.simulator_run.specs.rasta_core.Links.{Links, seen}
 use Rattle.simulator_run.specs.rasta_core.Run.{Ends}
@@ -56,3 +56,8 @@ pub record AllFitNext (site : Site) (world : WorldState) (network : Links) : Typ
 pub record HaveFitting (site : Site) (world : WorldState) : Type 0 where
   pub has : HasLinks site world
   pub next : AllFitNext site world (links_in has)
+
+-- In a connection that is the last of both ends, the controller has given at most two items more than its client.
+abbrev pub GivesNoMore : Ends → Type 0
+GivesNoMore ends = (connection : ℕ) → ends.client.connection ≡ Some connection → ends.server.connection ≡ Some connection
+    → length ends.server.given ≤ 2 + length ends.client.given

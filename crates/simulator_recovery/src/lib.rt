@@ -3,6 +3,7 @@
 //! is no code here but laws.
 #![tactic(auto)]
 
+mod client_closes;
 mod clients;
 mod controllers;
 mod conversation;
@@ -13,6 +14,7 @@ mod links;
 mod matched;
 mod silence;
 
+pub use client_closes::clients_close_by_their_window_alone;
 pub use clients::clients_have_said_what_their_stages_tell;
 pub use controllers::controllers_keep_to_their_conversations;
 pub use conversation::{
