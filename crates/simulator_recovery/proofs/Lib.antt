@@ -61,3 +61,7 @@ pub mod OwnReports
 pub mod AlwaysExpected
 pub mod AlwaysFits
 pub mod SectionReports
+pub mod PointCounts
+pub mod PointAnswers
+pub mod SaidItems
+pub mod BothEnds

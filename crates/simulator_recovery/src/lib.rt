@@ -26,7 +26,9 @@ pub use counts::{
     hosts_have_said_what_their_stage_tells, hosts_say_in_their_order, hosts_stand_by_their_counts,
     stations_stand_by_their_counts,
 };
-pub use expected::{clients_expect_what_comes_next, hosts_expect_what_comes_next};
+pub use expected::{
+    clients_expect_what_comes_next, hosts_expect_what_comes_next, points_answer_each_move_once,
+};
 pub use laws::{
     each_round_delivers_what_the_last_one_left, good_rounds_are_at_work_on_links,
     good_rounds_are_events, good_rounds_leave_fresh_datagrams, good_rounds_take_their_time,
