@@ -65,3 +65,5 @@ pub mod PointCounts
 pub mod PointAnswers
 pub mod SaidItems
 pub mod BothEnds
+pub mod HostOpen
+pub mod OpenHosts

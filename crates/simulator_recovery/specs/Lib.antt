@@ -9,3 +9,4 @@ pub mod ClientSaid
 pub mod Told
 pub mod NextItems
 pub mod Expected
+pub mod Closes

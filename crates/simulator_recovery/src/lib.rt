@@ -4,6 +4,7 @@
 #![tactic(auto)]
 
 mod clients;
+mod closes;
 mod controllers;
 mod conversation;
 mod counts;
@@ -14,6 +15,7 @@ mod matched;
 mod silence;
 
 pub use clients::clients_have_said_what_their_stages_tell;
+pub use closes::controllers_close_no_link;
 pub use controllers::controllers_keep_to_their_conversations;
 pub use conversation::{
     clients_act_on_what_they_expect, clients_count_what_they_act_on, clients_expect_what_hosts_say,
