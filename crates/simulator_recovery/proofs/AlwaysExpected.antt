@@ -1,6 +1,7 @@
 -- What comes next to a client is what it expects, after every list of events.
-use Rattle.std.proofs.Common.{◌≡◌, ℕ, ◌<◌, ◌∙◌, true, List, [], ◌∷◌, length, Some, slice_get, refl, sym, ap, subst, arith}
+use Rattle.std.proofs.Common.{◌≡◌, ℕ, ◌+◌, ◌<◌, ◌≤◌, ◌∙◌, true, List, [], ◌∷◌, length, Some, slice_get, refl, sym, ap, subst, arith}
 use Rattle.std.specs.Prelude.{IsTrue}
+use Rattle.std.proofs.lemmas.List.{length-append}
 use Rattle.std.proofs.lemmas.Option.{slice_get_within}
 use Rattle.ixl_table.specs.Table.{IsTableOf}
 use Rattle.simulator_run.specs.layout.Entries.{DetectorEntry, Site}
@@ -14,7 +15,7 @@ use Rattle.simulator_run.specs.rasta_core.Names.{Names}
 use Rattle.simulator_run.specs.rasta_core.Ordered.{Ordered}
 use Rattle.simulator_run.specs.rasta_core.Run.{Ends}
 use Rattle.simulator_run.specs.rasta_core.Safe.{AreSafe, IsSafe}
-use Rattle.simulator_run.specs.rasta_core.State.{is_up}
+use Rattle.simulator_run.specs.rasta_core.State.{is_open, is_up}
 use Rattle.simulator_run.specs.object_host.Behaviour.{Behaviour}
 use Rattle.simulator_run.specs.object_host.Host.{HostState}
 use Rattle.simulator_run.specs.object_host.Told.{item_of}
@@ -42,14 +43,15 @@ use Rattle.simulator_run.specs.Links.{names_at, starts_at_zero}
 use Rattle.simulator_run.specs.Nodes.{detector_link, links, point_link}
 use Rattle.simulator_run.specs.State.{ClockedControllerState, WorldState}
 use Rattle.simulator_run_links.specs.Events.{events_of}
+use Rattle.simulator_run_links.specs.HasLinks.{links_in}
 use Rattle.simulator_run_links.specs.Whole.{IsPeer, IsWhole}
 use Rattle.simulator_headline.specs.Reached.{IsReached}
-use Rattle.simulator_recovery.specs.ClientSaid.{ClientHasSaid, ClientTalks}
+use Rattle.simulator_recovery.specs.ClientSaid.{ClientHasSaid, ClientTalks, commanded}
 use Rattle.simulator_recovery.specs.Conversation.{AreMatched}
-use Rattle.simulator_recovery.specs.Expected.{HaveNext, NextIsExpected}
+use Rattle.simulator_recovery.specs.Expected.{AnswersOnce, GivesNoMore, HaveAnswered, HaveNext, NextIsExpected}
 use Rattle.simulator_recovery.specs.Matched.{name_of, peer_for, section_names}
 use Rattle.simulator_recovery.specs.Told.{Any, HasNames, IndicatesSpoken, SaidSome, SomeAsks}
-use Rattle.simulator_recovery.proofs.AlwaysOnLinks.{CanBe, always_held}
+use Rattle.simulator_recovery.proofs.AlwaysOnLinks.{CanBe, HasHeld, always_held}
 use Rattle.simulator_recovery.proofs.AlwaysTalked.{AreTalking, TalkedLaws, talking_on}
 use Rattle.simulator_recovery.proofs.AtLink.{mapped, of_second, of_third}
 use Rattle.simulator_recovery.proofs.Addressed.{at_front}
@@ -62,6 +64,8 @@ use Rattle.simulator_recovery.proofs.HostKeeps.{ObjectKeeps}
 use Rattle.simulator_recovery.proofs.Lists.{at_place, map_length}
 use Rattle.simulator_recovery.proofs.MatchedEnds.{detectors_keep, matching_first, points_keep, signals_keep, spoken}
 use Rattle.simulator_recovery.proofs.OwnReports.{asks_none_other, point_kind, signal_kind}
+use Rattle.simulator_recovery.proofs.PointAnswers.{Answering, answering_first, answering_on}
+use Rattle.simulator_recovery.proofs.PointCounts.{waits, within_ever}
 use Rattle.simulator_recovery.proofs.Standing.{stand_first}
 use Rattle.simulator_recovery.proofs.StationTalk.{first_talks}
 use Rattle.simulator_recovery.proofs.StationTells.{StationTellLaws, Telling, telling_first, telling_on}
@@ -98,6 +102,16 @@ next_of site node client ends talks each hears connection of_client of_server up
     in each connection of_client of_server client.stage (length ends.client.taken) item at (talks.acted opened)
     (not_true (is_outside client.stage) (is_up client.link.phase) talks.outside up) (begun_of site node client.peer client.stage (length ends.client.taken) ends.client.given (talks.said opened)) (hears connection of_client of_server up item at)
 
+-- A point's client that awaits no report has taken all: its controller has given no more.
+pub none_next : (site : Site) (place : ℕ) (client : ClientState) (ends : Ends) → ClientTalks site (Point place) client ends.client.given ends.client.taken → length client.peer.objects ≡ 1 → is_open client.link.phase ≡ true
+    → client.stage ≡ stage.Completed → length ends.server.given ≤ 2 + length ends.client.given → (item : List ℕ) → slice_get ends.server.given (length ends.client.taken) ≡ Some item → ⊥
+none_next site place client ends talks one opened is few item at = by_said (subst (λ (s : Stage). ClientHasSaid site (Point place) client.peer s (length ends.client.taken) ends.client.given) is (talks.said opened))
+  where
+    by_said : ClientHasSaid site (Point place) client.peer stage.Completed (length ends.client.taken) ends.client.given → ⊥
+    by_said (c, all) =
+        let given = ap length c.are in let moves = map_length (commanded client.peer) c.commands in let within = slice_get_within ends.server.given (length ends.client.taken) item at
+        in omega (arith, all, one, given, moves, within, few)
+
 module _ (laws : ExpectedLaws) (site : Site) (node : Node) (client : ClientState) (ends : Ends) (names : Names) (is_peer : IsPeer client.peer) (talks : ClientTalks site node client ends.client.given ends.client.taken) (ordered : Ordered names ends) where
   module _ {Object : Type 0} (does : Behaviour Object) (Fits : Object → Type 0) (own_name peer_name : List ℕ) (keep : ObjectKeeps does Fits (spoken site)) (host : HostState Object) (matched : AreMatched does client.peer host)
       (tells : Tells does Fits (spoken site) own_name peer_name keep host (lists_of ends.server)) (kind : KindReports laws.written does Fits client.peer is_peer host matched) where
@@ -131,6 +145,7 @@ module _ (laws : ExpectedLaws) (site : Site) (table : Table) (station : IsStatio
     pub whole : IsWhole site world
     pub talking : AreTalking laws.talked site table station once is_table world network
     pub telling : Telling site laws.tell table world network
+    pub answering : Answering laws.tell.points laws.tell.calls site table world network
     pub ordered : AreOrdered (links site) (names_at site) network
 
   pub stands_first : (outset : Outset) → IsOutsetOf site outset → Stands (world_at site table outset) (begun (names_at site) starts_at_zero)
@@ -138,6 +153,7 @@ module _ (laws : ExpectedLaws) (site : Site) (table : Table) (station : IsStatio
     whole = (laws.talked.links.standing site table outset station lies).whole;
     talking = record { stands = stand_first site table station outset; matching = matching_first site table outset; talk = first_talks laws.talked.talk laws.talked.may_come site table is_table outset };
     telling = telling_first site laws.tell table outset;
+    answering = answering_first laws.tell.points laws.tell.calls site table outset;
     ordered = laws.order_starts (links site) (names_at site) starts_at_zero;
   }
 
@@ -146,6 +162,7 @@ module _ (laws : ExpectedLaws) (site : Site) (table : Table) (station : IsStatio
     whole = laws.talked.links.whole site table happening world network can.named station can.whole can.timely can.are can.may;
     talking = talking_on laws.talked site table station once is_table happening world network can before.talking;
     telling = telling_on site laws.tell table happening world network can.whole can.are before.telling;
+    answering = answering_on laws.tell.points laws.tell.calls site table happening world network can.whole can.are before.answering;
     ordered = laws.order_runs (links site) (names_at site) (events_of site table happening world) network can.named can.timely before.ordered can.follows.may;
   }
 
@@ -190,6 +207,17 @@ module _ (laws : ExpectedLaws) (site : Site) (table : Table) (station : IsStatio
     next_signal : (place : ℕ) (known : KnownSignalState) → slice_get world.station.ixl.known_signals place ≡ Some known → NextIsExpected known.client (seen place network)
     next_signal place known e = next_of site (Signal place) known.client (seen place network) (s.talking.talk.signals place known e) (each_signal place known e) (λ connection of_client of_server up item at completed. signal_changes place known e)
 
+    -- a point's controller gives no more than it is made to
+    pub gives_no_more : (place : ℕ) (c : ClockedControllerState PointState) → slice_get world.points place ≡ Some c → GivesNoMore (seen (point_link site place) network)
+    gives_no_more place c g connection of_client of_server =
+        let ever = (s.answering.of_points place c g).ever in let taken = ap length safe.beginning ∙ length-append (network.ends (point_link site place)).server.taken safe.rest in omega (arith, ever, taken)
+      where
+        below : point_link site place < links site
+        below = let a = slice_get_within world.points place c g in let b = s.whole.points in omega (arith, a, b)
+
+        safe : IsSafe (network.ends (point_link site place)).client (network.ends (point_link site place)).server
+        safe = (laws.safe (names_at site (point_link site place)) (seen (point_link site place) network) (s.ordered (point_link site place) below) connection of_client of_server).0
+
     pub each_point : (place : ℕ) (known : KnownPointState) → slice_get world.station.ixl.known_points place ≡ Some known → EachIsExpected known.client.peer (seen (point_link site place) network)
     each_point place known e =
         let entry = same_length world.station.ixl.known_points site.points s.whole.clients.known_points place known e
@@ -220,8 +248,19 @@ module _ (laws : ExpectedLaws) (site : Site) (table : Table) (station : IsStatio
             alone : known.client.peer.objects ≡ known.client.peer.name ∷ []
             alone = subst (λ (p : PeerState). p.objects ≡ p.name ∷ []) (sym peer_is) refl
 
-    next_point : (place : ℕ) (known : KnownPointState) → slice_get world.station.ixl.known_points place ≡ Some known → (known.client.stage ≡ stage.Completed → ⊥) → NextIsExpected known.client (seen (point_link site place) network)
-    next_point place known e awaits = next_of site (Point place) known.client (seen (point_link site place) network) (s.talking.talk.points place known e) (each_point place known e) (λ connection of_client of_server up item at completed. absurd (awaits completed))
+    next_point : (place : ℕ) (known : KnownPointState) → slice_get world.station.ixl.known_points place ≡ Some known → NextIsExpected known.client (seen (point_link site place) network)
+    next_point place known e = next_of site (Point place) known.client (seen (point_link site place) network) (s.talking.talk.points place known e) (each_point place known e) none_completed
+      where
+        entry : (entry : PointEntry) × (slice_get site.points place ≡ Some entry)
+        entry = same_length world.station.ixl.known_points site.points s.whole.clients.known_points place known e
+
+        server : (c : ClockedControllerState PointState) × (slice_get world.points place ≡ Some c)
+        server = same_length site.points world.points (sym s.whole.points) place entry.0 entry.1
+
+        none_completed : (connection : ℕ) → (network.ends (point_link site place)).client.connection ≡ Some connection → (network.ends (point_link site place)).server.connection ≡ Some connection → is_up known.client.link.phase ≡ true
+            → (item : List ℕ) → slice_get (network.ends (point_link site place)).server.given (length (network.ends (point_link site place)).client.taken) ≡ Some item → known.client.stage ≡ stage.Completed → IsTrue (reports_changes known.client.peer.protocol)
+        none_completed connection of_client of_server up item at completed = absurd (none_next site place known.client (seen (point_link site place) network) (s.talking.talk.points place known e)
+            (ap (λ (p : PeerState). length p.objects) (s.talking.matching.clients.points place known e entry.0 entry.1)) (up_open _ up) completed (gives_no_more place server.0 server.1 connection of_client of_server) item at)
 
   pub each_detector : (world : WorldState) (network : Links) → Stands world network → (place : ℕ) (known : KnownDetectorState) → slice_get world.station.ixl.detectors place ≡ Some known → EachIsExpected known.client.peer (seen (detector_link site place) network)
   each_detector world network s place known e =
@@ -271,3 +310,18 @@ module _ (laws : ExpectedLaws) (site : Site) (table : Table) (station : IsStatio
   have_next world reached =
       let held = always_held laws.talked.links site table station once Stands stands_first stands_on world reached
       in record { has = held.has; next = record { signals = next_signal world _ held.holds; points = next_point world _ held.holds; detectors = next_detector world _ held.holds } }
+
+  pub have_answered : (world : WorldState) → IsReached site table world → HaveAnswered site world
+  have_answered world reached = record { has = held.has; points = λ place c g. answers place c g }
+    where
+      held : HasHeld laws.talked.links site table station once Stands stands_first stands_on world
+      held = always_held laws.talked.links site table station once Stands stands_first stands_on world reached
+
+      answers : (place : ℕ) (c : ClockedControllerState PointState) → slice_get world.points place ≡ Some c → AnswersOnce c.host (seen (point_link site place) (links_in held.has))
+      answers place c g =
+          let counted = held.holds.answering.of_points place c g
+          in record {
+            waits = λ e. within_ever c.host.stage _ _ (waits c.host.object) (counted.inside e);
+            ever = counted.ever;
+            no_more = gives_no_more world (links_in held.has) held.holds place c g;
+          }

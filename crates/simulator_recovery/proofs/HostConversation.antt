@@ -75,7 +75,7 @@ module _ {Object : Type 0} (does : Behaviour Object) (now : ℕ) where
   expected_acts item telegram stage.Completed told host (commands, fits) = completed_acts item telegram told host commands fits
   expected_acts item telegram stage.Refused told host expects = absurd expects
 
-  admitted : (telegram : Telegram) (host : HostState Object) → IsForHost does host telegram → is_admitted does telegram host ≡ true
+  pub admitted : (telegram : Telegram) (host : HostState Object) → IsForHost does host telegram → is_admitted does telegram host ≡ true
   admitted telegram host is =
       let sender = (bytes_eq-Decides telegram.sender host.peer_name).1 is.sender
       in let receiver = (bytes_eq-Decides telegram.receiver host.own_name).1 is.receiver

@@ -119,7 +119,7 @@ module _ {Object : Type 0} (does : Behaviour Object) (now : ℕ) where
   follows count item telegram (message.Signal what) how_far host is has = told count item telegram how_far host is has
   follows count item telegram (message.Detection what) how_far host is has = told count item telegram how_far host is has
 
-  acts : (count : ℕ) (item : List ℕ) (read : Result Telegram SciFault) (host : HostState Object) → HostHasActedOn host.stage count → Counts count (acting does now item read host)
+  pub acts : (count : ℕ) (item : List ℕ) (read : Result Telegram SciFault) (host : HostState Object) → HostHasActedOn host.stage count → Counts count (acting does now item read host)
   unfolding acting
   acts count item (Err fault) host has = violates count host has
   acts count item (Ok telegram) host has = choose (is_admitted does telegram host)
@@ -141,7 +141,7 @@ module _ {Object : Type 0} (does : Behaviour Object) (now : ℕ) where
 
   -- ---- a step
 
-  risen_has : (count : ℕ) (host : HostState Object) → HostHasActedOn host.stage count → HostHasActedOn (risen host).stage count
+  pub risen_has : (count : ℕ) (host : HostState Object) → HostHasActedOn host.stage count → HostHasActedOn (risen host).stage count
   unfolding risen
   risen_has count host has = at_stages host.stage (is_open host.link.phase) refl has
     where

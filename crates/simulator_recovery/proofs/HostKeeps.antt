@@ -117,7 +117,7 @@ module _ {Object : Type 0} (does : Behaviour Object) (Fits : Object → Type 0) 
     followed item telegram (message.Signal what) how_far host in_version k = by_stages item telegram how_far host in_version k
     followed item telegram (message.Detection what) how_far host in_version k = by_stages item telegram how_far host in_version k
 
-    acted : (item : List ℕ) (read : Result Telegram SciFault) (host : HostState Object) → Kept host → Kept (acting does now item read host).host
+    pub acted : (item : List ℕ) (read : Result Telegram SciFault) (host : HostState Object) → Kept host → Kept (acting does now item read host).host
     unfolding acting
     acted item (Err fault) host k = violated host k
     acted item (Ok telegram) host k = choose (is_admitted does telegram host) refl
@@ -135,7 +135,7 @@ module _ {Object : Type 0} (does : Behaviour Object) (Fits : Object → Type 0) 
         choose true so = so
         choose false so = k
 
-    came : (bytes : List ℕ) (host : HostState Object) → Kept host → Kept (received now bytes (receiving now bytes host.link) host).host
+    pub came : (bytes : List ℕ) (host : HostState Object) → Kept host → Kept (received now bytes (receiving now bytes host.link) host).host
     unfolding received risen
     came bytes host k = choose (is_outside host.stage && is_open (receiving now bytes host.link).link.phase)
       where

@@ -37,13 +37,13 @@ use Rattle.simulator_recovery.proofs.Lists.{each_both, map_both}
 
 -- ---- calls
 
-items_both : (now : ℕ) (one other : List LinkCall) (link : LinkState) → items_given now (one ++ other) link ≡ items_given now one link ++ items_given now other (calls_made now one link).link
+pub items_both : (now : ℕ) (one other : List LinkCall) (link : LinkState) → items_given now (one ++ other) link ≡ items_given now one link ++ items_given now other (calls_made now one link).link
 unfolding items_given calls_made
 items_both now [] other link = refl
 items_both now (first ∷ one) other link = ap (λ (rest : List (List ℕ)). items_given_by now first link ++ rest) (items_both now one other (call_made now first link).link)
     ∙ sym (append_assoc (items_given_by now first link) (items_given now one (call_made now first link).link) (items_given now other (calls_made now one (call_made now first link).link).link))
 
-made_both : (now : ℕ) (one other : List LinkCall) (link : LinkState) → (calls_made now (one ++ other) link).link ≡ (calls_made now other (calls_made now one link).link).link
+pub made_both : (now : ℕ) (one other : List LinkCall) (link : LinkState) → (calls_made now (one ++ other) link).link ≡ (calls_made now other (calls_made now one link).link).link
 unfolding calls_made
 made_both now [] other link = refl
 made_both now (first ∷ one) other link = made_both now one other (call_made now first link).link

@@ -61,5 +61,11 @@ pub mod OwnReports
 pub mod AlwaysExpected
 pub mod AlwaysFits
 pub mod SectionReports
+pub mod PointCounts
+pub mod PointAnswers
+pub mod SaidItems
+pub mod BothEnds
+pub mod HostOpen
+pub mod OpenHosts
 pub mod ClientCloses
 pub mod StationCloses

@@ -47,7 +47,7 @@ pub record StationTellLaws : Type 0 where
   pub detectors : TellLaws detection_behaviour
 
 -- nothing was given or taken
-abbrev no_lists : Lists
+abbrev pub no_lists : Lists
 no_lists = record { given = []; taken = [] }
 
 nothing_said : {Object : Type 0} (does : Behaviour Object) (Fits : Object → Type 0) (Wrong : Type 0) (item : Report → List ℕ) (version : ℕ) → SaidSome does Fits Wrong item version []

@@ -9,12 +9,12 @@ use Rattle.simulator_run.specs.object_host.Behaviour.{Behaviour}
 use Rattle.simulator_run.specs.object_host.Host.{HostState, is_outside}
 use Rattle.simulator_run.specs.signal_ctl.Signal.{SignalState, signal_behaviour}
 use Rattle.simulator_run.specs.point_ctl.Controlled.{point_behaviour}
-use Rattle.simulator_run.specs.point_ctl.Drive.{PointState, is_answered}
+use Rattle.simulator_run.specs.point_ctl.Drive.{PointState}
+use Rattle.simulator_run.specs.point_ctl.History.{unanswered}
 use Rattle.simulator_run.specs.tds_ctl.Controlled.{detection_behaviour}
 use Rattle.simulator_run.specs.tds_ctl.declared.section.Section.{Section}
 use Rattle.simulator_run.specs.ixl_client.Client.{ClientState}
 use Rattle.simulator_run.specs.ixl_client.ExpectedTelegrams.{IsExpected}
-use Rattle.simulator_run.specs.ixl_client.declared.stage.Stage.TheVariants as stage
 use Rattle.simulator_run.specs.ixl_rules.State.{KnownDetectorState, KnownPointState, KnownSignalState}
 use Rattle.simulator_run.specs.Nodes.{detector_link, point_link}
 use Rattle.simulator_run.specs.State.{ClockedControllerState, WorldState}
@@ -27,11 +27,10 @@ abbrev pub NextIsExpected : ClientState → Ends → Type 0
 NextIsExpected client ends = (connection : ℕ) → ends.client.connection ≡ Some connection → ends.server.connection ≡ Some connection → is_up client.link.phase ≡ true
     → (item : List ℕ) → slice_get ends.server.given (length ends.client.taken) ≡ Some item → IsExpected client.peer client.stage (reading item)
 
--- So it is with each signal and each detector, and with each point but where its client awaits no report.
+-- So it is with each signal, each point and each detector.
 pub record AllExpectNext (site : Site) (world : WorldState) (network : Links) : Type 0 where
   pub signals : (place : ℕ) (known : KnownSignalState) → slice_get world.station.ixl.known_signals place ≡ Some known → NextIsExpected known.client (seen place network)
-  pub points : (place : ℕ) (known : KnownPointState) → slice_get world.station.ixl.known_points place ≡ Some known → (known.client.stage ≡ stage.Completed → ⊥)
-      → NextIsExpected known.client (seen (point_link site place) network)
+  pub points : (place : ℕ) (known : KnownPointState) → slice_get world.station.ixl.known_points place ≡ Some known → NextIsExpected known.client (seen (point_link site place) network)
   pub detectors : (place : ℕ) (known : KnownDetectorState) → slice_get world.station.ixl.detectors place ≡ Some known → NextIsExpected known.client (seen (detector_link site place) network)
 
 -- the links of a station, and what comes next to its clients there
@@ -45,11 +44,10 @@ abbrev pub NextFits : {Object : Type 0} → Behaviour Object → HostState Objec
 NextFits does host ends = (connection : ℕ) → ends.client.connection ≡ Some connection → ends.server.connection ≡ Some connection → is_open ends.server.link.phase ≡ true
     → is_outside host.stage ≡ false → (now : ℕ) (item : List ℕ) → slice_get ends.client.given (length ends.server.taken) ≡ Some item → HostExpectsItem does now host (reading item)
 
--- So it is with each signal and each detector, and with each point that has answered its last move.
+-- So it is with each signal, each point and each detector.
 pub record AllFitNext (site : Site) (world : WorldState) (network : Links) : Type 0 where
   pub signals : (place : ℕ) (controller : ClockedControllerState SignalState) → slice_get world.signals place ≡ Some controller → NextFits signal_behaviour controller.host (seen place network)
-  pub points : (place : ℕ) (controller : ClockedControllerState PointState) → slice_get world.points place ≡ Some controller → is_answered controller.host.object.progress ≡ true
-      → NextFits point_behaviour controller.host (seen (point_link site place) network)
+  pub points : (place : ℕ) (controller : ClockedControllerState PointState) → slice_get world.points place ≡ Some controller → NextFits point_behaviour controller.host (seen (point_link site place) network)
   pub detectors : (place : ℕ) (controller : ClockedControllerState (List Section)) → slice_get world.detectors place ≡ Some controller → NextFits detection_behaviour controller.host (seen (detector_link site place) network)
 
 -- the links of a station, and what comes next to its controllers there
@@ -57,7 +55,22 @@ pub record HaveFitting (site : Site) (world : WorldState) : Type 0 where
   pub has : HasLinks site world
   pub next : AllFitNext site world (links_in has)
 
+-- ---- how much a point reports
+
 -- In a connection that is the last of both ends, the controller has given at most two items more than its client.
 abbrev pub GivesNoMore : Ends → Type 0
-GivesNoMore ends = (connection : ℕ) → ends.client.connection ≡ Some connection → ends.server.connection ≡ Some connection
-    → length ends.server.given ≤ 2 + length ends.client.given
+GivesNoMore ends = (connection : ℕ) → ends.client.connection ≡ Some connection → ends.server.connection ≡ Some connection → length ends.server.given ≤ 2 + length ends.client.given
+
+-- For the two items that ask for it a point's initialisation has four: the answer of the version, *start*, where the point stands, and
+-- *completed*. Then each report answers a move.
+pub record AnswersOnce (host : HostState PointState) (ends : Ends) : Type 0 where
+  -- what the controller has given, with the move that waits for its report, if there is one
+  pub waits : is_open host.link.phase ≡ true → length ends.server.given + unanswered host.object.progress ≤ 2 + length ends.server.taken
+  pub ever : length ends.server.given ≤ 2 + length ends.server.taken
+  pub no_more : GivesNoMore ends
+
+-- the links of a station, and what its points have given there
+pub record HaveAnswered (site : Site) (world : WorldState) : Type 0 where
+  pub has : HasLinks site world
+  pub points : (place : ℕ) (controller : ClockedControllerState PointState) → slice_get world.points place ≡ Some controller
+      → AnswersOnce controller.host (seen (point_link site place) (links_in has))

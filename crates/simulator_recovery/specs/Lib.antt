@@ -9,4 +9,5 @@ pub mod ClientSaid
 pub mod Told
 pub mod NextItems
 pub mod Expected
+pub mod Closes
 pub mod ClientCloses

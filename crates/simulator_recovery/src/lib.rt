@@ -5,6 +5,7 @@
 
 mod client_closes;
 mod clients;
+mod closes;
 mod controllers;
 mod conversation;
 mod counts;
@@ -16,6 +17,7 @@ mod silence;
 
 pub use client_closes::clients_close_by_their_window_alone;
 pub use clients::clients_have_said_what_their_stages_tell;
+pub use closes::controllers_close_no_link;
 pub use controllers::controllers_keep_to_their_conversations;
 pub use conversation::{
     clients_act_on_what_they_expect, clients_count_what_they_act_on, clients_expect_what_hosts_say,
@@ -28,7 +30,9 @@ pub use counts::{
     hosts_have_said_what_their_stage_tells, hosts_say_in_their_order, hosts_stand_by_their_counts,
     stations_stand_by_their_counts,
 };
-pub use expected::{clients_expect_what_comes_next, hosts_expect_what_comes_next};
+pub use expected::{
+    clients_expect_what_comes_next, hosts_expect_what_comes_next, points_answer_each_move_once,
+};
 pub use laws::{
     each_round_delivers_what_the_last_one_left, good_rounds_are_at_work_on_links,
     good_rounds_are_events, good_rounds_leave_fresh_datagrams, good_rounds_take_their_time,

@@ -1,0 +1,67 @@
+//! That no controller of a station closes its link.
+
+ghost use Rattle.std.specs.Prelude.{◌≡◌, None};
+ghost use Rattle.ixl_table.specs.Table.{IsTableOf};
+ghost use Rattle.simulator_run.specs.layout.Entries.{Site};
+ghost use Rattle.simulator_run.specs.layout.Once.{Once};
+ghost use Rattle.simulator_run.specs.layout.Station.{IsStation};
+ghost use Rattle.simulator_run.specs.rasta_core.Each.{Each};
+ghost use Rattle.simulator_run.specs.ixl_rules.Table.{Table};
+ghost use Rattle.simulator_run.specs.simulator_event.declared.event.Event.{Event};
+ghost use Rattle.simulator_run.specs.Refusals.{refusal};
+ghost use Rattle.simulator_run.specs.State.{WorldState};
+ghost use Rattle.simulator_run_links.specs.Events.{events_of};
+ghost use Rattle.simulator_headline.specs.Reached.{IsReached};
+ghost use Rattle.simulator_recovery.specs.Closes.{LeavesServerOpen};
+
+use crate::items_go_on;
+use object_host_theorem::step_takes_and_gives;
+use simulator_machine_links::{a_client_of_many_makes_a_step, a_node_of_one_link_makes_a_step};
+use simulator_run::a_station_begins_its_links;
+use simulator_run::ixl_rules::control_table::sci_telegram::written_is_read;
+use simulator_run::ixl_rules::rasta_core::{
+    a_node_makes_a_step, items_are_counted, links_keep_order, links_keep_time, one_connection,
+    order_is_safe,
+};
+use simulator_run::object_host::{step_is_calls, steps_keep_a_host};
+use simulator_run::point_ctl::Point;
+use simulator_run::signal_ctl::Signal;
+use simulator_run::tds_ctl::Detection;
+use simulator_run_links::{
+    deliveries_may_come, events_are_those_of_the_links, interlockings_call_their_nodes,
+    layouts_name_their_links, stations_have_links,
+};
+
+/// After every list of events of a station, on any network, no event that can happen is one in which a controller closes its link: what
+/// comes to it is always what it expects, however many items a datagram has. So the link of a controller closes by its own clock alone, or
+/// by what its partner says.
+pub fn controllers_close_no_link()
+    ensures { (site : Site) (table : Table) (world : WorldState) (happening : Event) → IsStation site → Once site → IsTableOf site table → IsReached site table world
+        → refusal site happening world ≡ None → Each LeavesServerOpen (events_of site table happening world) }
+{
+    a_client_of_many_makes_a_step();
+    a_node_makes_a_step();
+    a_node_of_one_link_makes_a_step();
+    a_station_begins_its_links();
+    deliveries_may_come();
+    events_are_those_of_the_links();
+    interlockings_call_their_nodes();
+    items_are_counted();
+    items_go_on();
+    layouts_name_their_links();
+    links_keep_order();
+    links_keep_time();
+    one_connection();
+    order_is_safe();
+    stations_have_links();
+    steps_keep_a_host::<Signal>();
+    steps_keep_a_host::<Point>();
+    steps_keep_a_host::<Detection>();
+    step_is_calls::<Signal>();
+    step_is_calls::<Point>();
+    step_is_calls::<Detection>();
+    step_takes_and_gives::<Signal>();
+    step_takes_and_gives::<Point>();
+    step_takes_and_gives::<Detection>();
+    written_is_read();
+}
